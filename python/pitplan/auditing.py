@@ -21,7 +21,7 @@ from pitplan.core import files, paths
 from pitplan.core.files import Folder
 from pitplan.core.progress import Progress
 
-from . import fixed as fixing, run
+from . import constraints, run
 from .errors import PlanError
 from .mine import values_at
 from .plan import Plan, prepare
@@ -78,7 +78,7 @@ def write_mine(stage: Path, folder: Folder, factor: int, progress: Progress) -> 
         nodes = plan.values.nodes()
         plan.write_needs(stage / PREC, plan.needs)
         if plan.settled is not None:
-            fixing.write(stage / FIXED, plan.fixed)
+            constraints.write(stage / FIXED, plan.fixed)
     files.write_model(stage / MODEL, f"shell {factor} of {folder.record['title']}", values_at(nodes, factor))
 
 

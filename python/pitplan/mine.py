@@ -23,9 +23,9 @@ from pitplan.core.progress import Progress, silent
 from pitplan.economics.block_values import Values
 from pitplan.slopes.arc_rows import Rows, rows_of
 
-from . import fixed as fixing, library, run
+from . import constraints, library, run
+from .constraints import Settled
 from .errors import PlanError
-from .fixed import Settled
 from .plan import Plan
 from .run import Solution
 from .solver import LIBRARY, Solver, chosen
@@ -92,7 +92,7 @@ class MineInArrays:
 
     def pit(self, factor: int) -> Solution:
         values = values_at(self.plan.values.nodes(), factor)
-        return library.pit(values, self.rows, fixing.numbers(self.plan.fixed, len(values)), factor)
+        return library.pit(values, self.rows, constraints.numbers(self.plan.fixed, len(values)), factor)
 
 
 Mine = Union[MineInFiles, MineInArrays]

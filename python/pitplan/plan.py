@@ -33,10 +33,10 @@ from pitplan.slopes import closure, crop, domains
 from pitplan.slopes.crop import Model
 from pitplan.slopes.domains import Walls
 
-from . import fixed as fixing
+from . import constraints
+from .constraints import NOTHING, FixedBlocks, Settled
 from .conventions import IN_WORDS
 from .errors import PlanError
-from .fixed import NOTHING, FixedBlocks, Settled
 
 MILLION = 1_000_000
 # The columns that blocks.csv has of its own; one of the planner's with such a name is called planner_NAME there.
@@ -165,7 +165,7 @@ class Plan:
         files.write_model(folder / files.MODEL, self.project.title, nodes[0] - nodes[1])
         pairs = self.write_needs(folder / files.PREC, self.needs)
         if self.settled is not None:
-            fixing.write(folder / files.FIXED, self.fixed)
+            constraints.write(folder / files.FIXED, self.fixed)
             files.write_blocks(
                 folder / files.REST_BLOCKS, self.grid, processed, self.values.nodes_of_rest(self.settled)
             )
@@ -307,11 +307,11 @@ def plan_of(project: Project, frame: pd.DataFrame, grid: Grid, walls: Walls, sou
     values = block_values.values_of(
         frame, grid, project, source, lambda paying: closure.used_blocks(grid, walls, paying)
     )
-    fixed = fixing.of_table(frame, grid, project, source)
+    fixed = constraints.of_table(frame, grid, project, source)
     used = closure.used_blocks(grid, walls, wanted(values, project, fixed))
     plan = Plan(project, frame, grid, values, walls, used, source, fixed=fixed)
     if project.fixed is not None:
-        plan.settled = fixing.settled(fixed, grid, walls)
+        plan.settled = constraints.settled(fixed, grid, walls)
         demand_no_clash(plan, plan.settled)
     return plan
 
@@ -321,7 +321,7 @@ def demand_no_clash(plan: Plan, settled: Settled) -> None:
     forced, barred = plan.fixed.forced, plan.fixed.barred
     clash = forced[settled.left[forced]]
     if len(clash):
-        needs = closure.used_blocks(plan.grid, plan.walls, fixing.marks(plan.grid, clash[:1]))
+        needs = closure.used_blocks(plan.grid, plan.walls, constraints.marks(plan.grid, clash[:1]))
         first, second = plan.called(clash[0]), plan.called(barred[needs[barred]][0])
         more = f", and so it is with {len(clash) - 1:,} blocks more" if len(clash) > 1 else ""
         raise PlanError(f"{plan.source}: {first} must be dug and needs {second}, which may not be dug{more}")

@@ -14,7 +14,7 @@ from hypothesis import given, strategies as st
 from test_shells import BOX, CLOSED, SMALL, best_by_trying, grades, project_of
 
 import pitplan
-from pitplan import fixed, load, mine, prepare, run
+from pitplan import constraints, load, mine, prepare, run
 from pitplan.cli import main
 from pitplan.config.constraints import FixedRules
 from pitplan.core import files
@@ -162,7 +162,7 @@ def test_a_polygon_with_a_bay():
     outside = [(20.0, 20.0), (-1.0, 5.0), (41.0, 5.0), (20.0, 41.0)]
     x, y = np.array(inside + outside).T
     for turned in (corners, corners[::-1]):
-        assert fixed.within(x, y, turned).tolist() == [True] * len(inside) + [False] * len(outside)
+        assert constraints.within(x, y, turned).tolist() == [True] * len(inside) + [False] * len(outside)
 
 
 @pytest.mark.parametrize(

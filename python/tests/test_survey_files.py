@@ -12,7 +12,7 @@ from osgeo import gdal, ogr, osr
 from test_verify import looked_at
 
 import pitplan
-from pitplan import PlanError, fixed, load, prepare
+from pitplan import PlanError, constraints, load, prepare
 from pitplan.blockmodel import tin as terrain
 from pitplan.config.survey import SurveyFile
 from pitplan.survey import readers
@@ -174,7 +174,7 @@ def test_a_surface_of_faces_is_theirs_and_not_that_of_their_corners(plan_folder,
     assert prepare(load(path)).fixed.forced.tolist() == blocks.loc[above, "id"].tolist()
     assert [rule.differences for rule in looked_at(prepare(path)) if rule.name == "fixed"] == [()]
     # All of them are demanded where none is taken as such.
-    monkeypatch.setattr(fixed, "of_table", lambda *_: fixed.NOTHING)
+    monkeypatch.setattr(constraints, "of_table", lambda *_: constraints.NOTHING)
     (rule,) = [rule for rule in looked_at(prepare(path)) if rule.differences]
     assert (rule.name, rule.count) == ("fixed", above.sum())
 
@@ -466,7 +466,7 @@ def test_an_arc_is_followed_to_a_centimetre(tmp_path):
     (ring,) = areas(path).polygons[0]
     angles = np.linspace(0, 2 * np.pi, 999)
     for radius, expected in ((19.98, True), (20.02, False)):
-        assert (fixed.within(radius * np.cos(angles), radius * np.sin(angles), ring) == expected).all()
+        assert (constraints.within(radius * np.cos(angles), radius * np.sin(angles), ring) == expected).all()
 
 
 def test_lines_that_are_not_closed(tmp_path):
@@ -528,6 +528,6 @@ def test_areas_that_are_passed_over_are_found(plan_folder, tmp_path, monkeypatch
     """Of a map with a hole, when all of the outline is barred, the one block in the hole is no less right; when none is, all others are not."""
     gis(tmp_path / "lease.gpkg", "GPKG", {"lease": [(HOLED, 0)]})
     path = plan_folder(rows(5, 4, 1, cu=lambda i, j, k: 6), PROJECT + AREA + '"lease.gpkg"\nbarred = "inside"\n')
-    monkeypatch.setattr(fixed, "of_table", lambda *_: fixed.NOTHING)
+    monkeypatch.setattr(constraints, "of_table", lambda *_: constraints.NOTHING)
     (rule,) = [rule for rule in looked_at(prepare(path)) if rule.differences]
     assert (rule.name, rule.count) == ("fixed", 11)

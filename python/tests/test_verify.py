@@ -11,7 +11,7 @@ from conftest import PROJECT, rows
 from hypothesis import HealthCheck, given, settings, strategies as st
 
 import pitplan
-from pitplan import PlanError, fixed, load, prepare, schedule, solve
+from pitplan import PlanError, constraints, load, prepare, schedule, solve
 from pitplan.blockmodel import missing_blocks, reader
 from pitplan.cli import main
 from pitplan.commands.answers import Answered, write_tables
@@ -519,7 +519,7 @@ def test_capacity_that_is_caught_up_is_found(plan_folder, monkeypatch):
 
 def test_fixed_blocks_that_are_passed_over_are_found(plan_folder, monkeypatch):
     nothing = np.zeros(0, dtype=np.int64)
-    monkeypatch.setattr(fixed, "of_table", lambda *_: fixed.FixedBlocks(nothing, nothing))
+    monkeypatch.setattr(constraints, "of_table", lambda *_: constraints.FixedBlocks(nothing, nothing))
     assert "fixed: block b2-1-4 must be dug" in refused(plan_folder)
 
 
@@ -545,7 +545,7 @@ def test_areas_that_are_passed_over_are_found(plan_folder, tmp_path, monkeypatch
     pd.DataFrame(np.array(corners) + [600_000, 6_512_000], columns=["x", "y"]).to_csv(tmp_path / "map.csv", index=False)
     path = plan_folder(ore_everywhere(), PROJECT + "\n" + section)
     assert [rule.differences for rule in looked_at(prepare(path))] == [()] * 10
-    monkeypatch.setattr(fixed, "of_table", lambda *_: fixed.NOTHING)
+    monkeypatch.setattr(constraints, "of_table", lambda *_: constraints.NOTHING)
     (rule,) = [rule for rule in looked_at(prepare(path)) if rule.differences]
     assert (rule.name, rule.count, len(rule.differences)) == ("fixed", count, min(count, 10))
     assert rule.differences[0] == f"block {first} may not be dug, and is so from factor 500 on"
@@ -569,7 +569,7 @@ def test_a_surface_that_is_passed_over_is_found(plan_folder, tmp_path, monkeypat
     assert len(plan.fixed.forced) == 7 + 2 * 7
     # With the rule of the surface itself.
     assert [rule.differences for rule in looked_at(plan)] == [()] * 11
-    monkeypatch.setattr(fixed, "of_table", lambda *_: fixed.NOTHING)
+    monkeypatch.setattr(constraints, "of_table", lambda *_: constraints.NOTHING)
     (rule,) = [rule for rule in looked_at(prepare(path)) if rule.differences]
     assert (rule.name, rule.count, len(rule.differences)) == ("fixed", 7 + 2 * 7, 10)
     assert rule.differences[0] == "block b0-2-0 must be dug, and is so from factor 0 on"

@@ -16,7 +16,7 @@ from test_scenarios import COLUMNS, UPRIGHT, pillar, prepared, solved_in_turn
 from test_verify import looked_at, ore_everywhere, wrong
 
 import pitplan
-from pitplan import PlanError, fixed, load, mine, prepare
+from pitplan import PlanError, constraints, load, mine, prepare
 from pitplan.blockmodel import missing_blocks, tin
 from pitplan.core import files
 from pitplan.verification import verify
@@ -155,7 +155,7 @@ def test_the_highest_triangle_of_a_square_is_demanded(plan_folder, tmp_path, mon
     """Corners of 0 and 16 m across: over the middle, at the column x = 35, y = 15, the diagonals lie at 0 and at 16 m."""
     square = [(5, -15, 0), (65, 45, 0), (5, 45, 16), (65, -15, 16)]
     path = surfaced(plan_folder, tmp_path, square)
-    monkeypatch.setattr(fixed, "of_table", lambda *_: fixed.NOTHING)
+    monkeypatch.setattr(constraints, "of_table", lambda *_: constraints.NOTHING)
     # From the middle in shares of 30 m: between the low corners 8 |u - v| lies higher beside the diagonal, and between the high ones
     # 16 - 8 |u + v|. The outermost columns lie at the outline.
     shares = [((x - 35) / 30, (y - 15) / 30) for x in range(15, 60, 10) for y in (5, 15, 25)]
@@ -187,7 +187,7 @@ def test_demanded_is_what_lies_above_the_points_and_their_triangles(plan_folder,
         ground = over.mean() if len(over) else laid(points, 5 + 10 * column, 5 + 10 * row)
         expected += sum(z > ground for z in (5, 15))
     path = surfaced(plan_folder, tmp_path, points)
-    monkeypatch.setattr(fixed, "of_table", lambda *_: fixed.NOTHING)
+    monkeypatch.setattr(constraints, "of_table", lambda *_: constraints.NOTHING)
     assert fixed_rule(path).count == expected > 0
 
 

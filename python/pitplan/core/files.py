@@ -14,8 +14,8 @@ import numpy as np
 import pandas as pd
 
 from pitplan.blockmodel.grid import Grid
+from pitplan.constraints import Settled
 from pitplan.errors import PlanError
-from pitplan.fixed import Settled
 from pitplan.slopes.arcs import ABSENT, slices
 from pitplan.slopes.domains import Walls
 

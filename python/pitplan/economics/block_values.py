@@ -25,9 +25,9 @@ from pitplan.blockmodel.grid import MOST_BLOCKS, Grid
 from pitplan.blockmodel.reader import HEADER_ROWS, at_row
 from pitplan.config.economics import GRADE_UNITS, ByCode, ByRegion, Curve, Metal, Money
 from pitplan.config.project import REFERENCE_FACTOR, Project
+from pitplan.constraints import Settled
 from pitplan.core.decimals import Exact, Rounding, at_factor, product, total
 from pitplan.errors import PlanError
-from pitplan.fixed import Settled
 
 from . import recovery_curves
 from .haulage import Hauled, Roads

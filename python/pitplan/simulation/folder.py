@@ -31,12 +31,12 @@ import scipy
 from pitplan.blockmodel.grid import Grid
 from pitplan.config.project import Project, load
 from pitplan.config.schedule import ScheduleRules
+from pitplan.constraints import Settled
 from pitplan.core import files
 from pitplan.core.files import staged_file
 from pitplan.slopes.arc_rows import Rows
 
 from ..errors import PlanError
-from ..fixed import Settled
 from ..solver import Solver
 
 RECORD, PROJECT, BASE = "scenarios.json", "project.toml", "base.npz"

@@ -13,7 +13,7 @@ from dataclasses import dataclass, replace
 import numpy as np
 import pandas as pd
 
-from pitplan import fixed as fixing
+from pitplan import constraints
 from pitplan.blockmodel import grid as grids
 from pitplan.blockmodel.grid import Grid
 from pitplan.config.project import Project
@@ -68,7 +68,7 @@ def left(model: Model, walls: Walls, project: Project) -> tuple[Model, str]:
     grid = model.grid
     wanted = np.zeros(grid.count, dtype=bool)
     wanted[grid.rows[can_pay(model, project)]] = True
-    wanted[fixing.of_table(model.frame, grid, project, model.source).forced] = True
+    wanted[constraints.of_table(model.frame, grid, project, model.source).forced] = True
     if not wanted.any():
         most = f"the program takes at most {grids.MOST_BLOCKS:,} blocks"
         raise PlanError(
