@@ -45,6 +45,8 @@ from typing import TYPE_CHECKING, Any
 
 if TYPE_CHECKING:
     from pitplan.config.project import Project, load
+    from pitplan.solver.problem import solve
+    from pitplan.solver.program import Solution
 
     from .analyse import blocks, shells, years
     from .commands.audit import audit
@@ -61,9 +63,7 @@ if TYPE_CHECKING:
     from .commands.view import view
     from .commands.writing import Writing
     from .errors import BudgetUsedUp, MissingPackage, PlanError, ProgramError
-    from .mine import solve
     from .plan import Plan, prepare
-    from .run import Solution
     from .simulation.on_dask import Where
     from .simulation.request import Request
     from .simulation.result import ScenarioResult

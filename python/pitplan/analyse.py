@@ -13,11 +13,11 @@ import pandas as pd
 
 from pitplan.config.project import REFERENCE_FACTOR, Schedule
 from pitplan.economics import period_costs
+from pitplan.solver.program import Solution
 
 from . import schedule as schedules
 from .errors import PlanError
 from .plan import MILLION, Plan
-from .run import Solution
 from .schedule import Benches
 
 

@@ -19,12 +19,13 @@ from pitplan.blockmodel.plausibility import WARNING
 from pitplan.config.project import REFERENCE_FACTOR, Project
 from pitplan.config.pushbacks import MOST_PHASES, PhaseRules
 from pitplan.core.progress import Progress, silent
+from pitplan.solver import problem
+from pitplan.solver.problem import Mine
+from pitplan.solver.program import Solution
 
-from . import analyse, mine as mines, widths
+from . import analyse, widths
 from .errors import PlanError
-from .mine import Mine
 from .plan import Plan
-from .run import Solution
 
 LEAST_FACTOR = 1
 # So many factors are tried at once between two that are known.
@@ -96,7 +97,7 @@ def selected(plan: Plan, mine: Mine, progress: Progress) -> tuple[Plan, list[str
     """
     if named_last(plan.project) is not None:
         return plan, []
-    table = analyse.shells(plan, mines.solve(plan, mine, progress))
+    table = analyse.shells(plan, problem.solve(plan, mine, progress))
     last = analyse.chosen_factor(table, plan.project.schedule)
     note = f"the last phase ends with the shell of factor {last}, which shells selects: [pushbacks] last names another"
     if not table["tonnes"][table["factor"] == last].any():
@@ -119,14 +120,14 @@ def divide(plan: Plan, mine: Optional[Mine] = None, progress: Progress = silent)
     and ProgramError where the solver refuses.
     """
     if mine is None:
-        with mines.temporary(plan) as made:
+        with problem.temporary(plan) as made:
             return divide(plan, made, progress)
     plan, notes = selected(plan, mine, progress)
     rules, last = rules_of(plan.project), plan.project.schedule.factors[-1]
 
     def solved(factors: tuple[int, ...]) -> tuple[Plan, Solution]:
         part = replace(plan, project=with_factors(plan.project, factors))
-        return part, mines.solve(part, mine, progress)
+        return part, problem.solve(part, mine, progress)
 
     def tonnes_at(factors: tuple[int, ...]) -> dict[int, float]:
         part, solution = solved(factors)

@@ -7,7 +7,9 @@ from decimal import Decimal
 
 import numpy as np
 
-from . import analyse, mine as mines
+from pitplan.solver import problem
+
+from . import analyse
 from .phases import LEAST_FACTOR, between, neighbours, with_factors
 from .plan import Plan
 
@@ -28,11 +30,11 @@ def of_pit(plan: Plan, share: Decimal) -> Skin:
     """The part of the pit of the plan's last factor outside the greatest shell that leaves at least a share of its rock: more of it where the
     shells grow by leaps. Factors are whole per mille. Raises ProgramError where the solver refuses."""
     last = plan.project.schedule.factors[-1]
-    with mines.temporary(plan) as mine:
+    with problem.temporary(plan) as mine:
 
         def entry_at(factors: tuple[int, ...]) -> np.ndarray:
             part = replace(plan, project=with_factors(plan.project, factors))
-            return mines.solve(part, mine).entry[: plan.grid.count]
+            return problem.solve(part, mine).entry[: plan.grid.count]
 
         def tonnes_at(factors: tuple[int, ...]) -> dict[int, float]:
             part = replace(plan, project=with_factors(plan.project, factors))

@@ -21,14 +21,15 @@ from pitplan.config.sensitivity import SensitivityRules
 from pitplan.core import files, keyed_arrays
 from pitplan.core.optional_packages import load
 from pitplan.core.progress import Progress, silent
+from pitplan.solver import choice as solver, problem
+from pitplan.solver.choice import Solver
 
-from . import analyse, mine, solver
+from . import analyse
 from .errors import PlanError
 from .plan import Plan, prepare
 from .simulation import on_dask
 from .simulation.folder import key_of
 from .skin import Skin, of_pit
-from .solver import Solver
 from .varied import Change, given, varied
 
 CASES = "cases"
@@ -132,7 +133,7 @@ def solve(project: Project, folder: Path, where: on_dask.Where | None, progress:
     if plan.left_out:
         why = "is too large for the program, and what shells can reach of it is another with each number: reblock it by [table] reblock"
         raise PlanError(f"{project.table.file}: {why}, or give a smaller model")
-    solution = mine.solve(plan, progress=progress)
+    solution = problem.solve(plan, progress=progress)
     factor = analyse.chosen_factor(analyse.shells(plan, solution), project.schedule)
     asked = Asked(up_to(project, factor), frame, found_by)
     rules = rules_of(project)
@@ -195,7 +196,7 @@ def find(case: Case, asked: Asked) -> Found:
     """The pit of a case, and what the pit as given, where there is one, earns in it. Raises ProgramError where the solver here is another."""
     solver.demand_same(asked.solver)
     plan = prepare(varied(asked.project, case.changes), asked.frame)
-    solution = mine.solve(plan)
+    solution = problem.solve(plan)
     row = of_last(analyse.shells(plan, solution))
     entry = solution.entry[: plan.grid.count]
     kept = entry if asked.as_given is None else asked.as_given.entry

@@ -18,14 +18,15 @@ from test_fixed import FIXED_SECTION, ores_and_fixed, with_section
 from test_scenarios import COLUMNS, PRICES, UPRIGHT, pillar
 
 import pitplan
-from pitplan import PlanError, ProgramError, library, load, run, solver, varied_cases
+from pitplan import PlanError, ProgramError, load, varied_cases
 from pitplan.blockmodel import reader
 from pitplan.cli import main
 from pitplan.commands import answers
 from pitplan.core import files
-from pitplan.mine import counted_rows
 from pitplan.simulation import folder as folders, prepare, work
 from pitplan.slopes.arc_rows import Rows
+from pitplan.solver import choice, library, program
+from pitplan.solver.problem import counted_rows
 
 pitshell = pytest.importorskip("pitshell", reason="make library builds it")
 
@@ -42,7 +43,7 @@ def written(folder: Path) -> dict[str, bytes]:
 
 def by_both(tmp_path: Path, command: str, project: Path, *options: str) -> tuple[Path, Path]:
     """The folders of a command that the library and the program have solved; their files are the same."""
-    places = {by: tmp_path / f"{command}-{by}" for by in solver.BY}
+    places = {by: tmp_path / f"{command}-{by}" for by in choice.BY}
     for by, place in places.items():
         assert main([command, str(project), "--out", str(place), "--solver", by, "--quiet", *options]) == 0
     found = {by: written(place) for by, place in places.items()}
@@ -69,7 +70,7 @@ def test_shells_are_the_same_to_the_byte(tmp_path, example):
     assert set(files.of_program(texts)) == {"mine.blocks", "mine.upit", "mine.prec", "shells.txt", *fixed}
     assert files.of_program(arrays) == ()
     told = [json.loads((place / "prepare.json").read_text())["shells"]["solver"] for place in (arrays, texts)]
-    hashes = [files.hash_of(file) for file in (pitshell.LIBRARY, run.program())]
+    hashes = [files.hash_of(file) for file in (pitshell.LIBRARY, program.program())]
     assert [(it["by"], it["sha256"]) for it in told] == [("library", hashes[0]), ("program", hashes[1])]
     for place, it in zip((arrays, texts), told):
         page = (place / "report.html").read_text()
@@ -186,7 +187,7 @@ def test_refusals_are_those_of_the_program(tmp_path, lines, starts, needs, said)
     listed = Rows(np.array(starts, dtype=np.uint32), np.array(needs, dtype=np.uint32))
     amounts = np.array([0, 5]), np.array([3, 0])
     for solve in (
-        lambda: run.solve_files(*lines_of(tmp_path, *lines)),
+        lambda: program.solve_files(*lines_of(tmp_path, *lines)),
         lambda: library.shells(amounts, listed, (1000,)),
     ):
         with pytest.raises(ProgramError, match=f"^pitshell shells ended with status 1: {said}") as refused:
@@ -263,26 +264,26 @@ def test_a_solve_that_takes_long_is_ended_at_once(plan_folder, asked, status, sa
 def test_what_is_asked_for_solves_else_what_is_named_else_the_library(monkeypatch):
     for name in ("PITSHELL", "PITSHELL_LIBRARY"):
         monkeypatch.delenv(name, raising=False)
-    assert [solver.chosen(by).by for by in ("program", "library", None)] == ["program", "library", "library"]
-    assert solver.chosen("library").version == f"libpitshell {pitplan.__version__}"
+    assert [choice.chosen(by).by for by in ("program", "library", None)] == ["program", "library", "library"]
+    assert choice.chosen("library").version == f"libpitshell {pitplan.__version__}"
     monkeypatch.setattr(library, "package", lambda: None)
     library.identity.cache_clear()
-    assert solver.chosen().by == "program"
+    assert choice.chosen().by == "program"
     with pytest.raises(
         ProgramError, match=r"there is no libpitshell.so: .*, build it by make library, or name it by PITSHELL_LIBRARY"
     ):
-        solver.chosen("library")
+        choice.chosen("library")
     monkeypatch.setenv("PITSHELL_LIBRARY", "/nowhere/libpitshell.so")
     with pytest.raises(ProgramError, match="there is no libpitshell.so"):
-        solver.chosen()
+        choice.chosen()
     monkeypatch.undo()
     monkeypatch.delenv("PITSHELL_LIBRARY", raising=False)
-    monkeypatch.setenv("PITSHELL", str(run.program()))
-    assert solver.chosen().by == "program"
+    monkeypatch.setenv("PITSHELL", str(program.program()))
+    assert choice.chosen().by == "program"
     monkeypatch.setenv("PITSHELL_LIBRARY", str(pitshell.LIBRARY))
-    assert solver.chosen().by == "library"
+    assert choice.chosen().by == "library"
     with pytest.raises(PlanError, match="magic is none of library, program"):
-        solver.chosen("magic")
+        choice.chosen("magic")
 
 
 def test_a_library_that_cannot_be_loaded_is_named(tmp_path):
@@ -316,11 +317,11 @@ def test_an_audit_of_what_the_library_solved_writes_the_mine_itself(tmp_path):
     first, second = (pitplan.audit(place, 800) for place in (arrays, texts))
     for name in ("shell.upit", "shell.prec", "shell.fixed", "pit.txt", "shell.cert"):
         assert (first / name).read_bytes() == (second / name).read_bytes(), name
-    environment = {**os.environ, "PITSHELL": str(run.program()), "PYTHON": sys.executable}
+    environment = {**os.environ, "PITSHELL": str(program.program()), "PYTHON": sys.executable}
     ran = subprocess.run(["sh", str(first / "check.sh")], env=environment, capture_output=True, text=True)
     assert ran.stdout == "hashes: yes\npitshell check: yes\ncheck_certificate.py: yes\n", ran.stderr
     record = json.loads((first / "audit.json").read_text())
-    assert (record["solver"]["by"], record["program"]) == ("library", run.identity())
+    assert (record["solver"]["by"], record["program"]) == ("library", program.identity())
 
 
 @pytest.fixture
@@ -378,7 +379,7 @@ def test_a_worker_with_another_library_solves_nothing(plan_folder, monkeypatch):
 
 def test_cases_of_a_sensitivity_are_not_begun_with_another_library(plan_folder, monkeypatch):
     project = load(plan_folder(rows(3, 1, 2, cu=lambda i, j, k: 3), PROJECT))
-    asked = varied_cases.Asked(project, reader.read(project).frame, solver.chosen("library"))
+    asked = varied_cases.Asked(project, reader.read(project).frame, choice.chosen("library"))
     assert varied_cases.find(varied_cases.Case(), asked).row["blocks"] == 6
     other_library(monkeypatch)
     with pytest.raises(ProgramError, match="the library here .* is another than that with which this was begun"):
@@ -386,14 +387,14 @@ def test_cases_of_a_sensitivity_are_not_begun_with_another_library(plan_folder, 
 
 
 @pytest.mark.parametrize("kind", ["slurm", "parallel"])
-@pytest.mark.parametrize("by", solver.BY)
+@pytest.mark.parametrize("by", choice.BY)
 def test_jobs_name_the_solver_and_find_it(plan_folder, kind, by):
     pytest.importorskip("distributed")
     path = plan_folder(pillar(), PRICES, UPRIGHT)
     found = pitplan.write_scenarios(replace(load(path), solver=by), load(path).folder, pitplan.Request(where=kind))
     named = {
         "library": f"PITSHELL_LIBRARY={pitshell.LIBRARY.resolve()} ",
-        "program": f"PITSHELL={run.program().resolve()} ",
+        "program": f"PITSHELL={program.program().resolve()} ",
     }
     script = (found.folder / "scenario.sh").read_text()
     assert named[by] in script

@@ -13,7 +13,8 @@ from conftest import ROOT
 from test_oracle import cotangent
 
 import pitplan
-from pitplan import prepare, run
+from pitplan import prepare
+from pitplan.solver import program
 
 EXAMPLE = ROOT / "examples" / "fixed"
 WALLS = {"west": [(0, 45)], "east": [(0, 48), (90, 42), (180, 48), (270, 45)]}
@@ -111,7 +112,7 @@ def cone(wall):
 
 def test_others_can_check_the_pit(folder):
     """By the program and by the short checker, which shares nothing with it."""
-    environment = {**os.environ, "PITSHELL": str(run.program()), "PYTHON": sys.executable}
+    environment = {**os.environ, "PITSHELL": str(program.program()), "PYTHON": sys.executable}
     words = ["sh", str(pitplan.audit(folder, 1000) / "check.sh")]
     ran = subprocess.run(words, env=environment, capture_output=True, text=True)
     assert ran.stdout == "hashes: yes\npitshell check: yes\ncheck_certificate.py: yes\n", ran.stderr

@@ -16,7 +16,7 @@ import pytest
 from conftest import PROJECT, ROOT, rows
 
 import pitplan
-from pitplan import BudgetUsedUp, PlanError, ProgramError, auditing, load, mine, run
+from pitplan import BudgetUsedUp, PlanError, ProgramError, load
 from pitplan.cli import main
 from pitplan.commands import answers
 from pitplan.commands.prepare import write_plan
@@ -24,6 +24,7 @@ from pitplan.commands.writing import PICTURES
 from pitplan.core import cell_outlines, files, optional_packages
 from pitplan.core.progress import silent
 from pitplan.rounded_tables import shown
+from pitplan.solver import audit, problem, program
 
 ORE = {"cu": lambda i, j, k: {(3, 3, 1): 6, (4, 3, 1): 2.5, (3, 4, 0): 9}.get((i, j, k), 0)}
 
@@ -112,7 +113,7 @@ def test_a_prepared_folder_has_no_shells_yet(plan_folder):
 def test_an_audit_is_confirmed_by_the_program_and_by_the_short_checker(solved, factor):
     _, folder = solved
     target = pitplan.audit(folder, factor, silent)
-    environment = {**os.environ, "PITSHELL": str(run.program()), "PYTHON": sys.executable}
+    environment = {**os.environ, "PITSHELL": str(program.program()), "PYTHON": sys.executable}
     # No module is taken from the folder that is checked.
     (target / "argparse.py").write_text("raise SystemExit('a module of the folder was run')\n")
     ran = subprocess.run(["sh", str(target / "check.sh")], capture_output=True, text=True, env=environment, check=True)
@@ -120,7 +121,9 @@ def test_an_audit_is_confirmed_by_the_program_and_by_the_short_checker(solved, f
     record = json.loads((target / "audit.json").read_text())
     table = pd.read_csv(folder / "shells.csv", dtype={"worth_at_factor": str}).set_index("factor")
     assert Decimal(record["worth_at_factor"]) == Decimal(table["worth_at_factor"][factor])
-    assert record["program"] == run.identity() and record["plan"]["blocks.csv"] == files.hash_of(folder / "blocks.csv")
+    assert record["program"] == program.identity() and record["plan"]["blocks.csv"] == files.hash_of(
+        folder / "blocks.csv"
+    )
 
 
 def test_a_bent_audit_is_not_confirmed(solved):
@@ -128,14 +131,14 @@ def test_a_bent_audit_is_not_confirmed(solved):
     target = pitplan.audit(folder, 1000, silent)
     model = target / "shell.upit"
     model.write_text(model.read_text().replace("\n0 -", "\n0 "))
-    environment = {**os.environ, "PITSHELL": str(run.program()), "PYTHON": sys.executable}
+    environment = {**os.environ, "PITSHELL": str(program.program()), "PYTHON": sys.executable}
     assert subprocess.run(["sh", str(target / "check.sh")], capture_output=True, env=environment).returncode != 0
 
 
 def test_an_audit_of_other_blocks_or_of_another_worth_is_refused(solved):
     folder = files.read_folder(solved[1])
     stage = pitplan.audit(solved[1], 1000, silent)
-    worth = auditing.demand_same(stage, folder, 1000)
+    worth = audit.demand_same(stage, folder, 1000)
     shells = pd.read_csv(solved[1] / "shells.csv", dtype={"worth_at_factor": str})
     assert [worth] == shells.loc[shells["factor"] == 1000, "worth_at_factor"].map(Decimal).tolist()
     dug = folder.blocks["factor"] == 500
@@ -143,26 +146,26 @@ def test_an_audit_of_other_blocks_or_of_another_worth_is_refused(solved):
         folder, blocks=folder.blocks.assign(factor=folder.blocks["factor"].where(~dug | (dug.cumsum() > 1), 0))
     )
     with pytest.raises(PlanError, match="the audited pit is not the shell of factor 1000"):
-        auditing.demand_same(stage, other, 1000)
+        audit.demand_same(stage, other, 1000)
     shells.assign(worth_at_factor=shells["worth_at_factor"] + "1").to_csv(solved[1] / "shells.csv", index=False)
     with pytest.raises(PlanError, match="the audited pit is not the shell of factor 1000"):
-        auditing.demand_same(stage, folder, 1000)
+        audit.demand_same(stage, folder, 1000)
 
 
 def test_values_of_an_audit_are_exact(tmp_path):
-    from pitplan.auditing import read_nodes
+    from pitplan.solver.audit import read_nodes
 
     (tmp_path / "mine.blocks").write_text("0 0 0 0 0 1.000001\n1 0 0 0 12345.678901 0.1\n")
-    assert mine.values_at(read_nodes(tmp_path / "mine.blocks"), 333).tolist() == [
+    assert problem.values_at(read_nodes(tmp_path / "mine.blocks"), 333).tolist() == [
         -1000001000,
         333 * 12345678901 - 100000000,
     ]
     (tmp_path / "mine.blocks").write_text("0 0 0 0 999999999999 0\n")
     with pytest.raises(PlanError, match="does not fit a model: give prices and costs in a greater unit of money"):
-        mine.values_at(read_nodes(tmp_path / "mine.blocks"), 1000)
+        problem.values_at(read_nodes(tmp_path / "mine.blocks"), 1000)
     # Products that 64 bits would not hold, and the greatest and least value that a model takes.
     most = np.array([10**18 - 1]), np.array([0])
-    assert mine.values_at(most, 1).tolist() == [10**18 - 1] and mine.values_at(
+    assert problem.values_at(most, 1).tolist() == [10**18 - 1] and problem.values_at(
         (np.array([10**17 - 1]), np.array([10**17 - 10**12])), 1000
     ).tolist() == [10**15 - 1000]
     for amounts, factor in (
@@ -171,7 +174,7 @@ def test_values_of_an_audit_are_exact(tmp_path):
         ((np.array([10**15]), np.array([0])), 1000),
     ):
         with pytest.raises(PlanError, match=f"a value at factor {factor}, a thousandfold, is 10.12 or more"):
-            mine.values_at(amounts, factor)
+            problem.values_at(amounts, factor)
 
 
 def test_a_factor_that_is_not_solved_is_refused(solved):
@@ -347,14 +350,14 @@ def test_missing_libraries_are_named_with_their_packages(monkeypatch, tmp_path):
 def test_a_missing_program_is_named(monkeypatch):
     monkeypatch.setenv("PITSHELL", "/nowhere/pitshell")
     with pytest.raises(PlanError, match="/nowhere/pitshell: is no program that may be run: name another by PITSHELL"):
-        run.program()
+        program.program()
 
 
 def test_a_refusal_of_the_program_is_passed_on(tmp_path):
     (tmp_path / "mine.blocks").write_text("0 0 0 0 1 x\n")
     (tmp_path / "mine.prec").write_text("")
     with pytest.raises(PlanError, match="pitshell shells ended with status 1: error 6: not a decimal in blocks line 1"):
-        run.solve_files(tmp_path / "mine.blocks", tmp_path / "mine.prec", (1000,))
+        program.solve_files(tmp_path / "mine.blocks", tmp_path / "mine.prec", (1000,))
 
 
 def ending_program(tmp_path, monkeypatch, how):
@@ -378,14 +381,14 @@ def ending_program(tmp_path, monkeypatch, how):
 def test_how_the_program_ended_is_told(tmp_path, monkeypatch, how, kind, status, said):
     ending_program(tmp_path, monkeypatch, how)
     with pytest.raises(ProgramError) as ended:
-        run.call("solve", "--model", tmp_path)
+        program.call("solve", "--model", tmp_path)
     assert (type(ended.value), ended.value.status, str(ended.value)) == (kind, status, said)
 
 
 def test_a_status_that_is_fine_gives_the_answer(tmp_path, monkeypatch):
     for status in (0, 4):
         ending_program(tmp_path, monkeypatch, f"exit {status}")
-        assert run.call("check", fine=(0, 4)) == b"an answer\n"
+        assert program.call("check", fine=(0, 4)) == b"an answer\n"
 
 
 def test_amounts_are_written_to_a_thousandth_and_nothing_has_no_minus():
@@ -448,7 +451,7 @@ def test_an_audit_by_another_release_is_warned_of_with_quiet_and_in_python(solve
     path = pitplan.audit(folder, 500)
     assert path == folder / "audit-500"
     assert [*path.notes] == [
-        f"WARNING: libpitshell 0.0.7 found the shells, and {run.identity()['version']} has audited them"
+        f"WARNING: libpitshell 0.0.7 found the shells, and {program.identity()['version']} has audited them"
     ]
     assert main(["audit", str(project.path), "--factor", "500", "--quiet"]) == 0
     assert capsys.readouterr().err.splitlines() == [*path.notes]

@@ -14,12 +14,13 @@ from hypothesis import given, strategies as st
 from test_shells import BOX, CLOSED, SMALL, best_by_trying, grades, project_of
 
 import pitplan
-from pitplan import constraints, load, mine, prepare, run
+from pitplan import constraints, load, prepare
 from pitplan.cli import main
 from pitplan.config.constraints import FixedRules
 from pitplan.core import files
 from pitplan.core.progress import Progress, silent
 from pitplan.errors import PlanError
+from pitplan.solver import problem, program
 
 
 def with_section(text):
@@ -305,7 +306,7 @@ def test_a_pit_of_the_least_factor_of_all_is_compared_too(plan_folder):
 def test_a_shell_that_is_not_the_pit_of_the_solver_is_refused(plan_folder, monkeypatch):
     """What is joined to the rest is lost: the pit with the fixed blocks tells."""
     path = plan_folder(ores_and_fixed(), with_section(FIXED_SECTION))
-    monkeypatch.setattr(mine, "joined", lambda rest, settled, values: rest)
+    monkeypatch.setattr(problem, "joined", lambda rest, settled, values: rest)
     with pytest.raises(PlanError, match="is not the solver's pit with the fixed blocks: 3 nodes differ"):
         pitplan.write_shells(load(path), path.parent / "plan")
     assert not (path.parent / "plan" / "report.html").exists()
@@ -324,7 +325,7 @@ def test_an_audit_of_a_shell_with_fixed_blocks_is_confirmed_from_any_folder(plan
     pitplan.write_shells(project, project.folder)
     target = pitplan.audit(project.folder, 1000, silent)
     (tmp_path / "bin").mkdir()
-    (tmp_path / "bin" / "program").symlink_to(run.program().resolve())
+    (tmp_path / "bin" / "program").symlink_to(program.program().resolve())
     words = ["sh", str(target.relative_to(tmp_path) / "check.sh")]
     ran = subprocess.run(
         words, cwd=tmp_path, env={**os.environ, "PITSHELL": "bin/program"}, capture_output=True, text=True
@@ -362,7 +363,7 @@ def test_a_project_without_fixed_blocks_has_no_pit(plan_folder, capsys):
 
 def solution_of(entry, worth):
     nodes = pd.Series([sum(at > 0 for at in entry)], index=[1])
-    return run.Solution(pd.Series([Decimal(worth)], index=[1], dtype=object), nodes, np.array(entry), b"")
+    return program.Solution(pd.Series([Decimal(worth)], index=[1], dtype=object), nodes, np.array(entry), b"")
 
 
 @pytest.mark.parametrize(
@@ -372,7 +373,7 @@ def test_a_shell_is_compared_with_its_pit_by_blocks_and_worth(entry, worth, coun
     """The shells of factors 1 and 2 against the pit of factor 1, which is the first two nodes, worth 5."""
     shells = solution_of([1, 1, 2], 5)
     if count is None:
-        assert mine.demand_same(shells, solution_of(entry, worth), 1) is None
+        assert problem.demand_same(shells, solution_of(entry, worth), 1) is None
         return
     with pytest.raises(PlanError, match=f"the shell of factor 1 .*: {count} nodes differ, worth 5 for {worth}; please"):
-        mine.demand_same(shells, solution_of(entry, worth), 1)
+        problem.demand_same(shells, solution_of(entry, worth), 1)

@@ -6,9 +6,10 @@ import subprocess
 
 from conftest import ROOT
 
-from pitplan import exports, solver, stages
+from pitplan import exports, stages
 from pitplan.cli import parser as arguments
 from pitplan.config.project import REFERENCE_FACTOR
+from pitplan.solver import choice
 
 PAGE = ROOT / "man" / "pitplan.1"
 # convert minelib has a command line of its own (python/minelib), with --out alone.
@@ -54,7 +55,7 @@ def test_help_lists_each_subcommand_once():
 def test_the_words_of_options_are_those_of_the_modules():
     assert arguments.FORMATS == tuple(exports.WRITERS)
     assert (arguments.STAGES, arguments.SURFACES) == (stages.KINDS, (stages.PIT, stages.GROUND))
-    assert (arguments.SOLVERS, arguments.REFERENCE_FACTOR) == (solver.BY, REFERENCE_FACTOR)
+    assert (arguments.SOLVERS, arguments.REFERENCE_FACTOR) == (choice.BY, REFERENCE_FACTOR)
 
 
 def test_help_says_what_each_option_is_for_and_which_folder_is_taken(tmp_path):

@@ -14,8 +14,8 @@ from hypothesis import given, strategies as st
 
 import minelib
 from minelib import numbers, precedence
-from pitplan import run
 from pitplan.cli import main
+from pitplan.solver import program
 
 UPIT = """% three blocks, the ore below
 TYPE: UPIT
@@ -103,7 +103,7 @@ def test_a_upit_with_comments_exponents_and_ids_in_any_order_is_solved(tmp_path)
         "lines_joined": 1,
     }
     assert record["model"]["rounded"] == 0 and record["model"]["name"] == "by hand"
-    pit = run.call("solve", "--model", folder / "mine.upit", "--prec", folder / "mine.prec").decode()
+    pit = program.call("solve", "--model", folder / "mine.upit", "--prec", folder / "mine.prec").decode()
     assert pit == "PIT\nBLOCKS: 3\nIN: 3\nWORTH: 71.000000\n0\n1\n2\n"
 
 

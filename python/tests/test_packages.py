@@ -6,8 +6,9 @@ import sys
 import pytest
 
 import pitplan.block_schedule
-from pitplan import MissingPackage, library
+from pitplan import MissingPackage
 from pitplan.core import optional_packages
+from pitplan.solver import library
 
 
 def module_of(tmp_path, monkeypatch, text):

@@ -19,7 +19,7 @@ from pitplan.config.project import of_data, read_schedule
 from pitplan.config.toml_section import Section
 from pitplan.core import files
 from pitplan.rounded_tables import shown
-from pitplan.run import Solution
+from pitplan.solver.program import Solution
 
 FACTORS = (400, 700, 1000)
 BOX = (3, 2, 4)

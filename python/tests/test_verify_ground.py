@@ -16,9 +16,10 @@ from test_scenarios import COLUMNS, UPRIGHT, pillar, prepared, solved_in_turn
 from test_verify import looked_at, ore_everywhere, wrong
 
 import pitplan
-from pitplan import PlanError, constraints, load, mine, prepare
+from pitplan import PlanError, constraints, load, prepare
 from pitplan.blockmodel import missing_blocks, tin
 from pitplan.core import files
+from pitplan.solver import problem
 from pitplan.verification import verify
 
 
@@ -264,7 +265,7 @@ def test_a_pit_without_fixed_blocks_that_leaves_a_block_standing_is_refused(plan
         return SimpleNamespace(**kept, free_shells=free_shells)
 
     project = load(plan_folder(ores_and_fixed(), with_section(FIXED_SECTION)))
-    monkeypatch.setattr(mine, "ready", partial(bent, mine.ready))
+    monkeypatch.setattr(problem, "ready", partial(bent, problem.ready))
     with pytest.raises(PlanError, match="free: walls: block .*, needs a block that is not"):
         pitplan.write_pit(project, 1500)
     assert not (project.folder / "pit").exists()

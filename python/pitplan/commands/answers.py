@@ -8,16 +8,17 @@ from typing import TYPE_CHECKING, Optional
 
 import pandas as pd
 
-from pitplan import analyse, mine as mines, phases as phasing, report_page, workbook, yearly_schedule as scheduling
+from pitplan import analyse, phases as phasing, report_page, workbook, yearly_schedule as scheduling
 from pitplan.core import files
 from pitplan.core.progress import Progress
+from pitplan.solver import problem
+from pitplan.solver.problem import Mine
+from pitplan.solver.program import Solution
 
 from ..conventions import with_discounting, with_outline
-from ..mine import Mine
 from ..phases import Phases
 from ..plan import Plan
 from ..rounded_tables import shown, write_csv
-from ..run import Solution
 from ..yearly_schedule import YearlySchedule
 from .drawing import draw
 from .writing import REPORT, WORKBOOK, Run, finish, note_verified, write_table
@@ -93,7 +94,7 @@ def check_fixed(mine: Mine, solution: Solution, factor: int, progress: Progress)
         return
     with progress.step(f"solving factor {factor} by itself, with the fixed blocks"):
         pit = mine.pit(factor)
-    mines.demand_same(solution, pit, factor)
+    problem.demand_same(solution, pit, factor)
 
 
 def tables_of(answered: Answered) -> list[str]:

@@ -2,10 +2,10 @@
 
 from __future__ import annotations
 
-from pitplan import auditing
 from pitplan.core import files, staging
 from pitplan.core.noted_path import NotedPath, noted
 from pitplan.core.progress import Progress, silent
+from pitplan.solver import audit as auditing
 
 from .export import read_factor
 from .writing import Place

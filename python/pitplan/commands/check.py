@@ -4,8 +4,8 @@ from __future__ import annotations
 
 from pitplan.blockmodel.figure_bounds import demand_within
 from pitplan.core.progress import Progress, silent
+from pitplan.solver.problem import counted_rows
 
-from ..mine import counted_rows
 from ..plan import prepare
 from .writing import Source, read
 

@@ -8,10 +8,11 @@ from typing import Optional
 
 import pandas as pd
 
-from pitplan import analyse, mine as mines
+from pitplan import analyse
 from pitplan.blockmodel import missing_blocks
 from pitplan.config.project import REFERENCE_FACTOR, Project
 from pitplan.core import files
+from pitplan.solver import problem
 
 from ..errors import PlanError
 from ..rounded_tables import shown, write_csv
@@ -56,7 +57,7 @@ def write_pit(
     planned = with_lower_factors(project, factor)
     with begun(project, target, writing, planned) as run:
         plan = run.mine.plan
-        keeping = mines.solve(plan, run.mine, writing.progress)
+        keeping = problem.solve(plan, run.mine, writing.progress)
         free = replace(run.mine.free_shells(planned.schedule.factors), of=plan.key)
         missing_blocks.demand_known(free.entry, plan.grid, project, plan.source)
         check_fixed(run.mine, keeping, factor, writing.progress)

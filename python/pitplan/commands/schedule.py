@@ -7,9 +7,10 @@ from typing import Optional
 
 import pandas as pd
 
+from pitplan import phases as phasing, workbook, yearly_schedule as scheduling
 from pitplan.core.optional_packages import load_library
+from pitplan.solver import problem
 
-from .. import mine as mines, phases as phasing, workbook, yearly_schedule as scheduling
 from .answers import Answered, write_answer
 from .writing import Place, Source, Writing, begun, read
 
@@ -91,7 +92,7 @@ def write_block_schedule(project: Source, folder: Optional[Place] = None, writin
     target = project.folder / "block_schedule" if folder is None else Path(folder)
     with begun(project, target, writing) as run:
         plan = run.mine.plan
-        solution = mines.solve(plan, run.mine, writing.progress)
+        solution = problem.solve(plan, run.mine, writing.progress)
         made = result.make(plan, writing.progress)
         run.record["notes"] += made.notes
         write_answer(Answered(plan, solution, blocks=made), run)

@@ -7,7 +7,8 @@ from typing import Optional
 
 import pandas as pd
 
-from .. import mine as mines
+from pitplan.solver import problem
+
 from .answers import Answered, write_answer
 from .writing import Place, Source, Writing, begun, read
 
@@ -37,5 +38,5 @@ def write_shells(project: Source, folder: Optional[Place] = None, writing: Writi
     project = read(project)
     target = project.folder if folder is None else Path(folder)
     with begun(project, target, writing) as run:
-        solution = mines.solve(run.mine.plan, run.mine, writing.progress)
+        solution = problem.solve(run.mine.plan, run.mine, writing.progress)
         return write_answer(Answered(run.mine.plan, solution), run)

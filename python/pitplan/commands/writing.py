@@ -10,18 +10,19 @@ from typing import Any, Iterable, Iterator, Optional, Union
 
 import pandas as pd
 
-from pitplan import block_pictures, exports, mine as mines, sensitivity_files, sensitivity_pictures, verification
+from pitplan import block_pictures, exports, sensitivity_files, sensitivity_pictures, verification
 from pitplan.blockmodel.figure_bounds import demand_within
 from pitplan.config import project_writer
 from pitplan.config.figures import FORMATS
 from pitplan.config.project import Project, inputs_beside, load
 from pitplan.core import csv_writer, files, staging
 from pitplan.core.progress import Progress, silent
+from pitplan.solver import problem
+from pitplan.solver.choice import PROGRAM, chosen
+from pitplan.solver.problem import Mine
 
 from ..errors import PlanError
-from ..mine import Mine
 from ..plan import Plan, prepare as prepare_plan
-from ..solver import PROGRAM, chosen
 
 # A project, or the path of its project.toml; and a folder.
 Source = Union[str, Path, Project]
@@ -166,7 +167,7 @@ def begun(project: Project, folder: Path, writing: Writing, planned: Optional[Pr
             project_writer.write(project, stage / files.AS_RUN, folder)
             demand_within(project, plan.grid)
             with progress.step("writing blocks and needs" if solver.by == PROGRAM else "listing the needs"):
-                mine = mines.ready(plan, solver, stage)
+                mine = problem.ready(plan, solver, stage)
             yield Run(project, mine, plan.record(mine.pairs) | {"solver": asdict(solver)}, stage, writing)
 
 

@@ -10,11 +10,11 @@ from typing import Any
 import numpy as np
 from numpy.typing import NDArray
 
-from pitplan import solver
 from pitplan.blockmodel import missing_blocks
 from pitplan.config.project import REFERENCE_FACTOR
 from pitplan.core import keyed_arrays
 from pitplan.core.files import staged_file
+from pitplan.solver import choice
 
 from ..block_schedule import Scheduled, solve
 from ..errors import PlanError
@@ -48,7 +48,7 @@ def write_answer(shared: Shared, job: Scenario) -> None:
     Raises PlanError where no schedule keeps what the project asks for, or it reaches ground that is not known, and KeyboardInterrupt where
     it is interrupted.
     """
-    solver.demand_same(shared.solver)
+    choice.demand_same(shared.solver)
     began = time.perf_counter()
     made = Made.of(shared, job)
     missing_blocks.demand_known(made.entry, shared.grid, shared.project, shared.project.table.file.name)

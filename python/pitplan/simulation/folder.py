@@ -35,9 +35,9 @@ from pitplan.constraints import Settled
 from pitplan.core import files
 from pitplan.core.files import staged_file
 from pitplan.slopes.arc_rows import Rows
+from pitplan.solver.choice import Solver
 
 from ..errors import PlanError
-from ..solver import Solver
 
 RECORD, PROJECT, BASE = "scenarios.json", "project.toml", "base.npz"
 STARTS, NEEDS = "starts.npy", "needs.npy"

@@ -16,10 +16,10 @@ from pathlib import Path
 
 from pitplan.core.files import staged_file
 from pitplan.core.paths import PACKAGES
+from pitplan.solver import choice
+from pitplan.solver.choice import Solver
 
-from .. import solver as solvers
 from ..errors import PlanError
-from ..solver import Solver
 from .folder import Scenario
 
 SCRIPT, ARRAY, GATHER, START, JOBS, LOG = (
@@ -139,7 +139,7 @@ def slurm_word(text: str) -> str:
 
 def words_of(folder: Path, count: int, solver: Solver) -> dict[str, object]:
     """What the scripts are filled with: paths, quoted for the shell, and those of Slurm's lines for Slurm."""
-    variable, file = solvers.place_of(solver)
+    variable, file = choice.place_of(solver)
     paths = {
         "python": Path(sys.executable),
         "packages": PACKAGES,

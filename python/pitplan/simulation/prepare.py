@@ -18,10 +18,10 @@ from pitplan.config.project import Project
 from pitplan.core import csv_writer, files
 from pitplan.core.optional_packages import load_library
 from pitplan.core.progress import Progress
+from pitplan.solver.choice import LIBRARY, Solver, chosen
+from pitplan.solver.problem import counted_rows
 
-from ..mine import counted_rows
 from ..plan import Plan
-from ..solver import LIBRARY, Solver, chosen
 from . import folder as folders
 from .ensemble import Base, envelope, models, read_base, scenarios_of
 from .folder import Scenario

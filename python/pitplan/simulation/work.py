@@ -11,17 +11,18 @@ from pathlib import Path
 
 import numpy as np
 
-from pitplan import analyse, library, mine, run, solver
+from pitplan import analyse
 from pitplan.blockmodel import missing_blocks
 from pitplan.core import files, keyed_arrays
 from pitplan.core.files import staged_file
 from pitplan.core.optional_packages import load_library
 from pitplan.economics import block_values
 from pitplan.slopes.domains import Walls
+from pitplan.solver import choice, library, problem, program
+from pitplan.solver.program import Solution
 
 from ..errors import PlanError, ProgramError
 from ..plan import Plan
-from ..run import Solution
 from . import folder as folders
 from .ensemble import priced
 from .folder import Scenario, Shared
@@ -106,15 +107,15 @@ def plan_of(shared: Shared, scenario: Scenario) -> Plan:
 
 def shells_of(shared: Shared, plan: Plan) -> Solution:
     """The shells of a scenario by the solver of all. Raises ProgramError where that is another here, or refuses."""
-    solver.demand_same(shared.solver)
+    choice.demand_same(shared.solver)
     factors = plan.project.schedule.factors
     nodes = plan.values.nodes() if plan.settled is None else plan.values.nodes_of_rest(plan.settled)
-    if shared.solver.by == solver.LIBRARY:
+    if shared.solver.by == choice.LIBRARY:
         return library.shells(nodes, shared.rows, factors)
     with tempfile.TemporaryDirectory(prefix="pitplan-") as place:
         blocks = Path(place) / files.BLOCKS
         files.write_blocks(blocks, plan.grid, plan.values.processed, nodes)
-        return run.solve_files(blocks, shared.folder / files.PREC, factors)
+        return program.solve_files(blocks, shared.folder / files.PREC, factors)
 
 
 def write_block_answer(shared: Shared, scenario: Scenario) -> None:
@@ -129,7 +130,7 @@ def write_block_answer(shared: Shared, scenario: Scenario) -> None:
 def write_answer(shared: Shared, scenario: Scenario) -> None:
     """Raises ProgramError where the solver ends without an answer."""
     plan = plan_of(shared, scenario)
-    solution = mine.joined(shells_of(shared, plan), plan.settled, plan.values)
+    solution = problem.joined(shells_of(shared, plan), plan.settled, plan.values)
     missing_blocks.demand_known(solution.entry, plan.grid, plan.project, plan.source)
     cells = analyse.cells_of(plan, solution)
     table = analyse.amounts(plan, cells).astype(np.float64)

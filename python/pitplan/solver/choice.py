@@ -10,8 +10,9 @@ from dataclasses import dataclass
 from pathlib import Path
 from typing import Optional
 
-from . import library, run
-from .errors import PlanError, ProgramError
+from pitplan.errors import PlanError, ProgramError
+
+from . import library, program
 
 LIBRARY, PROGRAM = "library", "program"
 BY = (LIBRARY, PROGRAM)
@@ -35,7 +36,7 @@ def chosen(by: Optional[str] = None) -> Solver:
     by = by or preferred()
     if by not in BY:
         raise PlanError(f"{by} is none of {', '.join(BY)}")
-    return Solver(by, **(library.identity() if by == LIBRARY else run.identity()))
+    return Solver(by, **(library.identity() if by == LIBRARY else program.identity()))
 
 
 def preferred() -> str:
@@ -45,7 +46,7 @@ def preferred() -> str:
 
 def place_of(solver: Solver) -> tuple[str, Path]:
     """The variable that names a solver, and the file that is found here. Raises ProgramError where there is none."""
-    return ("PITSHELL_LIBRARY", library.loaded().LIBRARY) if solver.by == LIBRARY else ("PITSHELL", run.program())
+    return ("PITSHELL_LIBRARY", library.loaded().LIBRARY) if solver.by == LIBRARY else ("PITSHELL", program.program())
 
 
 def demand_same(begun: Solver) -> None:

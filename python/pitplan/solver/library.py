@@ -14,10 +14,10 @@ import pandas as pd
 
 from pitplan.core import files
 from pitplan.core.optional_packages import LIBRARY, is_of
+from pitplan.errors import ProgramError
 from pitplan.slopes.arc_rows import Rows
 
-from .errors import ProgramError
-from .run import Solution, ended
+from .program import Solution, ended
 
 # The program's own status of a refusal.
 REFUSED = 1

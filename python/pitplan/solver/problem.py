@@ -15,20 +15,21 @@ from typing import Iterator, Optional, Union
 import numpy as np
 import pandas as pd
 
+from pitplan import constraints
 from pitplan.blockmodel import missing_blocks
+from pitplan.constraints import Settled
 from pitplan.core import files
 from pitplan.core.decimals import at_factor, greatest
 from pitplan.core.files import Needs, Pairs
 from pitplan.core.progress import Progress, silent
 from pitplan.economics.block_values import Values
+from pitplan.errors import PlanError
+from pitplan.plan import Plan
 from pitplan.slopes.arc_rows import Rows, rows_of
 
-from . import constraints, library, run
-from .constraints import Settled
-from .errors import PlanError
-from .plan import Plan
-from .run import Solution
-from .solver import LIBRARY, Solver, chosen
+from . import library, program
+from .choice import LIBRARY, Solver, chosen
+from .program import Solution
 
 # A model has values below 10^12 with six decimals.
 GREATEST = 10**18
@@ -55,17 +56,17 @@ class MineInFiles:
     def shells(self, factors: tuple[int, ...]) -> Solution:
         """The shells of the rest that fixed blocks leave; of all where there are none."""
         names = (files.BLOCKS, files.PREC) if self.plan.settled is None else (files.REST_BLOCKS, files.REST_PREC)
-        return run.solve_files(*(self.folder / name for name in names), factors)
+        return program.solve_files(*(self.folder / name for name in names), factors)
 
     def free_shells(self, factors: tuple[int, ...]) -> Solution:
         """The shells as if nothing were fixed."""
-        return run.solve_files(self.folder / files.BLOCKS, self.folder / files.PREC, factors)
+        return program.solve_files(self.folder / files.BLOCKS, self.folder / files.PREC, factors)
 
     def pit(self, factor: int) -> Solution:
         """The pit of a factor, with the fixed blocks."""
         path = self.folder / files.PIT_MODEL
         files.write_model(path, self.plan.project.title, values_at(self.plan.values.nodes(), factor))
-        return run.solve_pit(path, self.folder / files.PREC, self.folder / files.FIXED, factor)
+        return program.solve_pit(path, self.folder / files.PREC, self.folder / files.FIXED, factor)
 
 
 @dataclass(frozen=True)

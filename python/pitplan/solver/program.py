@@ -14,8 +14,7 @@ import pandas as pd
 
 from pitplan.core import files
 from pitplan.core.paths import program
-
-from .errors import BudgetUsedUp, ProgramError
+from pitplan.errors import BudgetUsedUp, ProgramError
 
 
 @dataclass(frozen=True)

@@ -17,15 +17,16 @@ from pathlib import Path
 import numpy as np
 import pandas as pd
 
+from pitplan import constraints
 from pitplan.core import files, paths
 from pitplan.core.files import Folder
 from pitplan.core.progress import Progress
+from pitplan.errors import PlanError
+from pitplan.plan import Plan, prepare
+from pitplan.planned_table import project_of
 
-from . import constraints, run
-from .errors import PlanError
-from .mine import values_at
-from .plan import Plan, prepare
-from .planned_table import project_of
+from . import program
+from .problem import values_at
 
 CHECKER = paths.checker()
 MODEL, PREC, FIXED, CERTIFICATE = "shell.upit", "shell.prec", "shell.fixed", "shell.cert"
@@ -93,7 +94,7 @@ def write(stage: Path, folder: Folder, factor: int, progress: Progress) -> None:
     options = ["--model", stage / MODEL, "--prec", stage / PREC, "--certificate", stage / CERTIFICATE]
     fixed = [FIXED] if (stage / FIXED).exists() else []
     options += [word for name in fixed for word in ("--fixed", stage / name)]
-    (stage / PIT).write_bytes(run.call("solve", *options))
+    (stage / PIT).write_bytes(program.call("solve", *options))
     worth = demand_same(stage, folder, factor)
     names = [MODEL, PREC, *fixed, CERTIFICATE, PIT, CHECKER.name]
     hashes = files.hashes(stage, names)
@@ -105,7 +106,7 @@ def write(stage: Path, folder: Folder, factor: int, progress: Progress) -> None:
         "factor": factor,
         "worth_at_factor": str(worth),
         "solver": folder.record["shells"]["solver"],
-        "program": run.identity(),
+        "program": program.identity(),
         "files": hashes,
         "inputs": folder.record["inputs"],
         "plan": folder.record["files"],
