@@ -45,10 +45,10 @@ from typing import TYPE_CHECKING, Any
 
 if TYPE_CHECKING:
     from pitplan.config.project import Project, load
+    from pitplan.pits.shell_tables import blocks, shells, years
     from pitplan.solver.problem import solve
     from pitplan.solver.program import Solution
 
-    from .analyse import blocks, shells, years
     from .commands.audit import audit
     from .commands.check import check
     from .commands.export import export

@@ -6,7 +6,8 @@ from dataclasses import dataclass
 
 import numpy as np
 
-from . import analyse
+from pitplan.pits import shell_tables
+
 from .phase_benches import ORE, PhaseBenches
 from .phases import Phases
 from .plan import MILLION
@@ -41,7 +42,7 @@ class Parcels:
 
 def of_phases(phases: Phases, benches: PhaseBenches, count: int) -> Parcels:
     """The ore of a pit's phases in so many bins of even tonnage, or in fewer where ore of one worth is more than a bin."""
-    plan, cells = phases.plan, analyse.cells_of(phases.plan, phases.solution)
+    plan, cells = phases.plan, shell_tables.cells_of(phases.plan, phases.solution)
     ore = np.flatnonzero((phases.phase > 0) & (cells.tonnes > 0) & cells.ore)
     gain, tonnes = (plan.values.revenue[ore] - plan.values.processing[ore]) / MILLION, cells.feed[ore]
     edges = edges_of(gain / tonnes, tonnes, count)

@@ -17,10 +17,11 @@ import numpy as np
 from scipy.optimize import linprog
 from scipy.sparse import coo_matrix, csr_matrix, diags, eye, hstack, vstack
 
+from pitplan.pits.best_worst_case import year_discounts
+
 from .highs import Programme
 from .optimiser import solve
 from .phase_benches import PhaseBenches
-from .schedule import year_discounts
 from .sequencing import HAIR, Limits, Problem, Sequence, by_lead, dig, leads
 
 # By these shares of a bench the year in which it is dug is told, besides the expected year.

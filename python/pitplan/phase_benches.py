@@ -7,7 +7,8 @@ from functools import cached_property
 
 import numpy as np
 
-from . import analyse
+from pitplan.pits import shell_tables
+
 from .phases import Phases
 
 ROCK, ORE, CASH = "rock_tonnes", "ore_tonnes", "cash"
@@ -72,14 +73,14 @@ class PhaseBenches:
 
 def of_phases(phases: Phases, lag: int = 0) -> PhaseBenches:
     """The benches of a pit's phases, at the price as given and with the phases' own mining costs."""
-    plan, cells = phases.plan, analyse.cells_of(phases.plan, phases.solution)
+    plan, cells = phases.plan, shell_tables.cells_of(phases.plan, phases.solution)
     inside = np.flatnonzero((phases.phase > 0) & (cells.tonnes > 0))
     levels = plan.grid.shape[0]
     place = (phases.phase[inside].astype(np.int64) - 1) * levels + inside // plan.grid.per_level
     used, bench = np.unique(place, return_inverse=True)
     ore = cells.ore[inside]
     flows = {ROCK: cells.tonnes[inside], ORE: np.where(ore, cells.feed[inside], 0.0)}
-    flows |= {name: feed[inside] for name, feed in analyse.feeds_of(plan, cells).items()}
+    flows |= {name: feed[inside] for name, feed in shell_tables.feeds_of(plan, cells).items()}
     flows |= {f"metal_{name}": np.where(ore, metal[inside], 0.0) for name, metal in plan.values.metal.items()}
     flows[CASH] = (cells.worth - phases.mining_cost_added)[inside]
     sums = np.column_stack([np.bincount(bench, flow, minlength=len(used)) for flow in flows.values()])

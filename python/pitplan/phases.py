@@ -19,11 +19,12 @@ from pitplan.blockmodel.plausibility import WARNING
 from pitplan.config.project import REFERENCE_FACTOR, Project
 from pitplan.config.pushbacks import MOST_PHASES, PhaseRules
 from pitplan.core.progress import Progress, silent
+from pitplan.pits import shell_tables
 from pitplan.solver import problem
 from pitplan.solver.problem import Mine
 from pitplan.solver.program import Solution
 
-from . import analyse, widths
+from . import widths
 from .errors import PlanError
 from .plan import Plan
 
@@ -97,8 +98,8 @@ def selected(plan: Plan, mine: Mine, progress: Progress) -> tuple[Plan, list[str
     """
     if named_last(plan.project) is not None:
         return plan, []
-    table = analyse.shells(plan, problem.solve(plan, mine, progress))
-    last = analyse.chosen_factor(table, plan.project.schedule)
+    table = shell_tables.shells(plan, problem.solve(plan, mine, progress))
+    last = shell_tables.chosen_factor(table, plan.project.schedule)
     note = f"the last phase ends with the shell of factor {last}, which shells selects: [pushbacks] last names another"
     if not table["tonnes"][table["factor"] == last].any():
         last = REFERENCE_FACTOR
@@ -131,7 +132,9 @@ def divide(plan: Plan, mine: Optional[Mine] = None, progress: Progress = silent)
 
     def tonnes_at(factors: tuple[int, ...]) -> dict[int, float]:
         part, solution = solved(factors)
-        return dict(zip(factors, analyse.within(part, solution.entry[: plan.grid.count], plan.values.tonnes).tolist()))
+        return dict(
+            zip(factors, shell_tables.within(part, solution.entry[: plan.grid.count], plan.values.tonnes).tolist())
+        )
 
     if rules.factors is not None:
         tonnes, gaps = tonnes_at(rules.factors), []
@@ -239,7 +242,7 @@ def gap(known: dict[int, float], low: int, high: int) -> str:
 
 def blocks(phases: Phases) -> pd.DataFrame:
     """`pitplan.blocks` of the phases' shells with `phase`, from 1 (0: in none)."""
-    frame = analyse.blocks(phases.plan, phases.solution)
+    frame = shell_tables.blocks(phases.plan, phases.solution)
     return frame.assign(phase=phases.phase[frame["id"].to_numpy()])
 
 
@@ -253,7 +256,7 @@ def table(phases: Phases) -> pd.DataFrame:
     the phases up to it, since blocks come in a later phase for the sake of width; cost_of_width, the same of the last phase, where it is lost;
     pieces that do not touch by a side; least_width in metres.
     """
-    plan, cells = phases.plan, analyse.cells_of(phases.plan, phases.solution)
+    plan, cells = phases.plan, shell_tables.cells_of(phases.plan, phases.solution)
     ore = np.where(cells.ore, phases.phase, 0)
     tonnes, ore_tonnes, in_situ = (
         added(of, amounts, phases)
@@ -267,16 +270,16 @@ def table(phases: Phases) -> pd.DataFrame:
         "ore_tonnes": ore_tonnes,
         "in_situ_ore_tonnes": in_situ,
         "waste_tonnes": tonnes - in_situ,
-        "strip_ratio": analyse.ratio(tonnes - in_situ, in_situ),
+        "strip_ratio": shell_tables.ratio(tonnes - in_situ, in_situ),
     }
-    columns |= {name: added(phases.phase, feed, phases) for name, feed in analyse.feeds_of(plan, cells).items()}
+    columns |= {name: added(phases.phase, feed, phases) for name, feed in shell_tables.feeds_of(plan, cells).items()}
     for metal in plan.project.metals:
-        columns[f"grade_{metal.name}"] = analyse.ratio(added(ore, cells.content[metal.name], phases), ore_tonnes)
+        columns[f"grade_{metal.name}"] = shell_tables.ratio(added(ore, cells.content[metal.name], phases), ore_tonnes)
         columns[f"metal_{metal.name}"] = added(ore, plan.values.metal[metal.name], phases)
     columns["worth"] = added(phases.phase, cells.worth, phases)
     if rules_of(plan.project).mining_cost_added:
         columns["mining_cost_added"] = added(phases.phase, phases.mining_cost_added, phases)
-    lacking = analyse.within(plan, cells.factor, cells.worth) - np.cumsum(columns["worth"])
+    lacking = shell_tables.within(plan, cells.factor, cells.worth) - np.cumsum(columns["worth"])
     is_last = columns["phase"] == len(phases.factors)
     columns["deferred_value"], columns["cost_of_width"] = np.where(is_last, 0.0, lacking), np.where(
         is_last, lacking, 0.0

@@ -28,9 +28,9 @@ from pitplan.blockmodel.grid import Grid, metres
 from pitplan.config.figures import PictureRules
 from pitplan.config.project import Metal
 from pitplan.core.cell_outlines import edges
+from pitplan.pits import shell_tables
 from pitplan.solver.program import Solution
 
-from . import analyse
 from .errors import PlanError
 from .map_marks import axes_of_map, contours, floor_of, mark_map, mark_section_cells, section_titles
 from .plan import Plan
@@ -132,14 +132,14 @@ def scene_of(plan: Plan, solution: Solution, chosen: Optional[int] = None) -> Sc
     """What plans and sections of a plan's shells show; the chosen factor, in per mille, is by default that of the report."""
     rules, grid = plan.project.pictures or PictureRules(), plan.grid
     first = next(metal for metal in plan.project.metals if rules.metal in (None, metal.name))
-    cells = analyse.cells_of(plan, solution)
+    cells = shell_tables.cells_of(plan, solution)
     return Scene(
         grid=grid,
         factor=grid.cube(cells.factor),
         solid=grid.cube(cells.tonnes > 0),
         grade=grid.cube(grid.spread(plan.table[first.column].to_numpy())),
         metal=first,
-        chosen=analyse.chosen_factor(analyse.shells(plan, solution), plan.project.schedule)
+        chosen=shell_tables.chosen_factor(shell_tables.shells(plan, solution), plan.project.schedule)
         if chosen is None
         else chosen,
         rules=rules,

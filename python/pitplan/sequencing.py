@@ -10,10 +10,10 @@ import numpy as np
 from pitplan.config.project import Project, Schedule
 from pitplan.config.schedule import ScheduleRules
 from pitplan.economics.period_costs import PLAIN, YearlyMoney
+from pitplan.pits.best_worst_case import MOST_YEARS, year_discounts
 
 from .errors import PlanError
 from .phase_benches import CASH, ORE, ROCK, PhaseBenches
-from .schedule import MOST_YEARS, year_discounts
 
 # A share so small is taken as nothing, since sums of fractions miss it by a hair.
 HAIR = 1e-9

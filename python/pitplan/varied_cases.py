@@ -21,15 +21,15 @@ from pitplan.config.sensitivity import SensitivityRules
 from pitplan.core import files, keyed_arrays
 from pitplan.core.optional_packages import load
 from pitplan.core.progress import Progress, silent
+from pitplan.pits import shell_tables
+from pitplan.pits.skin import Skin, of_pit
 from pitplan.solver import choice as solver, problem
 from pitplan.solver.choice import Solver
 
-from . import analyse
 from .errors import PlanError
 from .plan import Plan, prepare
 from .simulation import on_dask
 from .simulation.folder import key_of
-from .skin import Skin, of_pit
 from .varied import Change, given, varied
 
 CASES = "cases"
@@ -134,7 +134,7 @@ def solve(project: Project, folder: Path, where: on_dask.Where | None, progress:
         why = "is too large for the program, and what shells can reach of it is another with each number: reblock it by [table] reblock"
         raise PlanError(f"{project.table.file}: {why}, or give a smaller model")
     solution = problem.solve(plan, progress=progress)
-    factor = analyse.chosen_factor(analyse.shells(plan, solution), project.schedule)
+    factor = shell_tables.chosen_factor(shell_tables.shells(plan, solution), project.schedule)
     asked = Asked(up_to(project, factor), frame, found_by)
     rules = rules_of(project)
     begun = {
@@ -197,14 +197,14 @@ def find(case: Case, asked: Asked) -> Found:
     solver.demand_same(asked.solver)
     plan = prepare(varied(asked.project, case.changes), asked.frame)
     solution = problem.solve(plan)
-    row = of_last(analyse.shells(plan, solution))
+    row = of_last(shell_tables.shells(plan, solution))
     entry = solution.entry[: plan.grid.count]
     kept = entry if asked.as_given is None else asked.as_given.entry
     nodes = np.concatenate([kept, np.zeros(len(plan.values.processed), dtype=kept.dtype)])
-    earned = of_last(analyse.shells(plan, replace(solution, entry=nodes)))
+    earned = of_last(shell_tables.shells(plan, replace(solution, entry=nodes)))
     row |= {f"kept_{name}": np.nan if case.moves_walls else earned[name] for name in KEPT}
     skin = of_pit(plan, rules_of(asked.project).skin) if asked.as_given is None else asked.as_given.skin
-    worth = analyse.cells_of(plan, solution).worth[skin.cells].sum()
+    worth = shell_tables.cells_of(plan, solution).worth[skin.cells].sum()
     row[SKIN_WORTH] = np.nan if case.moves_walls else worth
     return Found(
         row, entry, [pattern.as_json() for pattern in plan.walls.patterns], skin if asked.as_given is None else None

@@ -15,6 +15,7 @@ from pitplan.config.project import Project, Schedule
 from pitplan.config.schedule import ScheduleRules
 from pitplan.core.progress import Progress, silent
 from pitplan.economics import period_costs
+from pitplan.pits.best_worst_case import year_discounts
 
 from . import grade_bins, integer_programme, linear_programme, phase_benches
 from .errors import PlanError
@@ -22,7 +23,6 @@ from .linear_programme import Relaxed
 from .milling_programme import Milling, MillingProblem
 from .phase_benches import CASH, ORE, ROCK, PhaseBenches
 from .phases import Phases
-from .schedule import year_discounts
 from .sequencing import Problem, by_rule, limits_of, running
 
 RULE, LP, MILP = "rule", "lp", "milp"

@@ -14,8 +14,8 @@ import tomllib
 from conftest import ROOT
 
 import pitplan
-from pitplan import analyse
 from pitplan.conventions import with_discounting
+from pitplan.pits import shell_tables
 from pitplan.rounded_tables import shown
 
 EXAMPLE = ROOT / "examples" / "plan"
@@ -57,7 +57,7 @@ def amounts_of(row, project, top):
 def test_tonnes_and_worth_are_the_sums_over_the_rows(solved_example, factor):
     plan, solution, table = solved_example
     project = tomllib.loads((EXAMPLE / "project.toml").read_text())
-    blocks = analyse.blocks(plan, solution)
+    blocks = shell_tables.blocks(plan, solution)
     inside = set(blocks["planner_id"][(blocks["factor"] > 0) & (blocks["factor"] <= factor)])
     totals = Counter()
     with open(EXAMPLE / "blocks.csv", newline="") as file:

@@ -9,10 +9,11 @@ from conftest import PROJECT, rows
 from hypothesis import given, strategies as st
 
 import pitplan
-from pitplan import PlanError, analyse, write_schedule
+from pitplan import PlanError, write_schedule
 from pitplan.core import files
 from pitplan.economics import block_values, process_routing
 from pitplan.economics.process_routing import Way, best_way, steps_of
+from pitplan.pits import shell_tables
 from pitplan.verification import verify
 
 LEACH_AND_MILL = """
@@ -217,7 +218,7 @@ def test_shells_are_those_of_the_best_process_at_each_factor(plan_folder, cutoff
     """One factor after the other, each block with one node that has what its best process is worth there."""
     path = plan_folder(deposit(), PROJECT, *MORE, ("decimals = 2\n", f'decimals = 2\ncutoff = "{cutoff}"\n'))
     plan = pitplan.prepare(path)
-    entry = analyse.cells_of(plan, pitplan.solve(plan)).factor
+    entry = shell_tables.cells_of(plan, pitplan.solve(plan)).factor
     for factor in plan.project.schedule.factors:
         best = best_way(plan.values.ways, factor if cutoff == "moving" else 1000)
         alone = tuple(
@@ -271,9 +272,11 @@ def test_other_processes_and_blocks_that_are_processed_twice_are_found(
 
 
 def test_a_capacity_that_is_passed_over_is_found(plan_folder, monkeypatch, without_figures):
-    years = pitplan.schedule.capacity_years
+    years = pitplan.pits.best_worst_case.capacity_years
     monkeypatch.setattr(
-        pitplan.schedule, "capacity_years", lambda amounts, settings: years(amounts, replace(settings, per_process=()))
+        pitplan.pits.best_worst_case,
+        "capacity_years",
+        lambda amounts, settings: years(amounts, replace(settings, per_process=())),
     )
     assert "years" in wrong(solved(plan_folder))
 

@@ -8,8 +8,9 @@ import pytest
 from conftest import PROJECT, rows
 
 import pitplan
-from pitplan import PlanError, analyse
+from pitplan import PlanError
 from pitplan.blockmodel.grid import Grid
+from pitplan.pits import shell_tables
 from pitplan.slopes import crop
 from pitplan.slopes.crop import Box
 from pitplan.verification import verify
@@ -39,7 +40,7 @@ def few(monkeypatch):
 def solved(path):
     """By the blocks' names the factor at which each comes in, of those that do."""
     plan = pitplan.prepare(path)
-    blocks = analyse.blocks(plan, pitplan.solve(plan)).set_index("name")
+    blocks = shell_tables.blocks(plan, pitplan.solve(plan)).set_index("name")
     return plan, blocks["factor"][blocks["factor"] > 0].sort_index()
 
 
@@ -62,7 +63,7 @@ def test_shells_are_the_same(plan_folder, monkeypatch):
 def test_no_shell_touches_a_side_that_is_none_of_the_model(plan_folder, few):
     plan = pitplan.prepare(plan_folder(deposit(), PROJECT, ANGLES))
     solution = pitplan.solve(plan)
-    assert analyse.edge_notes(plan, solution) == []
+    assert shell_tables.edge_notes(plan, solution) == []
 
 
 def test_costs_that_rise_from_the_highest_block_that_ore_needs(plan_folder, monkeypatch):

@@ -14,10 +14,11 @@ from conftest import PROJECT, rows
 from hypothesis import given, strategies as st
 
 import pitplan
-from pitplan import PlanError, analyse
+from pitplan import PlanError
 from pitplan.config.project import of_data, read_schedule
 from pitplan.config.toml_section import Section
 from pitplan.core import files
+from pitplan.pits import shell_tables
 from pitplan.rounded_tables import shown
 from pitplan.solver.program import Solution
 
@@ -311,7 +312,7 @@ def test_the_file_of_years_stands_beside_the_shells(solved):
     table = pd.read_csv(folder / "years.csv")
     assert "years.csv" in files.read_folder(folder).record["files"]
     plan = pitplan.prepare(project)
-    expected = shown(analyse.years(plan, pitplan.solve(plan))).assign(discounting="end_of_year")
+    expected = shown(shell_tables.years(plan, pitplan.solve(plan))).assign(discounting="end_of_year")
     pd.testing.assert_frame_equal(table, expected, check_dtype=False)
     shells = pd.read_csv(folder / "shells.csv").set_index("factor")
     sums = table.groupby(["case", "factor"])["discounted"].sum()
@@ -328,6 +329,6 @@ def test_discounting_is_one_of_three(plan_folder):
 def test_the_factor_to_show_is_that_of_the_best_mean_of_both_cases_up_to_1000():
     table = pd.DataFrame({"factor": [400, 700, 1000, 1300], "npv_best": [5.0, 9, 10, 99], "npv_worst": [5.0, 4, 2, 99]})
     schedule = project_of().schedule
-    assert analyse.chosen_factor(table, schedule) == 700
-    assert analyse.chosen_factor(table.assign(npv_best=[9.0, 9, 9, 9], npv_worst=[1.0, 2, 3, 4]), schedule) == 1000
-    assert analyse.chosen_factor(table, replace(schedule, chosen=400)) == 400
+    assert shell_tables.chosen_factor(table, schedule) == 700
+    assert shell_tables.chosen_factor(table.assign(npv_best=[9.0, 9, 9, 9], npv_worst=[1.0, 2, 3, 4]), schedule) == 1000
+    assert shell_tables.chosen_factor(table, replace(schedule, chosen=400)) == 400

@@ -11,9 +11,9 @@ from conftest import PROJECT, rows
 from hypothesis import HealthCheck, given, settings, strategies as st
 
 import pitplan
-from pitplan import analyse
 from pitplan.config.project import of_data, read_slopes
 from pitplan.config.toml_section import Section
+from pitplan.pits import shell_tables
 from pitplan.slopes.slope_patterns import FIVE
 
 SMALL = settings(max_examples=25, suppress_health_check=[HealthCheck.function_scoped_fixture])
@@ -74,7 +74,7 @@ def test_shells_are_the_best_of_all_closed_sets(tmp_path, by_id):
         worth, pit = best_by_trying(CLOSED, [max(gain, Decimal(0)) - 200 for gain in gains])
         assert solution.worth[factor] == worth
         assert set(np.flatnonzero((solution.entry[:9] > 0) & (solution.entry[:9] <= factor))) == pit
-        processed = analyse.cells_of(plan, solution).processed
+        processed = shell_tables.cells_of(plan, solution).processed
         expected = {block for block in pit if gains[block] > 0}
         assert set(np.flatnonzero((processed > 0) & (processed <= factor))) == expected
 
@@ -153,7 +153,7 @@ def test_best_and_worst_case_by_hand(plan_folder):
 def test_pits_that_touch_the_model_are_warned_of(plan_folder):
     table = rows(5, 5, 3, cu=lambda i, j, k: 8 if (i, j, k) == (1, 2, 0) else 0)
     plan = pitplan.prepare(plan_folder(table))
-    notes = analyse.edge_notes(plan, pitplan.solve(plan))
+    notes = shell_tables.edge_notes(plan, pitplan.solve(plan))
     touched = [note.split(" of the model")[0] for note in notes]
     assert touched == [
         f"WARNING: the greatest pit touches the {side}" for side in ("west side", "south side", "north side", "floor")

@@ -9,8 +9,9 @@ import pytest
 from conftest import PROJECT, rows
 
 import pitplan
-from pitplan import PlanError, analyse
+from pitplan import PlanError
 from pitplan.config.slopes import Bench
+from pitplan.pits import shell_tables
 from pitplan.slopes import slope_patterns
 from pitplan.verification import verify
 
@@ -28,7 +29,7 @@ def deposit():
 def dug(path):
     """The places, by columns, rows and levels from the floor, that are dug at factor 1000."""
     plan = pitplan.prepare(path)
-    inside = np.flatnonzero(analyse.cells_of(plan, pitplan.solve(plan)).factor[:] == 500)
+    inside = np.flatnonzero(shell_tables.cells_of(plan, pitplan.solve(plan)).factor[:] == 500)
     column, row, level = plan.grid.indices(inside)
     return set(zip(column.tolist(), row.tolist(), (4 - level).tolist()))
 

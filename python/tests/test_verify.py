@@ -11,13 +11,14 @@ from conftest import PROJECT, rows
 from hypothesis import HealthCheck, given, settings, strategies as st
 
 import pitplan
-from pitplan import PlanError, constraints, load, prepare, schedule, solve
+from pitplan import PlanError, constraints, load, prepare, solve
 from pitplan.blockmodel import missing_blocks, reader
 from pitplan.cli import main
 from pitplan.commands.answers import Answered, write_tables
 from pitplan.config.slopes import Wall
 from pitplan.core import files
 from pitplan.economics import block_values
+from pitplan.pits import best_worst_case
 from pitplan.slopes import slope_patterns
 from pitplan.verification import answer as answers, demand, sums, verify
 from pitplan.verification.answer import read
@@ -509,11 +510,11 @@ def test_capacity_that_is_caught_up_is_found(plan_folder, monkeypatch):
     """Years as the greater of two cumulative sums: mill time that is lost while stripping comes back."""
 
     def cumulative(amounts, settings_):
-        ore, rock = np.cumsum(amounts[:, schedule.ORE]), np.cumsum(amounts[:, schedule.ROCK])
+        ore, rock = np.cumsum(amounts[:, best_worst_case.ORE]), np.cumsum(amounts[:, best_worst_case.ROCK])
         ends = np.maximum(ore / settings_.ore_per_year, rock / settings_.rock_per_year)
-        return schedule.Course(amounts, np.concatenate([[0.0], ends])[:, None])
+        return best_worst_case.Course(amounts, np.concatenate([[0.0], ends])[:, None])
 
-    monkeypatch.setattr(schedule, "course_of", cumulative)
+    monkeypatch.setattr(best_worst_case, "course_of", cumulative)
     assert "years: " in refused(plan_folder)
 
 

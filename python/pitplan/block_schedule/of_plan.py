@@ -11,13 +11,13 @@ import pitshell
 from pitplan.config.project import Project
 from pitplan.config.schedule import MOST_YEARS, ScheduleRules, Sum
 from pitplan.economics.period_costs import YearlyMoney, of_project
+from pitplan.pits.best_worst_case import year_discounts
 from pitplan.slopes import closure
 from pitplan.slopes.arcs import ABSENT, slices
 
 from ..errors import PlanError
 from ..phase_benches import CASH, ORE, ROCK
 from ..plan import MILLION, Plan
-from ..schedule import year_discounts
 from ..sequencing import Limits, limits_of
 from .problem import BlockProblem, Due, Limit, Needs
 from .topological import greatest_needed, ranks_of

@@ -8,9 +8,10 @@ from typing import TYPE_CHECKING, Optional
 
 import pandas as pd
 
-from pitplan import analyse, phases as phasing, report_page, workbook, yearly_schedule as scheduling
+from pitplan import phases as phasing, report_page, workbook, yearly_schedule as scheduling
 from pitplan.core import files
 from pitplan.core.progress import Progress
+from pitplan.pits import shell_tables
 from pitplan.solver import problem
 from pitplan.solver.problem import Mine
 from pitplan.solver.program import Solution
@@ -54,8 +55,8 @@ def write_answer(answered: Answered, run: Run) -> pd.DataFrame:
     plan, stage, progress = answered.plan, run.stage, run.writing.progress
     with progress.step("counting the shells"):
         table, years = write_tables(answered, stage)
-        run.record["notes"] += analyse.edge_notes(plan, answered.solution)
-    factor = analyse.chosen_factor(table, plan.project.schedule)
+        run.record["notes"] += shell_tables.edge_notes(plan, answered.solution)
+    factor = shell_tables.chosen_factor(table, plan.project.schedule)
     check_fixed(run.mine, answered.solution, factor, progress)
     note_answer(answered, factor, run)
     run.record["figures"] = run.writing.figures
@@ -126,10 +127,10 @@ def write_tables(answered: Answered, stage: Path) -> tuple[pd.DataFrame, pd.Data
     schedule; returns the tables of shells and of years."""
     plan, solution, phases = answered.plan, answered.solution, answered.phases
     more = None if phases is None else phases.mining_cost_added
-    table, years = analyse.shells(plan, solution, more), analyse.years(plan, solution, more)
+    table, years = shell_tables.shells(plan, solution, more), shell_tables.years(plan, solution, more)
     if solution.answer is not None:
         (stage / files.ANSWER).write_bytes(solution.answer)
-    blocks = analyse.blocks(plan, solution) if phases is None else phasing.blocks(phases)
+    blocks = shell_tables.blocks(plan, solution) if phases is None else phasing.blocks(phases)
     if answered.schedule is not None:
         blocks["year"] = scheduling.blocks_year(answered.schedule)[blocks["id"].to_numpy()]
         years = pd.concat([years, scheduling.years(answered.schedule)], ignore_index=True)

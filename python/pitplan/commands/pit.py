@@ -8,10 +8,10 @@ from typing import Optional
 
 import pandas as pd
 
-from pitplan import analyse
 from pitplan.blockmodel import missing_blocks
 from pitplan.config.project import REFERENCE_FACTOR, Project
 from pitplan.core import files
+from pitplan.pits import shell_tables
 from pitplan.solver import problem
 
 from ..errors import PlanError
@@ -61,10 +61,12 @@ def write_pit(
         free = replace(run.mine.free_shells(planned.schedule.factors), of=plan.key)
         missing_blocks.demand_known(free.entry, plan.grid, project, plan.source)
         check_fixed(run.mine, keeping, factor, writing.progress)
-        table = pd.concat([analyse.shells(plan, solution).tail(1) for solution in (keeping, free)], ignore_index=True)
+        table = pd.concat(
+            [shell_tables.shells(plan, solution).tail(1) for solution in (keeping, free)], ignore_index=True
+        )
         table.insert(0, "fixed_blocks", ["kept", "free"])
-        of_free = analyse.blocks(plan, free)[["factor", "process_factor"]].add_prefix("free_")
-        write_table(pd.concat([analyse.blocks(plan, keeping), of_free], axis=1), run.stage)
+        of_free = shell_tables.blocks(plan, free)[["factor", "process_factor"]].add_prefix("free_")
+        write_table(pd.concat([shell_tables.blocks(plan, keeping), of_free], axis=1), run.stage)
         write_csv(shown(table), run.stage / PITS, project)
         note_verified(plan, run)
         finish(plan, run.record, [*run.mine.files, files.TABLE, PITS], run.stage)

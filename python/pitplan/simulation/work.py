@@ -11,12 +11,12 @@ from pathlib import Path
 
 import numpy as np
 
-from pitplan import analyse
 from pitplan.blockmodel import missing_blocks
 from pitplan.core import files, keyed_arrays
 from pitplan.core.files import staged_file
 from pitplan.core.optional_packages import load_library
 from pitplan.economics import block_values
+from pitplan.pits import shell_tables
 from pitplan.slopes.domains import Walls
 from pitplan.solver import choice, library, problem, program
 from pitplan.solver.program import Solution
@@ -132,8 +132,8 @@ def write_answer(shared: Shared, scenario: Scenario) -> None:
     plan = plan_of(shared, scenario)
     solution = problem.joined(shells_of(shared, plan), plan.settled, plan.values)
     missing_blocks.demand_known(solution.entry, plan.grid, plan.project, plan.source)
-    cells = analyse.cells_of(plan, solution)
-    table = analyse.amounts(plan, cells).astype(np.float64)
+    cells = shell_tables.cells_of(plan, solution)
+    table = shell_tables.amounts(plan, cells).astype(np.float64)
     factors = np.array(plan.project.schedule.factors)
     entry = cells.factor[plan.grid.rows]
     texts = {"worth_at_factor": np.array([f"{worth:f}" for worth in solution.worth], dtype=str)}

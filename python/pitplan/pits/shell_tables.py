@@ -13,12 +13,12 @@ import pandas as pd
 
 from pitplan.config.project import REFERENCE_FACTOR, Schedule
 from pitplan.economics import period_costs
+from pitplan.errors import PlanError
+from pitplan.plan import MILLION, Plan
 from pitplan.solver.program import Solution
 
-from . import schedule as schedules
-from .errors import PlanError
-from .plan import MILLION, Plan
-from .schedule import Benches
+from . import best_worst_case
+from .best_worst_case import Benches
 
 
 @dataclass(frozen=True)
@@ -113,7 +113,9 @@ def shells(plan: Plan, solution: Solution, more: Optional[np.ndarray] = None) ->
     cells, settings = cells_of(plan, solution), plan.project.schedule
     benches = benches_of(plan, cells, more)
     money = period_costs.of_project(plan.project)
-    best, worst = schedules.best_case(benches, settings, money), schedules.worst_case(benches, settings, money)
+    best, worst = best_worst_case.best_case(benches, settings, money), best_worst_case.worst_case(
+        benches, settings, money
+    )
     table = amounts(plan, cells)
     table.insert(0, "factor", settings.factors)
     table["npv_best"] = [years.npv for years in best]
@@ -132,7 +134,7 @@ def years(plan: Plan, solution: Solution, more: Optional[np.ndarray] = None) -> 
     PlanError where it takes too many years.
     """
     money = period_costs.of_project(plan.project)
-    return schedules.table_of(benches_of(plan, cells_of(plan, solution), more), plan.project.schedule, money)
+    return best_worst_case.table_of(benches_of(plan, cells_of(plan, solution), more), plan.project.schedule, money)
 
 
 def benches_of(plan: Plan, cells: Cells, more: Optional[np.ndarray] = None) -> Benches:
@@ -149,7 +151,7 @@ def benches_of(plan: Plan, cells: Cells, more: Optional[np.ndarray] = None) -> B
     count = len(factors) * levels
     sums = np.column_stack([np.bincount(piece, flow, minlength=count) for flow in flows.values()])
     benches = Benches(factors, tuple(flows), sums.reshape(len(factors), levels, len(flows)))
-    schedules.demand_few_years(benches, plan.project)
+    best_worst_case.demand_few_years(benches, plan.project)
     return benches
 
 

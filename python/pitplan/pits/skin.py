@@ -7,11 +7,11 @@ from decimal import Decimal
 
 import numpy as np
 
+from pitplan.phases import LEAST_FACTOR, between, neighbours, with_factors
+from pitplan.plan import Plan
 from pitplan.solver import problem
 
-from . import analyse
-from .phases import LEAST_FACTOR, between, neighbours, with_factors
-from .plan import Plan
+from . import shell_tables
 
 
 @dataclass(frozen=True)
@@ -38,7 +38,7 @@ def of_pit(plan: Plan, share: Decimal) -> Skin:
 
         def tonnes_at(factors: tuple[int, ...]) -> dict[int, float]:
             part = replace(plan, project=with_factors(plan.project, factors))
-            return dict(zip(factors, analyse.within(part, entry_at(factors), plan.values.tonnes).tolist()))
+            return dict(zip(factors, shell_tables.within(part, entry_at(factors), plan.values.tonnes).tolist()))
 
         known = tonnes_at(tuple(sorted({LEAST_FACTOR, last})))
         most = known[last] * float(1 - share)

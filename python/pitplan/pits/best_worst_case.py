@@ -18,8 +18,7 @@ import pandas as pd
 from pitplan.config.economics import MOST_YEARS
 from pitplan.config.project import Project, Schedule
 from pitplan.economics.period_costs import PLAIN, YearlyMoney
-
-from .errors import PlanError
+from pitplan.errors import PlanError
 
 ROCK, ORE, CASH = 0, 1, -1
 # Capacities are compared to this part of a year's, since sums of fractions miss them by a hair.
