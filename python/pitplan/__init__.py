@@ -29,7 +29,7 @@ Functions write what the subcommands do, by default into the project's own folde
 
 Functions `plot_...` draw on axes of your own, which they give back, and leave matplotlib's backend as it is: those of `pitplan.pictures`
 take a table of shells, or `pictures.scene_of(plan, solution)`; those of `pitplan.phase_pictures` its
-`scene_of(pitplan.phases.divide(plan))`; `pitplan.yearly.plot_years` a table of years; and those of `pitplan.simulation.pictures`
+`scene_of(pitplan.pushbacks.nested.divide(plan))`; `pitplan.yearly.plot_years` a table of years; and those of `pitplan.simulation.pictures`
 `found.likely(1000)` or `found.table`; those of `pitplan.sensitivity_pictures` a table of cases.
 
 The library `libpitshell` solves where it is there, else the program `pitshell`; `dataclasses.replace(project, solver="program")`, or

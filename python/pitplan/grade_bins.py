@@ -7,9 +7,9 @@ from dataclasses import dataclass
 import numpy as np
 
 from pitplan.pits import shell_tables
+from pitplan.pushbacks.bench_table import ORE, PhaseBenches
+from pitplan.pushbacks.nested import Phases
 
-from .phase_benches import ORE, PhaseBenches
-from .phases import Phases
 from .plan import MILLION
 
 GAIN = "gain"

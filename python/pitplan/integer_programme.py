@@ -12,11 +12,11 @@ import numpy as np
 from scipy.sparse import coo_matrix, csr_matrix, hstack, vstack
 
 from pitplan.config.schedule import Effort
+from pitplan.pushbacks.bench_table import PhaseBenches
 
 from .highs import Programme
 from .linear_programme import diggable, limit_rows, of_unknowns, programme_of, with_running_years
 from .optimiser import solve
-from .phase_benches import PhaseBenches
 from .sequencing import HAIR, Problem
 
 # What the solver's tolerance may add to a share, and what a limit may be missed by.

@@ -18,10 +18,10 @@ from scipy.optimize import linprog
 from scipy.sparse import coo_matrix, csr_matrix, diags, eye, hstack, vstack
 
 from pitplan.pits.best_worst_case import year_discounts
+from pitplan.pushbacks.bench_table import PhaseBenches
 
 from .highs import Programme
 from .optimiser import solve
-from .phase_benches import PhaseBenches
 from .sequencing import HAIR, Limits, Problem, Sequence, by_lead, dig, leads
 
 # By these shares of a bench the year in which it is dug is told, besides the expected year.

@@ -17,6 +17,7 @@ import numpy as np
 from scipy.sparse import bmat, csr_matrix, diags, eye, identity, kron
 
 from pitplan.pits.best_worst_case import year_discounts
+from pitplan.pushbacks.bench_table import CASH, ORE, ROCK, PhaseBenches
 
 from .grade_bins import GAIN, Parcels
 from .highs import Programme
@@ -34,7 +35,6 @@ from .linear_programme import (
     yearly_rows,
 )
 from .optimiser import solve
-from .phase_benches import CASH, ORE, ROCK, PhaseBenches
 from .sequencing import Limits, Problem, by_lead, dig, leads
 
 # How much faster than the mill a pit may be dug by rule, so that it has the best of what there is.

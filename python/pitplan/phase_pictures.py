@@ -17,9 +17,9 @@ from matplotlib.figure import Figure
 from pitplan.blockmodel.grid import Grid, metres
 from pitplan.config.figures import PictureRules
 from pitplan.core.cell_outlines import edges
+from pitplan.pushbacks.nested import Phases
 
 from .map_marks import axes_of_map, contours, floor_of, mark_map, mark_section_cells, section_titles
-from .phases import Phases
 from .pictures import (
     GROUND,
     MAP,

@@ -16,13 +16,14 @@ from pitplan.config.schedule import ScheduleRules
 from pitplan.core.progress import Progress, silent
 from pitplan.economics import period_costs
 from pitplan.pits.best_worst_case import year_discounts
+from pitplan.pushbacks import bench_table
+from pitplan.pushbacks.bench_table import CASH, ORE, ROCK, PhaseBenches
+from pitplan.pushbacks.nested import Phases
 
-from . import grade_bins, integer_programme, linear_programme, phase_benches
+from . import grade_bins, integer_programme, linear_programme
 from .errors import PlanError
 from .linear_programme import Relaxed
 from .milling_programme import Milling, MillingProblem
-from .phase_benches import CASH, ORE, ROCK, PhaseBenches
-from .phases import Phases
 from .sequencing import Problem, by_rule, limits_of, running
 
 RULE, LP, MILP = "rule", "lp", "milp"
@@ -116,7 +117,7 @@ def make(phases: Phases, progress: Progress = silent) -> YearlySchedule:
         raise PlanError(
             f"{project.path}: [schedule] least, sums: are kept by --by block alone: leave them out, or schedule by block"
         )
-    benches = phase_benches.of_phases(phases, rules.lag)
+    benches = bench_table.of_phases(phases, rules.lag)
     problem = Problem(benches, limits_of(project, rules), project.schedule, period_costs.of_project(project))
     with progress.step(f"scheduling {len(benches):,} benches of {len(phases.factors)} phases by rule"):
         shares, lead = by_rule(problem, rules.years)

@@ -8,8 +8,9 @@ from test_phase_widths import RICH, floor, square
 from test_pushbacks import UPRIGHT, pillars, with_phases
 
 import pitplan
-from pitplan import PlanError, phases
+from pitplan import PlanError
 from pitplan.core import files
+from pitplan.pushbacks import nested
 from pitplan.verification import verify
 
 pytestmark = pytest.mark.usefixtures("without_figures")
@@ -163,7 +164,7 @@ def test_costs_that_are_not_paid_are_found(plan_folder, monkeypatch):
     """Nothing is taken in any file, or in the schedule alone."""
     text = with_phases(ADDED, AT_ENDS) + "[schedule]\nyears = 5\n"
     path = plan_folder(pillars(), text)
-    monkeypatch.setattr(phases.Phases, "mining_cost_added", property(lambda made: np.zeros(made.plan.grid.count)))
+    monkeypatch.setattr(nested.Phases, "mining_cost_added", property(lambda made: np.zeros(made.plan.grid.count)))
     with pytest.raises(PlanError) as error:
         pitplan.write_schedule(path)
     assert all(f"{name}: " in str(error.value) for name in ("phases", "years"))

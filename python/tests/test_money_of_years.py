@@ -17,7 +17,7 @@ from pitplan import PlanError, grade_bins, integer_programme, linear_programme, 
 from pitplan.config.schedule import Effort
 from pitplan.economics import period_costs
 from pitplan.economics.period_costs import YearlyMoney
-from pitplan.phase_benches import PhaseBenches
+from pitplan.pushbacks.bench_table import PhaseBenches
 from pitplan.sequencing import Limits, Problem, by_rule
 from pitplan.verification import verify
 

@@ -10,9 +10,10 @@ from hypothesis import given, settings, strategies as st
 from test_pushbacks import UPRIGHT, blocks_of, with_phases, wrong
 
 import pitplan
-from pitplan import PlanError, load, phases, prepare, widths
+from pitplan import PlanError, load, prepare
 from pitplan.config.pushbacks import PhaseRules
 from pitplan.core import files
+from pitplan.pushbacks import mining_width, nested
 from pitplan.slopes import closure
 from pitplan.verification.phase_widths import blocks_across, cells_in
 
@@ -151,7 +152,7 @@ def test_what_must_be_dug_stays_in_phase_1_however_narrow(plan_folder):
     ],
 )
 def test_so_many_blocks_are_so_wide(wide, sides, expected):
-    assert widths.rectangle(wide, sides) == expected
+    assert mining_width.rectangle(wide, sides) == expected
 
 
 def covered(mask, shape):
@@ -170,7 +171,7 @@ def test_openings_are_the_rectangles_that_fit(seed, north, east):
     rng = np.random.default_rng(seed)
     mask, free = rng.random((7, 6)) < 0.8, rng.random((7, 6)) < 0.1
     expected = covered(mask | free, (north, east))
-    assert (widths.opened(mask, free, (north, east)) == expected).all()
+    assert (mining_width.opened(mask, free, (north, east)) == expected).all()
     assert (cells_in(mask | free, (north, east)) == expected).all()
 
 
@@ -200,7 +201,7 @@ def test_random_phases_are_wide_closed_and_nested(tmp_path_factory, seed, asked)
         return place / "project.toml"
 
     plan, phase = random_plan(seed, write)
-    found = plan.grid.cube(widths.widened(phase, plan, PhaseRules(3, None, None, None, *asked))[0])
+    found = plan.grid.cube(mining_width.widened(phase, plan, PhaseRules(3, None, None, None, *asked))[0])
     solid, must, left = (plan.grid.cube(it) for it in (plan.values.tonnes > 0, plan.settled.dug, plan.settled.left))
     assert (found[must] == 1).all() and (found[left] == 0).all()
     for level, row, column in np.argwhere((found > 0) & solid):
@@ -313,7 +314,7 @@ def test_the_widths_of_phases_are_those_that_are_told(plan_folder):
     """Squares of three and of two blocks, and half of a square with nothing."""
     mask = np.zeros((2, 8, 8), dtype=bool)
     mask[0, :3, :3] = mask[1, 4:6, 4:6] = True
-    assert widths.least_width(mask, ~np.ones_like(mask), (10.0, 10.0)) == 20
-    assert widths.least_width(mask[:1], ~np.ones_like(mask[:1]), (10.0, 10.0)) == 30
-    assert np.isnan(widths.least_width(mask[:1, 4:], ~np.ones_like(mask[:1, 4:]), (10.0, 10.0)))
-    assert phases.MOST_PHASES == 100
+    assert mining_width.least_width(mask, ~np.ones_like(mask), (10.0, 10.0)) == 20
+    assert mining_width.least_width(mask[:1], ~np.ones_like(mask[:1]), (10.0, 10.0)) == 30
+    assert np.isnan(mining_width.least_width(mask[:1, 4:], ~np.ones_like(mask[:1, 4:]), (10.0, 10.0)))
+    assert nested.MOST_PHASES == 100

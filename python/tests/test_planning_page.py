@@ -89,8 +89,8 @@ def test_the_net_present_values_of_the_page_are_those_of_the_example():
 
 def test_the_phases_of_the_page_are_those_of_the_example():
     project = pitplan.load(EXAMPLE)
-    plan = pitplan.prepare(pitplan.phases.ending(replace(project, phases=PhaseRules(4, None, None, 1000))))
-    table = pitplan.phases.table(pitplan.phases.divide(plan)).set_index("phase")
+    plan = pitplan.prepare(pitplan.pushbacks.nested.ending(replace(project, phases=PhaseRules(4, None, None, 1000))))
+    table = pitplan.pushbacks.nested.table(pitplan.pushbacks.nested.divide(plan)).set_index("phase")
     rows = re.findall(
         r"^\| (\d) \| (\d+) \| (\d+) \| ([\d,.]+) \| ([\d,.]+) \| ([\d.]+) \| ([\d.]+) \| ([\d.]+) \|$",
         PAGE,
@@ -113,9 +113,9 @@ def test_the_schedule_of_the_page_is_that_of_the_example():
     rules = ScheduleRules(lag=1, sinking_rate=8.0, ramp_up=(0.5, 1.0))
     plain, binned = (
         yearly_schedule.make(
-            pitplan.phases.divide(
+            pitplan.pushbacks.nested.divide(
                 pitplan.prepare(
-                    pitplan.phases.ending(
+                    pitplan.pushbacks.nested.ending(
                         replace(project, phases=PhaseRules(4, None, None, 1000), schedule_rules=asked)
                     )
                 )
@@ -147,15 +147,15 @@ def test_the_widths_of_the_page_are_those_of_the_example():
     project = pitplan.load(EXAMPLE)
 
     def divided(*rules):
-        plan = pitplan.prepare(pitplan.phases.ending(replace(project, phases=PhaseRules(*rules))))
-        return pitplan.phases.divide(plan)
+        plan = pitplan.prepare(pitplan.pushbacks.nested.ending(replace(project, phases=PhaseRules(*rules))))
+        return pitplan.pushbacks.nested.divide(plan)
 
     shells, wide, four = (
         divided(2, None, None, 1000),
         divided(2, None, None, 1000, 40, 40),
         divided(4, None, None, 1000, 40, 40),
     )
-    before, after, many = (pitplan.phases.table(it) for it in (shells, wide, four))
+    before, after, many = (pitplan.pushbacks.nested.table(it) for it in (shells, wide, four))
     (note,) = [note for note in wide.notes if "blocks are dug" in note]
     later, more = (int(re.search(rf"([\d,]+) {word}", note)[1]) for word in ("later", "besides"))
     assert (

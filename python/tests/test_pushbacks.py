@@ -9,10 +9,11 @@ from conftest import PROJECT, rows
 from hypothesis import given, settings, strategies as st
 
 import pitplan
-from pitplan import PlanError, load, phases
+from pitplan import PlanError, load
 from pitplan.cli import main
 from pitplan.config.pushbacks import PhaseRules
 from pitplan.core import files
+from pitplan.pushbacks import nested
 from pitplan.verification import verify
 
 pytestmark = pytest.mark.usefixtures("without_figures")
@@ -92,7 +93,7 @@ def test_a_jump_is_named_with_its_tonnes(plan_folder):
         return {factor: 0.0 if factor < 613 else 900.0 if factor < 800 else 1000.0 for factor in factors}
 
     project = load(plan_folder(pillars(), with_phases("count = 2")))
-    found, notes = phases.even_shells(PhaseRules(2, None, None, None), 1000, tonnes_at, project)
+    found, notes = nested.even_shells(PhaseRules(2, None, None, None), 1000, tonnes_at, project)
     assert found == {613: 900, 1000: 1000} and len(set(asked)) == len(asked) < 40
     assert notes == [
         "between the factors 612 and 613 the shells grow by 900 t at once, from 0 to 900: no factor divides this rock"
@@ -106,7 +107,7 @@ def test_even_shells_are_the_nearest_of_all_factors(steps, count, last):
         factor: float(sum(step for place, step in enumerate(steps) if factor > 83 * place))
         for factor in range(1, last + 1)
     }
-    found, notes = phases.even_shells(
+    found, notes = nested.even_shells(
         PhaseRules(count, None, None, None), last, lambda factors: {factor: grown[factor] for factor in factors}, None
     )
     whole = grown[last]
@@ -346,8 +347,8 @@ def test_phases_of_a_project_that_asks_for_none_are_found(copied):
 
 def test_nothing_is_written_where_a_phase_is_wrong(plan_folder, monkeypatch):
     """All blocks of the last phase in the first."""
-    whole = phases.blocks
-    monkeypatch.setattr(phases, "blocks", lambda it: whole(it).replace({"phase": {3: 1}}))
+    whole = nested.blocks
+    monkeypatch.setattr(nested, "blocks", lambda it: whole(it).replace({"phase": {3: 1}}))
     project = load(plan_folder(pillars(), with_phases("count = 3")))
     with pytest.raises(PlanError, match="what was written is not right"):
         pitplan.write_pushbacks(project)

@@ -85,7 +85,7 @@ def test_a_plan_by_the_program_has_the_key_of_that_by_the_library(mine):
 def test_phases_have_a_solution_of_their_own_factors(plan_folder):
     path = plan_folder(rows(8, 7, 3, **ORE), PROJECT + "[pushbacks]\ncount = 2\n")
     whole = pitplan.prepare(load(path))
-    phases = pitplan.phases.divide(whole)
+    phases = pitplan.pushbacks.nested.divide(whole)
     assert len(pitplan.shells(phases.plan, phases.solution)) != len(whole.project.schedule.factors)
     with pytest.raises(PlanError, match="the solution is of another plan"):
         pitplan.shells(whole, phases.solution)

@@ -12,11 +12,11 @@ from pitplan.config.project import Project
 from pitplan.config.schedule import MOST_YEARS, ScheduleRules, Sum
 from pitplan.economics.period_costs import YearlyMoney, of_project
 from pitplan.pits.best_worst_case import year_discounts
+from pitplan.pushbacks.bench_table import CASH, ORE, ROCK
 from pitplan.slopes import closure
 from pitplan.slopes.arcs import ABSENT, slices
 
 from ..errors import PlanError
-from ..phase_benches import CASH, ORE, ROCK
 from ..plan import MILLION, Plan
 from ..sequencing import Limits, limits_of
 from .problem import BlockProblem, Due, Limit, Needs

@@ -15,8 +15,8 @@ from pitplan.config.schedule import ScheduleRules
 from pitplan.core.progress import Progress, silent
 from pitplan.economics.period_costs import of_project
 from pitplan.pits.best_worst_case import year_discounts
+from pitplan.pushbacks.bench_table import CASH, ORE, ROCK
 
-from ..phase_benches import CASH, ORE, ROCK
 from ..plan import Plan
 from .of_plan import PlannedBlocks, cash_of, of_plan
 from .solving import Scheduled, gap_of, solve

@@ -8,16 +8,17 @@ from typing import TYPE_CHECKING, Optional
 
 import pandas as pd
 
-from pitplan import phases as phasing, report_page, workbook, yearly_schedule as scheduling
+from pitplan import report_page, workbook, yearly_schedule as scheduling
 from pitplan.core import files
 from pitplan.core.progress import Progress
 from pitplan.pits import shell_tables
+from pitplan.pushbacks import nested
+from pitplan.pushbacks.nested import Phases
 from pitplan.solver import problem
 from pitplan.solver.problem import Mine
 from pitplan.solver.program import Solution
 
 from ..conventions import with_discounting, with_outline
-from ..phases import Phases
 from ..plan import Plan
 from ..rounded_tables import shown, write_csv
 from ..yearly_schedule import YearlySchedule
@@ -116,7 +117,7 @@ def sheets_of(answered: Answered, table: pd.DataFrame, years: pd.DataFrame) -> d
         "ways": scheduling.ways(answered.schedule),
         "schedule": shown(scheduling.table(answered.schedule)),
         "years": shown(with_outline(years[years["factor"] == answered.schedule.factor], project)),
-        "phases": shown(phasing.table(answered.phases)),
+        "phases": shown(nested.table(answered.phases)),
         "shells": shown(with_outline(table, project)),
     }
     return bins | {name: with_discounting(sheet, project) for name, sheet in sheets.items()}
@@ -130,7 +131,7 @@ def write_tables(answered: Answered, stage: Path) -> tuple[pd.DataFrame, pd.Data
     table, years = shell_tables.shells(plan, solution, more), shell_tables.years(plan, solution, more)
     if solution.answer is not None:
         (stage / files.ANSWER).write_bytes(solution.answer)
-    blocks = shell_tables.blocks(plan, solution) if phases is None else phasing.blocks(phases)
+    blocks = shell_tables.blocks(plan, solution) if phases is None else nested.blocks(phases)
     if answered.schedule is not None:
         blocks["year"] = scheduling.blocks_year(answered.schedule)[blocks["id"].to_numpy()]
         years = pd.concat([years, scheduling.years(answered.schedule)], ignore_index=True)
@@ -143,7 +144,7 @@ def write_tables(answered: Answered, stage: Path) -> tuple[pd.DataFrame, pd.Data
     for found, name in ((table, files.SHELLS), (years, files.YEARS)):
         write_csv(shown(found if phases is None else with_outline(found, plan.project)), stage / name, plan.project)
     if phases is not None:
-        shown(phasing.table(phases)).to_csv(stage / files.PHASES, index=False)
+        shown(nested.table(phases)).to_csv(stage / files.PHASES, index=False)
     return table, years
 
 

@@ -7,7 +7,8 @@ from typing import Optional
 
 import pandas as pd
 
-from .. import phases as phasing
+from pitplan.pushbacks import nested
+
 from .answers import Answered, write_answer
 from .writing import Place, Source, Writing, begun, read
 
@@ -39,8 +40,8 @@ def write_pushbacks(project: Source, folder: Optional[Place] = None, writing: Wr
     """
     project = read(project)
     target = project.folder / "pushbacks" if folder is None else Path(folder)
-    with begun(project, target, writing, phasing.ending(project)) as run:
-        phases = phasing.divide(run.mine.plan, run.mine, writing.progress)
+    with begun(project, target, writing, nested.ending(project)) as run:
+        phases = nested.divide(run.mine.plan, run.mine, writing.progress)
         run.record["notes"] += phases.notes
         write_answer(Answered(phases.plan, phases.solution, phases), run)
-    return phasing.table(phases)
+    return nested.table(phases)

@@ -7,8 +7,9 @@ from typing import Optional
 
 import pandas as pd
 
-from pitplan import phases as phasing, workbook, yearly_schedule as scheduling
+from pitplan import workbook, yearly_schedule as scheduling
 from pitplan.core.optional_packages import load_library
+from pitplan.pushbacks import nested
 from pitplan.solver import problem
 
 from .answers import Answered, write_answer
@@ -47,8 +48,8 @@ def write_schedule(project: Source, folder: Optional[Place] = None, writing: Wri
     project = read(project)
     target = project.folder / "schedule" if folder is None else Path(folder)
     workbook.demand_library()
-    with begun(project, target, writing, phasing.ending(project)) as run:
-        phases = phasing.divide(run.mine.plan, run.mine, writing.progress)
+    with begun(project, target, writing, nested.ending(project)) as run:
+        phases = nested.divide(run.mine.plan, run.mine, writing.progress)
         schedule = scheduling.make(phases, writing.progress)
         run.record["notes"] += [*phases.notes, *scheduling.notes(schedule)]
         write_answer(Answered(phases.plan, phases.solution, phases, schedule), run)

@@ -9,8 +9,9 @@ import numpy as np
 import pandas as pd
 from numpy.typing import NDArray
 
+from pitplan.pushbacks.bench_table import ORE
+
 from ..errors import PlanError
-from ..phase_benches import ORE
 from . import answers
 from .block_problem import weights_of
 from .block_work import Kept, diggable_of, mean_of, read_answer

@@ -16,11 +16,11 @@ from numpy.typing import NDArray
 from pitplan.config.project import Project
 from pitplan.config.schedule import ScheduleRules
 from pitplan.pits.best_worst_case import year_discounts
+from pitplan.pushbacks.bench_table import CASH, ROCK
 
 from ..block_schedule import BlockProblem, Limit, Needs
 from ..block_schedule.of_plan import Flows, at_best, dues_of, limits_of_blocks, years_of
 from ..errors import PlanError
-from ..phase_benches import CASH, ROCK
 from ..plan import MILLION, Plan
 from ..sequencing import Limits
 

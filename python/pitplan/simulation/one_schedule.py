@@ -19,9 +19,9 @@ from scipy.optimize import linprog
 
 from pitplan.config.project import Project
 from pitplan.pits.best_worst_case import year_discounts
+from pitplan.pushbacks.bench_table import CASH, ORE, ROCK
 
 from ..errors import PlanError
-from ..phase_benches import CASH, ORE, ROCK
 from .block_problem import Weights, limits_of_scenarios
 
 # By such a share of it a limit may be missed, as sums of floats do, and a year may lack of what was planned.

@@ -9,7 +9,7 @@ import numpy as np
 
 from pitplan.pits import shell_tables
 
-from .phases import Phases
+from .nested import Phases
 
 ROCK, ORE, CASH = "rock_tonnes", "ore_tonnes", "cash"
 

@@ -26,10 +26,9 @@ from scipy import ndimage
 from pitplan.blockmodel import missing_blocks
 from pitplan.blockmodel.grid import metres
 from pitplan.config.pushbacks import PhaseRules
+from pitplan.errors import PlanError
+from pitplan.plan import Plan
 from pitplan.slopes import closure
-
-from .errors import PlanError
-from .plan import Plan
 
 # Rows and columns of blocks.
 Rectangle = tuple[int, int]

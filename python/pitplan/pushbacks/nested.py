@@ -19,14 +19,14 @@ from pitplan.blockmodel.plausibility import WARNING
 from pitplan.config.project import REFERENCE_FACTOR, Project
 from pitplan.config.pushbacks import MOST_PHASES, PhaseRules
 from pitplan.core.progress import Progress, silent
+from pitplan.errors import PlanError
 from pitplan.pits import shell_tables
+from pitplan.plan import Plan
 from pitplan.solver import problem
 from pitplan.solver.problem import Mine
 from pitplan.solver.program import Solution
 
-from . import widths
-from .errors import PlanError
-from .plan import Plan
+from . import mining_width
 
 LEAST_FACTOR = 1
 # So many factors are tried at once between two that are known.
@@ -148,7 +148,7 @@ def divide(plan: Plan, mine: Optional[Mine] = None, progress: Progress = silent)
     phase = np.where(entry > 0, np.searchsorted(factors, entry) + 1, 0).astype(np.int16)
     if rules.width is not None or rules.bottom is not None:
         with progress.step("making the phases wide enough"):
-            phase, told = widths.widened(phase, part, rules)
+            phase, told = mining_width.widened(phase, part, rules)
         more = [*more, *told]
     return Phases(part, solution, phase, (*notes, *more))
 
@@ -289,12 +289,12 @@ def table(phases: Phases) -> pd.DataFrame:
 
 def shapes(phases: Phases) -> dict[str, list[float]]:
     """Of each phase into how many pieces it falls, and its least width in metres."""
-    grid, free = phases.plan.grid, widths.free_of(phases.plan)
+    grid, free = phases.plan.grid, mining_width.free_of(phases.plan)
     rock, cube = grid.cube(phases.plan.values.tonnes > 0), grid.cube(phases.phase)
     each = [cube == number for number in range(1, len(phases.factors) + 1)]
     return {
         "pieces": [int(ndimage.label(phase & rock)[1]) for phase in each],
-        "least_width": [widths.least_width(phase, free, (grid.size[1], grid.size[0])) for phase in each],
+        "least_width": [mining_width.least_width(phase, free, (grid.size[1], grid.size[0])) for phase in each],
     }
 
 
