@@ -16,7 +16,7 @@ from .schedule_pictures import draw_bars
 from .yearly import FAR_ABOVE, MARGIN, MILL, SHOVELS
 
 if TYPE_CHECKING:
-    from .block_schedule.result import ScheduledBlocks
+    from pitplan.scheduling.blocks.tables import ScheduledBlocks
 
 NAME = "block_schedule.png"
 

@@ -9,17 +9,17 @@ from hypothesis import given, strategies as st
 from scipy.optimize import Bounds, LinearConstraint, linprog, milp
 
 from pitplan import PlanError
-from pitplan.block_schedule import master, nodes as node_module
-from pitplan.block_schedule.closure import priced
-from pitplan.block_schedule.master import Master
-from pitplan.block_schedule.nodes import nodes_of
-from pitplan.block_schedule.problem import BlockProblem, Limit, Needs, demand_sound
-from pitplan.block_schedule.reduction import earliest_years, worth_digging
-from pitplan.block_schedule.relaxation import relaxed
-from pitplan.block_schedule.solving import reduced
-from pitplan.block_schedule.topological import ranks_of
-from pitplan.block_schedule.whole_values import upward
 from pitplan.config.schedule import Effort
+from pitplan.scheduling.blocks import master, nodes as node_module
+from pitplan.scheduling.blocks.bienstock_zuckerberg import relaxed
+from pitplan.scheduling.blocks.integer_values import upward
+from pitplan.scheduling.blocks.lagrangian import priced
+from pitplan.scheduling.blocks.nodes import nodes_of
+from pitplan.scheduling.blocks.presolve import earliest_years, worth_digging
+from pitplan.scheduling.blocks.problem import BlockProblem, Limit, Needs, demand_sound
+from pitplan.scheduling.blocks.ranks import ranks_of
+from pitplan.scheduling.blocks.restricted_lp import Master
+from pitplan.scheduling.blocks.solve import reduced
 
 EXACT = Effort(1e-9)
 

@@ -15,9 +15,9 @@ from test_pushbacks import UPRIGHT, pillars
 
 import pitplan
 from pitplan import PlanError, block_pictures, load, prepare
-from pitplan.block_schedule import of_plan, result
 from pitplan.cli import main
 from pitplan.core import files
+from pitplan.scheduling.blocks import of_plan, result
 from pitplan.verification import verify
 
 pytestmark = pytest.mark.usefixtures("without_figures")
@@ -195,7 +195,7 @@ def test_an_interrupted_run_keeps_the_best_so_far(plan_folder, capsys, monkeypat
     def interrupt(*given):
         raise KeyboardInterrupt
 
-    monkeypatch.setattr("pitplan.block_schedule.solving.moved", interrupt)
+    monkeypatch.setattr("pitplan.scheduling.blocks.solve.moved", interrupt)
     path = plan_folder(pillars(), YEARLY)
     assert main(["schedule", str(path), "--by", "block", "--quiet"]) == 130
     folder = path.parent / "plan" / "block_schedule"

@@ -10,13 +10,13 @@ from test_block_bound import EXACT, pairs_of, problem_of, programme, random_prob
 from test_block_schedules import demand_sound
 
 from pitplan import PlanError
-from pitplan.block_schedule import solve
-from pitplan.block_schedule.closure import priced
-from pitplan.block_schedule.problem import Due, demand_sound as demand_problem
-from pitplan.block_schedule.reduction import worth_digging
-from pitplan.block_schedule.relaxation import relaxed
-from pitplan.block_schedule.solving import reduced
 from pitplan.config.schedule import Effort
+from pitplan.scheduling.blocks import solve
+from pitplan.scheduling.blocks.bienstock_zuckerberg import relaxed
+from pitplan.scheduling.blocks.lagrangian import priced
+from pitplan.scheduling.blocks.presolve import worth_digging
+from pitplan.scheduling.blocks.problem import Due, demand_sound as demand_problem
+from pitplan.scheduling.blocks.solve import reduced
 
 
 def with_dues(problem, seed):

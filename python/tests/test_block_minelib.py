@@ -7,8 +7,8 @@ import pandas as pd
 import pytest
 
 from minelib import MinelibError, schedule_models
-from pitplan.block_schedule.__main__ import main
-from pitplan.block_schedule.of_minelib import of_minelib
+from pitplan.scheduling.blocks.__main__ import main
+from pitplan.scheduling.blocks.from_minelib import of_minelib
 
 CPIT = """NAME: by hand     % two pillars
 TYPE: CPIT

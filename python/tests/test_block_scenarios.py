@@ -510,7 +510,7 @@ def test_an_interrupted_schedule_is_no_answer(plan_folder, monkeypatch):
         raise KeyboardInterrupt
 
     shared = prepared(plan_folder(pillars([1, 0.5, 0]), TWO_YEARS))
-    monkeypatch.setattr("pitplan.block_schedule.solving.moved", interrupt)
+    monkeypatch.setattr("pitplan.scheduling.blocks.solve.moved", interrupt)
     with pytest.raises(KeyboardInterrupt):
         work.solve(str(shared.folder), 1)
     assert len(shared.missing()) == 2

@@ -9,18 +9,18 @@ import numpy as np
 import pytest
 from test_block_bound import cone_of, integer_optimum, pairs_of, problem_of, random_problem
 
-from pitplan import optimiser
-from pitplan.block_schedule import solve
-from pitplan.block_schedule.destinations import with_best_shares
-from pitplan.block_schedule.filling import Filling, paying, preferences, schedule_of
-from pitplan.block_schedule.moving import moved
-from pitplan.block_schedule.relaxation import relaxed
-from pitplan.block_schedule.schedule import BlockSchedule, nothing
-from pitplan.block_schedule.solving import reduced
-from pitplan.block_schedule.topological import ranks_of
-from pitplan.block_schedule.toposort import Sequence, in_order, sequences
-from pitplan.block_schedule.windows import window_of
 from pitplan.config.schedule import Effort
+from pitplan.scheduling import highs_process
+from pitplan.scheduling.blocks import solve
+from pitplan.scheduling.blocks.bienstock_zuckerberg import relaxed
+from pitplan.scheduling.blocks.destinations import with_best_shares
+from pitplan.scheduling.blocks.greedy import Filling, paying, preferences, schedule_of
+from pitplan.scheduling.blocks.local_search import moved
+from pitplan.scheduling.blocks.ranks import ranks_of
+from pitplan.scheduling.blocks.schedule import BlockSchedule, nothing
+from pitplan.scheduling.blocks.solve import reduced
+from pitplan.scheduling.blocks.toposort import Sequence, in_order, sequences
+from pitplan.scheduling.blocks.window_milp import window_of
 
 
 def demand_sound(problem, schedule):
@@ -209,7 +209,7 @@ def test_a_window_frees_blocks_of_its_years_and_keeps_the_others():
 
 
 def test_an_empty_window_is_passed_over(monkeypatch):
-    monkeypatch.setattr("pitplan.block_schedule.windows.MOST_UNKNOWNS", 1)
+    monkeypatch.setattr("pitplan.scheduling.blocks.window_milp.MOST_UNKNOWNS", 1)
     found = solve(
         problem_of(np.outer([1.0, 1.0], [1.0, 0.9, 0.8, 0.7]), [], ([1, 1], [2, 2, 2, 2])), Effort(-1.0, 60.0)
     )
@@ -218,8 +218,8 @@ def test_an_empty_window_is_passed_over(monkeypatch):
 
 def test_windows_find_what_filling_misses(monkeypatch):
     """With few unknowns a window holds a part of the blocks; none is worse than without, and some are better."""
-    monkeypatch.setattr("pitplan.block_schedule.windows.MOST_UNKNOWNS", 60)
-    monkeypatch.setattr("pitplan.block_schedule.windows.FEWER", 30)
+    monkeypatch.setattr("pitplan.scheduling.blocks.window_milp.MOST_UNKNOWNS", 60)
+    monkeypatch.setattr("pitplan.scheduling.blocks.window_milp.FEWER", 30)
     gains = []
     for seed in range(4000, 4012):
         problem = random_problem(seed, most=50, destinations=1)
@@ -238,7 +238,7 @@ def test_an_interruption_behind_the_bound_gives_the_best_so_far(monkeypatch):
     def interrupt(*given):
         raise KeyboardInterrupt
 
-    monkeypatch.setattr("pitplan.block_schedule.solving.moved", interrupt)
+    monkeypatch.setattr("pitplan.scheduling.blocks.solve.moved", interrupt)
     found = solve(problem)
     assert found.interrupted and not whole.interrupted and found.bound == whole.bound
     assert 0 < demand_sound(problem, found.schedule) == pytest.approx(found.value) and found.value <= whole.value
@@ -246,14 +246,14 @@ def test_an_interruption_behind_the_bound_gives_the_best_so_far(monkeypatch):
 
 def test_an_interruption_while_a_window_is_solved_ends_its_process(monkeypatch):
     """The process would take ten minutes."""
-    popen, begun = optimiser.subprocess.Popen, []
+    popen, begun = highs_process.subprocess.Popen, []
 
     def sleep(arguments, **options):
         begun.append(popen(["/bin/sleep", "600"], **options))
         Timer(0.3, os.kill, (os.getpid(), signal.SIGINT)).start()
         return begun[0]
 
-    monkeypatch.setattr(optimiser.subprocess, "Popen", sleep)
+    monkeypatch.setattr(highs_process.subprocess, "Popen", sleep)
     problem = next(it for it in map(random_problem, range(3000, 3100)) if it.years > 1 and solve(it).gap > 1e-3)
     found = solve(problem, Effort(0.0, 600.0))
     assert (
@@ -267,6 +267,6 @@ def test_an_interruption_before_there_is_a_bound_is_passed_on(monkeypatch):
     def interrupt(*given):
         raise KeyboardInterrupt
 
-    monkeypatch.setattr("pitplan.block_schedule.relaxation.priced", interrupt)
+    monkeypatch.setattr("pitplan.scheduling.blocks.bienstock_zuckerberg.priced", interrupt)
     with pytest.raises(KeyboardInterrupt):
         solve(random_problem(3003, most=50))

@@ -13,9 +13,10 @@ from test_pushbacks import UPRIGHT, with_phases
 from test_sequencing import benches_of, demand_diggable, problem_of
 
 import pitplan
-from pitplan import PlanError, load, milling_programme as mp
-from pitplan.grade_bins import Parcels, bins_of, edges_of
-from pitplan.sequencing import Limits, by_rule
+from pitplan import PlanError, load
+from pitplan.scheduling import cutoff_lp
+from pitplan.scheduling.bench_sequencing import Limits, by_rule
+from pitplan.scheduling.value_bins import Parcels, bins_of, edges_of
 from pitplan.verification import milling, verify
 
 NAMES = ("ore_tonnes", "metal_copper", "gain")
@@ -52,7 +53,7 @@ def two_benches():
 )
 def test_two_benches_by_hand(cost, years, value, reclaimed):
     benches, parcels = two_benches()
-    problem = mp.MillingProblem(
+    problem = cutoff_lp.MillingProblem(
         problem_of(benches, Limits({"ore_tonnes": 100}, sinking_rate=1.0)), parcels, years, cost
     )
     optimum = problem.relaxed()
@@ -76,13 +77,15 @@ def test_a_mill_of_metal_has_its_limit_too():
     """A tonne of copper a year at most: all ore holds a hundredth, so 100 t a year, although the mill takes 300."""
     benches, parcels = two_benches()
     limits = Limits({"ore_tonnes": 300, "metal_copper": 1}, sinking_rate=1.0)
-    problem = mp.MillingProblem(problem_of(benches, limits), parcels, 2, None)
+    problem = cutoff_lp.MillingProblem(problem_of(benches, limits), parcels, 2, None)
     assert problem.relaxed().bound == pytest.approx(800 / 1.1 + 900 / 1.21)
 
 
 def test_a_mill_that_stands_still_in_all_years():
     benches, parcels = two_benches()
-    problem = mp.MillingProblem(problem_of(benches, Limits({"ore_tonnes": 100}, (0.0, 0.0, 1.0))), parcels, 2, 0.5)
+    problem = cutoff_lp.MillingProblem(
+        problem_of(benches, Limits({"ore_tonnes": 100}, (0.0, 0.0, 1.0))), parcels, 2, 0.5
+    )
     optimum = problem.relaxed()
     assert optimum.bound == pytest.approx(0) and problem.diggable(optimum)[0].shape == (2, 0)
 
@@ -183,7 +186,7 @@ def bound_of(problem):
 @given(mines, limits, st.integers(0, 1), st.sampled_from([None, 0.0, 0.5]))
 def test_the_bound_and_what_is_made_of_it(pits, limits, lag, cost):
     benches, parcels = mine_of(pits, lag)
-    problem = mp.MillingProblem(problem_of(benches, limits), parcels, 5, cost)
+    problem = cutoff_lp.MillingProblem(problem_of(benches, limits), parcels, 5, cost)
     optimum = problem.relaxed()
     slack = 2e-6 * max(1.0, np.abs(benches.of("cash")).sum() + parcels.of("gain").sum())
     assert optimum.bound == pytest.approx(bound_of(problem), abs=slack)

@@ -16,10 +16,11 @@ from test_sequencing import THREE, benches_of, demand_diggable, problem_of, rand
 from test_yearly_schedule import PHASES
 
 import pitplan
-from pitplan import PlanError, highs, integer_programme as ip, load, optimiser
+from pitplan import PlanError, load
 from pitplan.config.schedule import Effort
 from pitplan.core import files
-from pitplan.sequencing import Limits
+from pitplan.scheduling import bench_milp, highs, highs_process
+from pitplan.scheduling.bench_sequencing import Limits
 from pitplan.verification import verify
 
 
@@ -27,8 +28,8 @@ from pitplan.verification import verify
 def in_this_process():
     """Programmes are solved here, since a process takes longer to begin than a small one to be solved."""
     with pytest.MonkeyPatch.context() as patch:
-        patch.setattr(ip, "solve", lambda programme, effort, patience: optimiser.here(programme, effort))
-        patch.setattr(ip, "diggable", lambda optimum, problem: np.zeros((len(problem.benches), 0)))
+        patch.setattr(bench_milp, "solve", lambda programme, effort, patience: highs_process.here(programme, effort))
+        patch.setattr(bench_milp, "diggable", lambda optimum, problem: np.zeros((len(problem.benches), 0)))
         yield
 
 
@@ -37,7 +38,7 @@ def in_this_process():
 def test_it_is_the_best_schedule_of_all(in_this_process, pit, limits, lag):
     """Made of the programme's own unknowns, without the help of orders."""
     benches, years = random_benches(pit, lag), 5
-    shares, bound = ip.best_diggable(problem_of(benches, limits), years, Effort(0.0, 60.0))
+    shares, bound = bench_milp.best_diggable(problem_of(benches, limits), years, Effort(0.0, 60.0))
     best, slack = integer_optimum(benches, limits, years), 2e-6 * max(1.0, np.abs(benches.of("cash")).sum())
     assert shares is not None
     demand_diggable(benches, limits, shares)
@@ -59,20 +60,20 @@ def test_it_is_the_best_schedule_of_all(in_this_process, pit, limits, lag):
 )
 def test_what_keeps_to_the_rules_by_hand(shares, is_kept):
     problem = problem_of(benches_of(*THREE), Limits({"ore_tonnes": 100, "rock_tonnes": 200}))
-    assert ip.keeps(problem, np.array(shares, dtype=float)) == is_kept
+    assert bench_milp.keeps(problem, np.array(shares, dtype=float)) == is_kept
 
 
 def test_a_phase_that_sinks_too_fast_does_not_keep_to_the_rules():
     problem = problem_of(benches_of(*THREE), Limits({"ore_tonnes": 1000}, sinking_rate=1.5))
-    assert ip.keeps(problem, np.array([[1, 0], [0.5, 0.5], [1, 0]]))
-    assert not ip.keeps(problem, np.array([[1, 0], [0.6, 0.4], [1, 0]]))
+    assert bench_milp.keeps(problem, np.array([[1, 0], [0.5, 0.5], [1, 0]]))
+    assert not bench_milp.keeps(problem, np.array([[1, 0], [0.6, 0.4], [1, 0]]))
 
 
 def test_phases_sink_each_by_itself():
     """Of three phases each digs its one bench in the same year."""
     benches = benches_of(*((phase, 0, 100, 100, 500) for phase in (1, 2, 3)))
     problem = problem_of(benches, Limits({"ore_tonnes": 1000}, sinking_rate=1.5))
-    assert ip.keeps(problem, np.ones((3, 1)))
+    assert bench_milp.keeps(problem, np.ones((3, 1)))
 
 
 @pytest.mark.parametrize(("seconds", "more"), [(5.0, {"time_limit": 5.0}), (None, {})])
@@ -88,12 +89,12 @@ def test_the_solver_is_told_the_gap_and_the_seconds(monkeypatch, seconds, more):
 def test_a_programme_that_goes_on_when_its_time_is_up_is_ended(monkeypatch, tmp_path):
     """It would sleep for a minute: it has a quarter of a second, twice that, and half a second more."""
     (tmp_path / "highs.py").write_text("import time\ntime.sleep(60)\n")
-    monkeypatch.setattr(optimiser.highs, "__file__", str(tmp_path / "highs.py"))
-    monkeypatch.setattr(ip, "LATE", 0.5)
-    monkeypatch.setattr(ip, "solve", optimiser.solve)
+    monkeypatch.setattr(highs_process.highs, "__file__", str(tmp_path / "highs.py"))
+    monkeypatch.setattr(bench_milp, "LATE", 0.5)
+    monkeypatch.setattr(bench_milp, "solve", highs_process.solve)
     began = time.monotonic()
     problem = problem_of(benches_of(*THREE), Limits({"ore_tonnes": 100, "rock_tonnes": 200}))
-    assert ip.best_diggable(problem, 3, Effort(0.0, 0.25)) == (None, np.inf)
+    assert bench_milp.best_diggable(problem, 3, Effort(0.0, 0.25)) == (None, np.inf)
     assert 1.0 <= time.monotonic() - began < 20
 
 
@@ -114,7 +115,7 @@ def test_it_is_written_as_a_way_of_its_own(plan_folder):
 
 @pytest.mark.usefixtures("without_figures")
 def test_where_none_is_found_in_time_the_others_stand(plan_folder, monkeypatch):
-    monkeypatch.setattr(ip, "solve", lambda programme, effort, patience: highs.Optimum(None, np.inf))
+    monkeypatch.setattr(bench_milp, "solve", lambda programme, effort, patience: highs.Optimum(None, np.inf))
     project = load(plan_folder(pillars(), PHASES + "[schedule]\nmilp = { seconds = 1 }\n"))
     assert pitplan.write_schedule(project)["way"].tolist() == ["rule", "lp"]
     assert (

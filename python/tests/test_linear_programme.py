@@ -13,14 +13,15 @@ from scipy.optimize import Bounds, LinearConstraint, milp
 from scipy.sparse import csr_matrix
 from test_sequencing import THREE, amounts, benches_of, demand_diggable, pits, problem_of, random_benches
 
-from pitplan import PlanError, highs, linear_programme as lp, optimiser
-from pitplan.sequencing import Limits, by_rule
+from pitplan import PlanError
+from pitplan.scheduling import bench_lp, highs, highs_process
+from pitplan.scheduling.bench_sequencing import Limits, by_rule
 
 
 def solved(benches, limits, years):
     problem = problem_of(benches, limits)
-    optimum = lp.relaxed(problem, years)
-    return optimum, lp.diggable(optimum, problem)
+    optimum = bench_lp.relaxed(problem, years)
+    return optimum, bench_lp.diggable(optimum, problem)
 
 
 def test_three_benches_by_hand():
@@ -196,62 +197,62 @@ def test_the_bound_is_that_of_another_solver(pit, limits, lag):
         problem += pulp.lpSum(factor * unknown[key] for key, factor in coefficients.items()) <= most
     problem.solve(solver)
     assert pulp.LpStatus[problem.status] == "Optimal"
-    bound = lp.relaxed(problem_of(benches, limits), years).bound
+    bound = bench_lp.relaxed(problem_of(benches, limits), years).bound
     assert bound == pytest.approx(pulp.value(problem.objective) or 0.0, rel=1e-6, abs=1e-3)
 
 
 def test_orders_have_what_the_optimum_digs_by_its_last_year():
     """The ore comes in the last year, and the second phase is left; each order has the waste before its ore."""
     benches = benches_of(*THREE)
-    optimum = lp.Relaxed(np.array([[1.0, 1], [0, 1], [0, 0]]), 0.0, benches.of("cash"))
-    orders = [sequence.order.tolist() for sequence in lp.sequences(optimum, benches)]
+    optimum = bench_lp.Relaxed(np.array([[1.0, 1], [0, 1], [0, 0]]), 0.0, benches.of("cash"))
+    orders = [sequence.order.tolist() for sequence in bench_lp.sequences(optimum, benches)]
     assert len(orders) > 3 and all(order == [0, 1] for order in orders)
 
 
 def test_solved_in_a_process_of_its_own_the_same(monkeypatch):
-    monkeypatch.setattr(optimiser, "FEW", 0)
+    monkeypatch.setattr(highs_process, "FEW", 0)
     benches, limits = benches_of(*THREE), Limits({"ore_tonnes": 100, "rock_tonnes": 200})
-    assert lp.relaxed(problem_of(benches, limits), 3).bound == pytest.approx(800 / 1.1 + 500 / 1.21)
+    assert bench_lp.relaxed(problem_of(benches, limits), 3).bound == pytest.approx(800 / 1.1 + 500 / 1.21)
 
 
 def test_an_interruption_ends_a_process_of_its_own(monkeypatch):
     """The process would take ten minutes."""
-    popen, begun = optimiser.subprocess.Popen, []
+    popen, begun = highs_process.subprocess.Popen, []
 
     def sleep(arguments, **options):
         begun.append(popen(["/bin/sleep", "600"], **options))
         Timer(0.3, os.kill, (os.getpid(), signal.SIGINT)).start()
         return begun[0]
 
-    monkeypatch.setattr(optimiser, "FEW", 0)
-    monkeypatch.setattr(optimiser.subprocess, "Popen", sleep)
+    monkeypatch.setattr(highs_process, "FEW", 0)
+    monkeypatch.setattr(highs_process.subprocess, "Popen", sleep)
     started = time.monotonic()
     with pytest.raises(KeyboardInterrupt):
-        lp.relaxed(problem_of(benches_of(*THREE), Limits({"ore_tonnes": 100})), 3)
+        bench_lp.relaxed(problem_of(benches_of(*THREE), Limits({"ore_tonnes": 100})), 3)
     assert time.monotonic() - started < 30 and begun[0].wait(5) != 0
 
 
 def test_a_process_that_is_late_is_ended(monkeypatch):
-    popen, begun = optimiser.subprocess.Popen, []
+    popen, begun = highs_process.subprocess.Popen, []
 
     def sleep(arguments, **options):
         begun.append(popen(["/bin/sleep", "600"], **options))
         return begun[0]
 
-    monkeypatch.setattr(optimiser, "FEW", 0)
-    monkeypatch.setattr(optimiser.subprocess, "Popen", sleep)
-    programme, _ = lp.programme_of(problem_of(benches_of(*THREE), Limits({"ore_tonnes": 100})), 3)
-    found = optimiser.solve(programme, patience=0.3)
+    monkeypatch.setattr(highs_process, "FEW", 0)
+    monkeypatch.setattr(highs_process.subprocess, "Popen", sleep)
+    programme, _ = bench_lp.programme_of(problem_of(benches_of(*THREE), Limits({"ore_tonnes": 100})), 3)
+    found = highs_process.solve(programme, patience=0.3)
     assert found.unknowns is None and found.bound == np.inf and begun[0].wait(5) != 0
 
 
 @pytest.mark.parametrize("few", [0, 1000])
 def test_a_programme_that_cannot_be_solved_is_told(monkeypatch, few):
     """x is at most -1 and at least 0."""
-    monkeypatch.setattr(optimiser, "FEW", few)
+    monkeypatch.setattr(highs_process, "FEW", few)
     none = highs.Programme(np.ones(1), csr_matrix([[1.0]]), np.array([-1.0]), np.ones(1), np.zeros(1, dtype=bool))
     with pytest.raises(PlanError, match="HiGHS found no schedule: .*the linear programme: .*infeasible"):
-        optimiser.solve(none)
+        highs_process.solve(none)
 
 
 def test_setup_names_the_other_solver():

@@ -13,12 +13,13 @@ from test_linear_programme import limits, small
 from test_sequencing import problem_of, random_benches
 
 import pitplan
-from pitplan import PlanError, grade_bins, integer_programme, linear_programme, milling_programme as mp, write_schedule
+from pitplan import PlanError, write_schedule
 from pitplan.config.schedule import Effort
 from pitplan.economics import period_costs
 from pitplan.economics.period_costs import YearlyMoney
 from pitplan.pushbacks.bench_table import PhaseBenches
-from pitplan.sequencing import Limits, Problem, by_rule
+from pitplan.scheduling import bench_lp, bench_milp, cutoff_lp, value_bins
+from pitplan.scheduling.bench_sequencing import Limits, Problem, by_rule
 from pitplan.verification import verify
 
 MONEY = ("mining_cost = 2\n", "mining_cost = 2\nfixed_cost_per_year = 100\ncapital = [[3, 1000], [1, 300], [2, 50]]\n")
@@ -142,19 +143,19 @@ COSTS = YearlyMoney(30, ((1, 5), (2, 8)))
 def test_a_schedule_by_hand(money, by_rules, best):
     problem = two_benches(money)
     assert problem.value(by_rule(problem)[0]) == pytest.approx(by_rules)
-    optimum = linear_programme.relaxed(problem, 2)
+    optimum = bench_lp.relaxed(problem, 2)
     assert optimum.bound == pytest.approx(best) and optimum.cash.sum() == pytest.approx(best)
-    assert problem.value(linear_programme.diggable(optimum, problem)) == pytest.approx(best)
-    shares, bound = integer_programme.best_diggable(problem, 2, Effort())
+    assert problem.value(bench_lp.diggable(optimum, problem)) == pytest.approx(best)
+    shares, bound = bench_milp.best_diggable(problem, 2, Effort())
     assert problem.value(shares) == pytest.approx(best) and bound == pytest.approx(best)
 
 
 def test_a_mine_that_costs_more_than_it_earns_is_left():
     """110 in two years, for a capital of 500 and 30 a year."""
     problem = two_benches(YearlyMoney(30, ((1, 500),)))
-    optimum = linear_programme.relaxed(problem, 2)
+    optimum = bench_lp.relaxed(problem, 2)
     assert optimum.bound == 0 and not optimum.cash.any() and not optimum.cumulative.any()
-    assert problem.value(linear_programme.diggable(optimum, problem)) == 0
+    assert problem.value(bench_lp.diggable(optimum, problem)) == 0
 
 
 def test_bins_end_before_capital_that_does_not_pay(plan_folder, without_figures):
@@ -177,10 +178,10 @@ def test_a_schedule_of_bins_by_hand(money, best):
     """The ore of each bench is one bin, and digging costs nothing."""
     problem = two_benches(money)
     amounts = np.array([[10, 0, 100], [10, 5, 10]], dtype=float)
-    parcels = grade_bins.Parcels(
+    parcels = value_bins.Parcels(
         np.array([0, 1]), np.array([2, 1]), ("ore_tonnes", "metal_copper", "gain"), amounts, np.array([5.0])
     )
-    milled = mp.MillingProblem(problem, parcels, 2, None)
+    milled = cutoff_lp.MillingProblem(problem, parcels, 2, None)
     optimum = milled.relaxed()
     assert optimum.bound == pytest.approx(best) and optimum.cash.sum() == pytest.approx(best)
     assert milled.value(*padded(milled.diggable(optimum))) == pytest.approx(best)
@@ -208,8 +209,8 @@ def test_no_schedule_is_above_the_bound(pit, limits, fixed, capital, premiums):
     money = YearlyMoney(fixed, capital, {"metal_copper": premiums} if premiums else {})
     problem = replace(problem_of(random_benches(pit, 0), limits), money=money)
     by_rules = by_rule(problem, 5)[0]
-    optimum = linear_programme.relaxed(problem, 5)
-    made = problem.value(linear_programme.diggable(optimum, problem))
+    optimum = bench_lp.relaxed(problem, 5)
+    made = problem.value(bench_lp.diggable(optimum, problem))
     slack = 1e-6 * max(1.0, np.abs(problem.worths(5)).sum())
     assert problem.value(by_rules) - slack <= made <= optimum.bound + slack
     assert optimum.cash @ 1.1 ** -np.arange(1.0, 6) == pytest.approx(optimum.bound, abs=slack)

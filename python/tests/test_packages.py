@@ -5,7 +5,7 @@ import sys
 
 import pytest
 
-import pitplan.block_schedule
+import pitplan.scheduling.blocks
 from pitplan import MissingPackage
 from pitplan.core import optional_packages
 from pitplan.solver import library
@@ -41,10 +41,10 @@ def test_a_missing_library_of_pits_is_named(monkeypatch):
 
 def test_only_the_missing_library_of_pits_is_called_missing(monkeypatch):
     """A module of the layer that cannot be imported is a mistake in the layer."""
-    module = "pitplan.block_schedule.result"
+    module = "pitplan.scheduling.blocks.tables"
     monkeypatch.setitem(sys.modules, "pitshell", sys)
     monkeypatch.setitem(sys.modules, module, None)
-    monkeypatch.delattr(pitplan.block_schedule, "result", raising=False)
+    monkeypatch.delattr(pitplan.scheduling.blocks, "result", raising=False)
     with pytest.raises(ImportError, match="result"):
         pitplan.write_block_schedule("project.toml")
 

@@ -9,11 +9,11 @@ import pytest
 from conftest import ROOT
 
 import pitplan
-from pitplan import yearly_schedule
-from pitplan.block_schedule import result as block_result
 from pitplan.config.pushbacks import PhaseRules
 from pitplan.config.schedule import ScheduleRules
 from pitplan.config.sensitivity import SensitivityRules
+from pitplan.scheduling import phase_schedule
+from pitplan.scheduling.blocks import result as block_result
 
 PAGE = (ROOT / "docs" / "PLANNING.md").read_text(encoding="utf-8")
 EXAMPLE = ROOT / "examples" / "plan" / "project.toml"
@@ -112,7 +112,7 @@ def test_the_schedule_of_the_page_is_that_of_the_example():
     project = pitplan.load(EXAMPLE)
     rules = ScheduleRules(lag=1, sinking_rate=8.0, ramp_up=(0.5, 1.0))
     plain, binned = (
-        yearly_schedule.make(
+        phase_schedule.make(
             pitplan.pushbacks.nested.divide(
                 pitplan.prepare(
                     pitplan.pushbacks.nested.ending(
@@ -123,7 +123,7 @@ def test_the_schedule_of_the_page_is_that_of_the_example():
         )
         for asked in (rules, replace(rules, bins=8, rehandling=1.0))
     )
-    ways = yearly_schedule.ways(plain).set_index("way")
+    ways = phase_schedule.ways(plain).set_index("way")
     assert f"earn {ways['value']['rule'] / 1e6:.2f} M USD by rule in {ways['years']['rule']} years" in PAGE
     assert f"each phase {plain.lead} benches behind the one before" in PAGE and ways["value"]["lp"] == pytest.approx(
         ways["value"]["rule"]

@@ -12,13 +12,14 @@ import pytest
 from matplotlib.figure import Figure
 from test_sequencing import THREE, benches_of, problem_of
 
-from pitplan import PlanError, page, schedule_pictures as pictures, workbook, yearly_schedule
+from pitplan import PlanError, page, schedule_pictures as pictures, workbook
 from pitplan.config.project import Metal
 from pitplan.core import files
-from pitplan.grade_bins import Parcels
-from pitplan.linear_programme import Relaxed
-from pitplan.milling_programme import Milling
-from pitplan.sequencing import Limits
+from pitplan.scheduling import phase_schedule
+from pitplan.scheduling.bench_lp import Relaxed
+from pitplan.scheduling.bench_sequencing import Limits
+from pitplan.scheduling.cutoff_lp import Milling
+from pitplan.scheduling.value_bins import Parcels
 
 METAL = Metal("copper", "cu", "percent", 8000, 0, 0.5)
 
@@ -35,7 +36,7 @@ def schedule():
     project = SimpleNamespace(money=SimpleNamespace(currency="USD"), metals=(METAL,))
     phases = SimpleNamespace(plan=SimpleNamespace(grid=grid, project=project), factors=(500, 1000))
     optimum = Relaxed(np.array([[1.0, 1, 1], [0.5, 1, 1], [0, 0.5, 1]]), 990.0, np.array([300.0, 700, 300]))
-    return yearly_schedule.YearlySchedule(phases, problem, shares, 1, 3, optimum)
+    return phase_schedule.YearlySchedule(phases, problem, shares, 1, 3, optimum)
 
 
 def test_a_gantt_has_a_bar_for_each_share(schedule):
@@ -77,7 +78,7 @@ def test_what_is_recovered_of_a_year_without_ore_is_not_drawn(schedule):
 
 
 def test_curves_end_at_what_each_case_earns(schedule):
-    years = yearly_schedule.years(schedule)
+    years = phase_schedule.years(schedule)
     best = pd.DataFrame({"case": "best", "factor": [1000, 1000, 900], "year": [1, 2, 1], "discounted": [700.0, 300, 5]})
     ax = pictures.plot_cumulative(schedule, pd.concat([years, best]), Figure().subplots())
     curves = {line.get_label().partition(":")[0]: line.get_ydata() for line in ax.lines if ":" in str(line.get_label())}
@@ -169,7 +170,7 @@ def test_the_page_has_a_colour_a_year(solved):
 
 @pytest.mark.parametrize(("bound", "told"), [(1234.56789, 1234.568), (np.inf, None), (None, None)])
 def test_a_bound_is_told_to_a_thousandth_where_there_is_one(schedule, bound, told):
-    assert yearly_schedule.record(replace(schedule, milp_bound=bound))["milp_bound"] == told
+    assert phase_schedule.record(replace(schedule, milp_bound=bound))["milp_bound"] == told
 
 
 @pytest.mark.parametrize("way", ["rule", "lp"])
@@ -184,5 +185,5 @@ def test_a_way_that_mines_nothing_is_drawn_with_a_sentence(schedule, way):
     assert [text.get_text() for text in legend.get_texts()][:2] == ["ore", "waste"]
     axes = pictures.plot_gantt(empty, Figure().subplots(1, 2))
     assert "nothing is mined" in [text.get_text() for text in axes[place].texts]
-    (note,) = [note for note in yearly_schedule.notes(empty) if "mines nothing" in note]
+    (note,) = [note for note in phase_schedule.notes(empty) if "mines nothing" in note]
     assert note.startswith(f"{way} mines nothing: at these prices and costs")

@@ -8,7 +8,7 @@ from hypothesis import given, strategies as st
 
 from pitplan import PlanError
 from pitplan.pushbacks.bench_table import PhaseBenches
-from pitplan.sequencing import Limits, Problem, Sequence, by_lead, by_rule, dig, leads
+from pitplan.scheduling.bench_sequencing import Limits, Problem, Sequence, by_lead, by_rule, dig, leads
 
 NAMES = ("rock_tonnes", "ore_tonnes", "metal_copper", "cash")
 

@@ -11,9 +11,10 @@ from conftest import PROJECT, rows
 from test_pushbacks import UPRIGHT, pillars, with_phases
 
 import pitplan
-from pitplan import PlanError, load, yearly_schedule
+from pitplan import PlanError, load
 from pitplan.cli import main
 from pitplan.core import files
+from pitplan.scheduling import phase_schedule
 from pitplan.verification import verify
 
 pytestmark = pytest.mark.usefixtures("without_figures")
@@ -377,7 +378,7 @@ def test_an_interruption_keeps_what_is_found_so_far(plan_folder, capsys, monkeyp
     def interrupted(programme, effort=None):
         os.kill(os.getpid(), signal.SIGINT)
 
-    monkeypatch.setattr(yearly_schedule.linear_programme, "solve", interrupted)
+    monkeypatch.setattr(phase_schedule.linear_programme, "solve", interrupted)
     path = plan_folder(pillars(), PHASES)
     assert main(["schedule", str(path), "--quiet"]) == 130
     folder = path.parent / "plan" / "schedule"

@@ -8,12 +8,14 @@ from typing import TYPE_CHECKING, Optional
 
 import pandas as pd
 
-from pitplan import report_page, workbook, yearly_schedule as scheduling
+from pitplan import report_page, workbook
 from pitplan.core import files
 from pitplan.core.progress import Progress
 from pitplan.pits import shell_tables
 from pitplan.pushbacks import nested
 from pitplan.pushbacks.nested import Phases
+from pitplan.scheduling import phase_schedule
+from pitplan.scheduling.phase_schedule import YearlySchedule
 from pitplan.solver import problem
 from pitplan.solver.problem import Mine
 from pitplan.solver.program import Solution
@@ -21,12 +23,11 @@ from pitplan.solver.program import Solution
 from ..conventions import with_discounting, with_outline
 from ..plan import Plan
 from ..rounded_tables import shown, write_csv
-from ..yearly_schedule import YearlySchedule
 from .drawing import draw
 from .writing import REPORT, WORKBOOK, Run, finish, note_verified, write_table
 
 if TYPE_CHECKING:
-    from ..block_schedule.result import ScheduledBlocks
+    from pitplan.scheduling.blocks.tables import ScheduledBlocks
 
 
 @dataclass(frozen=True)
@@ -112,10 +113,10 @@ def sheets_of(answered: Answered, table: pd.DataFrame, years: pd.DataFrame) -> d
     """The tables of a schedule's workbook, by sheet."""
     assert answered.phases is not None and answered.schedule is not None
     project = answered.plan.project
-    bins = {"milling": shown(scheduling.milling(answered.schedule))} if answered.schedule.milling else {}
+    bins = {"milling": shown(phase_schedule.milling(answered.schedule))} if answered.schedule.milling else {}
     sheets = {
-        "ways": scheduling.ways(answered.schedule),
-        "schedule": shown(scheduling.table(answered.schedule)),
+        "ways": phase_schedule.ways(answered.schedule),
+        "schedule": shown(phase_schedule.table(answered.schedule)),
         "years": shown(with_outline(years[years["factor"] == answered.schedule.factor], project)),
         "phases": shown(nested.table(answered.phases)),
         "shells": shown(with_outline(table, project)),
@@ -133,8 +134,8 @@ def write_tables(answered: Answered, stage: Path) -> tuple[pd.DataFrame, pd.Data
         (stage / files.ANSWER).write_bytes(solution.answer)
     blocks = shell_tables.blocks(plan, solution) if phases is None else nested.blocks(phases)
     if answered.schedule is not None:
-        blocks["year"] = scheduling.blocks_year(answered.schedule)[blocks["id"].to_numpy()]
-        years = pd.concat([years, scheduling.years(answered.schedule)], ignore_index=True)
+        blocks["year"] = phase_schedule.blocks_year(answered.schedule)[blocks["id"].to_numpy()]
+        years = pd.concat([years, phase_schedule.years(answered.schedule)], ignore_index=True)
         write_schedule_tables(answered.schedule, plan, stage)
     if answered.blocks is not None:
         blocks, years = answered.blocks.beside(blocks), pd.concat([years, answered.blocks.years], ignore_index=True)
@@ -150,8 +151,8 @@ def write_tables(answered: Answered, stage: Path) -> tuple[pd.DataFrame, pd.Data
 
 def write_schedule_tables(schedule: YearlySchedule, plan: Plan, stage: Path) -> None:
     """Writes schedule.csv, ways.csv, schedule.json, and milling.csv if ore is divided into bins."""
-    write_csv(shown(scheduling.table(schedule)), stage / files.SCHEDULE, plan.project)
-    write_csv(shown(scheduling.ways(schedule)), stage / files.WAYS, plan.project)
-    files.write_json(stage / files.SCHEDULE_RECORD, scheduling.record(schedule))
+    write_csv(shown(phase_schedule.table(schedule)), stage / files.SCHEDULE, plan.project)
+    write_csv(shown(phase_schedule.ways(schedule)), stage / files.WAYS, plan.project)
+    files.write_json(stage / files.SCHEDULE_RECORD, phase_schedule.record(schedule))
     if schedule.milling:
-        shown(scheduling.milling(schedule)).to_csv(stage / files.MILLING, index=False)
+        shown(phase_schedule.milling(schedule)).to_csv(stage / files.MILLING, index=False)

@@ -7,9 +7,10 @@ from typing import Optional
 
 import pandas as pd
 
-from pitplan import workbook, yearly_schedule as scheduling
+from pitplan import workbook
 from pitplan.core.optional_packages import load_library
 from pitplan.pushbacks import nested
+from pitplan.scheduling import phase_schedule
 from pitplan.solver import problem
 
 from .answers import Answered, write_answer
@@ -50,10 +51,10 @@ def write_schedule(project: Source, folder: Optional[Place] = None, writing: Wri
     workbook.demand_library()
     with begun(project, target, writing, nested.ending(project)) as run:
         phases = nested.divide(run.mine.plan, run.mine, writing.progress)
-        schedule = scheduling.make(phases, writing.progress)
-        run.record["notes"] += [*phases.notes, *scheduling.notes(schedule)]
+        schedule = phase_schedule.make(phases, writing.progress)
+        run.record["notes"] += [*phases.notes, *phase_schedule.notes(schedule)]
         write_answer(Answered(phases.plan, phases.solution, phases, schedule), run)
-    return scheduling.ways(schedule)
+    return phase_schedule.ways(schedule)
 
 
 def write_block_schedule(project: Source, folder: Optional[Place] = None, writing: Writing = Writing()) -> pd.DataFrame:
@@ -87,14 +88,14 @@ def write_block_schedule(project: Source, folder: Optional[Place] = None, writin
     """
     load_library("a schedule by block")
     # Its modules import the library themselves.
-    from ..block_schedule import result
+    from pitplan.scheduling.blocks import tables
 
     project = read(project)
     target = project.folder / "block_schedule" if folder is None else Path(folder)
     with begun(project, target, writing) as run:
         plan = run.mine.plan
         solution = problem.solve(plan, run.mine, writing.progress)
-        made = result.make(plan, writing.progress)
+        made = tables.make(plan, writing.progress)
         run.record["notes"] += made.notes
         write_answer(Answered(plan, solution, blocks=made), run)
     return made.table

@@ -12,9 +12,9 @@ from pitplan.config.schedule import ScheduleRules
 from pitplan.core import files
 from pitplan.core.progress import Progress
 from pitplan.pushbacks.bench_table import CASH
+from pitplan.scheduling.blocks.from_plan import demand_of_blocks, diggable, pit_of
 from pitplan.solver.choice import PROGRAM
 
-from ..block_schedule.of_plan import demand_of_blocks, diggable, pit_of
 from ..errors import PlanError
 from . import folder as folders, prepare
 from .block_problem import Diggable, Weights, demand_of_scenarios, limits_of_scenarios, weights_of, years_asked

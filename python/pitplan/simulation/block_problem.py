@@ -17,12 +17,12 @@ from pitplan.config.project import Project
 from pitplan.config.schedule import ScheduleRules
 from pitplan.pits.best_worst_case import year_discounts
 from pitplan.pushbacks.bench_table import CASH, ROCK
+from pitplan.scheduling.bench_sequencing import Limits
+from pitplan.scheduling.blocks import BlockProblem, Limit, Needs
+from pitplan.scheduling.blocks.from_plan import Flows, at_best, dues_of, limits_of_blocks, years_of
 
-from ..block_schedule import BlockProblem, Limit, Needs
-from ..block_schedule.of_plan import Flows, at_best, dues_of, limits_of_blocks, years_of
 from ..errors import PlanError
 from ..plan import MILLION, Plan
-from ..sequencing import Limits
 
 # The destinations of a block, by their numbers.
 WASTE, MILL = 0, 1

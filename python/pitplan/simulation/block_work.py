@@ -15,9 +15,9 @@ from pitplan.config.project import REFERENCE_FACTOR
 from pitplan.core import keyed_arrays
 from pitplan.core.files import staged_file
 from pitplan.pushbacks.bench_table import ORE, ROCK
+from pitplan.scheduling.blocks import Scheduled, solve
 from pitplan.solver import choice
 
-from ..block_schedule import Scheduled, solve
 from ..errors import PlanError
 from . import folder as folders
 from .block_problem import MILL, Diggable, Weights, problem_of, weights_of

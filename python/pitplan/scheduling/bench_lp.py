@@ -20,9 +20,9 @@ from scipy.sparse import coo_matrix, csr_matrix, diags, eye, hstack, vstack
 from pitplan.pits.best_worst_case import year_discounts
 from pitplan.pushbacks.bench_table import PhaseBenches
 
+from .bench_sequencing import HAIR, Limits, Problem, Sequence, by_lead, dig, leads
 from .highs import Programme
-from .optimiser import solve
-from .sequencing import HAIR, Limits, Problem, Sequence, by_lead, dig, leads
+from .highs_process import solve
 
 # By these shares of a bench the year in which it is dug is told, besides the expected year.
 PARTS = (0.1, 0.5, 0.9)

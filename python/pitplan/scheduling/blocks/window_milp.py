@@ -16,13 +16,13 @@ from numpy.typing import NDArray
 from scipy.sparse import bmat, coo_matrix, csr_matrix, eye, hstack, kron, vstack
 
 from pitplan.config.schedule import Effort
+from pitplan.scheduling.highs import Programme
+from pitplan.scheduling.highs_process import solve
 
-from ..highs import Programme
-from ..optimiser import solve
+from .presolve import earliest_years
 from .problem import BlockProblem, Due, Limit
-from .reduction import earliest_years
+from .ranks import ranks_of
 from .schedule import HAIR, BlockSchedule
-from .topological import ranks_of
 
 # Windows have about so many whole unknowns at most, at first the fewer ones, and so many years unless all blocks fit.
 FEWER, MOST_UNKNOWNS, MOST_YEARS = 2_500, 5_000, 4

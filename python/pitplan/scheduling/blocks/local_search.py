@@ -7,9 +7,9 @@ from itertools import product
 
 import numpy as np
 
-from .filling import Filling, Room, schedule_of
+from .greedy import Filling, Room, schedule_of
+from .ranks import Ranks
 from .schedule import BlockSchedule
-from .topological import Ranks
 
 # So many times all blocks are looked at.
 MOST_PASSES = 6

@@ -12,19 +12,19 @@ from numpy.typing import NDArray
 
 from pitplan.config.schedule import Effort
 from pitplan.core.progress import Progress, silent
+from pitplan.errors import PlanError
 
-from ..errors import PlanError
+from .bienstock_zuckerberg import Relaxation, Round, relaxed
 from .destinations import with_best_shares
-from .filling import Filling, preferences
-from .moving import moved
+from .greedy import Filling, preferences
+from .local_search import moved
 from .nodes import Nodes, nodes_of
+from .presolve import earliest_years, worth_digging
 from .problem import BlockProblem, demand_sound
-from .reduction import earliest_years, worth_digging
-from .relaxation import Relaxation, Round, relaxed
+from .ranks import Ranks, ranks_of
 from .schedule import HAIR, BlockSchedule, nothing
-from .topological import Ranks, ranks_of
 from .toposort import sequences
-from .windows import Window, sizes_of, window_of
+from .window_milp import Window, sizes_of, window_of
 
 # The relaxation is solved to this share of its bound.
 RELAXED = 1e-4

@@ -15,11 +15,11 @@ from pitplan.config.schedule import ScheduleRules
 from pitplan.core.progress import Progress, silent
 from pitplan.economics.period_costs import of_project
 from pitplan.pits.best_worst_case import year_discounts
+from pitplan.plan import Plan
 from pitplan.pushbacks.bench_table import CASH, ORE, ROCK
 
-from ..plan import Plan
-from .of_plan import PlannedBlocks, cash_of, of_plan
-from .solving import Scheduled, gap_of, solve
+from .from_plan import PlannedBlocks, cash_of, of_plan
+from .solve import Scheduled, gap_of, solve
 
 # What years.csv calls the case, and how the names of blocks.csv's columns of shares begin.
 CASE, SHARE = "block", "share_"

@@ -11,7 +11,7 @@ import numpy as np
 from numpy.typing import NDArray
 
 from .problem import BlockProblem
-from .topological import Ranks, greatest_needed
+from .ranks import Ranks, greatest_needed
 
 # By these shares of a block the year in which it is dug is told, besides the expected year.
 PARTS = (0.1, 0.5, 0.9)

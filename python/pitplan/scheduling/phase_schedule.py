@@ -15,16 +15,16 @@ from pitplan.config.project import Project, Schedule
 from pitplan.config.schedule import ScheduleRules
 from pitplan.core.progress import Progress, silent
 from pitplan.economics import period_costs
+from pitplan.errors import PlanError
 from pitplan.pits.best_worst_case import year_discounts
 from pitplan.pushbacks import bench_table
 from pitplan.pushbacks.bench_table import CASH, ORE, ROCK, PhaseBenches
 from pitplan.pushbacks.nested import Phases
 
-from . import grade_bins, integer_programme, linear_programme
-from .errors import PlanError
-from .linear_programme import Relaxed
-from .milling_programme import Milling, MillingProblem
-from .sequencing import Problem, by_rule, limits_of, running
+from . import bench_lp, bench_milp, value_bins
+from .bench_lp import Relaxed
+from .bench_sequencing import Problem, by_rule, limits_of, running
+from .cutoff_lp import Milling, MillingProblem
 
 RULE, LP, MILP = "rule", "lp", "milp"
 # The linear programme may take this part of the rule's years more.
@@ -141,14 +141,14 @@ def better(schedule: YearlySchedule, rules: ScheduleRules, progress: Progress) -
         yield from with_bins(schedule, rules, progress)
         return
     with progress.step(f"solving the linear programme of {years} years, {len(problem.benches) * years:,} unknowns"):
-        optimum = linear_programme.relaxed(problem, years)
+        optimum = bench_lp.relaxed(problem, years)
     with progress.step("making a schedule that can be dug of it"):
-        shares = linear_programme.diggable(optimum, problem)
+        shares = bench_lp.diggable(optimum, problem)
     schedule = replace(schedule, shares=schedule.shares | {LP: shares}, optimum=optimum)
     yield schedule
     if rules.milp is not None:
         with progress.step(f"solving the integer programme, up to {rules.milp.seconds:,.0f} s"):
-            best, bound = integer_programme.best_diggable(problem, years, rules.milp)
+            best, bound = bench_milp.best_diggable(problem, years, rules.milp)
         found = {} if best is None else {MILP: best}
         yield replace(schedule, shares=schedule.shares | found, milp_bound=bound)
 
@@ -156,7 +156,7 @@ def better(schedule: YearlySchedule, rules: ScheduleRules, progress: Progress) -
 def with_bins(schedule: YearlySchedule, rules: ScheduleRules, progress: Progress) -> Iterator[YearlySchedule]:
     """The same where ore is divided into bins, of which some may be left as waste or stocked."""
     assert rules.bins is not None
-    parcels = grade_bins.of_phases(schedule.phases, schedule.benches, rules.bins)
+    parcels = value_bins.of_phases(schedule.phases, schedule.benches, rules.bins)
     problem = MillingProblem(schedule.problem, parcels, schedule.years, rules.rehandling)
     unknowns = problem.dug + problem.kinds * len(parcels) * problem.years
     with progress.step(

@@ -1,4 +1,4 @@
-"""`python3 -m pitplan.block_schedule NAME.cpit NAME.prec`: the bound of a published problem, and a schedule of it; `.pcpsp` likewise."""
+"""`python3 -m pitplan.scheduling.blocks NAME.cpit NAME.prec`: the bound of a published problem, and a schedule of it; `.pcpsp` likewise."""
 
 from __future__ import annotations
 
@@ -16,15 +16,15 @@ from minelib.schedule_models import SECONDS
 from pitplan.config.schedule import Effort
 from pitplan.core.files import staged_file
 from pitplan.core.progress import on_standard_error, silent
+from pitplan.errors import PlanError
 
-from ..errors import PlanError
-from .of_minelib import of_minelib
-from .solving import Scheduled, solve
+from .from_minelib import of_minelib
+from .solve import Scheduled, solve
 
 
 def parser() -> argparse.ArgumentParser:
     top = argparse.ArgumentParser(
-        prog="python3 -m pitplan.block_schedule", description="Bound and schedule of a MineLib .cpit or .pcpsp."
+        prog="python3 -m pitplan.scheduling.blocks", description="Bound and schedule of a MineLib .cpit or .pcpsp."
     )
     top.add_argument("model", type=Path, help="NAME.cpit or NAME.pcpsp")
     top.add_argument("prec", type=Path, help="NAME.prec")

@@ -17,7 +17,8 @@ from functools import cached_property
 import numpy as np
 from numpy.typing import NDArray
 
-from ..errors import PlanError
+from pitplan.errors import PlanError
+
 from .problem import BlockProblem, Needs
 
 # What the library of pits takes.

@@ -15,10 +15,11 @@ from scipy.optimize import linprog
 from scipy.sparse import coo_matrix, csr_matrix, hstack, vstack
 from scipy.sparse.csgraph import connected_components
 
-from ..errors import PlanError
-from .groups import Groups
+from pitplan.errors import PlanError
+
+from .integer_values import by_end
 from .nodes import Nodes
-from .whole_values import by_end
+from .partition import Groups
 
 # Of so many pairs of groups at most each has a mark, which is faster than to sort them.
 MOST_MARKS = 2**28

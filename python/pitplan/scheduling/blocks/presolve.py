@@ -9,9 +9,9 @@ from numpy.typing import NDArray
 
 import pitshell
 
+from .integer_values import by_end, upward
 from .problem import BlockProblem
-from .topological import Ranks, cone_sums
-from .whole_values import by_end, upward
+from .ranks import Ranks, cone_sums
 
 # Sums of floats may be above a limit by a hair.
 HAIR = 1e-9

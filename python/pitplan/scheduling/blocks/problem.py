@@ -13,7 +13,7 @@ from typing import Optional
 import numpy as np
 from numpy.typing import NDArray
 
-from ..errors import PlanError
+from pitplan.errors import PlanError
 
 
 @dataclass(frozen=True)

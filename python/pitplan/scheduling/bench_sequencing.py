@@ -10,10 +10,9 @@ import numpy as np
 from pitplan.config.project import Project, Schedule
 from pitplan.config.schedule import ScheduleRules
 from pitplan.economics.period_costs import PLAIN, YearlyMoney
+from pitplan.errors import PlanError
 from pitplan.pits.best_worst_case import MOST_YEARS, year_discounts
 from pitplan.pushbacks.bench_table import CASH, ORE, ROCK, PhaseBenches
-
-from .errors import PlanError
 
 # A share so small is taken as nothing, since sums of fractions miss it by a hair.
 HAIR = 1e-9

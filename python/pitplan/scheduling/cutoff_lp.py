@@ -19,9 +19,7 @@ from scipy.sparse import bmat, csr_matrix, diags, eye, identity, kron
 from pitplan.pits.best_worst_case import year_discounts
 from pitplan.pushbacks.bench_table import CASH, ORE, ROCK, PhaseBenches
 
-from .grade_bins import GAIN, Parcels
-from .highs import Programme
-from .linear_programme import (
+from .bench_lp import (
     Relaxed,
     by_end,
     cash_of,
@@ -34,8 +32,10 @@ from .linear_programme import (
     with_costs,
     yearly_rows,
 )
-from .optimiser import solve
-from .sequencing import Limits, Problem, by_lead, dig, leads
+from .bench_sequencing import Limits, Problem, by_lead, dig, leads
+from .highs import Programme
+from .highs_process import solve
+from .value_bins import GAIN, Parcels
 
 # How much faster than the mill a pit may be dug by rule, so that it has the best of what there is.
 FASTER = (1.0, 1.25, 1.5, 2.0, 3.0)

@@ -11,10 +11,10 @@ from numpy.typing import NDArray
 
 import pitshell
 
+from .integer_values import upward
 from .problem import BlockProblem
 from .schedule import HAIR, BlockSchedule, nothing
 from .toposort import Sequence
-from .whole_values import upward
 
 # A gain of a smaller share is none.
 SLIGHT = 1e-9

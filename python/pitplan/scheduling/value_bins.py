@@ -7,10 +7,9 @@ from dataclasses import dataclass
 import numpy as np
 
 from pitplan.pits import shell_tables
+from pitplan.plan import MILLION
 from pitplan.pushbacks.bench_table import ORE, PhaseBenches
 from pitplan.pushbacks.nested import Phases
-
-from .plan import MILLION
 
 GAIN = "gain"
 

@@ -13,9 +13,9 @@ from typing import Optional
 import numpy as np
 
 from pitplan.config.schedule import Effort
+from pitplan.errors import PlanError
 
 from . import highs
-from .errors import PlanError
 from .highs import Optimum, Programme
 
 # A linear programme of so few unknowns is solved before a process has begun.

@@ -11,17 +11,17 @@ import pitshell
 from pitplan.config.project import Project
 from pitplan.config.schedule import MOST_YEARS, ScheduleRules, Sum
 from pitplan.economics.period_costs import YearlyMoney, of_project
+from pitplan.errors import PlanError
 from pitplan.pits.best_worst_case import year_discounts
+from pitplan.plan import MILLION, Plan
 from pitplan.pushbacks.bench_table import CASH, ORE, ROCK
+from pitplan.scheduling.bench_sequencing import Limits, limits_of
 from pitplan.slopes import closure
 from pitplan.slopes.arcs import ABSENT, slices
 
-from ..errors import PlanError
-from ..plan import MILLION, Plan
-from ..sequencing import Limits, limits_of
+from .integer_values import upward
 from .problem import BlockProblem, Due, Limit, Needs
-from .topological import greatest_needed, ranks_of
-from .whole_values import upward
+from .ranks import greatest_needed, ranks_of
 
 # A schedule may take this part of the years more that its limits ask for.
 MORE_YEARS = 0.2

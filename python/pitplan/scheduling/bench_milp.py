@@ -14,10 +14,10 @@ from scipy.sparse import coo_matrix, csr_matrix, hstack, vstack
 from pitplan.config.schedule import Effort
 from pitplan.pushbacks.bench_table import PhaseBenches
 
+from .bench_lp import diggable, limit_rows, of_unknowns, programme_of, with_running_years
+from .bench_sequencing import HAIR, Problem
 from .highs import Programme
-from .linear_programme import diggable, limit_rows, of_unknowns, programme_of, with_running_years
-from .optimiser import solve
-from .sequencing import HAIR, Problem
+from .highs_process import solve
 
 # What the solver's tolerance may add to a share, and what a limit may be missed by.
 SLIGHT, TOLERATED = 1e-6, 1e-8

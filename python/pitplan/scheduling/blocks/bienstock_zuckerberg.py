@@ -16,13 +16,13 @@ from numpy.typing import NDArray
 
 import pitshell
 from pitplan.config.schedule import Effort
+from pitplan.errors import PlanError
 
-from ..errors import PlanError
-from .closure import priced
-from .groups import Groups, renumbered
-from .master import Master, Restricted
+from .integer_values import upward
+from .lagrangian import priced
 from .nodes import Nodes
-from .whole_values import upward
+from .partition import Groups, renumbered
+from .restricted_lp import Master, Restricted
 
 # Pits by whose rims nodes are in groups at first: those of so many factors.
 FIRST_PITS = 40

@@ -20,8 +20,8 @@ from numpy.typing import NDArray
 
 import pitshell
 
+from .integer_values import ROUNDING, Whole, by_end, least_float, upward, worth_of
 from .nodes import Nodes
-from .whole_values import ROUNDING, Whole, by_end, least_float, upward, worth_of
 
 
 @dataclass(frozen=True)

@@ -1,0 +1,1 @@
+"""Yearly schedules: pushbacks bench by bench, and in `blocks` block by block."""
