@@ -33,8 +33,8 @@ from line_coverage import Lines
 from warm_tests import Runner
 
 LAYER = pathlib.Path("python") / "pitplan"
-DRAWING = ("pictures.py", "schedule_pictures.py", "block_pictures.py", "sensitivity_pictures.py", "map_marks.py", "yearly.py", "simulation/pictures.py")
-PICTURES = {LAYER / name for name in DRAWING}
+DRAWING = ("plans_sections", "schedule", "block_schedule", "sensitivity", "map_marks", "annual", "scenarios")
+PICTURES = {LAYER / "figures" / f"{name}.py" for name in DRAWING}
 WANTED = 0.95
 # A change may make a program take all the memory or all the time that it is given.
 MOST_BYTES = 4 << 30

@@ -27,10 +27,10 @@ Functions write what the subcommands do, by default into the project's own folde
 `Writing` says how a command writes its folder, `Request` where and how scenarios are solved, and `Where` on which Dask cases are;
 `gather(folder)` gathers the scenarios that others have solved.
 
-Functions `plot_...` draw on axes of your own, which they give back, and leave matplotlib's backend as it is: those of `pitplan.pictures`
-take a table of shells, or `pictures.scene_of(plan, solution)`; those of `pitplan.phase_pictures` its
-`scene_of(pitplan.pushbacks.nested.divide(plan))`; `pitplan.yearly.plot_years` a table of years; and those of `pitplan.simulation.pictures`
-`found.likely(1000)` or `found.table`; those of `pitplan.sensitivity_pictures` a table of cases.
+Functions `plot_...` draw on axes of your own, which they give back, and leave matplotlib's backend as it is: those of `pitplan.figures.plans_sections`
+take a table of shells, or `pictures.scene_of(plan, solution)`; those of `pitplan.figures.pushbacks` its
+`scene_of(pitplan.pushbacks.nested.divide(plan))`; `pitplan.figures.annual.plot_years` a table of years; and those of `pitplan.figures.scenarios`
+`found.likely(1000)` or `found.table`; those of `pitplan.figures.sensitivity` a table of cases.
 
 The library `libpitshell` solves where it is there, else the program `pitshell`; `dataclasses.replace(project, solver="program")`, or
 "library", asks for one. That a shell is the smallest set of greatest worth that keeps the needs is proved of both, for what they are given.

@@ -17,8 +17,9 @@ from pitplan.config import project_writer
 from pitplan.config.project import REFERENCE_FACTOR, Project
 from pitplan.core import files
 from pitplan.core.files import hash_of
+from pitplan.figures import schedule
 
-from . import report, schedule_pictures
+from . import report
 from .conventions import IN_WORDS
 from .errors import PlanError
 from .report import TEMPLATES, Columns
@@ -184,7 +185,7 @@ def of_answer(folder: Path, project: Project, record: dict[str, Any]) -> dict[st
             parts_of(ways, of_ways, project, ways.frame["way"].map({shown: "chosen"}).fillna("")),
             shown,
         )
-        found["way"] = schedule_pictures.NAMES.get(shown, shown)
+        found["way"] = schedule.NAMES.get(shown, shown)
         # What is scheduled by block is the pit of the price as given, whichever shell is shown.
         pit = REFERENCE_FACTOR if shown == BY_BLOCK else chosen
         cases, figures = [shown], [*of_way(ways, shown, project), *grades(shells, pit, project)]

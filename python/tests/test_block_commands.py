@@ -14,9 +14,10 @@ from test_processes import WITH
 from test_pushbacks import UPRIGHT, pillars
 
 import pitplan
-from pitplan import PlanError, block_pictures, load, prepare
+from pitplan import PlanError, load, prepare
 from pitplan.cli import main
 from pitplan.core import files
+from pitplan.figures import block_schedule
 from pitplan.scheduling.blocks import of_plan, result
 from pitplan.verification import verify
 
@@ -370,5 +371,5 @@ def test_where_no_block_pays_nothing_is_mined_which_is_an_answer(plan_folder):
     notes = files.read_record(project.folder / "block_schedule")["notes"]
     assert "nothing is mined: at these prices and costs no block pays for itself and what it needs" in notes
     made = result.make(prepare(project))
-    axes = block_pictures.plot(made, Figure().subplots(1, 2))
+    axes = block_schedule.plot(made, Figure().subplots(1, 2))
     assert [text.get_text() for text in axes[0].texts] == ["nothing is mined"]

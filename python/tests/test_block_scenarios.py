@@ -23,7 +23,8 @@ import pitplan
 from pitplan import MissingPackage, PlanError, Request, gather, load, write_scenarios
 from pitplan.cli import main
 from pitplan.core.progress import silent
-from pitplan.simulation import folder as folders, prepare, value_pictures, work
+from pitplan.figures import scenario_values
+from pitplan.simulation import folder as folders, prepare, work
 from pitplan.simulation.one_schedule import best_shares
 
 # The mill takes the ore of one block a year, and the shovels two pillars of two blocks.
@@ -517,9 +518,9 @@ def test_an_interrupted_schedule_is_no_answer(plan_folder, monkeypatch):
 
 
 def test_the_picture_has_each_scenario_and_the_spread():
-    figure = value_pictures.Figure()
+    figure = scenario_values.Figure()
     table = pd.DataFrame({"one_value": [1e7, 3e7], "value": [2e7, 4e7], "bound": [2.5e7, 4.1e7]})
-    each, spread = value_pictures.plot(table, "USD", figure.subplots(1, 2, sharey=True))
+    each, spread = scenario_values.plot(table, "USD", figure.subplots(1, 2, sharey=True))
     points = {line.get_label(): line.get_ydata().tolist() for line in each.lines}
     assert points["the one schedule for all"] == [10, 30] and points["the bound of each"] == [25, 41]
     assert spread.get_title(loc="left") == "to know the ground is worth at most 13 M USD on the mean"

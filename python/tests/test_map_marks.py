@@ -9,10 +9,10 @@ from conftest import PROJECT, rows
 from matplotlib.figure import Figure
 
 import pitplan
-from pitplan import PlanError, map_marks, phase_pictures, pictures
+from pitplan import PlanError
 from pitplan.blockmodel.grid import Grid
 from pitplan.config.figures import PictureRules
-from pitplan.simulation import pictures as many
+from pitplan.figures import map_marks, plans_sections, pushbacks, scenarios
 
 METALS = '[[metals]]\nname = "gold"\ncolumn = "au"\nunit = "gram_per_tonne"\nprice = 60\nrecovery = 0.9\n[slopes]\n'
 
@@ -28,7 +28,7 @@ def scene(rules=PictureRules()):
     factor[0, 2:5, 3:6] = 500
     factor[1, 3, 4] = 1000
     metal = pitplan.config.project.Metal("copper", "cu", "percent", 0, 0, 1)
-    return pictures.Scene(grid(), factor, np.ones((4, 5, 6), dtype=bool), np.ones((4, 5, 6)), metal, 1000, rules)
+    return plans_sections.Scene(grid(), factor, np.ones((4, 5, 6), dtype=bool), np.ones((4, 5, 6)), metal, 1000, rules)
 
 
 def drawn(plot):
@@ -59,7 +59,7 @@ def test_a_map_has_a_bar_of_a_quarter_at_most_and_an_arrow_upwards():
 
 def test_contours_go_round_what_is_dug_to_each_bench():
     """Nine columns are dug to 90 m or deeper, and one of them to 80."""
-    axes = drawn(lambda ax: pictures.plot_floor(scene(), ax))
+    axes = drawn(lambda ax: plans_sections.plot_floor(scene(), ax))
     assert axes.get_title() == "Floor at factor 1000, elevation in m, a line each 10 m"
     high, low = (np.array(lines.get_segments()) for lines in axes.collections)
     assert len(high) == 12 and len(low) == 4
@@ -104,7 +104,7 @@ def test_a_pit_that_is_empty_has_no_contours():
 
 def test_the_lines_of_sections_are_where_they_go():
     """Most of the pit lies in row 3 and in column 4."""
-    axes = drawn(lambda ax: pictures.plot_floor(scene(), ax))
+    axes = drawn(lambda ax: plans_sections.plot_floor(scene(), ax))
     across, along = (line.get_xydata().tolist() for line in axes.lines[:2])
     assert across == [[430_000, 6_512_070], [430_150, 6_512_070]] and along == [
         [430_112.5, 6_512_000],
@@ -116,14 +116,15 @@ def test_the_lines_of_sections_are_where_they_go():
 def test_sections_and_levels_are_those_asked_for():
     """A level holds its upper edge no more, and at the model's ends the last is taken."""
     asked = scene(PictureRules(levels=(99.0, 90.0, 60.0), north=6_512_015.0, east=430_149.0))
-    assert pictures.levels_to_show(asked) == [0, 1, 3] and (asked.section_row, asked.section_column) == (0, 5)
+    assert plans_sections.levels_to_show(asked) == [0, 1, 3] and (asked.section_row, asked.section_column) == (0, 5)
     figure = Figure()
-    found = pictures.plot_plans(asked, figure.subplots(2, 2))
+    found = plans_sections.plot_plans(asked, figure.subplots(2, 2))
     assert [ax.get_title(loc="left") or ax.get_title() for ax in found[1:]] == [
         f"Shells on the level {low} to {low + 10} m" for low in (90, 80, 60)
     ]
     titles = [
-        ax.get_title(loc="left") or ax.get_title() for ax in pictures.plot_sections(asked, Figure().subplots(2, 2))
+        ax.get_title(loc="left") or ax.get_title()
+        for ax in plans_sections.plot_sections(asked, Figure().subplots(2, 2))
     ]
     assert (
         titles[0] == "Shells, west to east (A) at north 6512010"
@@ -132,14 +133,14 @@ def test_sections_and_levels_are_those_asked_for():
 
 
 def test_a_picture_of_two_maps_has_no_empty_frames():
-    figure, axes = pictures.panels(100.0, 100.0, 3)
+    figure, axes = plans_sections.panels(100.0, 100.0, 3)
     assert len(axes) == 3 and [ax.axison for ax in figure.axes] == [True, True, True, False]
 
 
 def phase_scene(rules=PictureRules()):
     """The scene's pit in two phases, the second of which is the block below."""
     cube = scene().factor
-    return phase_pictures.PhaseScene(
+    return pushbacks.PhaseScene(
         grid(), np.where(cube == 500, 1, np.where(cube == 1000, 2, 0)), np.ones(cube.shape, dtype=bool), 2, rules
     )
 
@@ -147,7 +148,7 @@ def phase_scene(rules=PictureRules()):
 def likely(rules=PictureRules()):
     """Half of the scenarios dig the scene's upper level, and all the block below."""
     cube = scene().factor
-    return many.Likely(
+    return scenarios.Likely(
         grid(),
         np.where(cube == 500, 0.5, np.where(cube == 1000, 1.0, 0.0)),
         np.ones(cube.shape, dtype=bool),
@@ -158,7 +159,7 @@ def likely(rules=PictureRules()):
 
 
 @pytest.mark.parametrize(
-    "plot", [lambda axes: phase_pictures.plot_plans(phase_scene(), axes), lambda axes: many.plot_plans(likely(), axes)]
+    "plot", [lambda axes: pushbacks.plot_plans(phase_scene(), axes), lambda axes: scenarios.plot_plans(likely(), axes)]
 )
 def test_plans_of_phases_and_of_scenarios_are_maps_too(plot):
     """Each with the north and a scale; the first with the lines of the sections that the other picture shows."""
@@ -176,8 +177,8 @@ def test_plans_of_phases_and_of_scenarios_are_maps_too(plot):
 
 def test_sections_of_phases_and_of_scenarios_go_along_these_lines():
     for found in (
-        phase_pictures.plot_sections(phase_scene(), Figure().subplots(2)),
-        many.plot_sections(likely(), Figure().subplots(2)),
+        pushbacks.plot_sections(phase_scene(), Figure().subplots(2)),
+        scenarios.plot_sections(likely(), Figure().subplots(2)),
     ):
         titles = [ax.get_title(loc="left") or ax.get_title() for ax in found]
         assert titles[0].endswith("est to east (A) at north 6512070") and titles[1].endswith(
@@ -185,7 +186,7 @@ def test_sections_of_phases_and_of_scenarios_go_along_these_lines():
         )
 
 
-@pytest.mark.parametrize(("module", "scene_of"), [(phase_pictures, phase_scene), (many, likely)])
+@pytest.mark.parametrize(("module", "scene_of"), [(pushbacks, phase_scene), (scenarios, likely)])
 def test_plans_and_sections_of_phases_and_of_scenarios_are_those_asked_for(module, scene_of, tmp_path):
     """Of four levels the second and the last; row 0 has its middle at 6,512,010 m and column 5 at 430,137.5."""
     asked = scene_of(PictureRules(levels=(90.0, 60.0), north=6_512_015.0, east=430_149.0))
@@ -202,7 +203,7 @@ def test_plans_and_sections_of_phases_and_of_scenarios_are_those_asked_for(modul
 
 def test_phases_at_the_surface_have_contours_of_the_last_floor():
     """Dotted, beside the two lines round phases: nine columns are dug to 90 m or deeper, and one of them to 80."""
-    axes = drawn(lambda ax: phase_pictures.plot_surface(phase_scene(), ax))
+    axes = drawn(lambda ax: pushbacks.plot_surface(phase_scene(), ax))
     assert (axes.get_title(loc="left") or axes.get_title()) == "Phases at the surface, contours of the floor each 10 m"
     dotted = [lines for lines in axes.collections if lines.get_linestyle()[0][1] is not None]
     assert [len(lines.get_segments()) for lines in dotted] == [12, 4] and len(axes.collections) == 4
@@ -220,9 +221,9 @@ def project(plan_folder):
 
 def test_grades_are_those_of_the_metal_asked_for(project):
     plan = pitplan.prepare(project('metal = "gold"'))
-    scene_of = pictures.scene_of(plan, pitplan.solve(plan), 1000)
+    scene_of = plans_sections.scene_of(plan, pitplan.solve(plan), 1000)
     assert scene_of.metal.name == "gold" and scene_of.grade[0, 0].tolist() == [1, 2, 3, 4, 5]
-    assert pictures.scene_of(pitplan.prepare(project("")), pitplan.solve(plan), 1000).metal.name == "copper"
+    assert plans_sections.scene_of(pitplan.prepare(project("")), pitplan.solve(plan), 1000).metal.name == "copper"
 
 
 def test_pictures_are_written_as_pdf_and_svg_too_the_same_each_time(project):
@@ -248,16 +249,16 @@ def test_pictures_are_written_as_pdf_and_svg_too_the_same_each_time(project):
 def test_phases_are_drawn_where_the_project_asks_for(project, monkeypatch):
     shown = []
     for name in ("write_plans", "write_sections"):
-        monkeypatch.setattr(phase_pictures, name, lambda scene, path: (shown.append(scene), path.touch()))
+        monkeypatch.setattr(pushbacks, name, lambda scene, path: (shown.append(scene), path.touch()))
     pitplan.write_pushbacks(
         project("levels = [5]\nnorth = 49\n[pushbacks]\ncount = 1"), writing=pitplan.Writing(verifies=False)
     )
-    assert [phase_pictures.levels_to_show(scene) for scene in shown] == [[2]] * 2 and shown[0].section_row == 4
+    assert [pushbacks.levels_to_show(scene) for scene in shown] == [[2]] * 2 and shown[0].section_row == 4
 
 
 def test_without_a_word_pictures_are_png_alone(solved):
     assert not list(solved[1].glob("*.pdf")) + list(solved[1].glob("*.svg"))
-    assert pictures.ALSO.get() == ()
+    assert plans_sections.ALSO.get() == ()
 
 
 @pytest.mark.parametrize(
@@ -293,5 +294,5 @@ def test_places_beyond_the_model_are_refused(project, words, said):
 
 def test_the_models_ends_are_within_it(project):
     plan = pitplan.prepare(project("levels = [0, 30]\nnorth = 50\neast = 0"))
-    shown = pictures.scene_of(plan, pitplan.solve(plan), 1000)
-    assert pictures.levels_to_show(shown) == [2, 0] and (shown.section_row, shown.section_column) == (4, 0)
+    shown = plans_sections.scene_of(plan, pitplan.solve(plan), 1000)
+    assert plans_sections.levels_to_show(shown) == [2, 0] and (shown.section_row, shown.section_column) == (4, 0)

@@ -131,7 +131,7 @@ def test_scenarios_are_given_as_frames(plan_folder):
         [pytest.approx(1 / 3, abs=1e-6)] * 3,
     )
     axes = Figure().subplots(2)
-    left, right = pitplan.simulation.pictures.plot_spread(found.table, "USD", axes)
+    left, right = pitplan.figures.scenarios.plot_spread(found.table, "USD", axes)
     # At 8000 and at factor 500 one of three models is worth 1400, so that the median is 0; at 12,000 it is worth 2900.
     assert [line.get_ydata()[0] for line in right.lines] == [0, 0] and [line.get_ydata()[2] for line in left.lines] == [
         300,

@@ -12,9 +12,8 @@ from matplotlib.backends.backend_agg import FigureCanvasAgg
 from matplotlib.figure import Figure
 
 import pitplan
-from pitplan import phase_pictures, pictures, yearly
 from pitplan.blockmodel.grid import Grid
-from pitplan.simulation import pictures as many
+from pitplan.figures import annual, plans_sections, pushbacks, scenarios
 
 YEARS = pd.DataFrame(
     [
@@ -41,7 +40,7 @@ def test_years_are_drawn_as_bars_capacities_and_cash(plan_folder, panels):
     """In millions of tonnes and of dollars, of which the axes have ten or more."""
     figure, axes = panels
     project = pitplan.load(plan_folder(rows(2, 2, 2), PROJECT, CAPACITIES))
-    yearly.plot_years(YEARS, project, 1000, axes)
+    annual.plot_years(YEARS, project, 1000, axes)
     expected = {
         0: ("Best case: NPV 28.0 M USD", [0, 3], [9, 1], [-2.5, 40]),
         1: ("Worst case: NPV 23.5 M USD", [1, 2, 0], [7, 3, 1], [5, 32, -1]),
@@ -62,7 +61,7 @@ def test_years_are_drawn_as_bars_capacities_and_cash(plan_folder, panels):
 def test_the_axes_of_years_hold_all_and_have_nothing_at_one_height(plan_folder, panels):
     figure, axes = panels
     project = pitplan.load(plan_folder(rows(2, 2, 2), PROJECT, CAPACITIES))
-    yearly.plot_years(YEARS, project, 1000, axes)
+    annual.plot_years(YEARS, project, 1000, axes)
     limits = [axis.get_ylim() for axis in figure.axes]
     assert limits[0] == limits[1] and limits[2] == limits[3]
     heights = [-low / (high - low) for low, high in limits]
@@ -74,7 +73,7 @@ def test_the_axes_of_years_hold_all_and_have_nothing_at_one_height(plan_folder, 
 def test_a_capacity_far_above_all_years_is_told_and_not_drawn_to(plan_folder, panels):
     figure, axes = panels
     far = (CAPACITIES[0], CAPACITIES[1].replace("10_000_000", "1_000_000_000"))
-    yearly.plot_years(YEARS, pitplan.load(plan_folder(rows(2, 2, 2), PROJECT, far)), 1000, axes)
+    annual.plot_years(YEARS, pitplan.load(plan_folder(rows(2, 2, 2), PROJECT, far)), 1000, axes)
     assert "shovels: 1,000,000 kt a year" in [text.get_text() for text in figure.legends[0].get_texts()]
     assert 9000 < axes[0].get_ylim()[1] < 20_000
 
@@ -84,7 +83,7 @@ def test_years_that_earn_nothing_are_drawn_too(plan_folder, panels, cash):
     figure, axes = panels
     project = pitplan.load(plan_folder(rows(2, 2, 2), PROJECT, CAPACITIES))
     years = YEARS[(YEARS["factor"] == 1000) & (YEARS["case"] == "best")].assign(cash=cash)
-    yearly.plot_years(pd.concat([years, years.assign(case="worst")]), project, 1000, axes)
+    annual.plot_years(pd.concat([years, years.assign(case="worst")]), project, 1000, axes)
     low, high = figure.axes[2].get_ylim()
     assert np.isfinite([low, high]).all() and high > 0
     size = 1 if min(cash) == 0 else 1e6 if min(cash) <= -10e6 else 1e3
@@ -114,7 +113,7 @@ def corners(collection):
 
 def test_each_set_of_prices_has_a_band_and_a_median_of_its_own(panels):
     figure, axes = panels
-    many.plot_spread(scenarios_at(300, 100.5, 200), "USD", axes)
+    scenarios.plot_spread(scenarios_at(300, 100.5, 200), "USD", axes)
     for axis, size in zip(axes, (1, 10)):
         starts = [500, 100_000, 200_000]
         assert len(axis.collections) == 3 and len(axis.lines) == 3
@@ -133,7 +132,7 @@ def test_each_set_of_prices_has_a_band_and_a_median_of_its_own(panels):
 
 def test_many_sets_of_prices_are_medians_alone(panels):
     figure, axes = panels
-    many.plot_spread(scenarios_at(*range(100, 3100, 100)), "USD", axes)
+    scenarios.plot_spread(scenarios_at(*range(100, 3100, 100)), "USD", axes)
     for axis in axes:
         assert not axis.collections and len(axis.lines) == 30
     names = [text.get_text() for text in figure.legends[0].get_texts()]
@@ -143,21 +142,21 @@ def test_many_sets_of_prices_are_medians_alone(panels):
 def test_six_sets_have_bands_and_seven_have_none(panels):
     figure, axes = panels
     for count, bands in ((6, 6), (7, 0)):
-        for axis in many.plot_spread(scenarios_at(*range(100, 100 + 100 * count, 100)), "USD", axes):
+        for axis in scenarios.plot_spread(scenarios_at(*range(100, 100 + 100 * count, 100)), "USD", axes):
             assert (len(axis.collections), len(axis.lines)) == (bands, count)
             axis.clear()
 
 
 def test_the_projects_own_prices_have_the_band_of_all_models_too(panels):
     figure, axes = panels
-    many.plot_spread(scenarios_at(100).drop(columns="price_copper"), "USD", axes)
+    scenarios.plot_spread(scenarios_at(100).drop(columns="price_copper"), "USD", axes)
     assert [corners(shown)[1000] for shown in axes[0].collections] == [(10_000, 20_000), (11_000, 19_000)]
     assert [text.get_text() for text in figure.legends[0].get_texts()] == ["all", "eight in ten", "median"]
 
 
 def test_one_set_of_prices_is_named(panels):
     figure, axes = panels
-    many.plot_spread(scenarios_at(100), "USD", axes)
+    scenarios.plot_spread(scenarios_at(100), "USD", axes)
     assert [text.get_text() for text in figure.legends[0].get_texts()] == ["all", "eight in ten", "median, copper 100"]
 
 
@@ -172,7 +171,7 @@ def at_a_zone(origin=(430010.0, 6512012.5, 806.25)):
 def drawn_of(monkeypatch, module, draw):
     """The figure that a picture would write, drawn."""
     figures = []
-    for place in (module, pictures):
+    for place in (module, plans_sections):
         monkeypatch.setattr(
             place, "finish", lambda figure, path: (FigureCanvasAgg(figure).draw(), figures.append(figure))
         )
@@ -196,9 +195,9 @@ def demand_plain_coordinates(figure):
 def test_plans_and_sections_have_coordinates_in_full(monkeypatch):
     grid, factor = at_a_zone()
     metal = pitplan.config.project.Metal("copper", "cu", "percent", 0, 0, 1)
-    scene = pictures.Scene(grid, factor, np.ones(grid.shape, dtype=bool), np.ones(grid.shape), metal, 1000)
-    for draw in (pictures.write_plans, pictures.write_sections):
-        figure = drawn_of(monkeypatch, pictures, lambda draw=draw: draw(scene, None))
+    scene = plans_sections.Scene(grid, factor, np.ones(grid.shape, dtype=bool), np.ones(grid.shape), metal, 1000)
+    for draw in (plans_sections.write_plans, plans_sections.write_sections):
+        figure = drawn_of(monkeypatch, plans_sections, lambda draw=draw: draw(scene, None))
         demand_plain_coordinates(figure)
         titles = [axis.get_title(loc="left") for axis in figure.axes]
     # Row 10 from 6512012.5 by 25 m, and column 12 from 430010 by 20 m.
@@ -206,9 +205,9 @@ def test_plans_and_sections_have_coordinates_in_full(monkeypatch):
     assert titles[2] == "Shells, south to north (B) at east 430250"
 
 
-@pytest.mark.parametrize("draw", [phase_pictures.write_plans, phase_pictures.write_sections])
+@pytest.mark.parametrize("draw", [pushbacks.write_plans, pushbacks.write_sections])
 def test_phases_have_coordinates_in_full_and_nothing_overlaps(monkeypatch, draw):
-    figure = drawn_of(monkeypatch, phase_pictures, lambda: draw(phase_scene(), None))
+    figure = drawn_of(monkeypatch, pushbacks, lambda: draw(phase_scene(), None))
     demand_plain_coordinates(figure)
     boxes = [axis.get_tightbbox() for axis in figure.axes]
     assert not any(one.overlaps(other) for k, one in enumerate(boxes) for other in boxes[:k])
@@ -218,7 +217,7 @@ def test_phases_have_coordinates_in_full_and_nothing_overlaps(monkeypatch, draw)
 @pytest.mark.parametrize(("count", "ticks"), [(2, [1, 2]), (11, list(range(1, 12))), (12, [1, 3, 5, 7, 9, 11])])
 def test_the_bar_of_phases_has_eleven_numbers_at_most(count, ticks):
     figure = plt.figure()
-    phase_pictures.plot_level(dataclasses.replace(phase_scene(), count=count), 2, figure.subplots())
+    pushbacks.plot_level(dataclasses.replace(phase_scene(), count=count), 2, figure.subplots())
     assert figure.axes[-1].get_yticks().tolist() == ticks
     plt.close(figure)
 
@@ -231,7 +230,7 @@ def test_what_is_dug_of_phases_is_rock_that_is_in_one():
 
 def test_sections_of_phases_are_as_high_as_the_ground_is_deep(monkeypatch):
     """150 m of the lesser side, 480 m: each of two maps 5.2 inches wide is so much less high, with 1.6 inches for what is written."""
-    figure = drawn_of(monkeypatch, phase_pictures, lambda: phase_pictures.write_sections(phase_scene(), None))
+    figure = drawn_of(monkeypatch, pushbacks, lambda: pushbacks.write_sections(phase_scene(), None))
     assert figure.get_size_inches().tolist() == pytest.approx([12, 5.2 * 150 / 480 + 1.6])
 
 
@@ -239,23 +238,23 @@ def test_what_plans_and_sections_show_of_phases(panels):
     """On the level 1 below the top the pit reaches nine blocks each way along a row and a column together."""
     scene = phase_scene()
     level, west_east = panels[1]
-    drawn = phase_pictures.plot_level(scene, 1, level).images[1].get_array()
+    drawn = pushbacks.plot_level(scene, 1, level).images[1].get_array()
     rows, columns = np.indices((20, 24))
     inside = abs(rows - 10) + abs(columns - 12) < 10
     expected = np.where(abs(rows - 10) < 2, 1, 2)
     assert (np.ma.getmaskarray(drawn) == ~inside).all() and (drawn[inside] == expected[inside]).all()
     assert level.get_title(loc="left") + level.get_title() == "Phases on the level 787.5 to 800 m"
     # Shown from the bottom up: the deepest of the row's blocks has 6 levels, of which the sixth is one block wide and more.
-    drawn = phase_pictures.plot_from_west_to_east(scene, 14, west_east).images[1].get_array()
+    drawn = pushbacks.plot_from_west_to_east(scene, 14, west_east).images[1].get_array()
     assert [int(np.ma.count(line)) for line in drawn[::-1]] == [max(0, 2 * (12 - 4 - 2 * k) - 1) for k in range(12)]
     assert set(np.ma.compressed(drawn)) == {2}
 
 
 def test_probabilities_have_coordinates_in_full(monkeypatch):
     grid, factor = at_a_zone()
-    likely = many.Likely(grid, factor / 1000, np.ones(grid.shape, dtype=bool), 1000, 3)
-    for draw in (many.write_plans, many.write_sections):
-        figure = drawn_of(monkeypatch, many, lambda draw=draw: draw(likely, None))
+    likely = scenarios.Likely(grid, factor / 1000, np.ones(grid.shape, dtype=bool), 1000, 3)
+    for draw in (scenarios.write_plans, scenarios.write_sections):
+        figure = drawn_of(monkeypatch, scenarios, lambda draw=draw: draw(likely, None))
         demand_plain_coordinates(figure)
         titles = [axis.get_title(loc="left") for axis in figure.axes]
     assert titles[:2] == ["West to east (A) at north 6512262.5", "South to north (B) at east 430250"]
@@ -277,7 +276,7 @@ SHELLS = pd.DataFrame(
 def scene():
     grid, factor = at_a_zone()
     metal = pitplan.config.project.Metal("copper", "cu", "percent", 0, 0, 1)
-    return pictures.Scene(grid, factor, np.ones(grid.shape, dtype=bool), np.ones(grid.shape), metal, 1000)
+    return plans_sections.Scene(grid, factor, np.ones(grid.shape, dtype=bool), np.ones(grid.shape), metal, 1000)
 
 
 def phase_scene():
@@ -285,38 +284,41 @@ def phase_scene():
     grid, factor = at_a_zone()
     row = np.indices(grid.shape)[1]
     phase = np.where(factor > 0, np.where(abs(row - 10) < 2, 1, 2), 0)
-    return phase_pictures.PhaseScene(grid, phase, np.ones(grid.shape, dtype=bool), 2)
+    return pushbacks.PhaseScene(grid, phase, np.ones(grid.shape, dtype=bool), 2)
 
 
 def likely():
     grid, factor = at_a_zone()
-    return many.Likely(grid, factor / 1000, np.ones(grid.shape, dtype=bool), 1000, 3)
+    return scenarios.Likely(grid, factor / 1000, np.ones(grid.shape, dtype=bool), 1000, 3)
 
 
 EACH = {
-    "pit by pit": (1, lambda axes, project: [pictures.plot_pit_by_pit(SHELLS, "USD", 1000, axes[0])]),
-    "floor": (1, lambda axes, project: [pictures.plot_floor(scene(), axes[0])]),
-    "level": (1, lambda axes, project: [pictures.plot_level(scene(), 2, axes[0])]),
-    "shells": (1, lambda axes, project: [pictures.plot_shells(scene(), scene().from_west_to_east(10), axes[0])]),
-    "grades": (1, lambda axes, project: [pictures.plot_grades(scene(), scene().from_south_to_north(12), axes[0])]),
-    "phases on the ground": (1, lambda axes, project: [phase_pictures.plot_surface(phase_scene(), axes[0])]),
-    "phases on a level": (1, lambda axes, project: [phase_pictures.plot_level(phase_scene(), 2, axes[0])]),
+    "pit by pit": (1, lambda axes, project: [plans_sections.plot_pit_by_pit(SHELLS, "USD", 1000, axes[0])]),
+    "floor": (1, lambda axes, project: [plans_sections.plot_floor(scene(), axes[0])]),
+    "level": (1, lambda axes, project: [plans_sections.plot_level(scene(), 2, axes[0])]),
+    "shells": (1, lambda axes, project: [plans_sections.plot_shells(scene(), scene().from_west_to_east(10), axes[0])]),
+    "grades": (
+        1,
+        lambda axes, project: [plans_sections.plot_grades(scene(), scene().from_south_to_north(12), axes[0])],
+    ),
+    "phases on the ground": (1, lambda axes, project: [pushbacks.plot_surface(phase_scene(), axes[0])]),
+    "phases on a level": (1, lambda axes, project: [pushbacks.plot_level(phase_scene(), 2, axes[0])]),
     "phases along a row": (
         1,
-        lambda axes, project: [phase_pictures.plot_from_west_to_east(phase_scene(), 10, axes[0])],
+        lambda axes, project: [pushbacks.plot_from_west_to_east(phase_scene(), 10, axes[0])],
     ),
     "phases along a column": (
         1,
-        lambda axes, project: [phase_pictures.plot_from_south_to_north(phase_scene(), 12, axes[0])],
+        lambda axes, project: [pushbacks.plot_from_south_to_north(phase_scene(), 12, axes[0])],
     ),
-    "plans of phases": (4, lambda axes, project: phase_pictures.plot_plans(phase_scene(), axes)),
-    "sections of phases": (2, lambda axes, project: phase_pictures.plot_sections(phase_scene(), axes)),
-    "plans": (4, lambda axes, project: pictures.plot_plans(scene(), axes)),
-    "sections": (4, lambda axes, project: pictures.plot_sections(scene(), axes)),
-    "years": (2, lambda axes, project: yearly.plot_years(YEARS, project, 1000, axes)),
-    "plans of scenarios": (4, lambda axes, project: many.plot_plans(likely(), axes)),
-    "sections of scenarios": (2, lambda axes, project: many.plot_sections(likely(), axes)),
-    "spread": (2, lambda axes, project: many.plot_spread(scenarios_at(100, 200), "USD", axes)),
+    "plans of phases": (4, lambda axes, project: pushbacks.plot_plans(phase_scene(), axes)),
+    "sections of phases": (2, lambda axes, project: pushbacks.plot_sections(phase_scene(), axes)),
+    "plans": (4, lambda axes, project: plans_sections.plot_plans(scene(), axes)),
+    "sections": (4, lambda axes, project: plans_sections.plot_sections(scene(), axes)),
+    "years": (2, lambda axes, project: annual.plot_years(YEARS, project, 1000, axes)),
+    "plans of scenarios": (4, lambda axes, project: scenarios.plot_plans(likely(), axes)),
+    "sections of scenarios": (2, lambda axes, project: scenarios.plot_sections(likely(), axes)),
+    "spread": (2, lambda axes, project: scenarios.plot_spread(scenarios_at(100, 200), "USD", axes)),
 }
 
 
@@ -348,7 +350,7 @@ def test_too_few_axes_are_refused(plan_folder, panels, name):
 
 def test_shells_are_drawn_as_bars_and_curves(panels):
     """In millions of tonnes, of which the axis has 60, and in dollars."""
-    ax = pictures.plot_pit_by_pit(SHELLS, "USD", 1000, panels[1][0])
+    ax = plans_sections.plot_pit_by_pit(SHELLS, "USD", 1000, panels[1][0])
     (right,) = [other for other in panels[0].axes if other not in panels[1]]
     ore, waste = ax.containers
     assert [bar.get_height() for bar in ore] == [12, 15, 20] and [bar.get_height() for bar in waste] == [8, 25, 40]
@@ -370,20 +372,20 @@ def test_sections_show_a_grade_in_one_colour():
     shown = scene()
     shown.grade[:, 10, :] = 3.0
     shown.grade[:, :, 12] = 2.0
-    axes = pictures.plot_sections(shown, Figure().subplots(2, 2))
+    axes = plans_sections.plot_sections(shown, Figure().subplots(2, 2))
     assert [ax.images[-1].get_clim() for ax in axes[1::2]] == [(0, 3), (0, 3)]
 
 
 def test_what_plans_show_of_a_solved_plan(solved):
     """The pit of a hill of ten by nine columns; its scene is what blocks.csv says."""
     plan = pitplan.prepare(solved[0])
-    scene = pictures.scene_of(plan, pitplan.solve(plan), 1500)
+    scene = plans_sections.scene_of(plan, pitplan.solve(plan), 1500)
     blocks = pd.read_csv(solved[1] / "blocks.csv")
     assert scene.dug.sum() == (blocks["factor"] > 0).sum() and scene.solid.sum() == len(blocks)
     places = [((45 - blocks["z"]) // 10).astype(int), (blocks["y"] // 10).astype(int), (blocks["x"] // 10).astype(int)]
     assert scene.grade[tuple(places)].tolist() == blocks["cu"].tolist()
     figure, axes = plt.subplots()
-    (image,) = pictures.plot_floor(scene, axes).images
+    (image,) = plans_sections.plot_floor(scene, axes).images
     deepest = (
         blocks[blocks["factor"] > 0]
         .assign(column=lambda it: it["x"] // 10, row=lambda it: it["y"] // 10)
@@ -394,5 +396,5 @@ def test_what_plans_show_of_a_solved_plan(solved):
     assert {(row, column): drawn[int(row), int(column)] for row, column in deepest.index} == (deepest - 5).to_dict()
     assert np.ma.count(np.ma.masked_invalid(drawn)) == len(deepest)
     plt.close(figure)
-    chosen = pictures.scene_of(plan, pitplan.solve(plan)).chosen
+    chosen = plans_sections.scene_of(plan, pitplan.solve(plan)).chosen
     assert chosen == json.loads((solved[1] / "prepare.json").read_text())["shells"]["chosen"]

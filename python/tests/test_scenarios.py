@@ -20,7 +20,8 @@ from pitplan import MissingPackage, PlanError, ProgramError, Request, load
 from pitplan.cli import main, parser
 from pitplan.commands import scenario_files
 from pitplan.core.progress import Progress, silent
-from pitplan.simulation import answers, folder as folders, job_lists, on_dask, pictures, prepare, work
+from pitplan.figures import scenarios
+from pitplan.simulation import answers, folder as folders, job_lists, on_dask, prepare, work
 
 UPRIGHT = ('pattern = "1:5"', "angle = 90")
 COLUMNS = PROJECT + '[scenarios]\ncolumns = { copper = "sim_*" }\n'
@@ -324,11 +325,11 @@ def test_some_answers_are_gathered_on_request_alone(plan_folder):
 def test_pictures_of_scenarios_are_those_that_the_project_asks_for(plan_folder, monkeypatch):
     """Three blocks over each other: of the three levels the lowest is asked for."""
     shown = []
-    monkeypatch.setattr(pictures, "write_plans", lambda likely, path: shown.append(likely))
+    monkeypatch.setattr(scenarios, "write_plans", lambda likely, path: shown.append(likely))
     shared = prepared(plan_folder(pillar(), COLUMNS + '[pictures]\nlevels = [5]\nformats = ["svg"]\n', UPRIGHT))
     solved_in_turn(shared)
     pitplan.gather(shared.folder)
-    assert pictures.levels_to_show(shown[0]) == [2]
+    assert scenarios.levels_to_show(shown[0]) == [2]
     assert b"<svg" in (shared.folder / "spread.svg").read_bytes()[:500] and (shared.folder / "spread.png").is_file()
 
 

@@ -12,9 +12,10 @@ import pytest
 from matplotlib.figure import Figure
 from test_sequencing import THREE, benches_of, problem_of
 
-from pitplan import PlanError, page, schedule_pictures as pictures, workbook
+from pitplan import PlanError, page, workbook
 from pitplan.config.project import Metal
 from pitplan.core import files
+from pitplan.figures import schedule as schedule_figures
 from pitplan.scheduling import phase_schedule
 from pitplan.scheduling.bench_lp import Relaxed
 from pitplan.scheduling.bench_sequencing import Limits
@@ -40,7 +41,7 @@ def schedule():
 
 
 def test_a_gantt_has_a_bar_for_each_share(schedule):
-    axes = pictures.plot_gantt(schedule, Figure().subplots(1, 2))
+    axes = schedule_figures.plot_gantt(schedule, Figure().subplots(1, 2))
     for ax, way in zip(axes, schedule.shares):
         (bars,) = ax.collections
         shares = schedule.shares[way]
@@ -59,7 +60,7 @@ def test_a_gantt_has_a_bar_for_each_share(schedule):
 
 
 def test_the_bars_of_years_are_the_ore_and_the_waste_beside_their_limits(schedule):
-    axes = pictures.plot_tonnes(schedule, Figure().subplots(1, 2))
+    axes = schedule_figures.plot_tonnes(schedule, Figure().subplots(1, 2))
     ore, waste = axes[0].containers
     assert [bar.get_height() for bar in ore] == [50, 100, 50] and [bar.get_height() for bar in waste] == [100, 0, 0]
     assert [bar.get_height() for bar in axes[1].containers[0]] == [25, 100, 75]
@@ -74,13 +75,15 @@ def test_the_bars_of_years_are_the_ore_and_the_waste_beside_their_limits(schedul
 
 def test_what_is_recovered_of_a_year_without_ore_is_not_drawn(schedule):
     table = pd.DataFrame({"ore_tonnes": [0.0, 50.0], "metal_copper": [0.0, 1.0]})
-    assert np.isnan(pictures.recovered(table, METAL)[0]) and pictures.recovered(table, METAL)[1] == pytest.approx(2)
+    assert np.isnan(schedule_figures.recovered(table, METAL)[0]) and schedule_figures.recovered(table, METAL)[
+        1
+    ] == pytest.approx(2)
 
 
 def test_curves_end_at_what_each_case_earns(schedule):
     years = phase_schedule.years(schedule)
     best = pd.DataFrame({"case": "best", "factor": [1000, 1000, 900], "year": [1, 2, 1], "discounted": [700.0, 300, 5]})
-    ax = pictures.plot_cumulative(schedule, pd.concat([years, best]), Figure().subplots())
+    ax = schedule_figures.plot_cumulative(schedule, pd.concat([years, best]), Figure().subplots())
     curves = {line.get_label().partition(":")[0]: line.get_ydata() for line in ax.lines if ":" in str(line.get_label())}
     # -200 + 500, 500 + 250 and 250, discounted at the ends of years.
     assert curves["rule"] == pytest.approx(np.cumsum([0, 300 / 1.1, 750 / 1.21, 250 / 1.331]))
@@ -105,7 +108,7 @@ def test_ore_from_a_stockpile_is_a_bar_of_its_own(schedule):
     )
     straight, reclaimed = np.array([[0.0, 0, 0], [0, 0.25, 0.75]]), np.array([[0, 0.25, 0.75], [0, 0, 0]])
     stocked = replace(schedule, milling={"lp": Milling(parcels, straight, reclaimed, 0.5, True)})
-    axes = pictures.plot_tonnes(stocked, Figure().subplots(1, 2))
+    axes = schedule_figures.plot_tonnes(stocked, Figure().subplots(1, 2))
     assert len(axes[0].containers) == 2
     ore, stock, waste = ([(bar.get_y(), bar.get_height()) for bar in bars] for bars in axes[1].containers)
     assert ore == [(0, 0), (0, 25), (0, 75)] and stock == [(0, 0), (25, 25), (75, 75)]
@@ -117,7 +120,7 @@ def test_ore_from_a_stockpile_is_a_bar_of_its_own(schedule):
     assert names[:3] == ["ore", "ore from the stockpile", "waste or stocked"]
 
 
-@pytest.mark.parametrize("write", [pictures.write_gantt, pictures.write_tonnes])
+@pytest.mark.parametrize("write", [schedule_figures.write_gantt, schedule_figures.write_tonnes])
 def test_pictures_are_written(schedule, write, tmp_path):
     backend = matplotlib.get_backend()
     write(schedule, tmp_path / "picture.png")
@@ -126,7 +129,7 @@ def test_pictures_are_written(schedule, write, tmp_path):
 
 def test_axes_that_are_too_few_are_refused(schedule):
     with pytest.raises(PlanError, match="1 axes are given, and the picture has 2"):
-        pictures.plot_gantt(schedule, [Figure().subplots()])
+        schedule_figures.plot_gantt(schedule, [Figure().subplots()])
 
 
 def test_a_workbook_has_a_sheet_a_table(tmp_path):
@@ -178,12 +181,12 @@ def test_a_way_that_mines_nothing_is_drawn_with_a_sentence(schedule, way):
     """In any place; the other way keeps its bars, and the legend names them."""
     empty = replace(schedule, shares=schedule.shares | {way: np.zeros((3, 0))})
     place = list(empty.shares).index(way)
-    axes = pictures.plot_tonnes(empty, Figure().subplots(1, 2))
+    axes = schedule_figures.plot_tonnes(empty, Figure().subplots(1, 2))
     assert [text.get_text() for text in axes[place].texts] == ["nothing is mined"] and not axes[place].containers
     assert len(axes[1 - place].containers) == 2
     (legend,) = axes[0].figure.legends
     assert [text.get_text() for text in legend.get_texts()][:2] == ["ore", "waste"]
-    axes = pictures.plot_gantt(empty, Figure().subplots(1, 2))
+    axes = schedule_figures.plot_gantt(empty, Figure().subplots(1, 2))
     assert "nothing is mined" in [text.get_text() for text in axes[place].texts]
     (note,) = [note for note in phase_schedule.notes(empty) if "mines nothing" in note]
     assert note.startswith(f"{way} mines nothing: at these prices and costs")

@@ -10,9 +10,10 @@ from conftest import PROJECT, rows
 from matplotlib.figure import Figure
 
 import pitplan
-from pitplan import PlanError, Where, load, sensitivity_pictures, varied, varied_cases
+from pitplan import PlanError, Where, load, varied, varied_cases
 from pitplan.cli import main
 from pitplan.commands.writing import Writing
+from pitplan.figures import sensitivity
 from pitplan.verification import verify_folder
 
 # Two blocks of ore at the surface, each with 1,000 for processing and 200 for mining: one of 24,000, and one of 1,200, which just does not pay.
@@ -99,7 +100,7 @@ def test_pairs_by_hand(small):
     assert worth[("price", 0.1, "mining_cost", 0.1)] == pytest.approx(26_400 - 1000 - 220 + 1320 - 1220)
     assert worth[("price", -0.1, "mining_cost", 0.1)] == pytest.approx(21_600 - 1000 - 220)
     assert worth[("mining_cost", 0.1, "", 0.0)] == pytest.approx(22_780)
-    grid = sensitivity_pictures.grid_of(table.reset_index(), "price", "mining_cost")
+    grid = sensitivity.grid_of(table.reset_index(), "price", "mining_cost")
     assert grid.index.tolist() == grid.columns.tolist() == [-0.1, 0.0, 0.1]
     npv = table["npv"].to_dict()
     assert grid.loc[0.1, -0.1] == npv[("price", 0.1, "mining_cost", -0.1)]
@@ -574,7 +575,7 @@ def table():
 
 
 def test_a_tornado_has_the_outermost_shares_and_the_greatest_on_top(table):
-    axes = sensitivity_pictures.plot_tornado(table, "USD", Figure().subplots())
+    axes = sensitivity.plot_tornado(table, "USD", Figure().subplots())
     bars = sorted((bar.get_y() + bar.get_height() / 2, bar.get_x(), bar.get_width()) for bar in axes.patches)
     assert np.allclose(bars, [(0, 100, -1), (0, 100, 4), (1, 100, -20), (1, 100, 30)])
     assert [label.get_text() for label in axes.get_yticklabels()] == ["mining cost", "price"]
@@ -582,13 +583,13 @@ def test_a_tornado_has_the_outermost_shares_and_the_greatest_on_top(table):
 
 
 def test_a_spider_has_a_curve_a_number_through_the_project_as_given(table):
-    axes = sensitivity_pictures.plot_spider(table, "USD", Figure().subplots())
+    axes = sensitivity.plot_spider(table, "USD", Figure().subplots())
     curves = {line.get_label(): line.get_xydata().tolist() for line in axes.lines[:2]}
     assert curves == {"price": [[-0.1, 80], [0, 100], [0.2, 130]], "mining cost": [[-0.1, 104], [0, 100], [0.2, 99]]}
 
 
 def test_a_grid_has_an_amount_a_pair_of_shares(table):
-    axes = sensitivity_pictures.plot_grid(table, ("price", "mining_cost"), "USD", Figure().subplots())
+    axes = sensitivity.plot_grid(table, ("price", "mining_cost"), "USD", Figure().subplots())
     assert [text.get_text() for text in axes.texts] == [
         "70.0",
         "80.0",

@@ -7,8 +7,9 @@ import pytest
 from conftest import PROJECT, rows
 
 import pitplan
-from pitplan import PlanError, pictures
+from pitplan import PlanError
 from pitplan.config.project import load
+from pitplan.figures import plans_sections
 from pitplan.pits import shell_tables
 
 ORE = {"cu": lambda i, j, k: {(3, 3, 1): 6, (4, 3, 1): 2.5, (3, 4, 0): 9}.get((i, j, k), 0)}
@@ -17,7 +18,7 @@ PAIRS = {
     "shells": pitplan.shells,
     "years": pitplan.years,
     "edge_notes": shell_tables.edge_notes,
-    "scene_of": pictures.scene_of,
+    "scene_of": plans_sections.scene_of,
 }
 FIXED = ("[shells]", '[fixed]\nforced = "due"\n[shells]')
 OTHERS = {

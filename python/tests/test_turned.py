@@ -13,10 +13,11 @@ from conftest import PROJECT, rows
 from matplotlib.figure import Figure
 
 import pitplan
-from pitplan import PlanError, map_marks, page
+from pitplan import PlanError, page
 from pitplan.blockmodel.grid import Grid
 from pitplan.cli import main
 from pitplan.core import files
+from pitplan.figures import map_marks
 from pitplan.simulation import ensemble
 
 NO_SIZE = ("[grid]\nsize = [10, 10, 10]\n", "")

@@ -7,7 +7,8 @@ from typing import TYPE_CHECKING
 
 import pandas as pd
 
-from .. import block_pictures, phase_pictures, pictures, schedule_pictures, yearly
+from pitplan.figures import annual, block_schedule, plans_sections, pushbacks, schedule
+
 from .writing import BLOCK_PICTURES, PHASE_PICTURES, PICTURES, SCHEDULE_PICTURES
 
 if TYPE_CHECKING:
@@ -35,28 +36,28 @@ def draw(answered: Answered, table: pd.DataFrame, years: pd.DataFrame, chosen: i
     """
     project = answered.plan.project
     formats = project.pictures.formats if project.pictures else ()
-    with pictures.also_as(formats):
+    with plans_sections.also_as(formats):
         draw_shells(answered, table, chosen, stage)
-        yearly.write_years(years, project, chosen, stage / PICTURES["years"])
+        annual.write_years(years, project, chosen, stage / PICTURES["years"])
         drawn = PICTURES | draw_phases(answered, stage) | draw_schedules(answered, years, stage)
-    return pictures.files_of(drawn, formats)
+    return plans_sections.files_of(drawn, formats)
 
 
 def draw_shells(answered: Answered, table: pd.DataFrame, chosen: int, stage: Path) -> None:
     plan = answered.plan
-    scene = pictures.scene_of(plan, answered.solution, chosen)
-    pictures.write_pit_by_pit(table, plan.project.money.currency, chosen, stage / PICTURES["pit_by_pit"])
-    pictures.write_plans(scene, stage / PICTURES["plans"])
-    pictures.write_sections(scene, stage / PICTURES["sections"])
+    scene = plans_sections.scene_of(plan, answered.solution, chosen)
+    plans_sections.write_pit_by_pit(table, plan.project.money.currency, chosen, stage / PICTURES["pit_by_pit"])
+    plans_sections.write_plans(scene, stage / PICTURES["plans"])
+    plans_sections.write_sections(scene, stage / PICTURES["sections"])
 
 
 def draw_phases(answered: Answered, stage: Path) -> dict[str, str]:
     """Draws the pushbacks, if there are any; returns the files of the pictures by name."""
     if answered.phases is None:
         return {}
-    scene = phase_pictures.scene_of(answered.phases)
-    phase_pictures.write_plans(scene, stage / PHASE_PICTURES["phase_plans"])
-    phase_pictures.write_sections(scene, stage / PHASE_PICTURES["phase_sections"])
+    scene = pushbacks.scene_of(answered.phases)
+    pushbacks.write_plans(scene, stage / PHASE_PICTURES["phase_plans"])
+    pushbacks.write_sections(scene, stage / PHASE_PICTURES["phase_sections"])
     return PHASE_PICTURES
 
 
@@ -65,10 +66,10 @@ def draw_schedules(answered: Answered, years: pd.DataFrame, stage: Path) -> dict
     drawn: dict[str, str] = {}
     if answered.schedule is not None:
         drawn = SCHEDULE_PICTURES
-        schedule_pictures.write_gantt(answered.schedule, stage / drawn["schedule_gantt"])
-        schedule_pictures.write_tonnes(answered.schedule, stage / drawn["schedule_tonnes"])
-        schedule_pictures.write_cumulative(answered.schedule, years, stage / drawn["schedule_value"])
+        schedule.write_gantt(answered.schedule, stage / drawn["schedule_gantt"])
+        schedule.write_tonnes(answered.schedule, stage / drawn["schedule_tonnes"])
+        schedule.write_cumulative(answered.schedule, years, stage / drawn["schedule_value"])
     if answered.blocks is not None:
         drawn = drawn | BLOCK_PICTURES
-        block_pictures.write(answered.blocks, stage / BLOCK_PICTURES["block_schedule"])
+        block_schedule.write(answered.blocks, stage / BLOCK_PICTURES["block_schedule"])
     return drawn

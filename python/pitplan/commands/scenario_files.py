@@ -12,12 +12,13 @@ from pitplan import verification
 from pitplan.config.figures import PictureRules
 from pitplan.core import csv_writer, files
 from pitplan.core.optional_packages import load_library
+from pitplan.figures import scenario_values, scenarios
+from pitplan.figures.plans_sections import also_as
+from pitplan.simulation import answers, run
 
 from ..conventions import with_discounting
 from ..errors import MissingPackage
-from ..pictures import also_as
 from ..plan import codes_of
-from ..simulation import answers, pictures, run, value_pictures
 from ..simulation.answers import Gathered
 from ..simulation.folder import Shared
 from ..simulation.likely import Likely
@@ -84,7 +85,7 @@ def write_schedules(shared: Shared, request: Request, writing: Writing) -> list[
         notes = block_answers.notes(schedules, shared) + note_verified(shared, schedules.missing, writing, stage)
         if writing.figures:
             with progress.step("drawing"), also_as(rules_of(shared).formats):
-                value_pictures.write(schedules.answered, shared.project.money.currency, stage / PICTURE_OF_VALUES)
+                scenario_values.write(schedules.answered, shared.project.money.currency, stage / PICTURE_OF_VALUES)
     return [*notes, *notes_of_missing(schedules.missing)]
 
 
@@ -161,6 +162,6 @@ def draw(shared: Shared, gathered: Gathered, factor: int, stage: Path) -> None:
     count = gathered.table["scenario"].nunique()
     likely = Likely(grid, grid.cube(grid.spread(share)), grid.cube(solid), factor, count, rules)
     with also_as(rules.formats):
-        pictures.write_plans(likely, stage / PICTURES["plans"])
-        pictures.write_sections(likely, stage / PICTURES["sections"])
-        pictures.write_spread(gathered.table, shared.project.money.currency, stage / PICTURES["spread"])
+        scenarios.write_plans(likely, stage / PICTURES["plans"])
+        scenarios.write_sections(likely, stage / PICTURES["sections"])
+        scenarios.write_spread(gathered.table, shared.project.money.currency, stage / PICTURES["spread"])

@@ -8,19 +8,20 @@ from typing import Optional
 
 import pandas as pd
 
-from pitplan import sensitivity_files, sensitivity_pictures, varied_cases, verification
+from pitplan import sensitivity_files, varied_cases, verification
 from pitplan.config import project_writer
 from pitplan.core import csv_writer, files, staging
+from pitplan.figures import sensitivity
+from pitplan.figures.plans_sections import also_as
 
 from ..conventions import with_discounting
-from ..pictures import also_as
 from ..sensitivity_files import RECORD, TABLE
 from ..simulation.on_dask import Where
 from ..varied_cases import Case, Sensitivity
 from .writing import Place, Source, Writing, demand_apart, read
 
 # Those of pairs have the names of both numbers.
-FIGURES = (*sensitivity_pictures.WRITTEN, "grid-*.png")
+FIGURES = (*sensitivity.WRITTEN, "grid-*.png")
 
 
 def write_sensitivity(
@@ -85,9 +86,7 @@ def write_cases(found: Sensitivity, folder: Path, writing: Writing) -> pd.DataFr
             record["verified"] = [f"{rule.name}: {rule.holds}" for rule in rules]
         if writing.figures:
             with progress.step("drawing"), also_as(project.pictures.formats if project.pictures else ()):
-                sensitivity_pictures.write_all(
-                    cases, varied_cases.rules_of(project).pairs, project.money.currency, stage
-                )
+                sensitivity.write_all(cases, varied_cases.rules_of(project).pairs, project.money.currency, stage)
         files.write_json(stage / RECORD, record)
     return cases
 

@@ -10,13 +10,14 @@ from typing import Any, Iterable, Iterator, Optional, Union
 
 import pandas as pd
 
-from pitplan import block_pictures, exports, sensitivity_files, sensitivity_pictures, verification
+from pitplan import exports, sensitivity_files, verification
 from pitplan.blockmodel.figure_bounds import demand_within
 from pitplan.config import project_writer
 from pitplan.config.figures import FORMATS
 from pitplan.config.project import Project, inputs_beside, load
 from pitplan.core import csv_writer, files, staging
 from pitplan.core.progress import Progress, silent
+from pitplan.figures import block_schedule, sensitivity
 from pitplan.solver import problem
 from pitplan.solver.choice import PROGRAM, chosen
 from pitplan.solver.problem import Mine
@@ -40,7 +41,7 @@ SCHEDULE_PICTURES = {
     "schedule_tonnes": "schedule_tonnes.png",
     "schedule_value": "schedule_value.png",
 }
-BLOCK_PICTURES = {"block_schedule": block_pictures.NAME}
+BLOCK_PICTURES = {"block_schedule": block_schedule.NAME}
 FIGURES = tuple((PICTURES | PHASE_PICTURES | SCHEDULE_PICTURES | BLOCK_PICTURES).values())
 REPORT, VIEW, WORKBOOK = "report.html", "view.html", "schedule.xlsx"
 # The files that every run writes or removes.
@@ -55,7 +56,7 @@ WRITTEN = {
     *(REPORT, VIEW),
     *FIGURES,
 }
-WRITTEN |= {PITS, *sensitivity_files.WRITTEN, *sensitivity_pictures.WRITTEN, *exports.WRITTEN}
+WRITTEN |= {PITS, *sensitivity_files.WRITTEN, *sensitivity.WRITTEN, *exports.WRITTEN}
 
 
 @dataclass(frozen=True)

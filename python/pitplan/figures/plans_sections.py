@@ -28,12 +28,12 @@ from pitplan.blockmodel.grid import Grid, metres
 from pitplan.config.figures import PictureRules
 from pitplan.config.project import Metal
 from pitplan.core.cell_outlines import edges
+from pitplan.errors import PlanError
 from pitplan.pits import shell_tables
+from pitplan.plan import Plan
 from pitplan.solver.program import Solution
 
-from .errors import PlanError
 from .map_marks import axes_of_map, contours, floor_of, mark_map, mark_section_cells, section_titles
-from .plan import Plan
 
 ORE, WASTE, GROUND = "#3b6ea5", "#cfc9bd", "#ece8df"
 BEST, WORST, PLAIN, CHOSEN = "#1b7f4b", "#c0392b", "#444444", "#ffe9a6"

@@ -14,7 +14,7 @@ from matplotlib.ticker import MaxNLocator
 
 from pitplan.config.project import Project, Schedule
 
-from .pictures import ORE, PLAIN, STYLE, WASTE, finish, list_of, scaled
+from .plans_sections import ORE, PLAIN, STYLE, WASTE, finish, list_of, scaled
 
 CASES = {"best": "Best case", "worst": "Worst case"}
 MILL, SHOVELS = "#1f3f6e", "#8a7f6a"

@@ -19,9 +19,10 @@ from matplotlib.lines import Line2D
 
 from pitplan.blockmodel.grid import metres
 from pitplan.core.cell_outlines import edges
+from pitplan.simulation.likely import Likely
 
-from ..map_marks import axes_of_map, mark_map, mark_section_cells, section_titles
-from ..pictures import (
+from .map_marks import axes_of_map, mark_map, mark_section_cells, section_titles
+from .plans_sections import (
     GROUND,
     MAP,
     STYLE,
@@ -34,7 +35,6 @@ from ..pictures import (
     section_row,
     write_maps,
 )
-from .likely import Likely
 
 STEPS = np.linspace(0, 1, 11)
 COLOURS = ListedColormap(matplotlib.colormaps["viridis_r"](np.linspace(0.02, 1, len(STEPS) - 1)))

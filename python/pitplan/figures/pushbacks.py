@@ -20,7 +20,7 @@ from pitplan.core.cell_outlines import edges
 from pitplan.pushbacks.nested import Phases
 
 from .map_marks import axes_of_map, contours, floor_of, mark_map, mark_section_cells, section_titles
-from .pictures import (
+from .plans_sections import (
     GROUND,
     MAP,
     MOST_TICKS,

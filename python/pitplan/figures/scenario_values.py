@@ -11,8 +11,9 @@ import pandas as pd
 from matplotlib.axes import Axes
 from matplotlib.figure import Figure
 
-from ..pictures import STYLE, finish, list_of, scaled
-from .answers import QUANTILES
+from pitplan.simulation.answers import QUANTILES
+
+from .plans_sections import STYLE, finish, list_of, scaled
 
 # By the name of an amount what it is called, and its colour.
 LOOKS = {
