@@ -48,6 +48,9 @@ if TYPE_CHECKING:
     from pitplan.pits.shell_tables import blocks, shells, years
     from pitplan.solver.problem import solve
     from pitplan.solver.program import Solution
+    from pitplan.studies.dask_pool import Where
+    from pitplan.studies.scenarios.request import Request
+    from pitplan.studies.scenarios.result import ScenarioResult
 
     from .commands.audit import audit
     from .commands.check import check
@@ -64,9 +67,6 @@ if TYPE_CHECKING:
     from .commands.writing import Writing
     from .errors import BudgetUsedUp, MissingPackage, PlanError, ProgramError
     from .plan import Plan, prepare
-    from .simulation.on_dask import Where
-    from .simulation.request import Request
-    from .simulation.result import ScenarioResult
     from .stages import Shape
     from .verification import Rule
 

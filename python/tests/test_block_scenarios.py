@@ -24,8 +24,8 @@ from pitplan import MissingPackage, PlanError, Request, gather, load, write_scen
 from pitplan.cli import main
 from pitplan.core.progress import silent
 from pitplan.figures import scenario_values
-from pitplan.simulation import folder as folders, prepare, work
-from pitplan.simulation.one_schedule import best_shares
+from pitplan.studies.scenarios import folder as folders, prepare, work
+from pitplan.studies.scenarios.blocks.common_schedule import best_shares
 
 # The mill takes the ore of one block a year, and the shovels two pillars of two blocks.
 YEARLY = UPRIGHT.replace("ore_per_year = 100", 'ore_per_year = 100\nrock_per_year = 400\ndiscounting = "end_of_year"')

@@ -18,15 +18,16 @@ from test_fixed import FIXED_SECTION, ores_and_fixed, with_section
 from test_scenarios import COLUMNS, PRICES, UPRIGHT, pillar
 
 import pitplan
-from pitplan import PlanError, ProgramError, load, varied_cases
+from pitplan import PlanError, ProgramError, load
 from pitplan.blockmodel import reader
 from pitplan.cli import main
 from pitplan.commands import answers
 from pitplan.core import files
-from pitplan.simulation import folder as folders, prepare, work
 from pitplan.slopes.arc_rows import Rows
 from pitplan.solver import choice, library, program
 from pitplan.solver.problem import counted_rows
+from pitplan.studies.scenarios import folder as folders, prepare, work
+from pitplan.studies.sensitivity import cases
 
 pitshell = pytest.importorskip("pitshell", reason="make library builds it")
 
@@ -379,11 +380,11 @@ def test_a_worker_with_another_library_solves_nothing(plan_folder, monkeypatch):
 
 def test_cases_of_a_sensitivity_are_not_begun_with_another_library(plan_folder, monkeypatch):
     project = load(plan_folder(rows(3, 1, 2, cu=lambda i, j, k: 3), PROJECT))
-    asked = varied_cases.Asked(project, reader.read(project).frame, choice.chosen("library"))
-    assert varied_cases.find(varied_cases.Case(), asked).row["blocks"] == 6
+    asked = cases.Asked(project, reader.read(project).frame, choice.chosen("library"))
+    assert cases.find(cases.Case(), asked).row["blocks"] == 6
     other_library(monkeypatch)
     with pytest.raises(ProgramError, match="the library here .* is another than that with which this was begun"):
-        varied_cases.find(varied_cases.Case(), asked)
+        cases.find(cases.Case(), asked)
 
 
 @pytest.mark.parametrize("kind", ["slurm", "parallel"])

@@ -9,7 +9,7 @@ from types import SimpleNamespace
 import pytest
 
 from pitplan import PlanError
-from pitplan.simulation import job_lists
+from pitplan.studies.scenarios import job_lists
 
 # A name that a shell, GNU parallel or Slurm could take apart; those with touch show it by a file.
 NAMES = [

@@ -8,9 +8,10 @@ import pytest
 from conftest import PROJECT
 from test_scenarios import COLUMNS, UPRIGHT, pillar, prepared, solved_in_turn
 
-from pitplan import PlanError, load, varied_cases
+from pitplan import PlanError, load
 from pitplan.core import keyed_arrays
-from pitplan.simulation import answers, work
+from pitplan.studies.scenarios import answers, work
+from pitplan.studies.sensitivity import cases
 
 
 def test_arrays_that_are_kept_are_read_whole_or_refused(tmp_path):
@@ -82,10 +83,10 @@ def test_a_case_of_another_change_is_refused(plan_folder):
     text = PROJECT + '[sensitivity]\nvary = ["price"]\nby = [0.1]\n'
     table = pillar().drop(columns=["sim_1", "sim_2", "sim_3"]).assign(cu=[1.5, 0, 0])
     path = plan_folder(table, text, UPRIGHT)
-    varied_cases.solve(load(path), path.parent, None)
+    cases.solve(load(path), path.parent, None)
     one, other = (path.parent / "cases").iterdir()
     os.replace(one, other)
     with pytest.raises(
         PlanError, match="npz: is no answer: remove it, and run pitplan sensitivity again: it answers something else"
     ):
-        varied_cases.solve(load(path), path.parent, None)
+        cases.solve(load(path), path.parent, None)

@@ -4,7 +4,7 @@ import os
 
 import pytest
 
-from pitplan.simulation import on_dask
+from pitplan.studies.scenarios import on_dask
 
 
 @pytest.mark.filterwarnings("ignore:make_current is deprecated:DeprecationWarning")

@@ -21,7 +21,7 @@ from pitplan.cli import main, parser
 from pitplan.commands import scenario_files
 from pitplan.core.progress import Progress, silent
 from pitplan.figures import scenarios
-from pitplan.simulation import answers, folder as folders, job_lists, on_dask, prepare, work
+from pitplan.studies.scenarios import answers, folder as folders, job_lists, on_dask, prepare, work
 
 UPRIGHT = ('pattern = "1:5"', "angle = 90")
 COLUMNS = PROJECT + '[scenarios]\ncolumns = { copper = "sim_*" }\n'

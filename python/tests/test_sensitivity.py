@@ -10,10 +10,11 @@ from conftest import PROJECT, rows
 from matplotlib.figure import Figure
 
 import pitplan
-from pitplan import PlanError, Where, load, varied, varied_cases
+from pitplan import PlanError, Where, load
 from pitplan.cli import main
 from pitplan.commands.writing import Writing
 from pitplan.figures import sensitivity
+from pitplan.studies.sensitivity import cases, perturb
 from pitplan.verification import verify_folder
 
 # Two blocks of ore at the surface, each with 1,000 for processing and 200 for mining: one of 24,000, and one of 1,200, which just does not pay.
@@ -275,8 +276,8 @@ def test_a_lower_price_of_all_is_a_lesser_factor(plan_folder):
 
 def test_what_has_an_answer_is_not_solved_again(small, monkeypatch):
     path, solved = small("by = [0.1]"), []
-    find = varied_cases.find
-    monkeypatch.setattr(varied_cases, "find", lambda *words: solved.append(words) or find(*words))
+    find = cases.find
+    monkeypatch.setattr(cases, "find", lambda *words: solved.append(words) or find(*words))
     first = pitplan.write_sensitivity(path)
     assert len(solved) == 6
     monkeypatch.chdir(path.parent)
@@ -500,8 +501,8 @@ def test_a_block_that_is_left_standing_is_found(copied):
 
 def test_walls_of_patterns_that_move_not_are_as_given(plan_folder):
     path = plan_folder(rows(5, 3, 1, **ORE), PROJECT + "\n[sensitivity]\nby = [0.2]\nvary = 'slopes'\n")
-    assert varied_cases.rules_of(load(path)).vary == ("slopes",)
-    assert "slopes" not in varied.given(load(path)) and "selling_cost" not in varied.given(load(path))
+    assert cases.rules_of(load(path)).vary == ("slopes",)
+    assert "slopes" not in perturb.given(load(path)) and "selling_cost" not in perturb.given(load(path))
 
 
 @pytest.mark.parametrize(
@@ -509,38 +510,38 @@ def test_walls_of_patterns_that_move_not_are_as_given(plan_folder):
     [
         (
             "price",
-            lambda project, by, metal: varied.with_metals(
-                project, "gold", lambda it: varied.replace(it, price=it.price * by)
+            lambda project, by, metal: perturb.with_metals(
+                project, "gold", lambda it: perturb.replace(it, price=it.price * by)
             ),
         ),
         (
             "recovery",
-            lambda project, by, metal: varied.with_metals(
-                project, metal, lambda it: varied.replace(it, recovery=varied.times(it.recovery, by))
+            lambda project, by, metal: perturb.with_metals(
+                project, metal, lambda it: perturb.replace(it, recovery=perturb.times(it.recovery, by))
             ),
         ),
         (
             "mining_cost",
-            lambda project, by, metal: varied.replace(
-                project, money=varied.replace(project.money, mining_cost=varied.times(project.money.mining_cost, by))
+            lambda project, by, metal: perturb.replace(
+                project, money=perturb.replace(project.money, mining_cost=perturb.times(project.money.mining_cost, by))
             ),
         ),
         ("slopes", lambda project, by, metal: project),
         (
             "capacity",
-            lambda project, by, metal: varied.replace(
+            lambda project, by, metal: perturb.replace(
                 project,
-                schedule=varied.replace(project.schedule, ore_per_year=project.schedule.ore_per_year * float(by)),
+                schedule=perturb.replace(project.schedule, ore_per_year=project.schedule.ore_per_year * float(by)),
             ),
         ),
         ("selling_cost", lambda project, by, metal: project),
-        ("processing_cost", lambda project, by, metal: varied.mining_cost(project, by, metal)),
+        ("processing_cost", lambda project, by, metal: perturb.mining_cost(project, by, metal)),
     ],
 )
 def test_a_number_that_is_varied_otherwise_is_found(answered, tmp_path, monkeypatch, number, careless):
     """Of the metals one alone; a recovery above 1; without what depth adds; walls as they are; the mill alone; none; another cost."""
     place = shutil.copytree(answered, tmp_path / "mine", ignore=shutil.ignore_patterns("plan"))
-    monkeypatch.setitem(varied.VARIED, number, careless)
+    monkeypatch.setitem(perturb.VARIED, number, careless)
     with pytest.raises(PlanError, match="what was written is not right"):
         pitplan.write_sensitivity(place / "project.toml")
     assert not (place / "plan" / "sensitivity" / "sensitivity.csv").exists()

@@ -9,8 +9,9 @@ from conftest import PROJECT, rows
 from test_processes import WITH
 
 import pitplan
-from pitplan import PlanError, load, varied
+from pitplan import PlanError, load
 from pitplan.config.economics import Curve
+from pitplan.studies.sensitivity import perturb
 
 pytestmark = pytest.mark.usefixtures("without_figures")
 BY = "ore_per_year = 100", "ore_per_year = 100\nchosen = 1000"
@@ -55,13 +56,13 @@ def test_recoveries_by_grade_and_prices_of_years(plan_folder):
 
 def test_prices_of_years_go_with_the_price(plan_folder):
     project = load(plan_folder(two_blocks(), PROJECT, ("price = 8000", "price = 8000\nprices = [8000, 9000]")))
-    (metal,) = varied.price(project, Decimal("1.5"), "").metals
+    (metal,) = perturb.price(project, Decimal("1.5"), "").metals
     assert metal.price == 12_000 and metal.prices == (12_000, 13_500)
 
 
 def test_recoveries_by_grade_end_at_all():
     curve = Curve(((Decimal(1), Decimal("0.5")), (Decimal(2), Decimal("0.9"))))
-    assert varied.recovered({"R": curve}, Decimal("1.2")) == {
+    assert perturb.recovered({"R": curve}, Decimal("1.2")) == {
         "R": Curve(((Decimal(1), Decimal("0.60")), (Decimal(2), Decimal(1))))
     }
 

@@ -18,7 +18,7 @@ from pitplan.blockmodel.grid import Grid
 from pitplan.cli import main
 from pitplan.core import files
 from pitplan.figures import map_marks
-from pitplan.simulation import ensemble
+from pitplan.studies.scenarios import ensemble
 
 NO_SIZE = ("[grid]\nsize = [10, 10, 10]\n", "")
 ORE = {(6, 5, 1): 2.4, (2, 8, 2): 3.0, (10, 2, 2): 2.5, (1, 1, 3): 0.5}

@@ -15,7 +15,7 @@ from test_verify_scenarios import SETS, answer_of, bend, simulated
 
 from pitplan import PlanError, gather
 from pitplan.cli import main
-from pitplan.simulation import block_problem, block_work, one_schedule, work
+from pitplan.studies.scenarios import block_problem, block_work, one_schedule, work
 from pitplan.verification import verify_folder
 from pitplan.verification.best_ore import most_earned
 

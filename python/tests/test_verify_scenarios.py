@@ -14,7 +14,7 @@ from test_verify import TEXT, deposit
 import pitplan
 from pitplan import PlanError, Request
 from pitplan.cli import main
-from pitplan.simulation import ensemble, work
+from pitplan.studies.scenarios import ensemble, work
 from pitplan.verification.scenarios import Verification, verify
 from pitplan.verification.simulated import read
 

@@ -14,9 +14,9 @@ from pitplan.core.progress import Progress, on_standard_error, silent
 
 if TYPE_CHECKING:
     from pitplan.config.project import Project
+    from pitplan.studies.scenarios.result import ScenarioResult
 
     from ..commands.writing import Writing
-    from ..simulation.result import ScenarioResult
 
 
 def progress_of(options: Namespace) -> Progress:
@@ -137,11 +137,12 @@ def schedule(options: Namespace) -> int:
 
 
 def sensitivity(options: Namespace) -> int:
-    from pitplan import report, sensitivity_files
+    from pitplan import report
     from pitplan.core import files
+    from pitplan.studies.dask_pool import Where
+    from pitplan.studies.sensitivity import store
 
     from ..commands.sensitivity import write_sensitivity
-    from ..simulation.on_dask import Where
     from .printing import print_notes, print_table
 
     project = project_of(options)
@@ -150,22 +151,24 @@ def sensitivity(options: Namespace) -> int:
     table = report.of_cases(write_sensitivity(project, folder, where, writing_of(options)))
     columns = report.columns_of_cases(table, project)
     print_table([heading for _, heading, _, _ in columns], report.cells_of(table, columns))
-    print_notes(files.read_json(folder / sensitivity_files.RECORD)["notes"])
-    print(folder / sensitivity_files.TABLE)
+    print_notes(files.read_json(folder / store.RECORD)["notes"])
+    print(folder / store.TABLE)
     return 0
 
 
 def scenarios(options: Namespace) -> int:
+    from pitplan.studies.scenarios.request import Request
+
     from ..commands.scenarios import write_scenarios
-    from ..simulation.request import Request
 
     request = Request(options.on, options.workers, options.factor, options.partial, options.by)
     return print_scenarios(write_scenarios(project_of(options), options.out, request, writing_of(options)))
 
 
 def gather(options: Namespace) -> int:
+    from pitplan.studies.scenarios.request import Request
+
     from ..commands.scenarios import gather as gather_answers
-    from ..simulation.request import Request
 
     request = Request(factor=options.factor, partial=options.partial)
     return print_scenarios(gather_answers(options.folder, request, writing_of(options)))

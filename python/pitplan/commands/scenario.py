@@ -5,7 +5,7 @@ from __future__ import annotations
 from pathlib import Path
 from typing import Union
 
-from ..simulation.work import Outcome, solve
+from pitplan.studies.scenarios.worker import Outcome, solve
 
 
 def solve_scenario(folder: Union[str, Path], number: int) -> Outcome:

@@ -14,21 +14,21 @@ from pitplan.core import csv_writer, files
 from pitplan.core.optional_packages import load_library
 from pitplan.figures import scenario_values, scenarios
 from pitplan.figures.plans_sections import also_as
-from pitplan.simulation import answers, run
+from pitplan.studies.scenarios import answers, run
+from pitplan.studies.scenarios.inclusion import Likely
+from pitplan.studies.scenarios.pit_probability import Gathered
+from pitplan.studies.scenarios.request import Request
+from pitplan.studies.scenarios.result import IMAGE, ONE, ONE_RECORD, ONE_YEARS, PROBABILITY, QUANTILES, SCHEDULES, TABLE
+from pitplan.studies.scenarios.store import Shared
 
 from ..conventions import with_discounting
 from ..errors import MissingPackage
 from ..plan import codes_of
-from ..simulation.answers import Gathered
-from ..simulation.folder import Shared
-from ..simulation.likely import Likely
-from ..simulation.request import Request
-from ..simulation.result import IMAGE, ONE, ONE_RECORD, ONE_YEARS, PROBABILITY, QUANTILES, SCHEDULES, TABLE
 from ..vtk_files import write_image as write_vti
 from .writing import Writing
 
 if TYPE_CHECKING:
-    from ..simulation.block_answers import Schedules
+    from pitplan.studies.scenarios.blocks.tables import Schedules
 
 GATHERED = "gathered.json"
 PICTURES = {"plans": "probability_plans.png", "sections": "probability_sections.png", "spread": "spread.png"}
@@ -75,7 +75,7 @@ def write_schedules(shared: Shared, request: Request, writing: Writing) -> list[
     run.demand_no_factor(request)
     load_library("a schedule by block")
     # It imports the library itself.
-    from ..simulation import block_answers
+    from pitplan.studies.scenarios.blocks import tables as block_answers
 
     progress = writing.progress
     with files.staged(shared.folder, whole=writing.removed(shared.folder, [PICTURE_OF_VALUES])) as stage:

@@ -6,11 +6,11 @@ from pathlib import Path
 from typing import Optional
 
 from pitplan.core import staging
+from pitplan.studies.scenarios import run
+from pitplan.studies.scenarios.request import Request
+from pitplan.studies.scenarios.result import ScenarioResult
+from pitplan.studies.scenarios.store import BLOCK, FOLDERS, read_shared
 
-from ..simulation import run
-from ..simulation.folder import BLOCK, FOLDERS, read_shared
-from ..simulation.request import Request
-from ..simulation.result import ScenarioResult
 from .scenario_files import write_pits, write_schedules
 from .writing import Place, Source, Writing, read
 

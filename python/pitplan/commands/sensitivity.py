@@ -8,16 +8,17 @@ from typing import Optional
 
 import pandas as pd
 
-from pitplan import sensitivity_files, varied_cases, verification
+from pitplan import verification
 from pitplan.config import project_writer
 from pitplan.core import csv_writer, files, staging
 from pitplan.figures import sensitivity
 from pitplan.figures.plans_sections import also_as
+from pitplan.studies.dask_pool import Where
+from pitplan.studies.sensitivity import cases as varied_cases, store
+from pitplan.studies.sensitivity.cases import Case, Sensitivity
+from pitplan.studies.sensitivity.store import RECORD, TABLE
 
 from ..conventions import with_discounting
-from ..sensitivity_files import RECORD, TABLE
-from ..simulation.on_dask import Where
-from ..varied_cases import Case, Sensitivity
 from .writing import Place, Source, Writing, demand_apart, read
 
 # Those of pairs have the names of both numbers.
@@ -75,7 +76,7 @@ def write_cases(found: Sensitivity, folder: Path, writing: Writing) -> pd.DataFr
     """
     cases, project, progress = varied_cases.table(found), found.project, writing.progress
     with files.staged(folder, RECORD, writing.removed(folder, FIGURES)) as stage:
-        record = sensitivity_files.record(found, os.path.relpath(project.path, folder)) | {"figures": writing.figures}
+        record = store.record(found, os.path.relpath(project.path, folder)) | {"figures": writing.figures}
         write_tables(found, cases, stage)
         project_writer.write(found.asked, stage / files.AS_RUN, folder)
         files.write_json(stage / RECORD, record)
@@ -96,4 +97,4 @@ def write_tables(found: Sensitivity, cases: pd.DataFrame, stage: Path) -> None:
     blocks = found.plan.blocks
     blocks["factor"] = found.answers[Case()].entry[blocks["id"].to_numpy()]
     csv_writer.write(stage / files.TABLE, blocks)
-    with_discounting(sensitivity_files.shown(cases), found.project).to_csv(stage / TABLE, index=False)
+    with_discounting(store.shown(cases), found.project).to_csv(stage / TABLE, index=False)

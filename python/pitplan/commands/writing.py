@@ -10,7 +10,7 @@ from typing import Any, Iterable, Iterator, Optional, Union
 
 import pandas as pd
 
-from pitplan import exports, sensitivity_files, verification
+from pitplan import exports, verification
 from pitplan.blockmodel.figure_bounds import demand_within
 from pitplan.config import project_writer
 from pitplan.config.figures import FORMATS
@@ -21,6 +21,7 @@ from pitplan.figures import block_schedule, sensitivity
 from pitplan.solver import problem
 from pitplan.solver.choice import PROGRAM, chosen
 from pitplan.solver.problem import Mine
+from pitplan.studies.sensitivity import store
 
 from ..errors import PlanError
 from ..plan import Plan, prepare as prepare_plan
@@ -56,7 +57,7 @@ WRITTEN = {
     *(REPORT, VIEW),
     *FIGURES,
 }
-WRITTEN |= {PITS, *sensitivity_files.WRITTEN, *sensitivity.WRITTEN, *exports.WRITTEN}
+WRITTEN |= {PITS, *store.WRITTEN, *sensitivity.WRITTEN, *exports.WRITTEN}
 
 
 @dataclass(frozen=True)

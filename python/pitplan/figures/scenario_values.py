@@ -11,7 +11,7 @@ import pandas as pd
 from matplotlib.axes import Axes
 from matplotlib.figure import Figure
 
-from pitplan.simulation.answers import QUANTILES
+from pitplan.studies.scenarios.pit_probability import QUANTILES
 
 from .plans_sections import STYLE, finish, list_of, scaled
 

@@ -19,7 +19,7 @@ from matplotlib.lines import Line2D
 
 from pitplan.blockmodel.grid import metres
 from pitplan.core.cell_outlines import edges
-from pitplan.simulation.likely import Likely
+from pitplan.studies.scenarios.inclusion import Likely
 
 from .map_marks import axes_of_map, mark_map, mark_section_cells, section_titles
 from .plans_sections import (

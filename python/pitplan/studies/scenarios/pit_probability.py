@@ -9,10 +9,10 @@ import numpy as np
 import pandas as pd
 
 from pitplan.core import keyed_arrays
+from pitplan.errors import PlanError
 
-from ..errors import PlanError
-from . import folder as folders
-from .folder import Scenario, Shared
+from . import store
+from .store import Scenario, Shared
 
 QUANTILES = (0.1, 0.5, 0.9)
 
@@ -50,7 +50,7 @@ def gather(shared: Shared, partial: bool = False) -> Gathered:
 
 def missing_of(shared: Shared, partial: bool) -> dict[int, str]:
     """What has no answer, by number, each with why. Raises PlanError where there is any, unless `partial`, or where no scenario has one."""
-    missing = {job.number: folders.read_failure(shared, job) for job in shared.missing()}
+    missing = {job.number: store.read_failure(shared, job) for job in shared.missing()}
     if missing and (not partial or all(scenario.number in missing for scenario in shared.scenarios)):
         first, why = next(iter(missing.items()))
         others = ", or gather the others by --partial" if len(missing) < len(shared.jobs) else ""

@@ -11,16 +11,16 @@ from pitplan.config.project import REFERENCE_FACTOR, Project
 from pitplan.config.schedule import ScheduleRules
 from pitplan.core import files
 from pitplan.core.progress import Progress
+from pitplan.errors import PlanError
 from pitplan.pushbacks.bench_table import CASH
 from pitplan.scheduling.blocks.from_plan import demand_of_blocks, diggable, pit_of
 from pitplan.solver.choice import PROGRAM
+from pitplan.studies.scenarios import prepare, store
+from pitplan.studies.scenarios.prepare import Laid
+from pitplan.studies.scenarios.store import Scenario, Shared
+from pitplan.studies.scenarios.worker import plan_of
 
-from ..errors import PlanError
-from . import folder as folders, prepare
-from .block_problem import Diggable, Weights, demand_of_scenarios, limits_of_scenarios, weights_of, years_asked
-from .folder import Scenario, Shared
-from .prepare import Laid
-from .work import plan_of
+from .problem import Diggable, Weights, demand_of_scenarios, limits_of_scenarios, weights_of, years_asked
 
 ONE = "one schedule for all"
 
@@ -38,18 +38,18 @@ def demand_apt(project: Project) -> None:
 def write(laid: Laid, folder: Path, progress: Progress) -> None:
     """Writes what schedules are made of, and scenarios.json. Raises PlanError where a scenario cannot be weighed, or its pit would take too
     many years."""
-    with files.staged(folder, folders.RECORD) as stage:
+    with files.staged(folder, store.RECORD) as stage:
         blocks, mean = spread(laid, folder, progress)
-        written = [*prepare.write_shared(laid, stage), folders.DIGGABLE, folders.MEAN]
-        np.savez_compressed(stage / folders.DIGGABLE, **blocks.arrays())
-        np.savez_compressed(stage / folders.MEAN, **mean.arrays())
+        written = [*prepare.write_shared(laid, stage), store.DIGGABLE, store.MEAN]
+        np.savez_compressed(stage / store.DIGGABLE, **blocks.arrays())
+        np.savez_compressed(stage / store.MEAN, **mean.arrays())
         project = laid.base.project
-        parts = prepare.common_parts(laid) | {"schedule": folders.meaning_of_years(project, blocks.years)}
+        parts = prepare.common_parts(laid) | {"schedule": store.meaning_of_years(project, blocks.years)}
         scenarios = prepare.keyed(laid.scenarios, project, parts)
-        one = Scenario(len(scenarios) + 1, ONE, "", {}, folders.key_of({"mean": [it.key for it in scenarios]}))
+        one = Scenario(len(scenarios) + 1, ONE, "", {}, store.key_of({"mean": [it.key for it in scenarios]}))
         limits = limits_of_scenarios(project)
         more = {
-            "by": folders.BLOCK,
+            "by": store.BLOCK,
             "years": blocks.years,
             "limits": limits.most,
             "ramp_up": list(limits.ramp_up),
@@ -86,5 +86,5 @@ def shared_of(laid: Laid, folder: Path) -> Shared:
     base, plan = laid.base, laid.plan
     arrays = prepare.arrays_of(base)
     grid = files.grid_of(plan.grid.as_json(), arrays.pop("cells"))
-    project = folders.referred(base.project, plan.reference)
+    project = store.referred(base.project, plan.reference)
     return Shared(folder, project, pd.DataFrame(arrays), grid, plan.values.processed, {}, laid.solver, plan.settled)

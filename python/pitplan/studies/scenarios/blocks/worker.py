@@ -14,15 +14,15 @@ from pitplan.blockmodel import missing_blocks
 from pitplan.config.project import REFERENCE_FACTOR
 from pitplan.core import keyed_arrays
 from pitplan.core.files import staged_file
+from pitplan.errors import PlanError
 from pitplan.pushbacks.bench_table import ORE, ROCK
 from pitplan.scheduling.blocks import Scheduled, solve
 from pitplan.solver import choice
+from pitplan.studies.scenarios import store
+from pitplan.studies.scenarios.store import Scenario, Shared
+from pitplan.studies.scenarios.worker import plan_of
 
-from ..errors import PlanError
-from . import folder as folders
-from .block_problem import MILL, Diggable, Weights, problem_of, weights_of
-from .folder import Scenario, Shared
-from .work import plan_of
+from .problem import MILL, Diggable, Weights, problem_of, weights_of
 
 WHOLE = ("years", "blocks")
 
@@ -114,13 +114,13 @@ class Made:
 
 
 def diggable_of(shared: Shared) -> Diggable:
-    with np.load(shared.folder / folders.DIGGABLE, allow_pickle=False) as arrays:
+    with np.load(shared.folder / store.DIGGABLE, allow_pickle=False) as arrays:
         return Diggable.of_arrays({name: arrays[name] for name in arrays.files}, shared.record["years"])
 
 
 def mean_of(shared: Shared) -> Weights:
     """What the blocks that may be dug hold and earn on the mean of all scenarios."""
-    with np.load(shared.folder / folders.MEAN, allow_pickle=False) as arrays:
+    with np.load(shared.folder / store.MEAN, allow_pickle=False) as arrays:
         return Weights.of_arrays({name: arrays[name] for name in arrays.files})
 
 

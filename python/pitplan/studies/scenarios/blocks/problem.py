@@ -15,14 +15,13 @@ from numpy.typing import NDArray
 
 from pitplan.config.project import Project
 from pitplan.config.schedule import ScheduleRules
+from pitplan.errors import PlanError
 from pitplan.pits.best_worst_case import year_discounts
+from pitplan.plan import MILLION, Plan
 from pitplan.pushbacks.bench_table import CASH, ROCK
 from pitplan.scheduling.bench_sequencing import Limits
 from pitplan.scheduling.blocks import BlockProblem, Limit, Needs
 from pitplan.scheduling.blocks.from_plan import Flows, at_best, dues_of, limits_of_blocks, years_of
-
-from ..errors import PlanError
-from ..plan import MILLION, Plan
 
 # The destinations of a block, by their numbers.
 WASTE, MILL = 0, 1

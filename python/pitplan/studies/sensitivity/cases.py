@@ -21,16 +21,16 @@ from pitplan.config.sensitivity import SensitivityRules
 from pitplan.core import files, keyed_arrays
 from pitplan.core.optional_packages import load
 from pitplan.core.progress import Progress, silent
+from pitplan.errors import PlanError
 from pitplan.pits import shell_tables
 from pitplan.pits.skin import Skin, of_pit
+from pitplan.plan import Plan, prepare
 from pitplan.solver import choice as solver, problem
 from pitplan.solver.choice import Solver
+from pitplan.studies import dask_pool
+from pitplan.studies.scenarios.store import key_of
 
-from .errors import PlanError
-from .plan import Plan, prepare
-from .simulation import on_dask
-from .simulation.folder import key_of
-from .varied import Change, given, varied
+from .perturb import Change, given, varied
 
 CASES = "cases"
 # What the pit as given earns at a case's numbers, and what its skin does.
@@ -119,7 +119,7 @@ class Asked:
     as_given: Found | None = None
 
 
-def solve(project: Project, folder: Path, where: on_dask.Where | None, progress: Progress = silent) -> Sensitivity:
+def solve(project: Project, folder: Path, where: dask_pool.Where | None, progress: Progress = silent) -> Sensitivity:
     """Solves the cases that have no answer in the folder yet, one after the other or where it is said, and writes each answer as it is
     found.
 
@@ -173,13 +173,13 @@ def answer(case: Case, asked: Asked, path: Path) -> None:
     write(path, find(case, asked))
 
 
-def over_dask(missing: dict[Case, Path], asked: Asked, where: on_dask.Where, progress: Progress) -> None:
+def over_dask(missing: dict[Case, Path], asked: Asked, where: dask_pool.Where, progress: Progress) -> None:
     """Each case as a task of its own, tried again where its worker is lost. Raises PlanError as the case does."""
-    distributed = load("distributed", on_dask.PACKAGE, "sensitivity --on local or a Dask scheduler")
-    with progress.step(f"solving {len(missing):,} cases"), on_dask.client_of(distributed, where) as client:
+    distributed = load("distributed", dask_pool.PACKAGE, "sensitivity --on local or a Dask scheduler")
+    with progress.step(f"solving {len(missing):,} cases"), dask_pool.client_of(distributed, where) as client:
         shared = client.scatter(asked, broadcast=True)
         tasks = [
-            client.submit(answer, case, shared, path.resolve(), pure=False, retries=on_dask.RETRIES)
+            client.submit(answer, case, shared, path.resolve(), pure=False, retries=dask_pool.RETRIES)
             for case, path in missing.items()
         ]
         for task in distributed.as_completed(tasks):

@@ -17,11 +17,10 @@ from pitplan.blockmodel.reader import HEADER_ROWS, Table, at_row
 from pitplan.blockmodel.text_format import demand_text, format_of
 from pitplan.config.economics import Metal
 from pitplan.config.project import Project, Scenarios
+from pitplan.errors import PlanError
+from pitplan.plan import Plan, notes_of, plan_of
 from pitplan.slopes import domains
 from pitplan.slopes.domains import Walls
-
-from ..errors import PlanError
-from ..plan import Plan, notes_of, plan_of
 
 
 @dataclass(frozen=True)

@@ -13,11 +13,11 @@ import pandas as pd
 from pitplan.config.figures import PictureRules
 from pitplan.config.project import REFERENCE_FACTOR, load
 from pitplan.core.files import grid_of
+from pitplan.errors import PlanError
+from pitplan.plan import codes_of, shown_name
 
-from ..errors import PlanError
-from ..plan import codes_of, shown_name
-from . import folder as folders
-from .likely import Likely
+from . import store
+from .inclusion import Likely
 
 PROBABILITY, IMAGE, TABLE, QUANTILES = "probability.csv", "probability.vti", "scenarios.csv", "quantiles.csv"
 # Of schedules by block those of all scenarios, and the one for all by block and by year.
@@ -45,7 +45,7 @@ class ScenarioResult:
     @property
     def probability(self) -> pd.DataFrame:
         """One row a block: the planner's columns, and `probability_F`, from 0 to 1, for each factor F in per mille."""
-        codes = codes_of(load(self.folder / folders.PROJECT))
+        codes = codes_of(load(self.folder / store.PROJECT))
         return self.frame(PROBABILITY, dtype={name: str for name in codes}, keep_default_na=False, na_values={})
 
     @property
@@ -71,9 +71,9 @@ class ScenarioResult:
         blocks, name = self.probability, f"probability_{factor}"
         if name not in blocks:
             raise PlanError(f"{self.folder / PROBABILITY}: has no factor {factor}")
-        record = json.loads((self.folder / folders.RECORD).read_text(encoding="utf-8"))
+        record = json.loads((self.folder / store.RECORD).read_text(encoding="utf-8"))
         grid = grid_of(record["grid"], blocks["id"].to_numpy())
-        project = load(self.folder / folders.PROJECT)
+        project = load(self.folder / store.PROJECT)
         solid = blocks[shown_name(project.table.tonnes)].to_numpy() > 0
         count = self.table["scenario"].nunique()
         share, rules = grid.cube(grid.spread(blocks[name].to_numpy())), project.pictures or PictureRules()

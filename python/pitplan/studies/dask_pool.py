@@ -14,10 +14,9 @@ from typing import Any, Iterator, Optional
 
 from pitplan.core.optional_packages import load
 from pitplan.core.progress import Progress
-
-from ..errors import PlanError
-from . import work
-from .folder import Scenario
+from pitplan.errors import PlanError
+from pitplan.studies.scenarios import worker
+from pitplan.studies.scenarios.store import Scenario
 
 PACKAGE = "python3-distributed"
 RETRIES = 2
@@ -43,15 +42,15 @@ class Where:
         return self.workers or len(os.sched_getaffinity(0))
 
 
-def task(folder: str, number: int) -> work.Outcome:
+def task(folder: str, number: int) -> worker.Outcome:
     """What a worker runs. Raises Killed where another try may help."""
-    outcome = work.solve(folder, number)
+    outcome = worker.solve(folder, number)
     if not outcome.is_final:
         raise Killed(outcome.why)
     return outcome
 
 
-def run(where: Where, folder: Path, scenarios: list[Scenario], progress: Progress) -> list[work.Outcome]:
+def run(where: Where, folder: Path, scenarios: list[Scenario], progress: Progress) -> list[worker.Outcome]:
     """The outcomes, in the order in which they come. Raises MissingPackage without Dask, and PlanError where the
     scheduler cannot be reached or its workers cannot read the folder or import pitplan."""
     distributed = load("distributed", PACKAGE, "scenarios --on local or a Dask scheduler")
@@ -77,7 +76,7 @@ def client_of(distributed: Any, where: Where) -> Any:
         raise PlanError(f"{where.address}: no Dask scheduler answers there: {error}") from error
 
 
-def outcomes_of(distributed: Any, client: Any, folder: Path, scenarios: list[Scenario]) -> Iterator[work.Outcome]:
+def outcomes_of(distributed: Any, client: Any, folder: Path, scenarios: list[Scenario]) -> Iterator[worker.Outcome]:
     futures = {
         client.submit(
             task, str(folder), scenario.number, key=f"{scenario.key}-{number}", pure=False, retries=RETRIES
@@ -92,11 +91,11 @@ def outcomes_of(distributed: Any, client: Any, folder: Path, scenarios: list[Sce
         future.release()
 
 
-def lost(error: BaseException, scenario: Scenario) -> work.Outcome:
+def lost(error: BaseException, scenario: Scenario) -> worker.Outcome:
     """The outcome of a scenario that has none of its own. Raises PlanError where no scenario can have one."""
     if isinstance(error, ImportError):
         raise PlanError(
             f"Dask's workers cannot import pitplan ({error}): start them with PYTHONPATH=python of pitshell"
         )
     why = f"{error}" if isinstance(error, Killed) else f"{scenario.label}: its worker was lost: {error}"
-    return work.Outcome(scenario.number, work.LOST, f"{why}: tried {RETRIES + 1} times", 0.0)
+    return worker.Outcome(scenario.number, worker.LOST, f"{why}: tried {RETRIES + 1} times", 0.0)

@@ -5,7 +5,7 @@ from __future__ import annotations
 from dataclasses import dataclass
 from typing import Optional
 
-from .folder import PIT
+from .store import PIT
 
 
 @dataclass(frozen=True)

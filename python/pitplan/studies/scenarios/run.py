@@ -13,11 +13,12 @@ from typing import Optional
 
 from pitplan.config.project import REFERENCE_FACTOR, Project
 from pitplan.core.progress import Progress
+from pitplan.errors import PlanError
+from pitplan.studies import dask_pool
 
-from ..errors import PlanError
-from . import folder as folders, job_lists, on_dask, prepare, work
-from .folder import Shared
+from . import batch_scripts, prepare, store, worker
 from .request import Request
+from .store import Shared
 
 
 @dataclass(frozen=True)
@@ -46,7 +47,7 @@ def solve(project: Project, folder: Path, request: Request, progress: Progress) 
     MissingPackage
         Without Dask if it is required, or by block without the library.
     """
-    if request.by == folders.BLOCK:
+    if request.by == store.BLOCK:
         demand_no_factor(request)
     shared = prepare.prepare(project, folder, progress, request.by)
     # Refused before hours of solving, not after them.
@@ -58,10 +59,10 @@ def solve(project: Project, folder: Path, request: Request, progress: Progress) 
         f"{count - len(missing):,} of {count:,} {shared.called} have their answer already",
     ]
     if request.where in ("slurm", "parallel"):
-        start = job_lists.write(request.where, folder, missing, shared.solver) if missing else None
+        start = batch_scripts.write(request.where, folder, missing, shared.solver) if missing else None
         return Solved(tuple(notes), start)
     if missing:
-        outcomes = on_dask.run(on_dask.Where(request.where, request.workers), folder, missing, progress)
+        outcomes = dask_pool.run(dask_pool.Where(request.where, request.workers), folder, missing, progress)
         ended = notes_of_outcomes(outcomes)
         if any(outcome.status for outcome in outcomes) and not request.partial:
             raise PlanError(f"{'; '.join(ended)}: run again, or gather the others by --partial")
@@ -69,10 +70,10 @@ def solve(project: Project, folder: Path, request: Request, progress: Progress) 
     return Solved(tuple(notes))
 
 
-def notes_of_outcomes(outcomes: list[work.Outcome]) -> list[str]:
+def notes_of_outcomes(outcomes: list[worker.Outcome]) -> list[str]:
     """How many scenarios ended with each status, with the first reason if it is not 0."""
     words = {0: "solved", 1: "refused by the solver", 2: "not understood by the program", 3: "out of budget"}
-    words |= {4: "answered no", work.REFUSED: "refused by pitplan", work.LOST: "killed again and again"}
+    words |= {4: "answered no", worker.REFUSED: "refused by pitplan", worker.LOST: "killed again and again"}
     notes = []
     for status, said in words.items():
         ended = [outcome for outcome in outcomes if outcome.status == status]

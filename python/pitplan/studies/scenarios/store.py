@@ -34,10 +34,9 @@ from pitplan.config.schedule import ScheduleRules
 from pitplan.constraints import Settled
 from pitplan.core import files
 from pitplan.core.files import staged_file
+from pitplan.errors import PlanError
 from pitplan.slopes.arc_rows import Rows
 from pitplan.solver.choice import Solver
-
-from ..errors import PlanError
 
 RECORD, PROJECT, BASE = "scenarios.json", "project.toml", "base.npz"
 STARTS, NEEDS = "starts.npy", "needs.npy"
@@ -46,7 +45,7 @@ FOLDERS = MODELS, DONE, FAILED = "models", "done", "failed"
 # Of the files of answers: since 2 they hold their own key.
 FORM = 2
 # The sources of what searches for schedules.
-SEARCH = Path(__file__).parents[1] / "block_schedule"
+SEARCH = Path(__file__).parents[2] / "scheduling" / "blocks"
 # What is found of each scenario: its pits, or a schedule of its blocks.
 PIT, BLOCK = "pit", "block"
 

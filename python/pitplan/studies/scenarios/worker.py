@@ -16,16 +16,16 @@ from pitplan.core import files, keyed_arrays
 from pitplan.core.files import staged_file
 from pitplan.core.optional_packages import load_library
 from pitplan.economics import block_values
+from pitplan.errors import PlanError, ProgramError
 from pitplan.pits import shell_tables
+from pitplan.plan import Plan
 from pitplan.slopes.domains import Walls
 from pitplan.solver import choice, library, problem, program
 from pitplan.solver.program import Solution
 
-from ..errors import PlanError, ProgramError
-from ..plan import Plan
-from . import folder as folders
-from .ensemble import priced
-from .folder import Scenario, Shared
+from . import store
+from .realisations import priced
+from .store import Scenario, Shared
 
 # Exit statuses of one scenario. 0 to 4 are the program's own: done, refused, not understood, budget used up, no.
 REFUSED, LOST = 5, 75
@@ -54,14 +54,14 @@ class Outcome:
 @lru_cache(maxsize=1)
 def shared_of(folder: str, digest: str) -> Shared:
     """What the scenarios of a folder share, read once in each process; `digest` is that of its record."""
-    return folders.read_shared(Path(folder))
+    return store.read_shared(Path(folder))
 
 
 def solve(folder: str, number: int) -> Outcome:
     """Solves a scenario and writes its answer, unless it stands there already. Never raises PlanError."""
     began = time.perf_counter()
     try:
-        shared = shared_of(folder, files.hash_of(Path(folder) / folders.RECORD))
+        shared = shared_of(folder, files.hash_of(Path(folder) / store.RECORD))
         scenario = shared.jobs[number - 1]
     except OSError as error:
         return Outcome(number, REFUSED, f"{error.filename}: cannot be read: run pitplan scenarios first", 0.0)
@@ -78,9 +78,9 @@ def solve(folder: str, number: int) -> Outcome:
             write_answer(shared, scenario)
     except PlanError as error:
         status = status_of(error)
-        folders.save_failure(shared, scenario, getattr(error, "status", None), str(error))
+        store.save_failure(shared, scenario, getattr(error, "status", None), str(error))
         return Outcome(number, status, f"{scenario.label}: {error}", time.perf_counter() - began)
-    folders.forget_failure(shared, scenario)
+    store.forget_failure(shared, scenario)
     return Outcome(number, 0, "", time.perf_counter() - began)
 
 
@@ -122,9 +122,9 @@ def write_block_answer(shared: Shared, scenario: Scenario) -> None:
     """Makes and keeps the schedule of a scenario. Raises MissingPackage without the library, and PlanError as `block_work` does."""
     load_library("a schedule by block")
     # It imports the library itself, and this module.
-    from . import block_work
+    from pitplan.studies.scenarios.blocks import worker
 
-    block_work.write_answer(shared, scenario)
+    worker.write_answer(shared, scenario)
 
 
 def write_answer(shared: Shared, scenario: Scenario) -> None:

@@ -8,8 +8,7 @@ from typing import Callable, Union
 
 from pitplan.config.economics import ByRock, Curve, Metal, Process, Recovery
 from pitplan.config.project import Project
-
-from .errors import PlanError
+from pitplan.errors import PlanError
 
 # A number's name, as `[sensitivity]` gives it, and a share: 0.1 for a tenth more.
 Change = tuple[str, Decimal]

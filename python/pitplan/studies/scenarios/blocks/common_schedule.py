@@ -18,11 +18,11 @@ from numpy.typing import NDArray
 from scipy.optimize import linprog
 
 from pitplan.config.project import Project
+from pitplan.errors import PlanError
 from pitplan.pits.best_worst_case import year_discounts
 from pitplan.pushbacks.bench_table import CASH, ORE, ROCK
 
-from ..errors import PlanError
-from .block_problem import Weights, limits_of_scenarios
+from .problem import Weights, limits_of_scenarios
 
 # By such a share of it a limit may be missed, as sums of floats do, and a year may lack of what was planned.
 HAIR = 1e-9

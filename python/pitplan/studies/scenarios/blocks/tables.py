@@ -9,15 +9,15 @@ import numpy as np
 import pandas as pd
 from numpy.typing import NDArray
 
+from pitplan.errors import PlanError
 from pitplan.pushbacks.bench_table import ORE
+from pitplan.studies.scenarios import pit_probability
+from pitplan.studies.scenarios.store import Shared
+from pitplan.studies.scenarios.worker import plan_of
 
-from ..errors import PlanError
-from . import answers
-from .block_problem import weights_of
-from .block_work import Kept, diggable_of, mean_of, read_answer
-from .folder import Shared
-from .one_schedule import Dug, row_of, years_of_dug
-from .work import plan_of
+from .common_schedule import Dug, row_of, years_of_dug
+from .problem import weights_of
+from .worker import Kept, diggable_of, mean_of, read_answer
 
 SOLVED = "solved"
 # What quantiles and means are told of.
@@ -49,7 +49,7 @@ class Schedules:
         """What one_schedule.json says: how the one schedule was made, and over all scenarios that have an answer what it earns, what a
         schedule of each one's own earns, and the bounds of these; and what knowing the ground before digging would be worth at most.
         """
-        spread = answers.spread_of(self.answered, [], list(VALUES)).iloc[0]
+        spread = pit_probability.spread_of(self.answered, [], list(VALUES)).iloc[0]
         words = [name.removeprefix("bound_") for name in spread.index if name.startswith("bound_")]
         return {
             "scenarios": len(self.table),
@@ -67,13 +67,15 @@ class Schedules:
         """The rows of blocks.csv, by the program's id, with the year of the one schedule, 0 where a block is in none, and the share of each
         that is planned for the mill."""
         order = np.argsort(shared.grid.rows)
-        return answers.written(blocks).assign(year=self.one.year[order], share_mill=self.one.share[order].round(9))
+        return pit_probability.written(blocks).assign(
+            year=self.one.year[order], share_mill=self.one.share[order].round(9)
+        )
 
 
 def gather(shared: Shared, partial: bool = False) -> Schedules:
     """Raises PlanError where a schedule has no answer, unless `partial`, or the one for all or that of each scenario has none, or where an
     answer cannot be read."""
-    missing = answers.missing_of(shared, partial)
+    missing = pit_probability.missing_of(shared, partial)
     job = shared.jobs[-1]
     if job.number in missing:
         raise PlanError(f"the {job.label} was not made: {missing[job.number]}: run pitplan scenarios again")
@@ -82,7 +84,7 @@ def gather(shared: Shared, partial: bool = False) -> Schedules:
     for scenario in shared.scenarios:
         weights = weights_of(plan_of(shared, scenario), shared.grid.rows)
         dug = years_of_dug(Dug(one.year, weights, shared.project), planned)
-        heads, why = answers.heads_of(scenario), missing.get(scenario.number)
+        heads, why = pit_probability.heads_of(scenario), missing.get(scenario.number)
         own = dict.fromkeys(one.row, np.nan) if why else read_answer(shared, scenario).row
         rows.append(heads | {"status": why or SOLVED} | own | row_of(dug))
         years.append(pd.DataFrame(heads | {name: dug[name] for name in dug}))
@@ -100,7 +102,7 @@ def quantiles(schedules: Schedules) -> pd.DataFrame:
     """One row a set of prices, over the models that have a schedule of their own: mean, least, greatest and quantiles of its value and
     bound, and of what the one schedule earns."""
     table = schedules.answered
-    return answers.spread_of(table, [name for name in table.columns if name.startswith("price_")], list(VALUES))
+    return pit_probability.spread_of(table, [name for name in table.columns if name.startswith("price_")], list(VALUES))
 
 
 def notes(schedules: Schedules, shared: Shared) -> list[str]:

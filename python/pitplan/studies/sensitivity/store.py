@@ -10,7 +10,7 @@ import pandas as pd
 
 from pitplan.core import files
 
-from .varied_cases import SKIN_WORTH, Case, Sensitivity
+from .cases import SKIN_WORTH, Case, Sensitivity
 
 WRITTEN = TABLE, RECORD = "sensitivity.csv", "sensitivity.json"
 

@@ -18,13 +18,13 @@ from pitplan.config.project import Project
 from pitplan.core import csv_writer, files
 from pitplan.core.optional_packages import load_library
 from pitplan.core.progress import Progress
+from pitplan.plan import Plan
 from pitplan.solver.choice import LIBRARY, Solver, chosen
 from pitplan.solver.problem import counted_rows
 
-from ..plan import Plan
-from . import folder as folders
-from .ensemble import Base, envelope, models, read_base, scenarios_of
-from .folder import Scenario
+from . import store
+from .realisations import Base, envelope, models, read_base, scenarios_of
+from .store import Scenario
 
 BLOCKS = "blocks.csv"
 
@@ -39,12 +39,12 @@ class Models:
     means: np.ndarray
 
 
-def prepare(project: Project, folder: Path, progress: Progress, by: str = folders.PIT) -> folders.Shared:
+def prepare(project: Project, folder: Path, progress: Progress, by: str = store.PIT) -> store.Shared:
     """Reads and checks every model, and writes what solving needs. Raises PlanError with nothing to solve written, and MissingPackage where
     blocks are to be scheduled without the library."""
-    of_blocks = block_preparation() if by == folders.BLOCK else None
-    folders.demand_same_kind(folder, by)
-    folders.demand_no_mine(folder)
+    of_blocks = block_preparation() if by == store.BLOCK else None
+    store.demand_same_kind(folder, by)
+    store.demand_no_mine(folder)
     if of_blocks:
         of_blocks.demand_apt(project)
     solver = chosen(LIBRARY if of_blocks else project.solver)
@@ -60,19 +60,19 @@ def prepare(project: Project, folder: Path, progress: Progress, by: str = folder
     if of_blocks:
         of_blocks.write(laid, folder, progress)
     else:
-        with progress.step("writing blocks and needs"), files.staged(folder, folders.RECORD) as stage:
+        with progress.step("writing blocks and needs"), files.staged(folder, store.RECORD) as stage:
             written = [*write_shared(laid, stage), *write_needs(laid.plan, solver, stage)]
             parts = common_parts(laid)
             parts["project"] |= {"factors": list(project.schedule.factors)}
             write_record(laid, keyed(laid.scenarios, project, parts), written, stage)
-    return folders.read_shared(folder)
+    return store.read_shared(folder)
 
 
 def block_preparation() -> ModuleType:
     """The module that prepares schedules by block. Raises MissingPackage without the library."""
     load_library("a schedule by block")
     # It imports the library itself, and this module.
-    from . import block_prepare
+    from pitplan.studies.scenarios.blocks import prepare as block_prepare
 
     return block_prepare
 
@@ -92,7 +92,7 @@ def write_models(base: Base, folder: Path) -> Models:
     greatest = np.zeros((len(base.frame), len(base.project.metals)))
     tonnes, totals = base.table.frame[base.project.table.tonnes].to_numpy(), np.zeros(len(base.project.metals))
     for model in models(base):
-        names.append((model.name, folders.save_grades(folder, model.grades)))
+        names.append((model.name, store.save_grades(folder, model.grades)))
         greatest = np.maximum(greatest, model.grades)
         totals += [summary.mean_of(grades, tonnes) for grades in model.grades[: len(tonnes)].T]
     return Models(names, greatest, totals / len(names))
@@ -130,9 +130,9 @@ def arrays_of_settled(plan: Plan) -> dict[str, np.ndarray]:
 def write_shared(laid: Laid, stage: Path) -> list[str]:
     """Base, the project, and the planner's rows, of which blocks are told; gives the names of the files."""
     base, plan = laid.base, laid.plan
-    np.savez_compressed(stage / folders.BASE, ore=plan.values.processed, **arrays_of(base), **arrays_of_settled(plan))
+    np.savez_compressed(stage / store.BASE, ore=plan.values.processed, **arrays_of(base), **arrays_of_settled(plan))
     # Of another folder than its own: whoever reads it names the place of the first.
-    project_writer.write(base.project, stage / folders.PROJECT, base.project.path.parent)
+    project_writer.write(base.project, stage / store.PROJECT, base.project.path.parent)
     frame = plan.blocks
     grades = [metal.column for metal in base.project.metals]
     costs = [
@@ -142,7 +142,7 @@ def write_shared(laid: Laid, stage: Path) -> list[str]:
         *(["haulage_cost", "ore_haulage_cost"] if base.project.haulage else []),
     ]
     csv_writer.write(stage / BLOCKS, frame.drop(columns=[*grades, *costs]))
-    return [folders.BASE, folders.PROJECT, BLOCKS]
+    return [store.BASE, store.PROJECT, BLOCKS]
 
 
 def write_needs(plan: Plan, solver: Solver, stage: Path) -> list[str]:
@@ -151,9 +151,9 @@ def write_needs(plan: Plan, solver: Solver, stage: Path) -> list[str]:
         plan.write_needs(stage / files.PREC, plan.needs_of_rest)
         return [files.PREC]
     rows, _ = counted_rows(plan.needs_of_rest, plan)
-    np.save(stage / folders.STARTS, rows.starts)
-    np.save(stage / folders.NEEDS, rows.needs)
-    return [folders.STARTS, folders.NEEDS]
+    np.save(stage / store.STARTS, rows.starts)
+    np.save(stage / store.NEEDS, rows.needs)
+    return [store.STARTS, store.NEEDS]
 
 
 def list_of(base: Base, read: Models) -> list[Scenario]:
@@ -173,9 +173,9 @@ def common_parts(laid: Laid) -> dict[str, Any]:
     base, plan = laid.base, laid.plan
     walls = {"code": base.walls.code, **{str(k): p.cone for k, p in enumerate(base.walls.patterns)}}
     return {
-        "project": folders.meaning(base.project, plan.reference),
+        "project": store.meaning(base.project, plan.reference),
         "grid": plan.grid.as_json(),
-        "blocks": folders.hash_of_arrays({**arrays_of(base), **walls, **arrays_of_settled(plan)}),
+        "blocks": store.hash_of_arrays({**arrays_of(base), **walls, **arrays_of_settled(plan)}),
         "solver": laid.solver.sha256,
     }
 
@@ -184,7 +184,7 @@ def keyed(scenarios: list[Scenario], project: Project, common: dict[str, Any]) -
     """Scenarios with the keys of their answers, told by their grades and prices, and by what is common to all."""
     given = {metal.name: str(metal.price) for metal in project.metals}
     return [
-        replace(it, key=folders.key_of({**common, "grades": it.grades, "prices": {**given, **it.prices}}))
+        replace(it, key=store.key_of({**common, "grades": it.grades, "prices": {**given, **it.prices}}))
         for it in scenarios
     ]
 
@@ -204,4 +204,4 @@ def write_record(laid: Laid, scenarios: list[Scenario], written: list[str], stag
         "files": files.hashes(stage, written),
         "scenarios": [vars(scenario) for scenario in scenarios],
     }
-    files.write_json(stage / folders.RECORD, record | more)
+    files.write_json(stage / store.RECORD, record | more)

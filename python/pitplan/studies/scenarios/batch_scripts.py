@@ -16,11 +16,11 @@ from pathlib import Path
 
 from pitplan.core.files import staged_file
 from pitplan.core.paths import PACKAGES
+from pitplan.errors import PlanError
 from pitplan.solver import choice
 from pitplan.solver.choice import Solver
 
-from ..errors import PlanError
-from .folder import Scenario
+from .store import Scenario
 
 SCRIPT, ARRAY, GATHER, START, JOBS, LOG = (
     "scenario.sh",

@@ -1,0 +1,1 @@
+"""Studies over many runs of a project: sensitivity and scenarios."""

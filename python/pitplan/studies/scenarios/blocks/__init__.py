@@ -1,0 +1,1 @@
+"""Schedules by block for each scenario, and the common schedule of all."""

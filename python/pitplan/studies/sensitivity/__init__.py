@@ -1,0 +1,1 @@
+"""Sensitivity of the selected pit to prices, costs, recovery, slopes and capacities."""
