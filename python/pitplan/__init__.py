@@ -46,6 +46,7 @@ from typing import TYPE_CHECKING, Any
 if TYPE_CHECKING:
     from pitplan.config.project import Project, load
     from pitplan.pits.shell_tables import blocks, shells, years
+    from pitplan.results.pit_states import Shape
     from pitplan.solver.problem import solve
     from pitplan.solver.program import Solution
     from pitplan.studies.dask_pool import Where
@@ -67,7 +68,6 @@ if TYPE_CHECKING:
     from .commands.writing import Writing
     from .errors import BudgetUsedUp, MissingPackage, PlanError, ProgramError
     from .plan import Plan, prepare
-    from .stages import Shape
     from .verification import Rule
 
 __version__ = "0.1.0"

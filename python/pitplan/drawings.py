@@ -11,10 +11,10 @@ import numpy as np
 from pitplan.blockmodel.grid import metres
 from pitplan.core.files import Folder
 from pitplan.core.optional_packages import load
+from pitplan.results.pit_states import GROUND, Shape, Stage, places_of, rock, stages_of
 
 from . import ground
 from .pit_lines import lines_of
-from .stages import GROUND, Shape, Stage, places_of, rock, stages_of
 
 
 def write_dxf(path: Path, folder: Folder, shape: Shape) -> list[str]:

@@ -13,10 +13,10 @@ import pandas as pd
 from pitplan.core import csv_writer, files, staging
 from pitplan.core.files import Folder
 from pitplan.core.optional_packages import load
+from pitplan.results.pit_states import FACTOR, GROUND, Shape, places_of
 
 from . import drawings, line_files, planned_table, surfaces, workbook
 from .errors import PlanError
-from .stages import FACTOR, GROUND, Shape, places_of
 from .vtk_files import PACKAGE, save, write_image
 
 # Writes the shells of a folder, or some of its pits; gives what is to be told of it, where that is anything.

@@ -13,8 +13,7 @@ import numpy as np
 from pitplan.blockmodel.grid import Grid
 from pitplan.core.cell_outlines import rings
 from pitplan.core.files import Folder
-
-from .stages import Shape, Stage, places_of, stages_of
+from pitplan.results.pit_states import Shape, Stage, places_of, stages_of
 
 TOE, CREST = "toe", "crest"
 

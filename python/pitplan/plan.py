@@ -29,13 +29,13 @@ from pitplan.core.files import MOST_PAIRS, Needs, Pairs
 from pitplan.core.progress import Progress, silent
 from pitplan.economics import block_values, haulage, period_costs
 from pitplan.economics.block_values import Values
+from pitplan.results.conventions import IN_WORDS
 from pitplan.slopes import closure, crop, domains
 from pitplan.slopes.crop import Model
 from pitplan.slopes.domains import Walls
 
 from . import constraints
 from .constraints import NOTHING, FixedBlocks, Settled
-from .conventions import IN_WORDS
 from .errors import PlanError
 
 MILLION = 1_000_000

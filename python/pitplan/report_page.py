@@ -18,9 +18,9 @@ from pitplan.config.project import REFERENCE_FACTOR, Project
 from pitplan.core import files
 from pitplan.core.files import hash_of
 from pitplan.figures import schedule
+from pitplan.results.conventions import IN_WORDS
 
 from . import report
-from .conventions import IN_WORDS
 from .errors import PlanError
 from .report import TEMPLATES, Columns
 

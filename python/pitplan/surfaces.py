@@ -12,10 +12,10 @@ import numpy as np
 
 from pitplan.core.files import Folder
 from pitplan.core.optional_packages import load
+from pitplan.results.pit_states import FACTOR, GROUND, Shape, Stage, places_of, rock, stages_of
 
 from . import ground
 from .errors import PlanError
-from .stages import FACTOR, GROUND, Shape, Stage, places_of, rock, stages_of
 from .vtk_files import PACKAGE, image_of, save
 
 # By what part the volume within the triangles may differ from that of the blocks.

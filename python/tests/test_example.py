@@ -14,9 +14,9 @@ import tomllib
 from conftest import ROOT
 
 import pitplan
-from pitplan.conventions import with_discounting
 from pitplan.pits import shell_tables
-from pitplan.rounded_tables import shown
+from pitplan.results.conventions import with_discounting
+from pitplan.results.rounding import shown
 
 EXAMPLE = ROOT / "examples" / "plan"
 

@@ -23,7 +23,7 @@ from pitplan.commands.prepare import write_plan
 from pitplan.commands.writing import PICTURES
 from pitplan.core import cell_outlines, files, optional_packages
 from pitplan.core.progress import silent
-from pitplan.rounded_tables import shown
+from pitplan.results.rounding import shown
 from pitplan.solver import audit, problem, program
 
 ORE = {"cu": lambda i, j, k: {(3, 3, 1): 6, (4, 3, 1): 2.5, (3, 4, 0): 9}.get((i, j, k), 0)}

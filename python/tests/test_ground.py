@@ -10,11 +10,12 @@ import pytest
 from test_surfaces import triangles_of, volume_of
 
 import pitplan
-from pitplan import PlanError, ground, stages
+from pitplan import PlanError, ground
 from pitplan.blockmodel.grid import Grid
 from pitplan.cli import main
 from pitplan.core import files
-from pitplan.stages import Shape, Stage
+from pitplan.results import pit_states
+from pitplan.results.pit_states import Shape, Stage
 
 
 def grid_of(shape, size=(10.0, 10.0, 5.0)):
@@ -53,7 +54,7 @@ def test_a_hole_of_one_block_by_hand():
     assert (
         said == "26 triangles; 500 m3 lie between it and the ground as it was, and the 1 cells that are dug hold 500 m3"
     )
-    triangles = stages.places_of(grid, surface.corners)[surface.faces]
+    triangles = pit_states.places_of(grid, surface.corners)[surface.faces]
     assert prisms(triangles) == pytest.approx(8 * 1000 + 500)
     normal = np.cross(triangles[:, 1] - triangles[:, 0], triangles[:, 2] - triangles[:, 0])
     # Tops look upwards, walls to the middle of the hole.
@@ -68,7 +69,7 @@ def test_random_pits_hold_what_is_dug(seed):
     rock, dug = random_pit(seed)
     grid = grid_of(rock.shape, (20.0, 10.0, 5.0))
     parts = [ground.of_stage(rock, Stage("year", k, dug & bool(k)), grid, False)[0] for k in (0, 1)]
-    found = [stages.places_of(grid, part.corners)[part.faces] for part in parts]
+    found = [pit_states.places_of(grid, part.corners)[part.faces] for part in parts]
     before, after = (prisms(triangles) for triangles in found)
     assert before - after == pytest.approx(1000 * dug.sum())
     assert before == pytest.approx(1000 * rock.sum()), "nothing lies below ground without rock"
@@ -105,8 +106,8 @@ def test_the_difference_after_smoothing_is_told():
     grid = grid_of(rock.shape)
     surface, said = ground.of_stage(rock, Stage("year", 1, dug), grid, True)
     before, _ = ground.of_stage(rock, Stage("year", 0, dug & False), grid, True)
-    held = prisms(stages.places_of(grid, before.corners)[before.faces]) - prisms(
-        stages.places_of(grid, surface.corners)[surface.faces]
+    held = prisms(pit_states.places_of(grid, before.corners)[before.faces]) - prisms(
+        pit_states.places_of(grid, surface.corners)[surface.faces]
     )
     expected = 500 * int(dug.sum())
     assert f"smoothed within half a block, {held:,.0f} m3 lie between it and the ground as it was, smoothed too" in said

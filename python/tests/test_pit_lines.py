@@ -13,7 +13,7 @@ from conftest import rows
 import pitplan
 from pitplan import MissingPackage, PlanError
 from pitplan.cli import main
-from pitplan.stages import Shape
+from pitplan.results.pit_states import Shape
 
 
 def area_of(points):

@@ -19,7 +19,7 @@ from pitplan.config.project import of_data, read_schedule
 from pitplan.config.toml_section import Section
 from pitplan.core import files
 from pitplan.pits import shell_tables
-from pitplan.rounded_tables import shown
+from pitplan.results.rounding import shown
 from pitplan.solver.program import Solution
 
 FACTORS = (400, 700, 1000)

@@ -207,8 +207,9 @@ def view(options: Namespace) -> int:
 
 
 def export(options: Namespace) -> int:
+    from pitplan.results.pit_states import Shape
+
     from ..commands.export import export as write_export
-    from ..stages import Shape
     from .printing import print_path
 
     shape = Shape(options.of, options.surface, options.smooth)

@@ -14,15 +14,15 @@ from pitplan.core.progress import Progress
 from pitplan.pits import shell_tables
 from pitplan.pushbacks import nested
 from pitplan.pushbacks.nested import Phases
+from pitplan.results.conventions import with_discounting, with_outline
+from pitplan.results.rounding import shown, write_csv
 from pitplan.scheduling import phase_schedule
 from pitplan.scheduling.phase_schedule import YearlySchedule
 from pitplan.solver import problem
 from pitplan.solver.problem import Mine
 from pitplan.solver.program import Solution
 
-from ..conventions import with_discounting, with_outline
 from ..plan import Plan
-from ..rounded_tables import shown, write_csv
 from .drawing import draw
 from .writing import REPORT, WORKBOOK, Run, finish, note_verified, write_table
 

@@ -10,9 +10,9 @@ from pitplan.config.project import REFERENCE_FACTOR
 from pitplan.core import files
 from pitplan.core.noted_path import NotedPath, noted
 from pitplan.core.progress import Progress, silent
+from pitplan.results.pit_states import FACTOR, Shape
 
 from ..errors import PlanError
-from ..stages import FACTOR, Shape
 from .writing import Place
 
 

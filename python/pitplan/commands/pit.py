@@ -12,10 +12,10 @@ from pitplan.blockmodel import missing_blocks
 from pitplan.config.project import REFERENCE_FACTOR, Project
 from pitplan.core import files
 from pitplan.pits import shell_tables
+from pitplan.results.rounding import shown, write_csv
 from pitplan.solver import problem
 
 from ..errors import PlanError
-from ..rounded_tables import shown, write_csv
 from .answers import check_fixed
 from .writing import PITS, Place, Source, Writing, begun, finish, note_verified, read, write_table
 

@@ -14,6 +14,7 @@ from pitplan.core import csv_writer, files
 from pitplan.core.optional_packages import load_library
 from pitplan.figures import scenario_values, scenarios
 from pitplan.figures.plans_sections import also_as
+from pitplan.results.conventions import with_discounting
 from pitplan.studies.scenarios import answers, run
 from pitplan.studies.scenarios.inclusion import Likely
 from pitplan.studies.scenarios.pit_probability import Gathered
@@ -21,7 +22,6 @@ from pitplan.studies.scenarios.request import Request
 from pitplan.studies.scenarios.result import IMAGE, ONE, ONE_RECORD, ONE_YEARS, PROBABILITY, QUANTILES, SCHEDULES, TABLE
 from pitplan.studies.scenarios.store import Shared
 
-from ..conventions import with_discounting
 from ..errors import MissingPackage
 from ..plan import codes_of
 from ..vtk_files import write_image as write_vti

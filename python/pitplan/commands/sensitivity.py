@@ -13,12 +13,12 @@ from pitplan.config import project_writer
 from pitplan.core import csv_writer, files, staging
 from pitplan.figures import sensitivity
 from pitplan.figures.plans_sections import also_as
+from pitplan.results.conventions import with_discounting
 from pitplan.studies.dask_pool import Where
 from pitplan.studies.sensitivity import cases as varied_cases, store
 from pitplan.studies.sensitivity.cases import Case, Sensitivity
 from pitplan.studies.sensitivity.store import RECORD, TABLE
 
-from ..conventions import with_discounting
 from .writing import Place, Source, Writing, demand_apart, read
 
 # Those of pairs have the names of both numbers.

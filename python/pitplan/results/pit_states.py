@@ -9,8 +9,7 @@ import numpy as np
 from pitplan.blockmodel.grid import Grid
 from pitplan.config.project import REFERENCE_FACTOR
 from pitplan.core.files import Folder
-
-from .errors import PlanError
+from pitplan.errors import PlanError
 
 FACTOR, PHASE, YEAR = "factor", "phase", "year"
 KINDS = (FACTOR, PHASE, YEAR)
