@@ -6,9 +6,9 @@ import subprocess
 
 from conftest import ROOT
 
-from pitplan import exports
 from pitplan.cli import parser as arguments
 from pitplan.config.project import REFERENCE_FACTOR
+from pitplan.export import registry
 from pitplan.results import pit_states
 from pitplan.solver import choice
 
@@ -54,7 +54,7 @@ def test_help_lists_each_subcommand_once():
 
 
 def test_the_words_of_options_are_those_of_the_modules():
-    assert arguments.FORMATS == tuple(exports.WRITERS)
+    assert arguments.FORMATS == tuple(registry.WRITERS)
     assert (arguments.STAGES, arguments.SURFACES) == (pit_states.KINDS, (pit_states.PIT, pit_states.GROUND))
     assert (arguments.SOLVERS, arguments.REFERENCE_FACTOR) == (choice.BY, REFERENCE_FACTOR)
 

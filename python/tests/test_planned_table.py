@@ -11,8 +11,9 @@ import pytest
 from conftest import PROJECT, rows
 
 import pitplan
-from pitplan import PlanError, exports
+from pitplan import PlanError
 from pitplan.cli import main
+from pitplan.export import registry
 from pitplan.verification import answer as answers, planned_table, verify
 
 FOUND = ["factor", "process_factor"]
@@ -181,7 +182,7 @@ def test_a_table_that_is_not_right_is_not_written(solved, monkeypatch):
         table[FOUND] = result.blocks[FOUND]
         table.to_csv(path, index=False)
 
-    monkeypatch.setitem(exports.WRITERS, "table", careless)
+    monkeypatch.setitem(registry.WRITERS, "table", careless)
     with pytest.raises(PlanError, match="what was written is not right in"):
         pitplan.export(folder, "table")
     assert not (folder / "table.csv").exists()

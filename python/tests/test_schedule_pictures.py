@@ -12,9 +12,10 @@ import pytest
 from matplotlib.figure import Figure
 from test_sequencing import THREE, benches_of, problem_of
 
-from pitplan import PlanError, page, workbook
+from pitplan import PlanError, page
 from pitplan.config.project import Metal
 from pitplan.core import files
+from pitplan.export import xlsx
 from pitplan.figures import schedule as schedule_figures
 from pitplan.scheduling import phase_schedule
 from pitplan.scheduling.bench_lp import Relaxed
@@ -140,7 +141,7 @@ def test_a_workbook_has_a_sheet_a_table(tmp_path):
             {"year": np.array([1, 2], dtype=np.int16), "share": [0.123456789, 1.0], "metal_copper": [1.5, 2.0]}
         ),
     }
-    workbook.write(tmp_path / "book.xlsx", tables)
+    xlsx.write(tmp_path / "book.xlsx", tables)
     book = openpyxl.load_workbook(tmp_path / "book.xlsx")
     assert book.sheetnames == ["ways", "schedule"]
     assert [[cell.value for cell in row] for row in book["ways"]] == [
@@ -156,7 +157,7 @@ def test_a_workbook_has_a_sheet_a_table(tmp_path):
 def test_a_library_that_is_missing_is_named_before_anything_is_solved(monkeypatch):
     monkeypatch.setitem(__import__("sys").modules, "openpyxl", None)
     with pytest.raises(PlanError, match="python3-openpyxl"):
-        workbook.demand_library()
+        xlsx.demand_library()
 
 
 def test_the_page_has_a_colour_a_year(solved):

@@ -10,11 +10,12 @@ import pytest
 from conftest import PROJECT, rows
 
 import pitplan
-from pitplan import PlanError, Request, Shape, exports
+from pitplan import PlanError, Request, Shape
 from pitplan.cli import main
 from pitplan.commands.prepare import write_plan
 from pitplan.commands.writing import Writing
 from pitplan.core import staging
+from pitplan.export import registry
 
 pytestmark = pytest.mark.usefixtures("without_figures")
 ORE = {"cu": lambda i, j, k: {(3, 3, 1): 6, (4, 3, 1): 2.5, (3, 4, 0): 9}.get((i, j, k), 0)}
@@ -154,7 +155,7 @@ def test_two_audits_or_exports_into_one_folder_are_kept_apart(mine):
     pitplan.write_schedule(mine, folder, writing=pitplan.Writing(verifies=False))
     with staging.alone(folder / "audit-500"), pytest.raises(PlanError, match=f"audit-500: {OTHER}"):
         pitplan.audit(folder, 500)
-    target = folder / exports.name_of("obj", Shape("year"))
+    target = folder / registry.name_of("obj", Shape("year"))
     with staging.alone(target), pytest.raises(PlanError, match=f"{target.name}: {OTHER}"):
         pitplan.export(folder, "obj", shape=Shape("year"))
 

@@ -10,8 +10,9 @@ import pytest
 from conftest import PROJECT, rows
 
 import pitplan
-from pitplan import MissingPackage, PlanError, surfaces
+from pitplan import MissingPackage, PlanError
 from pitplan.cli import main
+from pitplan.export import mesh
 
 
 def triangles_of(path):
@@ -88,11 +89,11 @@ def test_a_surface_that_holds_something_else_is_not_kept(far, monkeypatch):
     """Its blocks are by a fiftieth of a metre too high, a fifth of a per cent. Ore of the second level has 5 and 13 blocks above it, one of
     which is air."""
 
-    def higher(vtk, image, made=surfaces.round_cells):
+    def higher(vtk, image, made=mesh.round_cells):
         image.SetSpacing(10, 10, 10.02)
         return made(vtk, image)
 
-    monkeypatch.setattr(surfaces, "round_cells", higher)
+    monkeypatch.setattr(mesh, "round_cells", higher)
     with pytest.raises(
         PlanError, match=r"pit-500.obj: \d+ triangles hold 18,036 m3, and the 18 blocks 18,000 m3: please report this"
     ):

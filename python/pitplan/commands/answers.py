@@ -8,9 +8,10 @@ from typing import TYPE_CHECKING, Optional
 
 import pandas as pd
 
-from pitplan import report_page, workbook
+from pitplan import report_page
 from pitplan.core import files
 from pitplan.core.progress import Progress
+from pitplan.export import xlsx
 from pitplan.pits import shell_tables
 from pitplan.pushbacks import nested
 from pitplan.pushbacks.nested import Phases
@@ -69,7 +70,7 @@ def write_answer(answered: Answered, run: Run) -> pd.DataFrame:
             drawn = draw(answered, table, years, factor, stage)
     if answered.schedule is not None:
         with progress.step("writing the workbook"):
-            workbook.write(stage / WORKBOOK, sheets_of(answered, table, years))
+            xlsx.write(stage / WORKBOOK, sheets_of(answered, table, years))
     finish(plan, run.record, [*run.mine.files, *tables_of(answered), *drawn], stage)
     report_page.write(stage / REPORT, stage, run.project)
     return table

@@ -5,11 +5,12 @@ from __future__ import annotations
 from dataclasses import replace
 from pathlib import Path
 
-from pitplan import exports, verification
+from pitplan import verification
 from pitplan.config.project import REFERENCE_FACTOR
 from pitplan.core import files
 from pitplan.core.noted_path import NotedPath, noted
 from pitplan.core.progress import Progress, silent
+from pitplan.export import registry
 from pitplan.results.pit_states import FACTOR, Shape
 
 from ..errors import PlanError
@@ -50,11 +51,11 @@ def export(
         Without a library that the format requires.
     """
     shape = replace(shape, factor=factor)
-    exports.demand_apt(kind, shape)
+    registry.demand_apt(kind, shape)
     result = read_factor(folder, factor) if shape.of == FACTOR else files.read_folder(Path(folder))
-    target = result.path / exports.name_of(kind, shape)
-    with progress.step(f"writing {target.name}"), exports.staged(target, kind, shape) as path:
-        notes = exports.WRITERS[kind](path, result, shape)
+    target = result.path / registry.name_of(kind, shape)
+    with progress.step(f"writing {target.name}"), registry.staged(target, kind, shape) as path:
+        notes = registry.WRITERS[kind](path, result, shape)
         if kind == "table":
             verification.demand([verification.verify_table(result.path, path)])
     return noted(target, notes or ())

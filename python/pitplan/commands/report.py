@@ -5,9 +5,10 @@ from __future__ import annotations
 from pathlib import Path
 from typing import Optional
 
-from pitplan import planned_table, report_page
+from pitplan import report_page
 from pitplan.core import files
 from pitplan.core.progress import Progress, silent
+from pitplan.export import planner_table
 
 from .writing import REPORT, Place
 
@@ -36,7 +37,7 @@ def write_report(folder: Place, sensitivity: Optional[Place] = None, progress: P
         If the folder has no shells, it or an input has changed since the run, or `sensitivity` is no sensitivity of these inputs.
     """
     result = files.read_folder(Path(folder))
-    project = planned_table.project_of(result)
+    project = planner_table.project_of(result)
     with progress.step("writing the report"), files.staged_file(result.path / REPORT) as path:
         report_page.write(path, result.path, project, None if sensitivity is None else Path(sensitivity))
     return result.path / REPORT

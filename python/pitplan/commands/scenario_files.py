@@ -12,6 +12,7 @@ from pitplan import verification
 from pitplan.config.figures import PictureRules
 from pitplan.core import csv_writer, files
 from pitplan.core.optional_packages import load_library
+from pitplan.export.vtk import write_image as write_vti
 from pitplan.figures import scenario_values, scenarios
 from pitplan.figures.plans_sections import also_as
 from pitplan.results.conventions import with_discounting
@@ -24,7 +25,6 @@ from pitplan.studies.scenarios.store import Shared
 
 from ..errors import MissingPackage
 from ..plan import codes_of
-from ..vtk_files import write_image as write_vti
 from .writing import Writing
 
 if TYPE_CHECKING:

@@ -7,8 +7,8 @@ from typing import Optional
 
 import pandas as pd
 
-from pitplan import workbook
 from pitplan.core.optional_packages import load_library
+from pitplan.export import xlsx
 from pitplan.pushbacks import nested
 from pitplan.scheduling import phase_schedule
 from pitplan.solver import problem
@@ -48,7 +48,7 @@ def write_schedule(project: Source, folder: Optional[Place] = None, writing: Wri
     """
     project = read(project)
     target = project.folder / "schedule" if folder is None else Path(folder)
-    workbook.demand_library()
+    xlsx.demand_library()
     with begun(project, target, writing, nested.ending(project)) as run:
         phases = nested.divide(run.mine.plan, run.mine, writing.progress)
         schedule = phase_schedule.make(phases, writing.progress)

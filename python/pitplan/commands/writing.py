@@ -10,13 +10,14 @@ from typing import Any, Iterable, Iterator, Optional, Union
 
 import pandas as pd
 
-from pitplan import exports, verification
+from pitplan import verification
 from pitplan.blockmodel.figure_bounds import demand_within
 from pitplan.config import project_writer
 from pitplan.config.figures import FORMATS
 from pitplan.config.project import Project, inputs_beside, load
 from pitplan.core import csv_writer, files, staging
 from pitplan.core.progress import Progress, silent
+from pitplan.export import registry
 from pitplan.figures import block_schedule, sensitivity
 from pitplan.solver import problem
 from pitplan.solver.choice import PROGRAM, chosen
@@ -57,7 +58,7 @@ WRITTEN = {
     *(REPORT, VIEW),
     *FIGURES,
 }
-WRITTEN |= {PITS, *store.WRITTEN, *sensitivity.WRITTEN, *exports.WRITTEN}
+WRITTEN |= {PITS, *store.WRITTEN, *sensitivity.WRITTEN, *registry.WRITTEN}
 
 
 @dataclass(frozen=True)

@@ -22,8 +22,8 @@ from pitplan.core import files, paths
 from pitplan.core.files import Folder
 from pitplan.core.progress import Progress
 from pitplan.errors import PlanError
+from pitplan.export.planner_table import project_of
 from pitplan.plan import Plan, prepare
-from pitplan.planned_table import project_of
 
 from . import program
 from .problem import values_at

@@ -12,10 +12,10 @@ import pandas as pd
 from pitplan.blockmodel.grid import metres
 from pitplan.core.files import Folder
 from pitplan.core.optional_packages import load
+from pitplan.errors import PlanError
 from pitplan.results.pit_states import Shape
 
-from .errors import PlanError
-from .pit_lines import TOE, Line, lines_of
+from .toes_and_crests import TOE, Line, lines_of
 
 GDAL = "python3-gdal"
 # GDAL puts the time of writing into the file; with a time of its own the same plan gives the same bytes.

@@ -13,11 +13,11 @@ import pandas as pd
 from pitplan.core import csv_writer, files, staging
 from pitplan.core.files import Folder
 from pitplan.core.optional_packages import load
+from pitplan.errors import PlanError
 from pitplan.results.pit_states import FACTOR, GROUND, Shape, places_of
 
-from . import drawings, line_files, planned_table, surfaces, workbook
-from .errors import PlanError
-from .vtk_files import PACKAGE, save, write_image
+from . import dxf, lines, mesh as surfaces, planner_table, xlsx
+from .vtk import PACKAGE, save, write_image
 
 # Writes the shells of a folder, or some of its pits; gives what is to be told of it, where that is anything.
 Writer = Callable[[Path, Folder, Shape], Optional[list[str]]]
@@ -78,7 +78,7 @@ def demand_apt(kind: str, shape: Shape) -> None:
 
 def write_table(path: Path, folder: Folder, shape: Shape) -> None:
     """The planner's table, row by row, with what was found of each block behind it; `shape` is not looked at."""
-    planned_table.write(path, folder)
+    planner_table.write(path, folder)
 
 
 def write_csv(path: Path, folder: Folder, shape: Shape) -> None:
@@ -125,7 +125,7 @@ def write_vtu(path: Path, folder: Folder, shape: Shape) -> None:
 def write_xlsx(path: Path, folder: Folder, shape: Shape) -> None:
     """The tables of the folder as a workbook, a sheet each; `shape` is not looked at."""
     there = [folder.path / name for name in SHEETS if name in folder.record["files"]]
-    workbook.write(path, {table.stem: pd.read_csv(table) for table in there})
+    xlsx.write(path, {table.stem: pd.read_csv(table) for table in there})
 
 
 WRITERS: dict[str, Writer] = {
@@ -134,12 +134,12 @@ WRITERS: dict[str, Writer] = {
     "xlsx": write_xlsx,
     "vti": write_vti,
     "vtu": write_vtu,
-    "dxf": drawings.write_dxf,
+    "dxf": dxf.write_dxf,
     "stl": surfaces.write_stl,
     "obj": surfaces.write_obj,
-    "gpkg": line_files.write_gpkg,
-    "str": line_files.write_str,
-    "lines": line_files.write_lines,
+    "gpkg": lines.write_gpkg,
+    "str": lines.write_str,
+    "lines": lines.write_lines,
 }
 # Those that hold all factors.
 WRITTEN = tuple(name_of(kind, Shape()) for kind in WRITERS if kind not in OF_ONE)

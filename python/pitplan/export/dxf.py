@@ -13,8 +13,8 @@ from pitplan.core.files import Folder
 from pitplan.core.optional_packages import load
 from pitplan.results.pit_states import GROUND, Shape, Stage, places_of, rock, stages_of
 
-from . import ground
-from .pit_lines import lines_of
+from . import pit_topography
+from .toes_and_crests import lines_of
 
 
 def write_dxf(path: Path, folder: Folder, shape: Shape) -> list[str]:
@@ -42,10 +42,10 @@ def write_dxf(path: Path, folder: Folder, shape: Shape) -> list[str]:
 def add_ground(space: Any, folder: Folder, stage: Stage, shape: Shape) -> str:
     """The triangles of a stage's ground; gives what is to be told of it."""
     grid = folder.grid
-    surface, said = ground.of_stage(rock(folder), stage, grid, shape.smooth)
+    surface, said = pit_topography.of_stage(rock(folder), stage, grid, shape.smooth)
     places = places_of(grid, surface.corners)
     floors = places_of(grid, np.array([[0, 0, level] for level in range(grid.shape[0])]))[:, 2]
     for corners, bench in zip(places[surface.faces], surface.bench.tolist()):
-        layer = "GROUND" if bench == ground.NONE else f"BENCH_{metres(floors[bench])}"
+        layer = "GROUND" if bench == pit_topography.NONE else f"BENCH_{metres(floors[bench])}"
         space.add_3dface(corners.tolist(), dxfattribs={"layer": stage.prefix + layer})
     return said

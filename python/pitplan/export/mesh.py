@@ -12,11 +12,11 @@ import numpy as np
 
 from pitplan.core.files import Folder
 from pitplan.core.optional_packages import load
+from pitplan.errors import PlanError
 from pitplan.results.pit_states import FACTOR, GROUND, Shape, Stage, places_of, rock, stages_of
 
-from . import ground
-from .errors import PlanError
-from .vtk_files import PACKAGE, image_of, save
+from . import pit_topography
+from .vtk import PACKAGE, image_of, save
 
 # By what part the volume within the triangles may differ from that of the blocks.
 TOLERANCE = 1e-3
@@ -63,7 +63,7 @@ def write_each(path: Path, folder: Folder, shape: Shape, kind: str, writer_of: A
 def of_ground(folder: Folder, stage: Stage, shape: Shape) -> tuple[Any, str]:
     """The open surface of the ground at a stage, and a sentence with its volume. Raises PlanError as `ground.of_stage` does."""
     vtk, numpy_support = load("vtk", PACKAGE, "a surface"), load("vtk.util.numpy_support", PACKAGE, "a surface")
-    surface, said = ground.of_stage(rock(folder), stage, folder.grid, shape.smooth)
+    surface, said = pit_topography.of_stage(rock(folder), stage, folder.grid, shape.smooth)
     points, triangles, mesh = vtk.vtkPoints(), vtk.vtkCellArray(), vtk.vtkPolyData()
     points.SetData(numpy_support.numpy_to_vtk(places_of(folder.grid, surface.corners), deep=True))
     starts = np.arange(0, 3 * len(surface.faces) + 1, 3, dtype=np.int64)

@@ -11,9 +11,8 @@ from dataclasses import dataclass, replace
 import numpy as np
 
 from pitplan.blockmodel.grid import Grid, metres
+from pitplan.errors import PlanError
 from pitplan.results.pit_states import Stage
-
-from .errors import PlanError
 
 # By what part the volume under the surface may differ from that of the cells.
 TOLERANCE = 1e-3

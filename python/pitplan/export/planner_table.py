@@ -13,9 +13,8 @@ from pitplan.blockmodel.text_format import TableFormat, demand_text, format_of, 
 from pitplan.config import project_writer
 from pitplan.config.project import Project
 from pitplan.core.files import Folder, hash_of
-
-from .errors import PlanError
-from .plan import shown_name
+from pitplan.errors import PlanError
+from pitplan.plan import shown_name
 
 # What blocks.csv has of a block's pits, phase and year, in this order; each where the folder has it.
 FOUND = ("factor", "process_factor", "phase", "year")

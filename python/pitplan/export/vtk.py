@@ -10,8 +10,7 @@ import numpy as np
 from pitplan.blockmodel.axes import turn_of
 from pitplan.blockmodel.grid import Grid
 from pitplan.core.optional_packages import load
-
-from .errors import PlanError
+from pitplan.errors import PlanError
 
 PACKAGE = "python3-vtk9"
 

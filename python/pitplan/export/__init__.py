@@ -1,0 +1,1 @@
+"""Exports to other programs: tables, workbooks, VTK, drawings, meshes and lines."""
