@@ -14,9 +14,10 @@ from browser import Browser, needs_chromium
 from conftest import PROJECT, rows
 
 import pitplan
-from pitplan import PlanError, report_page
+from pitplan import PlanError
 from pitplan.cli import main
 from pitplan.core import files
+from pitplan.report import html
 from pitplan.verification import verify
 
 CHROMIUM, PDFTOTEXT = shutil.which("chromium"), shutil.which("pdftotext")
@@ -239,8 +240,8 @@ def test_a_report_of_a_project_that_has_changed_is_refused(copied):
 def test_a_table_that_is_too_wide_stands_in_parts(count):
     """Each with the first column, and of at most 13; none is lost, and the grade of a metal is beside what is recovered of it."""
     names = ["factor", *(f"{kind}_{k}" for k in range(count) for kind in ("grade", "metal"))][:count]
-    table = report_page.Written("shells.csv", pd.DataFrame({name: [1.0, 2.0] for name in names}))
-    parts = report_page.parts_of(table, lambda frame, project: [(name, name, 1.0, 0) for name in names], None)
+    table = html.Written("shells.csv", pd.DataFrame({name: [1.0, 2.0] for name in names}))
+    parts = html.parts_of(table, lambda frame, project: [(name, name, 1.0, 0) for name in names], None)
     assert all(
         part["headings"][0] == "factor" and len(part["headings"]) <= 13 and len(part["rows"]) == 2 for part in parts
     )
@@ -252,7 +253,7 @@ def test_a_table_that_is_too_wide_stands_in_parts(count):
 
 
 def test_a_bound_that_was_not_found_is_a_dash_without_a_unit():
-    ways = report_page.Written("ways.csv", pd.DataFrame({"way": ["rule"], "value": [2.5e7], "bound": [float("nan")]}))
+    ways = html.Written("ways.csv", pd.DataFrame({"way": ["rule"], "value": [2.5e7], "bound": [float("nan")]}))
     told = [ways.figure("NPV", 0, (name, "NPV, M EUR", 1e6, 1)) for name in ("value", "bound")]
     assert [(it.text, it.source) for it in told] == [
         ("25.0 M EUR", "ways.csv row 2 column value"),
@@ -262,7 +263,7 @@ def test_a_bound_that_was_not_found_is_a_dash_without_a_unit():
 
 def test_a_project_is_shown_without_what_it_says_of_itself():
     text = '# All keys.\ntitle = "Pit #7"  # of nine\n\n[table]\nfile = \'a#b.csv\'   \nkey = "it\'s" # "so"\n'
-    assert report_page.without_comments(text) == 'title = "Pit #7"\n[table]\nfile = \'a#b.csv\'\nkey = "it\'s"'
+    assert html.without_comments(text) == 'title = "Pit #7"\n[table]\nfile = \'a#b.csv\'\nkey = "it\'s"'
 
 
 @pytest.mark.skipif(
@@ -310,7 +311,7 @@ def test_on_a_telephone_nothing_is_cut_off(written, tmp_path):
 def test_the_way_of_a_schedule_is_told_in_words(written):
     folder, project = written / "plan" / "schedule", pitplan.load(written / "project.toml")
     record = pitplan.core.files.read_record(folder)
-    told = [report_page.of_answer(folder, project, record | {"schedule": way})["way"] for way in ("rule", "lp")]
+    told = [html.of_answer(folder, project, record | {"schedule": way})["way"] for way in ("rule", "lp")]
     assert told == ["rule", "linear programme"]
     assert (
         f"A yearly schedule, by {told[record['schedule'] == 'lp']}, of the phases"
@@ -331,5 +332,5 @@ def test_the_bound_of_a_schedule_names_its_premise(written):
     pitplan.core.files.write_json(
         folder / pitplan.core.files.RECORD, record | {"files": record["files"] | {pitplan.core.files.MILLING: "0" * 64}}
     )
-    report_page.write(written / "binned.html", folder, project)
+    html.write(written / "binned.html", folder, project)
     assert "that divides ore by these bins earns more" in " ".join((written / "binned.html").read_text().split())

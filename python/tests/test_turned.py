@@ -13,11 +13,12 @@ from conftest import PROJECT, rows
 from matplotlib.figure import Figure
 
 import pitplan
-from pitplan import PlanError, page
+from pitplan import PlanError
 from pitplan.blockmodel.grid import Grid
 from pitplan.cli import main
 from pitplan.core import files
 from pitplan.figures import map_marks
+from pitplan.report import viewer3d
 from pitplan.studies.scenarios import ensemble
 
 NO_SIZE = ("[grid]\nsize = [10, 10, 10]\n", "")
@@ -224,7 +225,7 @@ def test_cells_of_vtk_stand_in_the_planners_coordinates(one_block):
 
 def test_the_page_knows_where_north_is(one_block):
     """Along the grid's axes the planner's north goes by -0.6 east and 0.8 north: to the left of the grid's, which is turned clockwise."""
-    model = page.model_of(files.read_folder(one_block.parent / "plan"))
+    model = viewer3d.model_of(files.read_folder(one_block.parent / "plan"))
     assert np.allclose(model["north"], (-0.6, 0.8), atol=1e-4)
     # Its axes are the grid's own, from its corner.
     assert model["corner"] == [0, 0, 0] and model["axes"] == [

@@ -14,9 +14,10 @@ import pytest
 from browser import Browser, needs_chromium
 
 import pitplan
-from pitplan import PlanError, page as pages
+from pitplan import PlanError
 from pitplan.core import files
 from pitplan.core.progress import silent
+from pitplan.report import viewer3d
 
 KEPT = Path(__file__).parent / "expected" / "view.png"
 
@@ -100,7 +101,7 @@ def scheduled(folder, place):
     place.mkdir()
     blocks.to_csv(place / "blocks.csv", index=False)
     made = replace(result, path=place, blocks=blocks, record=result.record | {"schedule": "lp"})
-    pages.write(place / "view.html", made)
+    viewer3d.write(place / "view.html", made)
     return place / "view.html", blocks, made
 
 
@@ -119,7 +120,7 @@ def test_a_schedule_has_a_slider_through_its_years_and_colours(solved, tmp_path,
     browser.choose("dug", "2")
     browser.picture(tmp_path / "years.png")
     pixels = pytest.importorskip("matplotlib.image").imread(tmp_path / "years.png")[:, 300:, :3]
-    last = np.array(pages.model_of(made)["stages"][1]["colours"][-1]) / 255
+    last = np.array(viewer3d.model_of(made)["stages"][1]["colours"][-1]) / 255
     # The top of a block has its colour in full, or 0.93 of it.
     assert any((abs(pixels - last * light) < 0.02).all(axis=2).any() for light in (1, 0.93))
 
@@ -165,8 +166,8 @@ def first_hit(browser, seen, at):
 @needs_chromium
 def test_of_a_large_table_the_rows_of_pits_alone_are_there(solved, tmp_path, browser, monkeypatch):
     result = files.read_folder(solved[1])
-    monkeypatch.setattr(pages, "MOST_ROWS", len(result.blocks) - 1)
-    pages.write(tmp_path / "view.html", result)
+    monkeypatch.setattr(viewer3d, "MOST_ROWS", len(result.blocks) - 1)
+    viewer3d.write(tmp_path / "view.html", result)
     browser.open(tmp_path / "view.html", "show=pit")
     dug = result.blocks[result.blocks["factor"] > 0]
     assert browser.ask("lines.length") == len(dug) < len(result.blocks)
@@ -226,7 +227,7 @@ def bytes_of(text):
 
 def test_the_model_of_the_page_by_hand(solved):
     """Grades of 6, 0.9 and 0.8 per cent: a hundredth of these lie above 5.898, and 0.8 is 34.6 of 255 parts of it."""
-    model = pages.model_of(files.read_folder(solved[1]))
+    model = viewer3d.model_of(files.read_folder(solved[1]))
     blocks = pd.read_csv(solved[1] / "blocks.csv")
     (metal,) = model["metals"]
     shell, tint = bytes_of(model["shell"]), bytes_of(metal["grade"])
@@ -256,9 +257,9 @@ def test_the_worth_of_a_block_is_that_of_its_best_process():
         }
     )
     blocks = blocks.assign(revenue_leach=[100.0, 90.0, 5.0], processing_cost_leach=[30.0, 20.0, 20.0])
-    assert pages.worths(blocks).tolist() == [90, 60, -10]
+    assert viewer3d.worths(blocks).tolist() == [90, 60, -10]
     one = pd.DataFrame({"mining_cost": [10.0], "revenue": [25.0], "processing_cost": [12.0], "process": ["mill"]})
-    assert pages.worths(one).tolist() == [3]
+    assert viewer3d.worths(one).tolist() == [3]
 
 
 @pytest.mark.parametrize(("low", "high", "most"), [(2.0, 4.0, 4.0), (0.0, 0.0, 1.0)])
@@ -266,18 +267,18 @@ def test_the_grades_of_a_page_are_by_the_greatest_where_all_hold_metal_or_none_d
     """Of 405 blocks 5 have the lower grade, and a hundredth of the others lies above the higher one, which they all have."""
     folder = files.read_folder(solved[1])
     grades = np.where(np.arange(len(folder.blocks)) < 5, low, high)
-    (metal,) = pages.model_of(replace(folder, blocks=folder.blocks.assign(cu=grades)))["metals"]
+    (metal,) = viewer3d.model_of(replace(folder, blocks=folder.blocks.assign(cu=grades)))["metals"]
     tint = bytes_of(metal["grade"])[folder.blocks["id"]]
     assert metal["most"] == most and tint.tolist() == np.rint(255 * grades / most).astype(int).tolist()
 
 
 def test_as_many_factors_as_a_byte_tells_apart_are_shown(solved, monkeypatch):
     folder = files.read_folder(solved[1])
-    monkeypatch.setattr(pages, "MOST_FACTORS", 3)
-    pages.model_of(folder)
-    monkeypatch.setattr(pages, "MOST_FACTORS", 2)
+    monkeypatch.setattr(viewer3d, "MOST_FACTORS", 3)
+    viewer3d.model_of(folder)
+    monkeypatch.setattr(viewer3d, "MOST_FACTORS", 2)
     with pytest.raises(PlanError, match="the 3D page can show 2 shells, and there are 3"):
-        pages.model_of(folder)
+        viewer3d.model_of(folder)
 
 
 def test_the_page_needs_no_other_file(page):
@@ -285,8 +286,8 @@ def test_the_page_needs_no_other_file(page):
     assert not re.search(r'(src|href)\s*=\s*"', text) and text.count("<script>") == 3
 
 
-@pytest.mark.parametrize(("name", "colour_map", "ends"), pages.STAGES)
+@pytest.mark.parametrize(("name", "colour_map", "ends"), viewer3d.STAGES)
 def test_the_colours_of_phases_and_years_darken(name, colour_map, ends):
     """By the luminance of sRGB (IEC 61966-2-1), for whoever does not tell hues apart."""
-    linear = (np.array(pages.colours(colour_map, np.linspace(*ends, 30))) / 255) ** 2.2
+    linear = (np.array(viewer3d.colours(colour_map, np.linspace(*ends, 30))) / 255) ** 2.2
     assert (np.diff(linear @ [0.2126, 0.7152, 0.0722]) < 0).all(), name

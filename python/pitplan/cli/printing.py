@@ -10,9 +10,9 @@ from minelib.ending import tell
 from pitplan.blockmodel.plausibility import WARNING
 from pitplan.core import files
 from pitplan.core.noted_path import NotedPath
+from pitplan.report.columns import Columns, cells_of
 
 from ..commands.writing import REPORT
-from ..report import Columns, cells_of
 
 
 def print_answer(table: pd.DataFrame, columns: Columns, folder: Path) -> None:

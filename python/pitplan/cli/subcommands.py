@@ -77,8 +77,9 @@ def prepare(options: Namespace) -> int:
 
 
 def shells(options: Namespace) -> int:
+    from pitplan.report.columns import columns_of
+
     from ..commands.shells import write_shells
-    from ..report import columns_of
     from .printing import print_answer
 
     project = project_of(options)
@@ -90,10 +91,10 @@ def shells(options: Namespace) -> int:
 
 def pit(options: Namespace) -> int:
     from pitplan.core import files
+    from pitplan.report.columns import cells_of, columns_of
 
     from ..commands.pit import write_pit
     from ..commands.writing import PITS
-    from ..report import cells_of, columns_of
     from .printing import print_notes, print_table
 
     project = project_of(options)
@@ -108,8 +109,9 @@ def pit(options: Namespace) -> int:
 
 
 def pushbacks(options: Namespace) -> int:
+    from pitplan.report.columns import columns_of_phases
+
     from ..commands.pushbacks import write_pushbacks
-    from ..report import columns_of_phases
     from .printing import print_answer
 
     project = project_of(options)
@@ -122,9 +124,9 @@ def pushbacks(options: Namespace) -> int:
 def schedule(options: Namespace) -> int:
     """Raises KeyboardInterrupt after the best schedule is written if the search was interrupted."""
     from pitplan.core import files
+    from pitplan.report.columns import columns_by_block, columns_of_ways
 
     from ..commands.schedule import write_block_schedule, write_schedule
-    from ..report import columns_by_block, columns_of_ways
     from .printing import print_answer
 
     project, by_block = project_of(options), options.by == "block"
@@ -137,8 +139,8 @@ def schedule(options: Namespace) -> int:
 
 
 def sensitivity(options: Namespace) -> int:
-    from pitplan import report
     from pitplan.core import files
+    from pitplan.report import columns as report
     from pitplan.studies.dask_pool import Where
     from pitplan.studies.sensitivity import store
 

@@ -8,13 +8,13 @@ from typing import TYPE_CHECKING, Optional
 
 import pandas as pd
 
-from pitplan import report_page
 from pitplan.core import files
 from pitplan.core.progress import Progress
 from pitplan.export import xlsx
 from pitplan.pits import shell_tables
 from pitplan.pushbacks import nested
 from pitplan.pushbacks.nested import Phases
+from pitplan.report import html
 from pitplan.results.conventions import with_discounting, with_outline
 from pitplan.results.rounding import shown, write_csv
 from pitplan.scheduling import phase_schedule
@@ -72,7 +72,7 @@ def write_answer(answered: Answered, run: Run) -> pd.DataFrame:
         with progress.step("writing the workbook"):
             xlsx.write(stage / WORKBOOK, sheets_of(answered, table, years))
     finish(plan, run.record, [*run.mine.files, *tables_of(answered), *drawn], stage)
-    report_page.write(stage / REPORT, stage, run.project)
+    html.write(stage / REPORT, stage, run.project)
     return table
 
 

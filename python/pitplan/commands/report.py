@@ -5,10 +5,10 @@ from __future__ import annotations
 from pathlib import Path
 from typing import Optional
 
-from pitplan import report_page
 from pitplan.core import files
 from pitplan.core.progress import Progress, silent
 from pitplan.export import planner_table
+from pitplan.report import html
 
 from .writing import REPORT, Place
 
@@ -39,5 +39,5 @@ def write_report(folder: Place, sensitivity: Optional[Place] = None, progress: P
     result = files.read_folder(Path(folder))
     project = planner_table.project_of(result)
     with progress.step("writing the report"), files.staged_file(result.path / REPORT) as path:
-        report_page.write(path, result.path, project, None if sensitivity is None else Path(sensitivity))
+        html.write(path, result.path, project, None if sensitivity is None else Path(sensitivity))
     return result.path / REPORT

@@ -4,9 +4,9 @@ from __future__ import annotations
 
 from pathlib import Path
 
-from pitplan import page
 from pitplan.core import files
 from pitplan.core.progress import Progress, silent
+from pitplan.report import viewer3d
 
 from .writing import VIEW, Place
 
@@ -23,5 +23,5 @@ def view(folder: Place, progress: Progress = silent) -> Path:
     """
     result = files.read_folder(Path(folder))
     with progress.step("writing the 3D page"), files.staged_file(result.path / VIEW) as path:
-        page.write(path, result)
+        viewer3d.write(path, result)
     return result.path / VIEW

@@ -17,12 +17,12 @@ from pitplan.config import project_writer
 from pitplan.config.project import REFERENCE_FACTOR, Project
 from pitplan.core import files
 from pitplan.core.files import hash_of
+from pitplan.errors import PlanError
 from pitplan.figures import schedule
 from pitplan.results.conventions import IN_WORDS
 
-from . import report
-from .errors import PlanError
-from .report import TEMPLATES, Columns
+from . import columns as report
+from .columns import TEMPLATES, Columns
 
 SENSITIVITY, SENSITIVITY_RECORD, TORNADO = "sensitivity.csv", "sensitivity.json", "tornado.png"
 BY_BLOCK = "block"

@@ -18,9 +18,9 @@ import pandas as pd
 from pitplan.blockmodel.axes import turn_of
 from pitplan.core.files import TABLE, Folder
 from pitplan.core.optional_packages import three_scripts
+from pitplan.errors import PlanError
 
-from .errors import PlanError
-from .report import TEMPLATES
+from .columns import TEMPLATES
 
 # A cell's byte: 0 is ground that no pit holds, 1 to 254 the place of its factor in the list, 255 air.
 AIR = 255

@@ -1,0 +1,1 @@
+"""The report and the 3D page."""
