@@ -76,7 +76,7 @@ def by_library(mine) -> dict:
 
 def by_program(mine, program: str) -> dict:
     from pitplan.core import byte_lines
-    from pitplan.core.files import write_model
+    from pitplan.solver.mine_files import write_model
 
     n = len(mine["values"])
     before = peak()

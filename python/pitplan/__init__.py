@@ -74,7 +74,6 @@ __version__ = "0.1.0"
 
 # The public names by their modules, which are imported on first use: `import pitplan` alone takes neither pandas nor matplotlib.
 MODULES = {
-    "analyse": ("blocks", "shells", "years"),
     "commands.audit": ("audit",),
     "commands.check": ("check",),
     "commands.export": ("export",),
@@ -88,15 +87,16 @@ MODULES = {
     "commands.verify": ("verify",),
     "commands.view": ("view",),
     "commands.writing": ("Writing",),
+    "config.project": ("Project", "load"),
     "errors": ("BudgetUsedUp", "MissingPackage", "PlanError", "ProgramError"),
-    "mine": ("solve",),
+    "pits.shell_tables": ("blocks", "shells", "years"),
     "plan": ("Plan", "prepare"),
-    "project": ("Project", "load"),
-    "run": ("Solution",),
-    "simulation.on_dask": ("Where",),
-    "simulation.request": ("Request",),
-    "simulation.result": ("ScenarioResult",),
-    "stages": ("Shape",),
+    "results.pit_states": ("Shape",),
+    "solver.problem": ("solve",),
+    "solver.program": ("Solution",),
+    "studies.dask_pool": ("Where",),
+    "studies.scenarios.request": ("Request",),
+    "studies.scenarios.result": ("ScenarioResult",),
     "verification": ("Rule",),
 }
 PLACES = {name: module for module, names in MODULES.items() for name in names}

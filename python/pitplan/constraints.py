@@ -19,6 +19,7 @@ from pitplan.blockmodel.reader import called
 from pitplan.config.constraints import Area
 from pitplan.config.project import Project
 from pitplan.core import byte_lines
+from pitplan.economics.block_values import Values
 from pitplan.slopes.closure import used_blocks, users_of
 from pitplan.slopes.domains import Walls
 from pitplan.survey import readers
@@ -53,6 +54,16 @@ class Settled:
     def rest(self) -> np.ndarray:
         """The cells of which a pit is still to be found."""
         return ~(self.dug | self.left)
+
+
+def nodes_of_rest(values: Values, settled: Settled) -> tuple[np.ndarray, np.ndarray]:
+    """Revenue and cost of every node of the rest, in millionths; 0 if the constraints settle what becomes of the node.
+
+    A forced block may still be processed or not, so its processing node belongs to the rest.
+    """
+    is_open = np.concatenate([settled.rest, ~settled.left[values.processed]])
+    revenue, cost = values.nodes()
+    return np.where(is_open, revenue, 0), np.where(is_open, cost, 0)
 
 
 def settled(fixed: FixedBlocks, grid: Grid, walls: Walls) -> Settled:

@@ -24,17 +24,16 @@ from pitplan.blockmodel import (
 )
 from pitplan.blockmodel.grid import Grid
 from pitplan.config.project import Project, load
-from pitplan.core import files
-from pitplan.core.files import MOST_PAIRS, Needs, Pairs
+from pitplan.config.shells import IN_WORDS
 from pitplan.core.progress import Progress, silent
+from pitplan.crop import Model
 from pitplan.economics import block_values, haulage, period_costs
 from pitplan.economics.block_values import Values
-from pitplan.results.conventions import IN_WORDS
-from pitplan.slopes import closure, crop, domains
-from pitplan.slopes.crop import Model
+from pitplan.precedences import MOST_PAIRS, Needs, Pairs
+from pitplan.slopes import closure, domains
 from pitplan.slopes.domains import Walls
 
-from . import constraints
+from . import constraints, crop
 from .constraints import NOTHING, FixedBlocks, Settled
 from .errors import PlanError
 
@@ -155,28 +154,6 @@ class Plan:
     def needs_of_rest(self) -> Needs:
         """Those of the blocks that fixed ones settle nothing of; where nothing is fixed, all."""
         return replace(self.needs, settled=self.settled)
-
-    def write(self, folder: Path) -> Pairs:
-        """Writes mine.blocks, mine.upit and mine.prec into a folder, and where the project has `[fixed]` mine.fixed, and the rest's
-        rest.blocks and rest.prec; gives how many needs the mine has. Raises PlanError where the program takes fewer."""
-        nodes = self.values.nodes()
-        processed = self.values.processed
-        files.write_blocks(folder / files.BLOCKS, self.grid, processed, nodes)
-        files.write_model(folder / files.MODEL, self.project.title, nodes[0] - nodes[1])
-        pairs = self.write_needs(folder / files.PREC, self.needs)
-        if self.settled is not None:
-            constraints.write(folder / files.FIXED, self.fixed)
-            files.write_blocks(
-                folder / files.REST_BLOCKS, self.grid, processed, self.values.nodes_of_rest(self.settled)
-            )
-            self.write_needs(folder / files.REST_PREC, self.needs_of_rest)
-        return pairs
-
-    def write_needs(self, path: Path, needs: Needs) -> Pairs:
-        """Writes needs of the plan. Raises PlanError where the program takes fewer."""
-        pairs = files.write_prec(path, needs, MOST_PAIRS)
-        self.demand_few(pairs)
-        return pairs
 
     def demand_few(self, pairs: Pairs) -> None:
         """Raises PlanError where there are more needs than program and library take."""

@@ -10,7 +10,7 @@ from scipy.optimize import Bounds, LinearConstraint, linprog, milp
 
 from pitplan import PlanError
 from pitplan.config.schedule import Effort
-from pitplan.scheduling.blocks import master, nodes as node_module
+from pitplan.scheduling.blocks import nodes as node_module, restricted_lp as master
 from pitplan.scheduling.blocks.bienstock_zuckerberg import relaxed
 from pitplan.scheduling.blocks.integer_values import upward
 from pitplan.scheduling.blocks.lagrangian import priced
@@ -19,7 +19,7 @@ from pitplan.scheduling.blocks.presolve import earliest_years, worth_digging
 from pitplan.scheduling.blocks.problem import BlockProblem, Limit, Needs, demand_sound
 from pitplan.scheduling.blocks.ranks import ranks_of
 from pitplan.scheduling.blocks.restricted_lp import Master
-from pitplan.scheduling.blocks.solve import reduced
+from pitplan.scheduling.blocks.scheduler import reduced
 
 EXACT = Effort(1e-9)
 

@@ -16,9 +16,9 @@ from test_pushbacks import UPRIGHT, pillars
 import pitplan
 from pitplan import PlanError, load, prepare
 from pitplan.cli import main
-from pitplan.core import files
 from pitplan.figures import block_schedule
-from pitplan.scheduling.blocks import of_plan, result
+from pitplan.results.folder import read_record
+from pitplan.scheduling.blocks import from_plan, tables
 from pitplan.verification import verify
 
 pytestmark = pytest.mark.usefixtures("without_figures")
@@ -196,7 +196,7 @@ def test_an_interrupted_run_keeps_the_best_so_far(plan_folder, capsys, monkeypat
     def interrupt(*given):
         raise KeyboardInterrupt
 
-    monkeypatch.setattr("pitplan.scheduling.blocks.solve.moved", interrupt)
+    monkeypatch.setattr("pitplan.scheduling.blocks.scheduler.moved", interrupt)
     path = plan_folder(pillars(), YEARLY)
     assert main(["schedule", str(path), "--by", "block", "--quiet"]) == 130
     folder = path.parent / "plan" / "block_schedule"
@@ -230,7 +230,7 @@ def test_what_is_right_passes(copied, capsys):
     assert main(["verify", str(copied)]) == 0
     told = [line.split(":")[0] for line in capsys.readouterr().out.splitlines()]
     assert told[-3:] == RULES
-    record = files.read_record(copied)
+    record = read_record(copied)
     assert "block_schedule.json" in record["files"] and any(
         line.startswith("block order") for line in record["verified"]
     )
@@ -320,7 +320,7 @@ def test_a_pit_without_ore_has_an_empty_schedule(plan_folder, capsys):
 
 def test_a_pit_of_too_many_years_is_refused(plan_folder, monkeypatch):
     """Three years at the limits, and a fifth more."""
-    monkeypatch.setattr(of_plan, "MOST_YEARS", 3)
+    monkeypatch.setattr(from_plan, "MOST_YEARS", 3)
     with pytest.raises(PlanError, match="the pit would take more than 3 years: are the limits in tonnes a year?"):
         scheduled(plan_folder)
 
@@ -368,8 +368,8 @@ def test_where_no_block_pays_nothing_is_mined_which_is_an_answer(plan_folder):
     project = load(plan_folder(pillars(), YEARLY, ("price = 8000", "price = 80")))
     row = pitplan.write_block_schedule(project).iloc[0]
     assert row[["value", "bound", "years", "blocks"]].tolist() == [0, 0, 0, 0]
-    notes = files.read_record(project.folder / "block_schedule")["notes"]
+    notes = read_record(project.folder / "block_schedule")["notes"]
     assert "nothing is mined: at these prices and costs no block pays for itself and what it needs" in notes
-    made = result.make(prepare(project))
+    made = tables.make(prepare(project))
     axes = block_schedule.plot(made, Figure().subplots(1, 2))
     assert [text.get_text() for text in axes[0].texts] == ["nothing is mined"]

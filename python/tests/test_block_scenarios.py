@@ -24,7 +24,7 @@ from pitplan import MissingPackage, PlanError, Request, gather, load, write_scen
 from pitplan.cli import main
 from pitplan.core.progress import silent
 from pitplan.figures import scenario_values
-from pitplan.studies.scenarios import folder as folders, prepare, work
+from pitplan.studies.scenarios import prepare, store, worker
 from pitplan.studies.scenarios.blocks.common_schedule import best_shares
 
 # The mill takes the ore of one block a year, and the shovels two pillars of two blocks.
@@ -52,7 +52,7 @@ def prepared(path):
 
 
 def solved_in_turn(shared):
-    outcomes = [work.solve(str(shared.folder), job.number) for job in shared.missing()]
+    outcomes = [worker.solve(str(shared.folder), job.number) for job in shared.missing()]
     assert [outcome.why for outcome in outcomes] == [""] * len(outcomes)
     pitplan.gather(shared.folder)
     return shared.folder
@@ -149,7 +149,7 @@ def test_of_one_scenario_the_one_schedule_is_its_own(plan_folder):
     (row,) = table_of(folder).to_dict("records")
     assert row["one_value"] == pytest.approx(row["value"])
     assert record_of(folder)["value_as_planned"] == pytest.approx(row["value"], abs=1e-3)
-    shared = folders.read_shared(folder)
+    shared = store.read_shared(folder)
     own, one = (np.load(shared.answer(job)) for job in shared.jobs)
     assert own["year"].tolist() == one["year"].tolist() and own["share"].tolist() == one["share"].tolist()
 
@@ -314,8 +314,8 @@ def test_whatever_changes_a_schedule_changes_its_name(plan_folder, old, new):
 def test_a_schedule_that_is_searched_for_by_other_code_has_another_name(plan_folder, monkeypatch, tmp_path):
     path = plan_folder(pillars([1, 0.5, 0]), TWO_YEARS)
     keys = [job.key for job in prepared(path).jobs]
-    shutil.copytree(folders.SEARCH, tmp_path / "search")
-    monkeypatch.setattr(folders, "SEARCH", tmp_path / "search")
+    shutil.copytree(store.SEARCH, tmp_path / "search")
+    monkeypatch.setattr(store, "SEARCH", tmp_path / "search")
     assert [job.key for job in prepared(path).jobs] == keys
     with open(tmp_path / "search" / "filling.py", "a") as file:
         file.write("# other\n")
@@ -433,7 +433,7 @@ def test_jobs_of_slurm_solve_their_lines(plan_folder):
     folder = result.folder
     assert result.start == folder / "start.sh" and (folder / "jobs.txt").read_text() == "1\n2\n3\n"
     subprocess.run(["sh", str(folder / "array.sbatch")], check=True, env={**os.environ, "SLURM_ARRAY_TASK_ID": "3"})
-    assert [job.number for job in folders.read_shared(folder).missing()] == [1, 2]
+    assert [job.number for job in store.read_shared(folder).missing()] == [1, 2]
     with pytest.raises(PlanError, match="2 of 3 schedules have no answer, first sim_1: was not solved"):
         gather(folder)
 
@@ -441,12 +441,12 @@ def test_jobs_of_slurm_solve_their_lines(plan_folder):
 def test_some_schedules_are_gathered_on_request_alone(plan_folder):
     """The second model and the one schedule have answers; the first still digs it, and has no bound beside."""
     shared = prepared(plan_folder(pillars([1, 0.5, 0], [0, 0.5, 1]), TWO_YEARS))
-    assert work.solve(str(shared.folder), 2).status == 0
+    assert worker.solve(str(shared.folder), 2).status == 0
     with pytest.raises(
         PlanError, match="the one schedule for all was not made: was not solved: run pitplan scenarios again"
     ):
         gather(shared.folder, Request(partial=True))
-    assert work.solve(str(shared.folder), 3).status == 0
+    assert worker.solve(str(shared.folder), 3).status == 0
     notes = gather(shared.folder, Request(partial=True)).notes
     assert "WARNING: 1 scenarios have no answer and are left out of everything" in notes
     table = table_of(shared.folder)
@@ -473,7 +473,7 @@ def test_a_schedule_that_reaches_ground_that_is_not_known_is_refused(plan_folder
     """Nothing is known of the block over the ore of the first pillar, between two rows."""
     table = rows(1, 1, 3).drop(columns="cu").assign(sim_1=[1.5, 0, 0])
     shared = prepared(plan_folder(table[table["z"] != 15], TWO_YEARS))
-    outcome = work.solve(str(shared.folder), 1)
+    outcome = worker.solve(str(shared.folder), 1)
     assert outcome.status == 5 and "sim_1: blocks.csv: the shells reach 1 cells that have no row" in outcome.why
 
 
@@ -511,9 +511,9 @@ def test_an_interrupted_schedule_is_no_answer(plan_folder, monkeypatch):
         raise KeyboardInterrupt
 
     shared = prepared(plan_folder(pillars([1, 0.5, 0]), TWO_YEARS))
-    monkeypatch.setattr("pitplan.scheduling.blocks.solve.moved", interrupt)
+    monkeypatch.setattr("pitplan.scheduling.blocks.scheduler.moved", interrupt)
     with pytest.raises(KeyboardInterrupt):
-        work.solve(str(shared.folder), 1)
+        worker.solve(str(shared.folder), 1)
     assert len(shared.missing()) == 2
 
 

@@ -18,7 +18,7 @@ from pitplan.scheduling.blocks.greedy import Filling, paying, preferences, sched
 from pitplan.scheduling.blocks.local_search import moved
 from pitplan.scheduling.blocks.ranks import ranks_of
 from pitplan.scheduling.blocks.schedule import BlockSchedule, nothing
-from pitplan.scheduling.blocks.solve import reduced
+from pitplan.scheduling.blocks.scheduler import reduced
 from pitplan.scheduling.blocks.toposort import Sequence, in_order, sequences
 from pitplan.scheduling.blocks.window_milp import window_of
 
@@ -238,7 +238,7 @@ def test_an_interruption_behind_the_bound_gives_the_best_so_far(monkeypatch):
     def interrupt(*given):
         raise KeyboardInterrupt
 
-    monkeypatch.setattr("pitplan.scheduling.blocks.solve.moved", interrupt)
+    monkeypatch.setattr("pitplan.scheduling.blocks.scheduler.moved", interrupt)
     found = solve(problem)
     assert found.interrupted and not whole.interrupted and found.bound == whole.bound
     assert 0 < demand_sound(problem, found.schedule) == pytest.approx(found.value) and found.value <= whole.value

@@ -22,11 +22,11 @@ from pitplan import PlanError, ProgramError, load
 from pitplan.blockmodel import reader
 from pitplan.cli import main
 from pitplan.commands import answers
-from pitplan.core import files
-from pitplan.slopes.arc_rows import Rows
-from pitplan.solver import choice, library, program
+from pitplan.core.atomic_files import hash_of
+from pitplan.precedences import Rows
+from pitplan.solver import choice, library, mine_files, program
 from pitplan.solver.problem import counted_rows
-from pitplan.studies.scenarios import folder as folders, prepare, work
+from pitplan.studies.scenarios import prepare, store, worker
 from pitplan.studies.sensitivity import cases
 
 pitshell = pytest.importorskip("pitshell", reason="make library builds it")
@@ -34,7 +34,7 @@ pitshell = pytest.importorskip("pitshell", reason="make library builds it")
 EXAMPLES = ROOT / "examples"
 # What tells the solver, or is the program's own.
 RECORDS = {"prepare.json", "scenarios.json", "sensitivity.json", "report.html", "schedule.xlsx"}
-RECORDS |= {"starts.npy", "needs.npy", *files.OF_PROGRAM}
+RECORDS |= {"starts.npy", "needs.npy", *mine_files.OF_PROGRAM}
 
 
 def written(folder: Path) -> dict[str, bytes]:
@@ -58,7 +58,7 @@ def without_solver(path: Path) -> dict:
     record = json.loads(path.read_text())
     for told in (record, record.get("shells", {})):
         told.pop("solver", None)
-    record["files"] = {name: digest for name, digest in record["files"].items() if name not in files.OF_PROGRAM}
+    record["files"] = {name: digest for name, digest in record["files"].items() if name not in mine_files.OF_PROGRAM}
     return record
 
 
@@ -68,10 +68,10 @@ def test_shells_are_the_same_to_the_byte(tmp_path, example):
     assert {"blocks.csv", "shells.csv", "years.csv", "plans.png", "sections.png"} <= written(arrays).keys()
     assert without_solver(arrays / "prepare.json") == without_solver(texts / "prepare.json")
     fixed = {"mine.fixed", "rest.blocks", "rest.prec", "pit.upit"} if example == "fixed" else set()
-    assert set(files.of_program(texts)) == {"mine.blocks", "mine.upit", "mine.prec", "shells.txt", *fixed}
-    assert files.of_program(arrays) == ()
+    assert set(mine_files.of_program(texts)) == {"mine.blocks", "mine.upit", "mine.prec", "shells.txt", *fixed}
+    assert mine_files.of_program(arrays) == ()
     told = [json.loads((place / "prepare.json").read_text())["shells"]["solver"] for place in (arrays, texts)]
-    hashes = [files.hash_of(file) for file in (pitshell.LIBRARY, program.program())]
+    hashes = [hash_of(file) for file in (pitshell.LIBRARY, program.program())]
     assert [(it["by"], it["sha256"]) for it in told] == [("library", hashes[0]), ("program", hashes[1])]
     for place, it in zip((arrays, texts), told):
         page = (place / "report.html").read_text()
@@ -120,7 +120,7 @@ def test_scenarios_are_the_same_and_keep_answers_apart(tmp_path):
 def test_rows_are_the_lines_of_the_program_s_files(tmp_path, example):
     """Of the whole mine, and of what fixed blocks leave of it."""
     plan = pitplan.prepare(EXAMPLES / example / "project.toml")
-    written = plan.write(tmp_path)
+    written = mine_files.write(plan, tmp_path)
     for needs, name in ((plan.needs, "mine.prec"), (plan.needs_of_rest, "rest.prec" if plan.settled else "mine.prec")):
         found, pairs = counted_rows(needs, plan)
         lines = (list(map(int, line.split())) for line in open(tmp_path / name))
@@ -134,7 +134,7 @@ def test_rows_are_the_lines_of_the_program_s_files(tmp_path, example):
 
 
 def test_too_many_needs_are_refused_before_anything_is_solved(monkeypatch):
-    monkeypatch.setattr(files, "MOST_PAIRS", 25_000)
+    monkeypatch.setattr("pitplan.solver.problem.MOST_PAIRS", 25_000)
     monkeypatch.setattr("pitplan.plan.MOST_PAIRS", 25_000)
     plan = pitplan.prepare(replace(load(EXAMPLES / "plan" / "project.toml"), solver="library"))
     said = r"25,857 needs, and the program takes at most 25,000: give fewer \[slopes\] levels, or a smaller model"
@@ -193,7 +193,7 @@ def test_refusals_are_those_of_the_program(tmp_path, lines, starts, needs, said)
     ):
         with pytest.raises(ProgramError, match=f"^pitshell shells ended with status 1: {said}") as refused:
             solve()
-        told.append((type(refused.value), refused.value.status, work.status_of(refused.value)))
+        told.append((type(refused.value), refused.value.status, worker.status_of(refused.value)))
     assert told[0] == told[1] == (ProgramError, 1, 1)
 
 
@@ -207,8 +207,9 @@ def test_a_block_that_must_be_dug_and_may_not_be_is_refused_as_by_the_program():
 
 MEMORY = """
 import resource, numpy as np
-from pitplan import ProgramError, library
-from pitplan.slopes.arc_rows import Rows
+from pitplan import ProgramError
+from pitplan.precedences import Rows
+from pitplan.solver import library
 nodes = 4_000_000
 amounts = np.ones(nodes, dtype=np.int64)
 rows = Rows(np.arange(nodes + 1, dtype=np.uint32).clip(1) - 1, np.arange(nodes - 1, dtype=np.uint32))
@@ -350,14 +351,14 @@ def test_files_of_an_earlier_run_by_the_program_are_taken_away(plan_folder):
     project = load(path)
     pitplan.write_shells(replace(project, solver="program"), writing=pitplan.Writing(verifies=False))
     there = {"mine.blocks", "mine.upit", "mine.prec", "shells.txt"}
-    assert set(files.of_program(project.folder)) == there
+    assert set(mine_files.of_program(project.folder)) == there
     with pytest.MonkeyPatch.context() as patch:
         patch.setattr(answers, "draw", lambda *_: (_ for _ in ()).throw(PlanError("no pictures")))
         with pytest.raises(PlanError, match="no pictures"):
             pitplan.write_shells(replace(project, solver="library"), writing=pitplan.Writing(verifies=False))
-    assert set(files.of_program(project.folder)) == there
+    assert set(mine_files.of_program(project.folder)) == there
     pitplan.write_shells(replace(project, solver="library"), writing=pitplan.Writing(verifies=False))
-    assert files.of_program(project.folder) == () and pitplan.verify(project.folder)
+    assert mine_files.of_program(project.folder) == () and pitplan.verify(project.folder)
 
 
 def other_library(monkeypatch):
@@ -368,14 +369,14 @@ def test_a_worker_with_another_library_solves_nothing(plan_folder, monkeypatch):
     """Nor goes it on with its program."""
     project = replace(load(plan_folder(pillar(), COLUMNS, UPRIGHT)), solver="library")
     shared = prepare.prepare(project, project.folder, pitplan.core.progress.silent)
-    assert shared.solver.by == "library" and work.solve(str(shared.folder), 1).status == 0
+    assert shared.solver.by == "library" and worker.solve(str(shared.folder), 1).status == 0
     other_library(monkeypatch)
-    outcome = work.solve(str(shared.folder), 2)
+    outcome = worker.solve(str(shared.folder), 2)
     said = "the library here (libpitshell 9, SHA-256 ffffffffffff..) is another than that with which this was begun"
     assert outcome.status == 5 and said in outcome.why
     monkeypatch.undo()
     monkeypatch.setattr(library, "package", lambda: None)
-    assert "there is no libpitshell.so" in work.solve(str(shared.folder), 2).why and len(shared.missing()) == 2
+    assert "there is no libpitshell.so" in worker.solve(str(shared.folder), 2).why and len(shared.missing()) == 2
 
 
 def test_cases_of_a_sensitivity_are_not_begun_with_another_library(plan_folder, monkeypatch):
@@ -401,4 +402,4 @@ def test_jobs_name_the_solver_and_find_it(plan_folder, kind, by):
     assert named[by] in script
     alone = {"PATH": "/usr/bin:/bin", "HOME": "/"}
     assert subprocess.run(["sh", str(found.folder / "scenario.sh"), "1"], env=alone).returncode == 0
-    assert len(folders.read_shared(found.folder).missing()) == 5
+    assert len(store.read_shared(found.folder).missing()) == 5

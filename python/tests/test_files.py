@@ -21,10 +21,13 @@ from pitplan.cli import main
 from pitplan.commands import answers
 from pitplan.commands.prepare import write_plan
 from pitplan.commands.writing import PICTURES
-from pitplan.core import cell_outlines, files, optional_packages
+from pitplan.core import cell_outlines, optional_packages
+from pitplan.core.atomic_files import hash_of, write_json
 from pitplan.core.progress import silent
+from pitplan.export import audit
+from pitplan.results.folder import read_folder, read_record
 from pitplan.results.rounding import shown
-from pitplan.solver import audit, problem, program
+from pitplan.solver import mine_files, problem, program
 
 ORE = {"cu": lambda i, j, k: {(3, 3, 1): 6, (4, 3, 1): 2.5, (3, 4, 0): 9}.get((i, j, k), 0)}
 
@@ -97,16 +100,16 @@ def test_a_file_changed_since_is_refused(solved):
     with pytest.raises(
         PlanError, match="years.csv: has changed since prepare.json was written: run pitplan shells again"
     ):
-        files.read_folder(folder)
+        read_folder(folder)
 
 
 def test_a_prepared_folder_has_no_shells_yet(plan_folder):
     project = load(plan_folder(rows(4, 4, 3, **ORE)))
     write_plan(project, project.folder, silent)
     with pytest.raises(PlanError, match="has no shells yet: run pitplan shells first"):
-        files.read_folder(project.folder)
+        read_folder(project.folder)
     with pytest.raises(PlanError, match="nowhere/prepare.json: cannot be read: run pitplan shells first"):
-        files.read_folder(project.folder / "nowhere")
+        read_folder(project.folder / "nowhere")
 
 
 @pytest.mark.parametrize("factor", [500, 1000, 1500])
@@ -121,9 +124,7 @@ def test_an_audit_is_confirmed_by_the_program_and_by_the_short_checker(solved, f
     record = json.loads((target / "audit.json").read_text())
     table = pd.read_csv(folder / "shells.csv", dtype={"worth_at_factor": str}).set_index("factor")
     assert Decimal(record["worth_at_factor"]) == Decimal(table["worth_at_factor"][factor])
-    assert record["program"] == program.identity() and record["plan"]["blocks.csv"] == files.hash_of(
-        folder / "blocks.csv"
-    )
+    assert record["program"] == program.identity() and record["plan"]["blocks.csv"] == hash_of(folder / "blocks.csv")
 
 
 def test_a_bent_audit_is_not_confirmed(solved):
@@ -136,7 +137,7 @@ def test_a_bent_audit_is_not_confirmed(solved):
 
 
 def test_an_audit_of_other_blocks_or_of_another_worth_is_refused(solved):
-    folder = files.read_folder(solved[1])
+    folder = read_folder(solved[1])
     stage = pitplan.audit(solved[1], 1000, silent)
     worth = audit.demand_same(stage, folder, 1000)
     shells = pd.read_csv(solved[1] / "shells.csv", dtype={"worth_at_factor": str})
@@ -153,7 +154,7 @@ def test_an_audit_of_other_blocks_or_of_another_worth_is_refused(solved):
 
 
 def test_values_of_an_audit_are_exact(tmp_path):
-    from pitplan.solver.audit import read_nodes
+    from pitplan.export.audit import read_nodes
 
     (tmp_path / "mine.blocks").write_text("0 0 0 0 0 1.000001\n1 0 0 0 12345.678901 0.1\n")
     assert problem.values_at(read_nodes(tmp_path / "mine.blocks"), 333).tolist() == [
@@ -323,7 +324,9 @@ def test_levels_that_were_chosen_are_named_where_their_needs_are_too_many(plan_f
 
 def test_nothing_half_written_stays(plan_folder, monkeypatch):
     project = load(plan_folder(rows(4, 4, 3, **ORE)))
-    monkeypatch.setattr(files, "write_prec", lambda *_: (_ for _ in ()).throw(OSError(28, "No space left on device")))
+    monkeypatch.setattr(
+        mine_files, "write_prec", lambda *_: (_ for _ in ()).throw(OSError(28, "No space left on device"))
+    )
     with pytest.raises(PlanError, match="cannot be written: No space left on device"):
         write_plan(project, project.folder, silent)
     assert not project.folder.exists()
@@ -414,7 +417,7 @@ def test_the_command_line_tells_table_steps_and_warnings(solved_once):
     assert lines[0].split()[:3] == ["factor", "blocks", "rock"] and lines[1].split()[:3] == ["per", "mille", "t"]
     assert [line.split()[0] for line in lines[2:5]] == ["500", "1000", "1500"]
     assert lines[-1] == str(solved_once.place / "plan" / "report.html")
-    by = files.read_record(solved_once.place / "plan")["shells"]["solver"]["by"]
+    by = read_record(solved_once.place / "plan")["shells"]["solver"]["by"]
     needs = {"library": "listing the needs", "program": "writing blocks and needs"}[by]
     steps = ["reading", "laying the walls", needs, f"solving 3 factors by the {by}", "drawing"]
     assert all(f"{step}" in solved_once.err for step in steps)
@@ -447,7 +450,7 @@ def test_an_audit_by_another_release_is_warned_of_with_quiet_and_in_python(solve
     project, folder = solved
     record = json.loads((folder / "prepare.json").read_text())
     record["shells"]["solver"]["version"] = "libpitshell 0.0.7"
-    files.write_json(folder / "prepare.json", record)
+    write_json(folder / "prepare.json", record)
     path = pitplan.audit(folder, 500)
     assert path == folder / "audit-500"
     assert [*path.notes] == [
@@ -460,7 +463,7 @@ def test_an_audit_by_another_release_is_warned_of_with_quiet_and_in_python(solve
 def test_a_folder_with_another_record_is_no_plan(solved):
     (solved[1] / "prepare.json").write_text("{}")
     with pytest.raises(PlanError, match="prepare.json: title: is missing: run pitplan shells again"):
-        files.read_folder(solved[1])
+        read_folder(solved[1])
 
 
 def test_the_command_line_refuses_in_one_sentence(plan_folder, capsys):

@@ -17,10 +17,10 @@ import pitplan
 from pitplan import constraints, load, prepare
 from pitplan.cli import main
 from pitplan.config.constraints import FixedRules
-from pitplan.core import files
 from pitplan.core.progress import Progress, silent
 from pitplan.errors import PlanError
-from pitplan.solver import problem, program
+from pitplan.results.folder import read_record
+from pitplan.solver import mine_files, problem, program
 
 
 def with_section(text):
@@ -30,7 +30,7 @@ def with_section(text):
 def lines_of(path, table, text, tmp_path):
     """The lines of mine.fixed."""
     plan = prepare(load(path(table, with_section(text))))
-    plan.write(tmp_path)
+    mine_files.write(plan, tmp_path)
     return (tmp_path / "mine.fixed").read_text().splitlines()
 
 
@@ -53,7 +53,7 @@ def test_nothing_is_fixed(plan_folder, tmp_path):
     assert lines_of(plan_folder, rows(2, 1, 1), "[fixed]\n", tmp_path) == []
     plan = prepare(load(plan_folder(rows(2, 1, 1))))
     (tmp_path / "free").mkdir()
-    plan.write(tmp_path / "free")
+    mine_files.write(plan, tmp_path / "free")
     assert not (tmp_path / "free" / "mine.fixed").exists()
 
 
@@ -226,7 +226,7 @@ def test_a_pit_with_forced_blocks(plan_folder):
     project = load(plan_folder(ore_below_waste(), with_section('[fixed]\nforced = "must"\n')))
     table = pitplan.write_pit(project, 1000)
     assert table["blocks"].tolist() == [6, 4]
-    assert files.read_record(project.folder / "pit")["fixed"] == {"forced": 1, "barred": 0}
+    assert read_record(project.folder / "pit")["fixed"] == {"forced": 1, "barred": 0}
     # the block at the floor and the one above it, at 2 a tonne and 100 t a block
     assert table["worth"][0] == table["worth"][1] - 400
 

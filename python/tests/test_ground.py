@@ -13,9 +13,9 @@ import pitplan
 from pitplan import PlanError
 from pitplan.blockmodel.grid import Grid
 from pitplan.cli import main
-from pitplan.core import files
 from pitplan.export import pit_topography
 from pitplan.results import pit_states
+from pitplan.results.folder import read_folder
 from pitplan.results.pit_states import Shape, Stage
 
 
@@ -241,9 +241,9 @@ def test_a_folder_without_phases_is_told_what_makes_them(solved):
 def test_a_year_by_whose_end_nothing_is_dug_has_no_body_and_is_told(folder, monkeypatch):
     """Years from 2 on alone."""
     pytest.importorskip("vtk")
-    result = files.read_folder(folder)
+    result = read_folder(folder)
     later = replace(result, blocks=result.blocks.assign(year=np.where(result.blocks["year"] > 0, 2, 0)))
-    monkeypatch.setattr(files, "read_folder", lambda path: later)
+    monkeypatch.setattr("pitplan.commands.export.read_folder", lambda path: later)
     target = pitplan.export(folder, "obj", shape=Shape("year"))
     assert [path.name for path in target.iterdir()] == ["year-2.obj"]
 

@@ -18,7 +18,7 @@ from test_yearly_schedule import PHASES
 import pitplan
 from pitplan import PlanError, load
 from pitplan.config.schedule import Effort
-from pitplan.core import files
+from pitplan.results.folder import read_record
 from pitplan.scheduling import bench_milp, highs, highs_process
 from pitplan.scheduling.bench_sequencing import Limits
 from pitplan.verification import verify
@@ -109,7 +109,7 @@ def test_it_is_written_as_a_way_of_its_own(plan_folder):
         pd.read_csv(folder / "years.csv")["case"]
     ) == {"best", "worst", *told["ways"]}
     assert [rule.name for rule in verify(folder) if rule.differences] == []
-    notes = files.read_record(folder)["notes"]
+    notes = read_record(folder)["notes"]
     assert any("upper bound of the integer programme, for the same schedules" in note for note in notes)
 
 
@@ -120,7 +120,7 @@ def test_where_none_is_found_in_time_the_others_stand(plan_folder, monkeypatch):
     assert pitplan.write_schedule(project)["way"].tolist() == ["rule", "lp"]
     assert (
         "WARNING: the integer programme found no schedule in its time"
-        in files.read_record(project.folder / "schedule")["notes"]
+        in read_record(project.folder / "schedule")["notes"]
     )
     assert json.loads((project.folder / "schedule" / "schedule.json").read_text())["milp_bound"] is None
 

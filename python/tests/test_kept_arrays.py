@@ -10,7 +10,7 @@ from test_scenarios import COLUMNS, UPRIGHT, pillar, prepared, solved_in_turn
 
 from pitplan import PlanError, load
 from pitplan.core import keyed_arrays
-from pitplan.studies.scenarios import answers, work
+from pitplan.studies.scenarios import pit_probability, worker
 from pitplan.studies.sensitivity import cases
 
 
@@ -58,12 +58,16 @@ def test_an_answer_of_another_scenario_is_refused(plan_folder):
     second.write_bytes(first.read_bytes())
     sentence = rf"{second.name}: is no answer: remove it, and run pitplan scenarios again: it answers something else"
     with pytest.raises(PlanError, match=sentence):
-        answers.gather(shared)
+        pit_probability.gather(shared)
     second.write_bytes(whole[: len(whole) // 2])
     with pytest.raises(PlanError, match=rf"{second.name}: is no answer: remove it, and run pitplan scenarios again: "):
-        answers.gather(shared)
+        pit_probability.gather(shared)
     second.unlink()
-    assert work.solve(str(shared.folder), 2).status == 0 and second.is_file() and answers.gather(shared).missing == {}
+    assert (
+        worker.solve(str(shared.folder), 2).status == 0
+        and second.is_file()
+        and pit_probability.gather(shared).missing == {}
+    )
 
 
 def test_grades_that_have_changed_are_refused(plan_folder):
@@ -71,7 +75,7 @@ def test_grades_that_have_changed_are_refused(plan_folder):
     (grades,) = shared.folder.glob(f"models/{shared.scenarios[1].grades}.npy")
     for bent in (b"", grades.read_bytes()[:-1], grades.read_bytes()[:-1] + b"1"):
         grades.write_bytes(bent)
-        outcome = work.solve(str(shared.folder), 2)
+        outcome = worker.solve(str(shared.folder), 2)
         assert (
             outcome.status == 5
             and f"{grades}: " in outcome.why

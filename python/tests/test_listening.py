@@ -4,7 +4,7 @@ import os
 
 import pytest
 
-from pitplan.studies.scenarios import on_dask
+from pitplan.studies import dask_pool
 
 
 @pytest.mark.filterwarnings("ignore:make_current is deprecated:DeprecationWarning")
@@ -13,7 +13,7 @@ def test_dask_listens_on_this_machine_alone():
     psutil = pytest.importorskip("psutil")
     own = psutil.Process()
     before = {socket.laddr for socket in own.connections("inet") if socket.status == psutil.CONN_LISTEN}
-    with on_dask.client_of(distributed, on_dask.Where("local", 1)) as client:
+    with dask_pool.client_of(distributed, dask_pool.Where("local", 1)) as client:
         processes = [own, *own.children(recursive=True)]
         sockets = [
             (process.pid, socket)

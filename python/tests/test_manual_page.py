@@ -7,7 +7,7 @@ import subprocess
 from conftest import ROOT
 
 from pitplan.cli import parser as arguments
-from pitplan.config.project import REFERENCE_FACTOR
+from pitplan.config.shells import REFERENCE_FACTOR
 from pitplan.export import registry
 from pitplan.results import pit_states
 from pitplan.solver import choice

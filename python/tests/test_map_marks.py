@@ -13,6 +13,7 @@ from pitplan import PlanError
 from pitplan.blockmodel.grid import Grid
 from pitplan.config.figures import PictureRules
 from pitplan.figures import map_marks, plans_sections, pushbacks, scenarios
+from pitplan.figures.style import ALSO, panels
 
 METALS = '[[metals]]\nname = "gold"\ncolumn = "au"\nunit = "gram_per_tonne"\nprice = 60\nrecovery = 0.9\n[slopes]\n'
 
@@ -133,7 +134,7 @@ def test_sections_and_levels_are_those_asked_for():
 
 
 def test_a_picture_of_two_maps_has_no_empty_frames():
-    figure, axes = plans_sections.panels(100.0, 100.0, 3)
+    figure, axes = panels(100.0, 100.0, 3)
     assert len(axes) == 3 and [ax.axison for ax in figure.axes] == [True, True, True, False]
 
 
@@ -258,7 +259,7 @@ def test_phases_are_drawn_where_the_project_asks_for(project, monkeypatch):
 
 def test_without_a_word_pictures_are_png_alone(solved):
     assert not list(solved[1].glob("*.pdf")) + list(solved[1].glob("*.svg"))
-    assert plans_sections.ALSO.get() == ()
+    assert ALSO.get() == ()
 
 
 @pytest.mark.parametrize(

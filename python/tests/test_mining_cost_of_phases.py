@@ -9,8 +9,8 @@ from test_pushbacks import UPRIGHT, pillars, with_phases
 
 import pitplan
 from pitplan import PlanError
-from pitplan.core import files
 from pitplan.pushbacks import nested
+from pitplan.results.folder import read_record
 from pitplan.verification import verify
 
 pytestmark = pytest.mark.usefixtures("without_figures")
@@ -58,7 +58,7 @@ def test_shells_and_costs_of_blocks_are_those_without_it(pushed, plan_folder):
 
 
 def test_it_is_told_and_shown(pushed):
-    notes = files.read_record(pushed)["notes"]
+    notes = read_record(pushed)["notes"]
     where = "in phases, years, net present values and schedules, not in the worth of blocks, shells and phases"
     assert f"by phase a tonne costs 0, 1.5, 2.5 USD more to dig: {where}" in notes
     assert "mining cost of phases" in (pushed / "report.html").read_text()

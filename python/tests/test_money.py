@@ -10,8 +10,8 @@ from conftest import PROJECT, rows
 
 import pitplan
 from pitplan import PlanError
-from pitplan.core import files
-from pitplan.economics import block_values
+from pitplan.economics.weighing import added_cost
+from pitplan.solver import mine_files
 from pitplan.verification import money as verified_money
 
 MILLION = 10**6
@@ -114,7 +114,7 @@ def test_cost_by_elevation_at_half_a_millionth(plan_folder, without_figures):
     for elevation in range(-3, 243, 3):
         at = elevation / 2 + 0.75
         money_rules = SimpleNamespace(mining_cost_by_elevation=pairs)
-        assert verified_money.between(pairs, Fraction(at)) == block_values.added_cost(money_rules, at)
+        assert verified_money.between(pairs, Fraction(at)) == added_cost(money_rules, at)
     text = "mining_cost = 2\nmining_cost_by_elevation = [[0, 0.37], [240, 0]]"
     table = rows(2, 2, 8, cu=lambda i, j, k: 4.0, tonnes=lambda i, j, k: 15_900).assign(z=lambda it: it["z"] * 1.5 - 6)
     changes = [("size = [10, 10, 10]", "size = [10, 10, 15]"), ("ore_per_year = 100", "ore_per_year = 100_000")]
@@ -163,18 +163,24 @@ def test_an_ore_block_has_a_node_for_processing(plan_folder, tmp_path):
     # 0.2 % yields 800 and costs 1000 to process: no ore at the price as given, but at 1500.
     table = rows(2, 1, 2, cu=lambda i, j, k: 0.2 if (i, k) == (1, 0) else 0)
     plan = pitplan.prepare(plan_folder(table))
-    plan.write(tmp_path)
-    lines = (tmp_path / files.BLOCKS).read_text().splitlines()
+    mine_files.write(plan, tmp_path)
+    lines = (tmp_path / mine_files.BLOCKS).read_text().splitlines()
     assert lines == ["0 0 0 1 0 200", "1 1 0 1 0 200", "2 0 0 0 0 200", "3 1 0 0 0 200", "4 1 0 0 800 1000"]
-    assert (tmp_path / files.PREC).read_text().splitlines()[-1] == "4 1 3"
-    assert (tmp_path / files.MODEL).read_text().splitlines()[4:] == ["0 -200", "1 -200", "2 -200", "3 -200", "4 -200"]
+    assert (tmp_path / mine_files.PREC).read_text().splitlines()[-1] == "4 1 3"
+    assert (tmp_path / mine_files.MODEL).read_text().splitlines()[4:] == [
+        "0 -200",
+        "1 -200",
+        "2 -200",
+        "3 -200",
+        "4 -200",
+    ]
 
 
 def test_a_fixed_cutoff_settles_ore_at_the_price_as_given(plan_folder, tmp_path):
     table = rows(2, 1, 2, cu=lambda i, j, k: 0.2 if (i, k) == (1, 0) else 0.5 if (i, k) == (0, 0) else 0)
     plan = pitplan.prepare(plan_folder(table, PROJECT, ("mining_cost = 2", 'mining_cost = 2\ncutoff = "fixed"')))
-    plan.write(tmp_path)
-    lines = (tmp_path / files.BLOCKS).read_text().splitlines()
+    mine_files.write(plan, tmp_path)
+    lines = (tmp_path / mine_files.BLOCKS).read_text().splitlines()
     assert lines == ["0 0 0 1 0 200", "1 1 0 1 0 200", "2 0 0 0 2000 1200", "3 1 0 0 0 200"]
 
 

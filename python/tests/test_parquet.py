@@ -9,7 +9,8 @@ from conftest import PROJECT, rows
 
 import pitplan
 from pitplan import MissingPackage, PlanError
-from pitplan.blockmodel import parquet, wizard
+from pitplan.blockmodel import wizard
+from pitplan.core import parquet
 
 HAS_PYARROW = importlib.util.find_spec("pyarrow") is not None
 IN_PARQUET = ('file = "blocks.csv"', 'file = "blocks.parquet"')

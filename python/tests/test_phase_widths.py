@@ -12,8 +12,8 @@ from test_pushbacks import UPRIGHT, blocks_of, with_phases, wrong
 import pitplan
 from pitplan import PlanError, load, prepare
 from pitplan.config.pushbacks import PhaseRules
-from pitplan.core import files
 from pitplan.pushbacks import mining_width, nested
+from pitplan.results.folder import read_record
 from pitplan.slopes import closure
 from pitplan.verification.phase_widths import blocks_across, cells_in
 
@@ -39,7 +39,7 @@ def pushed(plan_folder, table, words, text=PROJECT):
     found = pitplan.write_pushbacks(project).set_index("phase")
     notes = [
         note
-        for note in files.read_record(project.folder / "pushbacks")["notes"]
+        for note in read_record(project.folder / "pushbacks")["notes"]
         if "blocks are dug" in note or "too small" in note
     ]
     return found, blocks_of(project.folder / "pushbacks")["phase"], notes
@@ -116,7 +116,7 @@ def test_a_phase_that_hardly_keeps_anything_is_told(plan_folder):
     project = load(plan_folder(table, with_phases("factors = [400, 1000]\nwidth = 30", PROJECT)))
     assert pitplan.write_pushbacks(project)["blocks"].tolist() == [0, 36]
     told = "WARNING: for its width phase 1 has 0 t of 1,600 t in its shell: the pit holds fewer phases so wide"
-    assert told in files.read_record(project.folder / "pushbacks")["notes"]
+    assert told in read_record(project.folder / "pushbacks")["notes"]
 
 
 def test_a_narrow_bottom_is_widened_or_left(plan_folder):

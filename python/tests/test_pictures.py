@@ -14,6 +14,7 @@ from matplotlib.figure import Figure
 import pitplan
 from pitplan.blockmodel.grid import Grid
 from pitplan.figures import annual, plans_sections, pushbacks, scenarios
+from pitplan.figures.pit_by_pit import plot_pit_by_pit
 
 YEARS = pd.DataFrame(
     [
@@ -293,7 +294,7 @@ def likely():
 
 
 EACH = {
-    "pit by pit": (1, lambda axes, project: [plans_sections.plot_pit_by_pit(SHELLS, "USD", 1000, axes[0])]),
+    "pit by pit": (1, lambda axes, project: [plot_pit_by_pit(SHELLS, "USD", 1000, axes[0])]),
     "floor": (1, lambda axes, project: [plans_sections.plot_floor(scene(), axes[0])]),
     "level": (1, lambda axes, project: [plans_sections.plot_level(scene(), 2, axes[0])]),
     "shells": (1, lambda axes, project: [plans_sections.plot_shells(scene(), scene().from_west_to_east(10), axes[0])]),
@@ -350,7 +351,7 @@ def test_too_few_axes_are_refused(plan_folder, panels, name):
 
 def test_shells_are_drawn_as_bars_and_curves(panels):
     """In millions of tonnes, of which the axis has 60, and in dollars."""
-    ax = plans_sections.plot_pit_by_pit(SHELLS, "USD", 1000, panels[1][0])
+    ax = plot_pit_by_pit(SHELLS, "USD", 1000, panels[1][0])
     (right,) = [other for other in panels[0].axes if other not in panels[1]]
     ore, waste = ax.containers
     assert [bar.get_height() for bar in ore] == [12, 15, 20] and [bar.get_height() for bar in waste] == [8, 25, 40]

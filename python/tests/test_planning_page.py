@@ -13,7 +13,8 @@ from pitplan.config.pushbacks import PhaseRules
 from pitplan.config.schedule import ScheduleRules
 from pitplan.config.sensitivity import SensitivityRules
 from pitplan.scheduling import phase_schedule
-from pitplan.scheduling.blocks import result as block_result
+from pitplan.scheduling.blocks import tables as block_result
+from pitplan.solver import mine_files
 
 PAGE = (ROOT / "docs" / "PLANNING.md").read_text(encoding="utf-8")
 EXAMPLE = ROOT / "examples" / "plan" / "project.toml"
@@ -68,9 +69,9 @@ def test_the_levels_that_the_page_says_are_chosen():
 
 def test_the_pairs_of_the_page_are_those_of_the_example(tmp_path):
     plan = pitplan.prepare(EXAMPLE)
-    written = plan.write(tmp_path).written
+    written = mine_files.write(plan, tmp_path).written
     plan.used[:] = True
-    whole = plan.write(tmp_path).written
+    whole = mine_files.write(plan, tmp_path).written
     assert f"of the example's {whole:,} pairs {written:,} are written" in PAGE
 
 

@@ -10,10 +10,10 @@ from hypothesis import given, strategies as st
 
 import pitplan
 from pitplan import PlanError, write_schedule
-from pitplan.core import files
 from pitplan.economics import block_values, process_routing
 from pitplan.economics.process_routing import Way, best_way, steps_of
 from pitplan.pits import shell_tables
+from pitplan.solver import mine_files
 from pitplan.verification import verify
 
 LEACH_AND_MILL = """
@@ -113,10 +113,10 @@ def one_column():
 def test_nodes_by_hand(plan_folder, tmp_path):
     path = plan_folder(one_column(), PROJECT, *WITH)
     plan = pitplan.prepare(path)
-    plan.write(tmp_path)
-    lines = (tmp_path / files.BLOCKS).read_text().splitlines()
+    mine_files.write(plan, tmp_path)
+    lines = (tmp_path / mine_files.BLOCKS).read_text().splitlines()
     assert lines == ["0 0 0 1 0 200", "1 0 0 0 0 200", "2 0 0 0 2560 300", "3 0 0 0 3200 1000"]
-    assert (tmp_path / files.PREC).read_text().splitlines() == ["1 1 0", "2 1 1", "3 1 2"]
+    assert (tmp_path / mine_files.PREC).read_text().splitlines() == ["1 1 0", "2 1 1", "3 1 2"]
     block = plan.blocks.set_index("name").loc["b0-0-0"]
     told = [
         "revenue_leach",
@@ -138,8 +138,8 @@ def test_nodes_of_a_block_that_must_be_dug_by_hand(plan_folder, tmp_path):
     """Its first step needs nothing more, the second still the first."""
     table = one_column().assign(must=[1, 0])
     pitplan.prepare(plan_folder(table, PROJECT + '[fixed]\nforced = "must"\n', *WITH)).write(tmp_path)
-    assert (tmp_path / files.REST_BLOCKS).read_text().splitlines()[2:] == ["2 0 0 0 2560 300", "3 0 0 0 3200 1000"]
-    assert (tmp_path / files.REST_PREC).read_text().splitlines() == ["3 1 2"]
+    assert (tmp_path / mine_files.REST_BLOCKS).read_text().splitlines()[2:] == ["2 0 0 0 2560 300", "3 0 0 0 3200 1000"]
+    assert (tmp_path / mine_files.REST_PREC).read_text().splitlines() == ["3 1 2"]
 
 
 @pytest.mark.parametrize(("grade", "process", "ore"), [(0.8, "mill", 100), (0.2, "leach", 100), (0.05, "", 0)])

@@ -12,7 +12,7 @@ from conftest import PROJECT, rows
 import pitplan
 from pitplan import PlanError, Request, load, verify
 from pitplan.cli import main
-from pitplan.core import files
+from pitplan.core.atomic_files import hash_of
 
 pytestmark = pytest.mark.usefixtures("without_figures")
 ORE = {"cu": lambda i, j, k: {(3, 3, 1): 6, (4, 3, 1): 2.5, (3, 4, 0): 9}.get((i, j, k), 0)}
@@ -60,7 +60,7 @@ def test_the_report_shows_the_project_that_was_run(mine):
     page = (project.folder / "report.html").read_text()
     assert "price = 12000" in page and "price = 8000" not in page
     record = json.loads((project.folder / "prepare.json").read_text())
-    assert record["files"]["project-as-run.toml"] == files.hash_of(project.folder / "project-as-run.toml")
+    assert record["files"]["project-as-run.toml"] == hash_of(project.folder / "project-as-run.toml")
     assert record["files"]["project-as-run.toml"] in page
     pitplan.write_report(project.folder)
     assert "price = 12000" in (project.folder / "report.html").read_text()

@@ -12,8 +12,8 @@ import pitplan
 from pitplan import PlanError, load
 from pitplan.cli import main
 from pitplan.config.pushbacks import PhaseRules
-from pitplan.core import files
 from pitplan.pushbacks import nested
+from pitplan.results.folder import read_record
 from pitplan.verification import verify
 
 pytestmark = pytest.mark.usefixtures("without_figures")
@@ -49,9 +49,7 @@ def test_three_shells_of_like_tonnage_are_three_phases(plan_folder):
     folder = project.folder / "pushbacks"
     assert blocks_of(folder)["phase"].to_dict() == {f"b{i}-0-{k}": i + 1 for i in range(3) for k in range(2)}
     pd.testing.assert_frame_equal(pd.read_csv(folder / "phases.csv").set_index("phase"), table, check_dtype=False)
-    assert not [
-        note for note in files.read_record(folder)["notes"] if "phases are asked" in note or "no factor" in note
-    ]
+    assert not [note for note in read_record(folder)["notes"] if "phases are asked" in note or "no factor" in note]
 
 
 @pytest.mark.parametrize(
@@ -75,7 +73,7 @@ def test_three_shells_of_like_tonnage_are_three_phases(plan_folder):
 def test_what_is_asked_for_by_count_tonnes_and_factors(plan_folder, words, factors, told):
     project = load(plan_folder(pillars(), with_phases(words)))
     assert pitplan.write_pushbacks(project)["factor"].tolist() == factors
-    notes = files.read_record(project.folder / "pushbacks")["notes"]
+    notes = read_record(project.folder / "pushbacks")["notes"]
     found = [
         note
         for note in notes
@@ -146,10 +144,10 @@ def test_the_last_phase_ends_with_the_shell_that_is_selected(plan_folder):
     table = rows(3, 1, 2, cu=lambda i, j, k: 0 if k else [1, 0.7, 0.355][i])
     path = plan_folder(table, with_phases("count = 2", UPRIGHT.replace("[500, 1000, 1500]", "[500, 800, 1000, 1500]")))
     pitplan.write_shells(path)
-    selected = files.read_record(path.parent / "plan")["shells"]["chosen"]
+    selected = read_record(path.parent / "plan")["shells"]["chosen"]
     assert selected == 800
     assert pitplan.write_pushbacks(path)["factor"].tolist() == [500, 800]
-    record = files.read_record(path.parent / "plan" / "pushbacks")
+    record = read_record(path.parent / "plan" / "pushbacks")
     assert record["shells"]["chosen"] == 800
     assert (
         "the last phase ends with the shell of factor 800, which shells selects: [pushbacks] last names another"
@@ -171,7 +169,7 @@ def test_where_no_shell_pays_the_last_phase_is_that_of_the_price_as_given(plan_f
     path = plan_folder(pillars(), with_phases("count = 2", costs))
     assert pitplan.write_pushbacks(path)["factor"].iloc[-1] == 1000
     told = "WARNING: no shell has a net present value above 0: the last phase ends with the shell of factor 1000"
-    assert told in files.read_record(path.parent / "plan" / "pushbacks")["notes"]
+    assert told in read_record(path.parent / "plan" / "pushbacks")["notes"]
     ways = pitplan.write_schedule(path).set_index("way")
     assert ways.loc["lp", ["value", "tonnes", "years"]].tolist() == [0, 0, 0]
 

@@ -8,7 +8,8 @@ import pytest
 
 import pitplan
 from pitplan import PlanError, verification
-from pitplan.core import files, json_records
+from pitplan.results import json_records
+from pitplan.results.folder import read_folder, read_record
 
 
 def parts_of(value, place=()):
@@ -65,7 +66,7 @@ OTHERS = (None, True, -1, 2.5, float("nan"), "", "\0", [], [1], {}, {"a": 1}, 10
 
 def test_each_part_of_a_record_is_of_its_kind_or_named(solved):
     _, folder = solved
-    whole, file = files.read_record(folder), folder / "prepare.json"
+    whole, file = read_record(folder), folder / "prepare.json"
     reader, count = json_records.Reader(file, "pitplan shells"), 0
     for place in parts_of(whole):
         if (
@@ -122,7 +123,7 @@ def test_each_part_of_a_record_is_of_its_kind_or_named(solved):
 )
 def test_what_is_found_and_what_is_expected(solved, place, value, said):
     _, folder = solved
-    record = files.read_record(folder)
+    record = read_record(folder)
     (folder / "prepare.json").write_text(json.dumps(bent(record, place, value)))
     if place == ("title",):
         json_records.read_plan(folder / "prepare.json")
@@ -136,7 +137,7 @@ def test_what_is_found_and_what_is_expected(solved, place, value, said):
 def test_what_is_no_record(solved, text):
     _, folder = solved
     (folder / "prepare.json").write_bytes(text.encode("latin-1"))
-    for read in (files.read_folder, verification.verify_folder):
+    for read in (read_folder, verification.verify_folder):
         with pytest.raises(
             PlanError,
             match="prepare.json: (cannot be read as JSON|found .*, expected a table).*: run pitplan shells again",
@@ -173,7 +174,7 @@ def bends():
 
 def test_records_that_do_not_fit_what_stands_beside_them(solved):
     _, folder = solved
-    whole = files.read_record(folder)
+    whole = read_record(folder)
     calls = (verification.verify_folder, lambda it: pitplan.export(it, "csv"), pitplan.view)
     refusals = 0
     for place, value in bends():

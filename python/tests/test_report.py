@@ -16,8 +16,10 @@ from conftest import PROJECT, rows
 import pitplan
 from pitplan import PlanError
 from pitplan.cli import main
-from pitplan.core import files
+from pitplan.core.atomic_files import hash_of, read_json, write_json
 from pitplan.report import html
+from pitplan.results import names
+from pitplan.results.folder import read_record
 from pitplan.verification import verify
 
 CHROMIUM, PDFTOTEXT = shutil.which("chromium"), shutil.which("pdftotext")
@@ -153,7 +155,7 @@ def test_the_answer_is_the_first_that_is_told(written):
 def test_ways_are_the_sums_of_their_years(written):
     """Anew, from schedule.csv and schedule.json."""
     folder = written / "plan" / "schedule"
-    rows_of, told = pd.read_csv(folder / "schedule.csv").groupby("way"), files.read_json(folder / "schedule.json")
+    rows_of, told = pd.read_csv(folder / "schedule.csv").groupby("way"), read_json(folder / "schedule.json")
     for way in pd.read_csv(folder / "ways.csv").itertuples():
         dug = rows_of.get_group(way.way)
         assert (way.tonnes, way.ore_tonnes) == (
@@ -201,7 +203,7 @@ def test_the_report_is_made_anew_with_a_sensitivity_of_the_same_inputs(copied, c
     assert (
         "What it hangs on" in page and "mining cost +10 %" in page and "Pairs of numbers are in the same file." in page
     )
-    assert files.hash_of(copied / "other" / "sensitivity.csv") in page
+    assert hash_of(copied / "other" / "sensitivity.csv") in page
     (copied / "other" / "tornado.png").unlink()
     pitplan.write_report(folder, copied / "other")
     assert (folder / "report.html").read_text().count("data:image/png") == page.count("data:image/png") - 1
@@ -310,7 +312,7 @@ def test_on_a_telephone_nothing_is_cut_off(written, tmp_path):
 
 def test_the_way_of_a_schedule_is_told_in_words(written):
     folder, project = written / "plan" / "schedule", pitplan.load(written / "project.toml")
-    record = pitplan.core.files.read_record(folder)
+    record = read_record(folder)
     told = [html.of_answer(folder, project, record | {"schedule": way})["way"] for way in ("rule", "lp")]
     assert told == ["rule", "linear programme"]
     assert (
@@ -327,10 +329,8 @@ def test_the_bound_of_a_schedule_names_its_premise(written):
         "that sends each block to its assigned process earns more" in page and "divides ore by these bins" not in page
     )
     assert "Upper bound, these pushbacks and processes" in page
-    record = pitplan.core.files.read_record(folder)
-    (folder / pitplan.core.files.MILLING).write_text("")
-    pitplan.core.files.write_json(
-        folder / pitplan.core.files.RECORD, record | {"files": record["files"] | {pitplan.core.files.MILLING: "0" * 64}}
-    )
+    record = read_record(folder)
+    (folder / names.MILLING).write_text("")
+    write_json(folder / names.RECORD, record | {"files": record["files"] | {names.MILLING: "0" * 64}})
     html.write(written / "binned.html", folder, project)
     assert "that divides ore by these bins earns more" in " ".join((written / "binned.html").read_text().split())

@@ -21,7 +21,8 @@ from pitplan.cli import main, parser
 from pitplan.commands import scenario_files
 from pitplan.core.progress import Progress, silent
 from pitplan.figures import scenarios
-from pitplan.studies.scenarios import answers, folder as folders, job_lists, on_dask, prepare, work
+from pitplan.studies import dask_pool
+from pitplan.studies.scenarios import batch_scripts, pit_probability, prepare, store, worker
 
 UPRIGHT = ('pattern = "1:5"', "angle = 90")
 COLUMNS = PROJECT + '[scenarios]\ncolumns = { copper = "sim_*" }\n'
@@ -41,9 +42,9 @@ def prepared(path):
 
 
 def solved_in_turn(shared):
-    outcomes = [work.solve(str(shared.folder), scenario.number) for scenario in shared.missing()]
+    outcomes = [worker.solve(str(shared.folder), scenario.number) for scenario in shared.missing()]
     assert [outcome.status for outcome in outcomes] == [0] * len(outcomes)
-    return answers.gather(shared)
+    return pit_probability.gather(shared)
 
 
 def test_probabilities_by_hand(plan_folder):
@@ -69,7 +70,7 @@ def test_prices_make_scenarios_and_quantiles_by_hand(plan_folder):
     gathered = solved_in_turn(prepared(plan_folder(pillar(), PRICES, UPRIGHT)))
     # At 12,000 a tonne the second model's metal yields 2400 at factor 1000.
     assert gathered.share[:, 1].tolist() == [3 / 6] * 3
-    table = answers.quantiles(gathered.table).set_index(["price_copper", "factor"])
+    table = pit_probability.quantiles(gathered.table).set_index(["price_copper", "factor"])
     tonnes = table.loc[(12000, 1000)]
     assert tonnes["models"] == 3 and tonnes["tonnes_mean"] == 200 and tonnes["tonnes_quantile_0.5"] == 300
     # Tonnes 0, 300, 300: a tenth lies a fifth of the way from the first to the second.
@@ -115,7 +116,7 @@ def test_every_scenario_is_the_best_of_all_closed_sets(tmp_path_factory, one, ot
     shared = prepared(place / "project.toml")
     solved_in_turn(shared)
     for scenario in shared.scenarios:
-        places, answer = answers.read_answer(shared, scenario)
+        places, answer = pit_probability.read_answer(shared, scenario)
         entry = np.zeros(9, int)
         entry[shared.grid.rows] = places
         grades = {"sim_a": one, "sim_b": other}[scenario.model]
@@ -274,28 +275,32 @@ def test_the_program_s_statuses_are_kept_apart(plan_folder, broken_program, caps
     assert capsys.readouterr().err.startswith("pitplan: sim_2: pitshell shells")
     record = json.loads(next((shared.folder / "failed").iterdir()).read_text())
     assert record["status"] == noted and record["label"] == "sim_2" and "some words" in record["why"]
-    assert work.Outcome(2, status, "", 0).is_final == (status != 75)
+    assert worker.Outcome(2, status, "", 0).is_final == (status != 75)
     # There are no others that could be gathered.
     with pytest.raises(
         PlanError, match="3 of 3 scenarios have no answer, first sim_1: was not solved: run them again$"
     ):
-        answers.gather(shared, partial=True)
+        pit_probability.gather(shared, partial=True)
 
 
 def test_a_changed_or_missing_folder_is_status_5(plan_folder):
     shared = prepared(plan_folder(pillar(), COLUMNS))
-    assert work.solve(str(shared.folder), 4).why.endswith("has no scenario 4")
-    assert work.solve(str(shared.folder / "nowhere"), 1).status == 5
+    assert worker.solve(str(shared.folder), 4).why.endswith("has no scenario 4")
+    assert worker.solve(str(shared.folder / "nowhere"), 1).status == 5
     needs = "needs.npy" if shared.solver.by == "library" else "mine.prec"
     (shared.folder / needs).write_text("")
-    work.shared_of.cache_clear()
-    outcome = work.solve(str(shared.folder), 1)
+    worker.shared_of.cache_clear()
+    outcome = worker.solve(str(shared.folder), 1)
     assert outcome.status == 5 and f"{needs}: has changed since scenarios.json was written" in outcome.why
 
 
 def test_what_went_wrong_is_told_by_status(plan_folder, monkeypatch):
-    ended = [work.Outcome(1, 0, "", 1.0), work.Outcome(2, 3, "sim_2: exhausted", 1.0), work.Outcome(3, 75, "gone", 1.0)]
-    monkeypatch.setattr(on_dask, "run", lambda *_: ended)
+    ended = [
+        worker.Outcome(1, 0, "", 1.0),
+        worker.Outcome(2, 3, "sim_2: exhausted", 1.0),
+        worker.Outcome(3, 75, "gone", 1.0),
+    ]
+    monkeypatch.setattr(dask_pool, "run", lambda *_: ended)
     project = load(plan_folder(pillar(), COLUMNS))
     with pytest.raises(PlanError) as said:
         pitplan.write_scenarios(project, project.folder)
@@ -307,7 +312,7 @@ def test_what_went_wrong_is_told_by_status(plan_folder, monkeypatch):
 
 def test_some_answers_are_gathered_on_request_alone(plan_folder):
     shared = prepared(plan_folder(pillar(), COLUMNS, UPRIGHT))
-    assert [work.solve(str(shared.folder), number).status for number in (1, 3)] == [0, 0]
+    assert [worker.solve(str(shared.folder), number).status for number in (1, 3)] == [0, 0]
     with pytest.raises(PlanError, match="1 of 3 scenarios have no answer, first sim_2: was not solved"):
         pitplan.gather(shared.folder)
     notes = pitplan.gather(shared.folder, Request(partial=True, factor=1500)).notes
@@ -355,7 +360,7 @@ def test_the_image_has_the_probabilities_of_all_cells(plan_folder):
 @pytest.mark.parametrize("kind", ["slurm", "parallel"])
 def test_lists_of_jobs_are_shell_and_name_what_is_missing(plan_folder, kind):
     path = plan_folder(pillar(), COLUMNS, UPRIGHT)
-    assert work.solve(str(prepared(path).folder), 1).status == 0
+    assert worker.solve(str(prepared(path).folder), 1).status == 0
     result = pitplan.write_scenarios(load(path), load(path).folder, Request(where=kind))
     folder = load(path).folder
     assert result.notes[-1] == "1 of 3 scenarios have their answer already"
@@ -368,14 +373,14 @@ def test_lists_of_jobs_are_shell_and_name_what_is_missing(plan_folder, kind):
 
 
 def test_a_task_of_slurm_solves_its_lines(plan_folder, monkeypatch):
-    monkeypatch.setattr(job_lists, "MOST_TASKS", 2)
+    monkeypatch.setattr(batch_scripts, "MOST_TASKS", 2)
     folder = prepared(plan_folder(pillar(), COLUMNS)).folder
-    shared = folders.read_shared(folder)
-    job_lists.write("slurm", folder, shared.scenarios, shared.solver)
+    shared = store.read_shared(folder)
+    batch_scripts.write("slurm", folder, shared.scenarios, shared.solver)
     assert "#SBATCH --array=1-2\n" in (folder / "array.sbatch").read_text()
     script = folder / "array.sbatch"
     subprocess.run(["sh", str(script)], check=True, env={**os.environ, "SLURM_ARRAY_TASK_ID": "2"})
-    assert [scenario.number for scenario in folders.read_shared(folder).missing()] == [1, 3]
+    assert [scenario.number for scenario in store.read_shared(folder).missing()] == [1, 3]
     # Three lines for two tasks: the first takes the third line too.
     (folder / "scenario.sh").write_text('echo "$1"\n')
     task = {**os.environ, "SLURM_ARRAY_TASK_ID": "1"}
@@ -389,8 +394,8 @@ def test_a_task_of_slurm_solves_its_lines(plan_folder, monkeypatch):
 def test_a_slurm_task_gives_itself_back_only_where_it_was_killed(plan_folder, tmp_path, status, restarts, requeued):
     path = plan_folder(pillar(), COLUMNS)
     folder = prepared(path).folder
-    shared = folders.read_shared(folder)
-    job_lists.write("slurm", folder, shared.missing(), shared.solver)
+    shared = store.read_shared(folder)
+    batch_scripts.write("slurm", folder, shared.missing(), shared.solver)
     (folder / "scenario.sh").write_text(f"exit {status}\n")
     for name, text in {"scontrol": f'echo "$@" >> {tmp_path}/asked', "sleep": ""}.items():
         (tmp_path / name).write_text(f"#!/bin/sh\n{text}\n")
@@ -419,10 +424,10 @@ def test_dask_tries_a_killed_scenario_again(dask_threads, plan_folder, monkeypat
     def dying(folder, number):
         tries.append(number)
         killed = number == 2 and tries.count(2) <= deaths
-        return work.Outcome(number, work.LOST if killed else 0, "killed" if killed else "", 0.0)
+        return worker.Outcome(number, worker.LOST if killed else 0, "killed" if killed else "", 0.0)
 
-    monkeypatch.setattr(work, "solve", dying)
-    ended = {it.number: it for it in on_dask.outcomes_of(*dask_threads, shared.folder, shared.scenarios)}
+    monkeypatch.setattr(worker, "solve", dying)
+    ended = {it.number: it for it in dask_pool.outcomes_of(*dask_threads, shared.folder, shared.scenarios)}
     assert {number: outcome.status for number, outcome in ended.items()} == {1: 0, 2: status, 3: 0}
     assert tries.count(2) == min(deaths + 1, 3) and tries.count(1) == 1
     assert ended[2].why == ("killed: tried 3 times" if status else "")
@@ -431,10 +436,10 @@ def test_dask_tries_a_killed_scenario_again(dask_threads, plan_folder, monkeypat
 @pytest.mark.parametrize(("count", "told"), [(20, [2, 4, 6, 8, 10, 12, 14, 16, 18, 20]), (3, [1, 2, 3])])
 def test_each_tenth_of_the_scenarios_is_told(monkeypatch, tmp_path, count, told):
     pytest.importorskip("distributed")
-    monkeypatch.setattr(on_dask, "client_of", lambda *_: nullcontext())
-    monkeypatch.setattr(on_dask, "outcomes_of", lambda *given: iter(given[-1]))
+    monkeypatch.setattr(dask_pool, "client_of", lambda *_: nullcontext())
+    monkeypatch.setattr(dask_pool, "outcomes_of", lambda *given: iter(given[-1]))
     said = io.StringIO()
-    assert on_dask.run(on_dask.Where("local"), tmp_path, list(range(count)), Progress(said)) == list(range(count))
+    assert dask_pool.run(dask_pool.Where("local"), tmp_path, list(range(count)), Progress(said)) == list(range(count))
     assert said.getvalue().startswith(f"solving {count} scenarios .. " + " ".join(map(str, told)) + " ")
 
 
@@ -466,7 +471,7 @@ def test_answers_are_gathered_from_the_command_line(plan_folder, capsys):
     """The first and the third model alone, then all."""
     shared = prepared(plan_folder(pillar(), COLUMNS, UPRIGHT))
     for number in (1, 3):
-        assert work.solve(str(shared.folder), number).status == 0
+        assert worker.solve(str(shared.folder), number).status == 0
     words = ["gather", str(shared.folder), "--quiet"]
     assert main(words) == 1
     assert "1 of 3 scenarios have no answer, first sim_2: was not solved" in capsys.readouterr().err
@@ -475,7 +480,7 @@ def test_answers_are_gathered_from_the_command_line(plan_folder, capsys):
     assert said.out == f"{shared.folder}\n"
     assert "WARNING: 1 scenarios have no answer and are left out of everything" in said.err
     assert likely(shared.folder) == [[0.5, 0.5, 0.5]] * 3
-    assert work.solve(str(shared.folder), 2).status == 0
+    assert worker.solve(str(shared.folder), 2).status == 0
     assert main([*words, "--factor", "500"]) == 0
     assert likely(shared.folder) == [pytest.approx([1 / 3, 1 / 3, 2 / 3], abs=1e-6)] * 3
 
@@ -509,7 +514,7 @@ def test_cost_that_rises_with_the_level_is_one_for_all_scenarios(plan_folder):
     ],
 )
 def test_a_scenario_has_the_status_of_the_program_s_own(error, status):
-    assert work.status_of(error) == status
+    assert worker.status_of(error) == status
 
 
 @pytest.mark.parametrize(
@@ -542,25 +547,25 @@ def test_a_broken_folder_of_scenarios_is_named(plan_folder, tmp_path):
     answer = shared.answer(shared.scenarios[1])
     answer.write_bytes(b"nothing")
     with pytest.raises(PlanError, match=f"{answer}: is no answer: remove it, and run pitplan scenarios again"):
-        answers.gather(shared)
+        pit_probability.gather(shared)
     with pytest.raises(PlanError, match="nowhere/scenarios.json: cannot be read: run pitplan scenarios first"):
-        folders.read_shared(tmp_path / "nowhere")
+        store.read_shared(tmp_path / "nowhere")
     (shared.folder / "scenarios.json").write_text("{}")
     with pytest.raises(PlanError, match="scenarios.json: is no record of scenarios"):
-        folders.read_shared(shared.folder)
+        store.read_shared(shared.folder)
 
 
 def test_a_folder_of_jobs_whose_name_no_script_can_hold_is_refused(plan_folder, tmp_path):
     shared = prepared(plan_folder(pillar(), COLUMNS))
     with pytest.raises(PlanError, match="may not have a line's end, a % or a backslash in its name"):
-        job_lists.write("slurm", tmp_path / "50 %", shared.scenarios, shared.solver)
+        batch_scripts.write("slurm", tmp_path / "50 %", shared.scenarios, shared.solver)
 
 
 def test_workers_that_cannot_import_pitplan_end_it_all(plan_folder):
     scenario = prepared(plan_folder(pillar(), COLUMNS)).scenarios[1]
     with pytest.raises(PlanError, match=r"Dask's workers cannot import pitplan \(no pitplan\)"):
-        on_dask.lost(ImportError("no pitplan"), scenario)
-    ended = on_dask.lost(RuntimeError("gone"), scenario)
+        dask_pool.lost(ImportError("no pitplan"), scenario)
+    ended = dask_pool.lost(RuntimeError("gone"), scenario)
     assert (ended.number, ended.status, ended.why) == (2, 75, "sim_2: its worker was lost: gone: tried 3 times")
 
 

@@ -15,10 +15,11 @@ from hypothesis import given, strategies as st
 
 import pitplan
 from pitplan import PlanError
-from pitplan.config.project import of_data, read_schedule
+from pitplan.config.project import of_data
+from pitplan.config.shells import read_schedule
 from pitplan.config.toml_section import Section
-from pitplan.core import files
 from pitplan.pits import shell_tables
+from pitplan.results.folder import read_folder
 from pitplan.results.rounding import shown
 from pitplan.solver.program import Solution
 
@@ -310,7 +311,7 @@ def test_an_empty_pit_has_no_years():
 def test_the_file_of_years_stands_beside_the_shells(solved):
     project, folder = solved
     table = pd.read_csv(folder / "years.csv")
-    assert "years.csv" in files.read_folder(folder).record["files"]
+    assert "years.csv" in read_folder(folder).record["files"]
     plan = pitplan.prepare(project)
     expected = shown(shell_tables.years(plan, pitplan.solve(plan))).assign(discounting="end_of_year")
     pd.testing.assert_frame_equal(table, expected, check_dtype=False)

@@ -14,10 +14,10 @@ from test_sequencing import THREE, benches_of, problem_of
 
 from pitplan import PlanError
 from pitplan.config.project import Metal
-from pitplan.core import files
 from pitplan.export import xlsx
 from pitplan.figures import schedule as schedule_figures
 from pitplan.report import viewer3d
+from pitplan.results.folder import Folder, read_folder
 from pitplan.scheduling import phase_schedule
 from pitplan.scheduling.bench_lp import Relaxed
 from pitplan.scheduling.bench_sequencing import Limits
@@ -163,10 +163,10 @@ def test_a_library_that_is_missing_is_named_before_anything_is_solved(monkeypatc
 
 def test_the_page_has_a_colour_a_year(solved):
     """The last year of the blocks has the last colour; a folder without a schedule has none."""
-    folder = files.read_folder(solved[1])
+    folder = read_folder(solved[1])
     assert viewer3d.model_of(folder)["stages"] == []
     years = np.where(folder.blocks["factor"] > 0, 1 + np.arange(len(folder.blocks)) % 3, 0)
-    scheduled = files.Folder(folder.path, folder.blocks.assign(year=years), folder.record | {"schedule": "lp"})
+    scheduled = Folder(folder.path, folder.blocks.assign(year=years), folder.record | {"schedule": "lp"})
     (stage,) = viewer3d.model_of(scheduled)["stages"]
     cells = np.frombuffer(gzip.decompress(base64.b64decode(stage["cells"])), dtype=np.uint8)
     assert cells[folder.blocks["id"]].tolist() == years.tolist() and cells.sum() == years.sum()

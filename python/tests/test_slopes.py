@@ -13,8 +13,8 @@ from hypothesis import given, strategies as st
 import pitplan
 from pitplan import PlanError
 from pitplan.config.slopes import Slopes, Wall
-from pitplan.core import files
 from pitplan.slopes import cone_templates, slope_patterns
+from pitplan.solver import mine_files
 
 CUBE, FLAT = (10.0, 10.0, 10.0), (20.0, 20.0, 15.0)
 
@@ -44,16 +44,16 @@ def made_mine(tmp_path, blocks, pattern):
 def test_patterns_are_those_of_the_tool_byte_for_byte(plan_folder, tmp_path, pattern):
     plan = pitplan.prepare(plan_folder(made_mine(tmp_path, 300, pattern), PROJECT, ('"1:5"', f'"{pattern}"')))
     plan.used[:] = True
-    plan.write(tmp_path)
-    assert (tmp_path / files.PREC).read_bytes() == (tmp_path / "made.prec").read_bytes()
+    mine_files.write(plan, tmp_path)
+    assert (tmp_path / mine_files.PREC).read_bytes() == (tmp_path / "made.prec").read_bytes()
 
 
 def test_a_cone_of_45_degrees_needs_what_that_of_the_tool_needs(plan_folder, tmp_path):
     table = made_mine(tmp_path, 400, "cone")
     plan = pitplan.prepare(plan_folder(table, PROJECT, ('pattern = "1:5"', "angle = 45")))
     plan.used[:] = True
-    plan.write(tmp_path)
-    mine, made = pairs_of(tmp_path / files.PREC), pairs_of(tmp_path / "made.prec")
+    mine_files.write(plan, tmp_path)
+    mine, made = pairs_of(tmp_path / mine_files.PREC), pairs_of(tmp_path / "made.prec")
     assert len(mine) < len(made)
     assert closure(mine, len(table)) == closure(made, len(table))
 
@@ -216,7 +216,7 @@ def test_each_wall_entry_takes_its_own_levels_and_the_record_names_them(plan_fol
     steep = f"angle = {math.degrees(math.atan(10)):.9f}"
     entries = f'region = "hard"\n{steep}\n[[slopes.walls]]\nregion = "soft"\npattern = "1:9"'
     plan = pitplan.prepare(plan_folder(table, PROJECT, ("levels = 3\n", ""), ('pattern = "1:5"', entries)))
-    assert [walls["levels"] for walls in plan.record(plan.write(tmp_path))["walls"]] == [23, 1]
+    assert [walls["levels"] for walls in plan.record(mine_files.write(plan, tmp_path))["walls"]] == [23, 1]
     assert any("needs a block over 23 levels make walls" in note for note in plan.notes)
     assert any("9 needs a block over 1 level make walls" in note for note in plan.notes)
 
@@ -235,8 +235,8 @@ def test_each_region_has_its_walls(plan_folder, tmp_path):
     walls = 'region = "hard"\npattern = "1:5"\n[[slopes.walls]]\nregion = ["soft", "clay"]\npattern = "1:9"'
     plan = pitplan.prepare(plan_folder(table, PROJECT, ('pattern = "1:5"', walls)))
     plan.used[:] = True
-    plan.write(tmp_path)
-    pairs = pairs_of(tmp_path / files.PREC)
+    mine_files.write(plan, tmp_path)
+    pairs = pairs_of(tmp_path / mine_files.PREC)
     # Block 17 is in the soft region, in the middle of the lower level; 18 in the hard one.
     assert {p for u, p in pairs if u == 17} == {0, 1, 2, 4, 5, 6, 8, 9, 10}
     assert {p for u, p in pairs if u == 18} == {2, 5, 6, 7, 10}
@@ -286,7 +286,7 @@ def test_needs_that_leave_the_grid_at_its_sides_are_counted(plan_folder, tmp_pat
     plan = pitplan.prepare(plan_folder(rows(3, 3, 2)))
     plan.used[:] = True
     # Of the nine lower blocks the four corners lack two neighbours each, and the four edges one.
-    record = plan.record(plan.write(tmp_path))
+    record = plan.record(mine_files.write(plan, tmp_path))
     assert record["needs"]["clipped_at_the_sides"] == 4 * 2 + 4 * 1
     assert "12 needs lead off the model's sides and were clipped: that ground is not known" in record["notes"]
 

@@ -14,7 +14,7 @@ import pitplan
 from pitplan import PlanError
 from pitplan.blockmodel import tin, topography_cut
 from pitplan.cli import main
-from pitplan.core import files
+from pitplan.results.folder import read_record
 from pitplan.survey.readers import NO_FACES, Topography
 from pitplan.verification import verify
 
@@ -352,7 +352,7 @@ def test_the_second_look_agrees(cut_hill):
     tonnes = pd.read_csv(cut_hill / "blocks.csv")["tonnes"]
     assert (tonnes == 0).sum() > 20 and ((tonnes > 0) & (tonnes < 99)).sum() > 60
     assert (pd.read_csv(cut_hill / "shells.csv")["blocks"] > 0).any()
-    assert set(files.read_record(cut_hill)["inputs"]) == {"project.toml", "blocks.csv", "topo.csv"}
+    assert set(read_record(cut_hill)["inputs"]) == {"project.toml", "blocks.csv", "topo.csv"}
 
 
 @pytest.mark.usefixtures("without_figures")

@@ -16,10 +16,10 @@ import pitplan
 from pitplan import PlanError
 from pitplan.blockmodel.grid import Grid
 from pitplan.cli import main
-from pitplan.core import files
 from pitplan.figures import map_marks
 from pitplan.report import viewer3d
-from pitplan.studies.scenarios import ensemble
+from pitplan.results.folder import read_folder, read_record
+from pitplan.studies.scenarios import realisations
 
 NO_SIZE = ("[grid]\nsize = [10, 10, 10]\n", "")
 ORE = {(6, 5, 1): 2.4, (2, 8, 2): 3.0, (10, 2, 2): 2.5, (1, 1, 3): 0.5}
@@ -65,7 +65,7 @@ def test_a_turned_model_has_the_pit_of_the_straight_one(plan_folder, degrees):
     # The planner's own coordinates stand in the answer.
     own = turned(hill(), degrees).set_index("name")
     assert (found[["x", "y", "z"]] == own.loc[found.index, ["x", "y", "z"]]).all(axis=None)
-    grid = files.read_record(folder)["grid"]
+    grid = read_record(folder)["grid"]
     assert abs(grid["azimuth"] - degrees) < 0.01 and grid["shape"] == [6, 11, 12] and grid["size"] == [10, 10, 10]
 
 
@@ -159,7 +159,7 @@ CORNERS = {(1022, 4996), (1030, 4990), (1036, 4998), (1028, 5004)}
 
 
 def test_the_grid_of_sides_3_4_5(one_block):
-    grid = files.read_folder(one_block.parent / "plan").grid
+    grid = read_folder(one_block.parent / "plan").grid
     assert abs(grid.azimuth - 36.8699) < 0.01
     # The centre of the first block is 5, 5 along the axes: 1000 + 4 + 3, 5000 - 3 + 4.
     assert np.allclose(grid.origin, (1007, 5001, 15), atol=0.002) and np.allclose(
@@ -225,7 +225,7 @@ def test_cells_of_vtk_stand_in_the_planners_coordinates(one_block):
 
 def test_the_page_knows_where_north_is(one_block):
     """Along the grid's axes the planner's north goes by -0.6 east and 0.8 north: to the left of the grid's, which is turned clockwise."""
-    model = viewer3d.model_of(files.read_folder(one_block.parent / "plan"))
+    model = viewer3d.model_of(read_folder(one_block.parent / "plan"))
     assert np.allclose(model["north"], (-0.6, 0.8), atol=1e-4)
     # Its axes are the grid's own, from its corner.
     assert model["corner"] == [0, 0, 0] and model["axes"] == [
@@ -353,8 +353,8 @@ def test_a_simulated_model_is_matched_by_the_planners_centres(plan_folder, tmp_p
     (tmp_path / "models").mkdir()
     table.sample(frac=1, random_state=3)[["x", "y", "z", "cu"]].to_csv(tmp_path / "models" / "a.csv", index=False)
     path = plan_folder(table.assign(cu=0.0), PROJECT + '[scenarios]\nmodels = "models"\n')
-    base = ensemble.read_base(pitplan.load(path))
-    assert next(iter(ensemble.models(base))).grades[:, 0].tolist() == table["cu"].tolist()
+    base = realisations.read_base(pitplan.load(path))
+    assert next(iter(realisations.models(base))).grades[:, 0].tolist() == table["cu"].tolist()
 
 
 @pytest.mark.usefixtures("without_figures")
@@ -398,7 +398,7 @@ def test_what_no_shell_can_reach_is_left_out_of_a_turned_model(plan_folder, monk
     for degrees in (0, 30):
         table = turned(rows(30, 28, 6, cu=lambda i, j, k: ORE.get((i - 8, j - 8, k), 0)), degrees)
         folder, blocks = planned(plan_folder, table, PROJECT, walls_at(degrees), NO_SIZE)
-        assert files.read_record(folder)["grid"]["rows_left_out"] == 30 * 28 * 6 - len(blocks) > 2000
+        assert read_record(folder)["grid"]["rows_left_out"] == 30 * 28 * 6 - len(blocks) > 2000
         assert (blocks[["x", "y"]] == table.set_index("name").loc[blocks.index, ["x", "y"]]).all(axis=None)
         found.append(blocks["factor"])
     pd.testing.assert_series_equal(found[1], found[0])

@@ -16,13 +16,16 @@ from pitplan.blockmodel import missing_blocks, reader
 from pitplan.cli import main
 from pitplan.commands.answers import Answered, write_tables
 from pitplan.config.slopes import Wall
-from pitplan.core import files
 from pitplan.economics import block_values
 from pitplan.pits import best_worst_case
+from pitplan.results.folder import read_record
 from pitplan.slopes import slope_patterns
-from pitplan.verification import answer as answers, demand, sums, verify
+from pitplan.solver import mine_files
+from pitplan.verification import demand, sums, verify
 from pitplan.verification.answer import read
 from pitplan.verification.money import sample
+from pitplan.verification.read_tables import read_blocks
+from pitplan.verification.rules import rule
 from pitplan.verification.walls import flatness, high_walls
 
 TEXT = (
@@ -61,7 +64,7 @@ def answered(tmp_path_factory):
     (place / "project.toml").write_text(TEXT)
     project = load(place / "project.toml")
     pitplan.write_shells(project)
-    return place, files.read_record(project.folder)
+    return place, read_record(project.folder)
 
 
 @pytest.fixture
@@ -292,7 +295,7 @@ def test_all_that_is_bent_is_counted_and_ten_told(copied, name, bend, count, tol
 
 def test_one_place_is_told_as_one():
     with pytest.raises(PlanError, match="what was written is not right in 1 place:\n  money: block 7: revenue 1 for 2"):
-        demand([answers.rule("money", "revenue follows", ["block 7: revenue 1 for 2"])])
+        demand([rule("money", "revenue follows", ["block 7: revenue 1 for 2"])])
 
 
 def test_amounts_are_looked_at_exactly_at_the_edges_of_shells(copied, monkeypatch):
@@ -353,7 +356,7 @@ def looked_at(plan):
     """What is said of the plan's numbers, without pictures and report."""
     folder = plan.project.folder
     folder.mkdir(exist_ok=True)
-    record = plan.record(plan.write(folder))
+    record = plan.record(mine_files.write(plan, folder))
     write_tables(Answered(plan, solve(plan)), folder)
     record["shells"] = {"factors": list(plan.project.schedule.factors)}
     (folder / "prepare.json").write_text(json.dumps(record))
@@ -642,14 +645,12 @@ def test_each_rows_own_columns_alone_are_read(plan_folder, tmp_path):
     path = plan_folder(rows(3, 3, 2))
     blocks = rows(3, 3, 2).assign(id=range(18), factor=0)
     blocks.to_csv(tmp_path / "written.csv", index=False)
-    few = answers.read_blocks(tmp_path / "written.csv", load(path), ("id", "factor", "free_factor"))
+    few = read_blocks(tmp_path / "written.csv", load(path), ("id", "factor", "free_factor"))
     assert list(few.columns) == ["x", "y", "z", "id", "factor"]
     path.write_text(
         path.read_text().replace('id = "name"', 'id = "name"\nabsent = { tonnes = 1, rock = "R", region = "1" }')
     )
-    whole = answers.read_blocks(tmp_path / "written.csv", load(path), ("id", "factor", "free_factor"))
+    whole = read_blocks(tmp_path / "written.csv", load(path), ("id", "factor", "free_factor"))
     assert (
-        list(whole.columns)
-        == list(blocks.columns)
-        == list(answers.read_blocks(tmp_path / "written.csv", load(path)).columns)
+        list(whole.columns) == list(blocks.columns) == list(read_blocks(tmp_path / "written.csv", load(path)).columns)
     )

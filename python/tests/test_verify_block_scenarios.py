@@ -15,7 +15,8 @@ from test_verify_scenarios import SETS, answer_of, bend, simulated
 
 from pitplan import PlanError, gather
 from pitplan.cli import main
-from pitplan.studies.scenarios import block_problem, block_work, one_schedule, work
+from pitplan.studies.scenarios import worker as work
+from pitplan.studies.scenarios.blocks import common_schedule, problem, worker
 from pitplan.verification import verify_folder
 from pitplan.verification.best_ore import most_earned
 
@@ -235,30 +236,30 @@ def at_mean_grades(weights, count):
     """What blocks would be worth at the mean of grades: here a block of 4000 g less 1000 where that pays."""
     found = weights.over(count)
     flows = found.flows | {"cash": found.flows["cash"] * 0.9}
-    return block_problem.Weights(flows, found.mining)
+    return problem.Weights(flows, found.mining)
 
 
 def test_a_mean_of_something_else_is_found(plan_folder, monkeypatch):
-    monkeypatch.setattr(block_work, "mean_of", lambda shared: at_mean_grades(block_work_mean(shared), 1))
+    monkeypatch.setattr(worker, "mean_of", lambda shared: at_mean_grades(block_work_mean(shared), 1))
     folder = solved(plan_folder, pillars(RICH, POOR))
     with pytest.raises(PlanError, match="block value: the one schedule, as planned: value "):
         gather(folder)
     assert not (folder / "schedules.csv").exists()
 
 
-block_work_mean = block_work.mean_of
+block_work_mean = worker.mean_of
 
 
 def test_milling_more_than_the_mill_takes_is_found(plan_folder, monkeypatch):
-    monkeypatch.setattr(one_schedule, "best_shares", lambda gain, takes, most: (gain > 0).astype(float))
+    monkeypatch.setattr(common_schedule, "best_shares", lambda gain, takes, most: (gain > 0).astype(float))
     folder = solved(plan_folder, pillars(RICH, POOR))
     with pytest.raises(PlanError, match="one schedule: sim_1|one schedule: scenario 1, sim_1"):
         gather(folder)
 
 
 def test_milling_less_than_the_best_is_found(plan_folder, monkeypatch):
-    best = one_schedule.best_shares
-    monkeypatch.setattr(one_schedule, "best_shares", lambda gain, takes, most: best(gain, takes, most) * 0.99)
+    best = common_schedule.best_shares
+    monkeypatch.setattr(common_schedule, "best_shares", lambda gain, takes, most: best(gain, takes, most) * 0.99)
     folder = solved(plan_folder, pillars(RICH, POOR))
     with pytest.raises(PlanError, match="one schedule: scenario 1, sim_1, year 1: ore_tonnes 99 for 100"):
         gather(folder)
@@ -298,7 +299,7 @@ def test_the_dual_of_milling_is_worth_what_the_best_choice_is(seed):
     rng = np.random.default_rng(seed)
     gain, takes = rng.uniform(0, 10, 8), rng.uniform(0, 3, (rng.integers(1, 3), 8))
     most = rng.uniform(1, 12, len(takes))
-    shares = one_schedule.best_shares(gain, takes, most)
+    shares = common_schedule.best_shares(gain, takes, most)
     assert gain @ shares == pytest.approx(most_earned(gain, takes, most), rel=1e-6)
 
 

@@ -18,7 +18,7 @@ from test_verify import looked_at, ore_everywhere, wrong
 import pitplan
 from pitplan import PlanError, constraints, load, prepare
 from pitplan.blockmodel import missing_blocks, tin
-from pitplan.core import files
+from pitplan.results.folder import read_record
 from pitplan.solver import problem
 from pitplan.verification import verify
 
@@ -204,7 +204,7 @@ def pits(plan_folder):
     """The folder of a pit with fixed blocks and without them."""
     project = load(plan_folder(ores_and_fixed(), with_section(FIXED_SECTION)))
     pitplan.write_pit(project, 1500)
-    verified = files.read_record(project.folder / "pit")["verified"]
+    verified = read_record(project.folder / "pit")["verified"]
     assert [line.split(":")[0] for line in verified][-3:] == ["years", "conventions", "free"]
     return project.folder / "pit"
 

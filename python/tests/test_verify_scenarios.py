@@ -14,7 +14,7 @@ from test_verify import TEXT, deposit
 import pitplan
 from pitplan import PlanError, Request
 from pitplan.cli import main
-from pitplan.studies.scenarios import ensemble, work
+from pitplan.studies.scenarios import realisations, worker
 from pitplan.verification.scenarios import Verification, verify
 from pitplan.verification.simulated import read
 
@@ -258,7 +258,7 @@ def test_rows_of_a_model_that_are_taken_in_their_own_order_are_found(plan_folder
     mixed = model.sample(frac=1, random_state=3)
     write_models(path, mixed=mixed[["name", "cu"] if column == "name" else ["x", "y", "z", "cu"]])
     for reader in ("rows_by_id", "rows_by_place"):
-        monkeypatch.setattr(ensemble, reader, lambda frame, *_: np.arange(len(frame)))
+        monkeypatch.setattr(realisations, reader, lambda frame, *_: np.arange(len(frame)))
     folder = prepared(path).folder
     solved_in_turn(prepared(path))
     with pytest.raises(PlanError, match="of 1 of 1|worth: scenario 1, mixed at copper 40000: factor"):
@@ -267,7 +267,7 @@ def test_rows_of_a_model_that_are_taken_in_their_own_order_are_found(plan_folder
 
 
 def test_prices_that_are_passed_over_are_found(plan_folder, monkeypatch):
-    monkeypatch.setattr(work, "priced", lambda project, prices: project)
+    monkeypatch.setattr(worker, "priced", lambda project, prices: project)
     shared = prepared(plan_folder(pillar(), PRICES, UPRIGHT))
     solved_in_turn(shared)
     # At 12,000 the metal of sim_1, 0.75 t, yields 4500 at factor 500, and the pit 2900.
@@ -333,13 +333,13 @@ def test_sets_of_prices_that_name_other_metals_are_kept_apart(plan_folder):
 
 def test_answers_that_were_not_gathered_are_named(plan_folder):
     shared = prepared(plan_folder(pillar(), COLUMNS, UPRIGHT))
-    assert [work.solve(str(shared.folder), number).status for number in (1, 3)] == [0, 0]
+    assert [worker.solve(str(shared.folder), number).status for number in (1, 3)] == [0, 0]
     pitplan.gather(shared.folder, Request(partial=True))
     assert wrong(shared.folder) == set() and json.loads((shared.folder / "gathered.json").read_text())["answers"] == [
         1,
         3,
     ]
-    assert work.solve(str(shared.folder), 2).status == 0
+    assert worker.solve(str(shared.folder), 2).status == 0
     (rule,) = [rule for rule in verify(shared.folder) if rule.name == "tables"]
     assert (
         rule.differences[0]

@@ -15,9 +15,9 @@ from browser import Browser, needs_chromium
 
 import pitplan
 from pitplan import PlanError
-from pitplan.core import files
 from pitplan.core.progress import silent
 from pitplan.report import viewer3d
+from pitplan.results.folder import read_folder
 
 KEPT = Path(__file__).parent / "expected" / "view.png"
 
@@ -91,7 +91,7 @@ def test_the_topography_lies_over_what_is_dug(page, browser):
 
 def scheduled(folder, place):
     """The hill with phases and years by hand: phase 1 is the first shell, and years are one more than the number of the shell."""
-    result = files.read_folder(folder)
+    result = read_folder(folder)
     dug = result.blocks["factor"] > 0
     more = {
         "phase": np.where(dug, 1 + (result.blocks["factor"] > 500), 0),
@@ -165,7 +165,7 @@ def first_hit(browser, seen, at):
 
 @needs_chromium
 def test_of_a_large_table_the_rows_of_pits_alone_are_there(solved, tmp_path, browser, monkeypatch):
-    result = files.read_folder(solved[1])
+    result = read_folder(solved[1])
     monkeypatch.setattr(viewer3d, "MOST_ROWS", len(result.blocks) - 1)
     viewer3d.write(tmp_path / "view.html", result)
     browser.open(tmp_path / "view.html", "show=pit")
@@ -227,7 +227,7 @@ def bytes_of(text):
 
 def test_the_model_of_the_page_by_hand(solved):
     """Grades of 6, 0.9 and 0.8 per cent: a hundredth of these lie above 5.898, and 0.8 is 34.6 of 255 parts of it."""
-    model = viewer3d.model_of(files.read_folder(solved[1]))
+    model = viewer3d.model_of(read_folder(solved[1]))
     blocks = pd.read_csv(solved[1] / "blocks.csv")
     (metal,) = model["metals"]
     shell, tint = bytes_of(model["shell"]), bytes_of(metal["grade"])
@@ -265,7 +265,7 @@ def test_the_worth_of_a_block_is_that_of_its_best_process():
 @pytest.mark.parametrize(("low", "high", "most"), [(2.0, 4.0, 4.0), (0.0, 0.0, 1.0)])
 def test_the_grades_of_a_page_are_by_the_greatest_where_all_hold_metal_or_none_does(solved, low, high, most):
     """Of 405 blocks 5 have the lower grade, and a hundredth of the others lies above the higher one, which they all have."""
-    folder = files.read_folder(solved[1])
+    folder = read_folder(solved[1])
     grades = np.where(np.arange(len(folder.blocks)) < 5, low, high)
     (metal,) = viewer3d.model_of(replace(folder, blocks=folder.blocks.assign(cu=grades)))["metals"]
     tint = bytes_of(metal["grade"])[folder.blocks["id"]]
@@ -273,7 +273,7 @@ def test_the_grades_of_a_page_are_by_the_greatest_where_all_hold_metal_or_none_d
 
 
 def test_as_many_factors_as_a_byte_tells_apart_are_shown(solved, monkeypatch):
-    folder = files.read_folder(solved[1])
+    folder = read_folder(solved[1])
     monkeypatch.setattr(viewer3d, "MOST_FACTORS", 3)
     viewer3d.model_of(folder)
     monkeypatch.setattr(viewer3d, "MOST_FACTORS", 2)

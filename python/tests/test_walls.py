@@ -11,7 +11,7 @@ from hypothesis import given, settings, strategies as st
 
 import pitplan
 from pitplan.config.project import of_data
-from pitplan.core import files
+from pitplan.solver import mine_files
 
 CUBE, FLAT, TALL = (10.0, 10.0, 10.0), (20.0, 20.0, 15.0), (5.0, 10.0, 12.0)
 NAMED = {"1:5": {(0, 0), (-1, 0), (1, 0), (0, -1), (0, 1)}, "1:9": {(x, y) for x in (-1, 0, 1) for y in (-1, 0, 1)}}
@@ -71,9 +71,9 @@ def needs_of_walls(plan):
 
 def needs_written(plan, folder):
     """For each block the blocks that its line of mine.prec names."""
-    plan.write(folder)
+    mine_files.write(plan, folder)
     result = [set() for _ in range(plan.grid.count)]
-    for fields in map(str.split, open(folder / files.PREC)):
+    for fields in map(str.split, open(folder / mine_files.PREC)):
         needed = [int(field) for field in fields[2:]]
         assert int(fields[1]) == len(needed) and needed == sorted(set(needed))
         if int(fields[0]) < plan.grid.count:  # the others are nodes of processing

@@ -13,7 +13,7 @@ from test_pushbacks import UPRIGHT, pillars, with_phases
 import pitplan
 from pitplan import PlanError, load
 from pitplan.cli import main
-from pitplan.core import files
+from pitplan.results.folder import read_record
 from pitplan.scheduling import phase_schedule
 from pitplan.verification import verify
 
@@ -182,7 +182,7 @@ def test_what_is_right_passes(copied, capsys):
     assert main(["verify", str(copied)]) == 0
     told = capsys.readouterr().out.splitlines()
     assert [line.split(":")[0] for line in told][-5:] == RULES
-    record = files.read_record(copied)
+    record = read_record(copied)
     named = ["schedule.csv", "ways.csv", "schedule.json", "schedule.xlsx"]
     assert set(named) <= set(record["files"])
     assert any(line.startswith("schedule order") for line in record["verified"])
@@ -378,7 +378,7 @@ def test_an_interruption_keeps_what_is_found_so_far(plan_folder, capsys, monkeyp
     def interrupted(programme, effort=None):
         os.kill(os.getpid(), signal.SIGINT)
 
-    monkeypatch.setattr(phase_schedule.linear_programme, "solve", interrupted)
+    monkeypatch.setattr(phase_schedule.bench_lp, "solve", interrupted)
     path = plan_folder(pillars(), PHASES)
     assert main(["schedule", str(path), "--quiet"]) == 130
     folder = path.parent / "plan" / "schedule"

@@ -8,12 +8,13 @@ from typing import Any
 import numpy as np
 import pandas as pd
 
-from pitplan.config.project import GridRules, Project, TableColumns
+from pitplan.config.project import Project
+from pitplan.config.table import GridRules, TableColumns
+from pitplan.core.numeric_fields import at_row
 from pitplan.errors import PlanError
 
 from . import rotated_grid
 from .axes import Frame, turn_of
-from .reader import at_row
 
 MOST_BLOCKS = 4_194_304
 # Of a grid of up to so many cells blocks are put together, or what no shell can reach is left out.
@@ -254,3 +255,9 @@ def demand_neighbours(grid: Grid, columns: TableColumns, source: str) -> None:
                 f"{source} column {name}: at the smallest step between centres, {size:g} m, most blocks have no neighbour: "
                 "sub-blocks need [table] reblock, others the blocks' size as [grid] size"
             )
+
+
+def grid_of(box: dict[str, Any], rows: np.ndarray) -> Grid:
+    """A grid from its record, with the cells of the table's rows."""
+    (levels, north, east), (x, y, z), (dx, dy, dz) = box["shape"], box["origin"], box["size"]
+    return Grid((levels, north, east), (x, y, z), (dx, dy, dz), rows, box.get("azimuth", 0.0))

@@ -12,7 +12,8 @@ from dataclasses import replace
 import numpy as np
 import pandas as pd
 
-from pitplan.config.project import AbsentRock, Project
+from pitplan.config.project import Project
+from pitplan.config.table import AbsentRock
 from pitplan.errors import PlanError
 
 from .grid import Grid

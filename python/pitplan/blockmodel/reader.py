@@ -5,7 +5,6 @@ A row is counted as a spreadsheet counts it: the header is row 1, the first bloc
 
 from __future__ import annotations
 
-import warnings
 from dataclasses import dataclass, replace
 from decimal import Decimal
 from math import prod
@@ -15,32 +14,18 @@ from typing import Optional
 import numpy as np
 import pandas as pd
 
-from pitplan.config.project import Project, TableColumns
+from pitplan.config.project import Project
+from pitplan.config.table import TableColumns
 from pitplan.config.toml_section import FARTHEST
-from pitplan.core import spreadsheet_formulas
+from pitplan.core import parquet, spreadsheet_formulas
 from pitplan.core.decimals import Exact
-from pitplan.core.numeric_fields import HEADER_ROWS, at_row, holds_texts, numbers_of, without_truths
+from pitplan.core.numeric_fields import HEADER_ROWS, at_row, holds_texts, numbers_of
+from pitplan.core.text_format import NAMES, TableFormat, guessed_separator, names_in_header
+from pitplan.core.text_tables import demand_columns, demand_each_once, read_columns
 from pitplan.errors import PlanError
-
-from . import parquet
-from .text_format import (
-    NAMES,
-    UNREADABLE,
-    NulByte,
-    TableFormat,
-    WholeText,
-    format_of,
-    names_in_header,
-    nul_byte,
-    opened,
-    unreadable,
-    wrong_encoding,
-)
 
 # Tonnes that are computed are kept to a gram, halves to the even one.
 TONNES_PLACES = 6
-# Rows that are read at a time: the reader holds several times what it has read.
-PIECE = 500_000
 
 
 @dataclass(frozen=True)
@@ -83,6 +68,13 @@ def read(project: Project) -> Table:
     return replace(table, notes=tuple(notes_of(form, columns)))
 
 
+def format_of(file: Path, columns: TableColumns) -> TableFormat:
+    """The format that the project names; what it does not name is told by the header. Raises PlanError where the file cannot be
+    read."""
+    separator = columns.separator or guessed_separator(file, columns.encoding)
+    return TableFormat(separator, columns.decimal or ".", columns.encoding)
+
+
 def read_as_written(
     file: Path, columns: TableColumns, codes: list[str], wanted: list[str]
 ) -> tuple[pd.DataFrame, TableFormat]:
@@ -121,57 +113,6 @@ def has_decimal_commas(frame: pd.DataFrame, names: list[str]) -> bool:
     return False
 
 
-def read_columns(file: Path, form: TableFormat, codes: list[str], wanted: list[str]) -> pd.DataFrame:
-    """The file as it is: numbers where a column has no other field, codes as texts, and an empty number as nan.
-
-    Raises PlanError where it cannot be read or is no table; whether the wanted columns are there is not looked at.
-    """
-    try:
-        with warnings.catch_warnings():
-            # All columns are read, and a line with more fields than the header is an error: pandas would drop the rest.
-            warnings.simplefilter("error", pd.errors.ParserWarning)
-            with opened(file) as data, WholeText(data, encoding=form.encoding, newline="") as text:
-                pieces = pd.read_csv(
-                    text,
-                    sep=form.separator,
-                    decimal=form.decimal,
-                    index_col=False,
-                    dtype=dict.fromkeys(codes, str),
-                    keep_default_na=False,
-                    na_values={name: [""] for name in wanted if name not in codes},
-                    float_precision="round_trip",
-                    low_memory=False,
-                    chunksize=PIECE,
-                )
-                return joined([without_truths(piece) for piece in pieces])
-    except NulByte as error:
-        raise nul_byte(file, form) from error
-    except UnicodeError as error:
-        raise wrong_encoding(file, form.encoding) from error
-    except (pd.errors.ParserError, pd.errors.EmptyDataError, pd.errors.ParserWarning) as error:
-        raise PlanError(f"{file}: is no table: {' '.join(str(error).split())}") from error
-    except UNREADABLE as error:
-        raise unreadable(file, error) from error
-
-
-def joined(pieces: list[pd.DataFrame]) -> pd.DataFrame:
-    """One table of several, which are emptied column by column, so that no more than one column is held twice."""
-    if len(pieces) == 1:
-        return pieces[0]
-    names = list(pieces[0].columns)
-    columns = {name: pd.concat([piece.pop(name) for piece in pieces], ignore_index=True) for name in names}
-    return pd.DataFrame(columns, copy=False)
-
-
-def read_header(file: Path, form: TableFormat) -> list[str]:
-    """The names of a table's columns. Raises PlanError where it cannot be read."""
-    try:
-        with opened(file) as data:
-            return list(pd.read_csv(data, sep=form.separator, nrows=0, encoding=form.encoding).columns)
-    except (*UNREADABLE, ValueError) as error:
-        raise PlanError(f"{file}: cannot be read: {error}") from error
-
-
 def names_of(project: Project) -> list[str]:
     """The columns that the project names, each once."""
     return list(dict.fromkeys(named(project)))
@@ -194,20 +135,6 @@ def demand_codes_apart(project: Project) -> None:
         if name and named(project).count(name) > list(codes.values()).count(name):
             why = "is read as numbers too: codes need a column of their own"
             raise PlanError(f"{project.path}: [table] {key}: the column {name} {why}")
-
-
-def demand_columns(frame: pd.DataFrame, wanted: list[str], source: str) -> None:
-    for name in wanted:
-        if name not in frame.columns:
-            there = ", ".join(map(str, frame.columns))
-            raise PlanError(f"{source} row 1: there is no column {name}; the columns are {there}")
-    demand_each_once([name for name in frame.columns if name in wanted], source)
-
-
-def demand_each_once(names: list[str], source: str) -> None:
-    for name in names:
-        if names.count(name) > 1:
-            raise PlanError(f"{source} row 1: the column {name} stands there twice")
 
 
 def checked(frame: pd.DataFrame, project: Project, source: str = "table") -> Table:

@@ -14,13 +14,15 @@ from functools import cached_property
 import numpy as np
 import pandas as pd
 
-from pitplan.config.project import GridRules, Project, Reblock
+from pitplan.blockmodel.reader import TONNES_PLACES, Table
+from pitplan.config.project import Project
 from pitplan.config.schedule import ScheduleRules
+from pitplan.config.table import GridRules, Reblock
 from pitplan.core.decimals import MOST_WHOLE, Exact, greatest, nearest, product
+from pitplan.core.numeric_fields import at_row
 
 from . import grid as grids
 from .axes import Frame
-from .reader import TONNES_PLACES, Table, at_row
 
 # Kept of grades, so that they have an end of decimals; halves to the even one.
 GRADE_PLACES = 9

@@ -11,12 +11,12 @@ from typing import Optional
 
 import numpy as np
 
-from pitplan.config.project import GridRules
+from pitplan.config.table import GridRules
+from pitplan.core.numeric_fields import at_row
 from pitplan.core.optional_packages import load
 from pitplan.errors import PlanError
 
 from .axes import PLACES, turn_of
-from .reader import at_row
 
 # So many centres tell the first guess, each by so many neighbours; their directions are so much alike, 1 being the same.
 CENTRES, NEIGHBOURS, ALIKE = 2_000, 25, 0.99

@@ -8,7 +8,8 @@ from typing import Optional, Sequence
 import numpy as np
 
 from pitplan.config.economics import GRADE_SIGNS, GRADE_UNITS, METAL_UNITS, Metal
-from pitplan.config.project import Project, TableColumns
+from pitplan.config.project import Project
+from pitplan.config.table import TableColumns
 
 from .grid import Grid, metres
 from .reader import Table

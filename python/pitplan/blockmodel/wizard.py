@@ -12,17 +12,18 @@ from typing import Optional
 import numpy as np
 import pandas as pd
 
-from pitplan.config.project import GridRules
-from pitplan.core.files import staged_file
+from pitplan.blockmodel.reader import filled_numbers, has_decimal_commas
+from pitplan.config.table import GridRules
+from pitplan.core.atomic_files import staged_file
 from pitplan.core.numeric_fields import holds_texts
+from pitplan.core.text_format import NAMES, UNREADABLE, TableFormat, demand_text, guessed_separator, opened, unreadable
+from pitplan.core.text_tables import read_columns
 from pitplan.errors import PlanError
 
 from .column_guesses import PRECIOUS, Columns, MetalGuess, columns_of
 from .plausibility import of_codes
-from .reader import filled_numbers, has_decimal_commas, read_columns
 from .rotated_grid import Places, azimuth_of, of_centres
 from .summary import Axis, Grade, mean_of, not_used
-from .text_format import NAMES, UNREADABLE, TableFormat, demand_text, guessed_separator, opened, unreadable
 
 TEMPLATES = Path(__file__).resolve().parents[1] / "templates"
 SEEN = 1 << 20

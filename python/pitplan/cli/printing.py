@@ -8,9 +8,9 @@ import pandas as pd
 
 from minelib.ending import tell
 from pitplan.blockmodel.plausibility import WARNING
-from pitplan.core import files
 from pitplan.core.noted_path import NotedPath
 from pitplan.report.columns import Columns, cells_of
+from pitplan.results.folder import read_record
 
 from ..commands.writing import REPORT
 
@@ -18,7 +18,7 @@ from ..commands.writing import REPORT
 def print_answer(table: pd.DataFrame, columns: Columns, folder: Path) -> None:
     """Prints an answer's table and the path of its report, and its notes on standard error."""
     print_table([heading for _, heading, _, _ in columns], cells_of(table, columns))
-    print_notes(files.read_record(folder)["notes"])
+    print_notes(read_record(folder)["notes"])
     print(folder / REPORT)
 
 

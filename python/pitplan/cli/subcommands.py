@@ -90,8 +90,8 @@ def shells(options: Namespace) -> int:
 
 
 def pit(options: Namespace) -> int:
-    from pitplan.core import files
     from pitplan.report.columns import cells_of, columns_of
+    from pitplan.results.folder import read_record
 
     from ..commands.pit import write_pit
     from ..commands.writing import PITS
@@ -103,7 +103,7 @@ def pit(options: Namespace) -> int:
     columns = columns_of(table, project)
     lines = [[name, *row] for name, row in zip(table["fixed_blocks"], cells_of(table, columns))]
     print_table(["fixed, blocks", *(heading for _, heading, _, _ in columns)], lines)
-    print_notes(files.read_record(folder)["notes"])
+    print_notes(read_record(folder)["notes"])
     print(folder / PITS)
     return 0
 
@@ -123,8 +123,9 @@ def pushbacks(options: Namespace) -> int:
 
 def schedule(options: Namespace) -> int:
     """Raises KeyboardInterrupt after the best schedule is written if the search was interrupted."""
-    from pitplan.core import files
+    from pitplan.core.atomic_files import read_json
     from pitplan.report.columns import columns_by_block, columns_of_ways
+    from pitplan.results import names
 
     from ..commands.schedule import write_block_schedule, write_schedule
     from .printing import print_answer
@@ -133,13 +134,13 @@ def schedule(options: Namespace) -> int:
     folder = options.out or project.folder / ("block_schedule" if by_block else "schedule")
     table = (write_block_schedule if by_block else write_schedule)(project, folder, writing_of(options))
     print_answer(table, (columns_by_block if by_block else columns_of_ways)(table, project), folder)
-    if files.read_json(folder / (files.BLOCK_SCHEDULE if by_block else files.SCHEDULE_RECORD))["interrupted"]:
+    if read_json(folder / (names.BLOCK_SCHEDULE if by_block else names.SCHEDULE_RECORD))["interrupted"]:
         raise KeyboardInterrupt
     return 0
 
 
 def sensitivity(options: Namespace) -> int:
-    from pitplan.core import files
+    from pitplan.core.atomic_files import read_json
     from pitplan.report import columns as report
     from pitplan.studies.dask_pool import Where
     from pitplan.studies.sensitivity import store
@@ -153,7 +154,7 @@ def sensitivity(options: Namespace) -> int:
     table = report.of_cases(write_sensitivity(project, folder, where, writing_of(options)))
     columns = report.columns_of_cases(table, project)
     print_table([heading for _, heading, _, _ in columns], report.cells_of(table, columns))
-    print_notes(files.read_json(folder / store.RECORD)["notes"])
+    print_notes(read_json(folder / store.RECORD)["notes"])
     print(folder / store.TABLE)
     return 0
 

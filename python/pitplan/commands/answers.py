@@ -8,18 +8,19 @@ from typing import TYPE_CHECKING, Optional
 
 import pandas as pd
 
-from pitplan.core import files
+from pitplan.core.atomic_files import write_json
 from pitplan.core.progress import Progress
 from pitplan.export import xlsx
 from pitplan.pits import shell_tables
 from pitplan.pushbacks import nested
 from pitplan.pushbacks.nested import Phases
 from pitplan.report import html
+from pitplan.results import names
 from pitplan.results.conventions import with_discounting, with_outline
 from pitplan.results.rounding import shown, write_csv
 from pitplan.scheduling import phase_schedule
 from pitplan.scheduling.phase_schedule import YearlySchedule
-from pitplan.solver import problem
+from pitplan.solver import mine_files, problem
 from pitplan.solver.problem import Mine
 from pitplan.solver.program import Solution
 
@@ -103,11 +104,11 @@ def check_fixed(mine: Mine, solution: Solution, factor: int, progress: Progress)
 
 def tables_of(answered: Answered) -> list[str]:
     """The names of the tables that an answer has."""
-    names = [files.TABLE, files.SHELLS, files.YEARS, *([files.PHASES] if answered.phases else [])]
-    names += [files.SCHEDULE, files.SCHEDULE_RECORD, WORKBOOK] if answered.schedule else []
-    names += [files.BLOCK_SCHEDULE] if answered.blocks else []
-    names += [files.WAYS] if answered.schedule or answered.blocks else []
-    return [*names, files.MILLING] if answered.schedule and answered.schedule.milling else names
+    found = [names.TABLE, names.SHELLS, names.YEARS, *([names.PHASES] if answered.phases else [])]
+    found += [names.SCHEDULE, names.SCHEDULE_RECORD, WORKBOOK] if answered.schedule else []
+    found += [names.BLOCK_SCHEDULE] if answered.blocks else []
+    found += [names.WAYS] if answered.schedule or answered.blocks else []
+    return [*found, names.MILLING] if answered.schedule and answered.schedule.milling else found
 
 
 def sheets_of(answered: Answered, table: pd.DataFrame, years: pd.DataFrame) -> dict[str, pd.DataFrame]:
@@ -132,7 +133,7 @@ def write_tables(answered: Answered, stage: Path) -> tuple[pd.DataFrame, pd.Data
     more = None if phases is None else phases.mining_cost_added
     table, years = shell_tables.shells(plan, solution, more), shell_tables.years(plan, solution, more)
     if solution.answer is not None:
-        (stage / files.ANSWER).write_bytes(solution.answer)
+        (stage / mine_files.ANSWER).write_bytes(solution.answer)
     blocks = shell_tables.blocks(plan, solution) if phases is None else nested.blocks(phases)
     if answered.schedule is not None:
         blocks["year"] = phase_schedule.blocks_year(answered.schedule)[blocks["id"].to_numpy()]
@@ -140,20 +141,20 @@ def write_tables(answered: Answered, stage: Path) -> tuple[pd.DataFrame, pd.Data
         write_schedule_tables(answered.schedule, plan, stage)
     if answered.blocks is not None:
         blocks, years = answered.blocks.beside(blocks), pd.concat([years, answered.blocks.years], ignore_index=True)
-        files.write_json(stage / files.BLOCK_SCHEDULE, answered.blocks.record)
-        write_csv(shown(answered.blocks.ways), stage / files.WAYS, plan.project)
+        write_json(stage / names.BLOCK_SCHEDULE, answered.blocks.record)
+        write_csv(shown(answered.blocks.ways), stage / names.WAYS, plan.project)
     write_table(blocks, stage)
-    for found, name in ((table, files.SHELLS), (years, files.YEARS)):
+    for found, name in ((table, names.SHELLS), (years, names.YEARS)):
         write_csv(shown(found if phases is None else with_outline(found, plan.project)), stage / name, plan.project)
     if phases is not None:
-        shown(nested.table(phases)).to_csv(stage / files.PHASES, index=False)
+        shown(nested.table(phases)).to_csv(stage / names.PHASES, index=False)
     return table, years
 
 
 def write_schedule_tables(schedule: YearlySchedule, plan: Plan, stage: Path) -> None:
     """Writes schedule.csv, ways.csv, schedule.json, and milling.csv if ore is divided into bins."""
-    write_csv(shown(phase_schedule.table(schedule)), stage / files.SCHEDULE, plan.project)
-    write_csv(shown(phase_schedule.ways(schedule)), stage / files.WAYS, plan.project)
-    files.write_json(stage / files.SCHEDULE_RECORD, phase_schedule.record(schedule))
+    write_csv(shown(phase_schedule.table(schedule)), stage / names.SCHEDULE, plan.project)
+    write_csv(shown(phase_schedule.ways(schedule)), stage / names.WAYS, plan.project)
+    write_json(stage / names.SCHEDULE_RECORD, phase_schedule.record(schedule))
     if schedule.milling:
-        shown(phase_schedule.milling(schedule)).to_csv(stage / files.MILLING, index=False)
+        shown(phase_schedule.milling(schedule)).to_csv(stage / names.MILLING, index=False)

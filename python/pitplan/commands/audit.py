@@ -2,10 +2,11 @@
 
 from __future__ import annotations
 
-from pitplan.core import files, staging
+from pitplan.core import staging
+from pitplan.core.atomic_files import staged
 from pitplan.core.noted_path import NotedPath, noted
 from pitplan.core.progress import Progress, silent
-from pitplan.solver import audit as auditing
+from pitplan.export import audit as auditing
 
 from .export import read_factor
 from .writing import Place
@@ -29,6 +30,6 @@ def audit(folder: Place, factor: int, progress: Progress = silent) -> NotedPath:
     """
     result = read_factor(folder, factor)
     target = result.path / f"audit-{factor}"
-    with progress.step(f"writing {target.name}"), staging.alone(target), files.staged(target) as stage:
+    with progress.step(f"writing {target.name}"), staging.alone(target), staged(target) as stage:
         auditing.write(stage, result, factor, progress)
     return noted(target, auditing.notes(target))

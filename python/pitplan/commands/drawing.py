@@ -8,6 +8,8 @@ from typing import TYPE_CHECKING
 import pandas as pd
 
 from pitplan.figures import annual, block_schedule, plans_sections, pushbacks, schedule
+from pitplan.figures.pit_by_pit import write_pit_by_pit
+from pitplan.figures.style import also_as, files_of
 
 from .writing import BLOCK_PICTURES, PHASE_PICTURES, PICTURES, SCHEDULE_PICTURES
 
@@ -36,17 +38,17 @@ def draw(answered: Answered, table: pd.DataFrame, years: pd.DataFrame, chosen: i
     """
     project = answered.plan.project
     formats = project.pictures.formats if project.pictures else ()
-    with plans_sections.also_as(formats):
+    with also_as(formats):
         draw_shells(answered, table, chosen, stage)
         annual.write_years(years, project, chosen, stage / PICTURES["years"])
         drawn = PICTURES | draw_phases(answered, stage) | draw_schedules(answered, years, stage)
-    return plans_sections.files_of(drawn, formats)
+    return files_of(drawn, formats)
 
 
 def draw_shells(answered: Answered, table: pd.DataFrame, chosen: int, stage: Path) -> None:
     plan = answered.plan
     scene = plans_sections.scene_of(plan, answered.solution, chosen)
-    plans_sections.write_pit_by_pit(table, plan.project.money.currency, chosen, stage / PICTURES["pit_by_pit"])
+    write_pit_by_pit(table, plan.project.money.currency, chosen, stage / PICTURES["pit_by_pit"])
     plans_sections.write_plans(scene, stage / PICTURES["plans"])
     plans_sections.write_sections(scene, stage / PICTURES["sections"])
 

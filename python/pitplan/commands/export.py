@@ -6,11 +6,11 @@ from dataclasses import replace
 from pathlib import Path
 
 from pitplan import verification
-from pitplan.config.project import REFERENCE_FACTOR
-from pitplan.core import files
+from pitplan.config.shells import REFERENCE_FACTOR
 from pitplan.core.noted_path import NotedPath, noted
 from pitplan.core.progress import Progress, silent
 from pitplan.export import registry
+from pitplan.results.folder import Folder, read_folder
 from pitplan.results.pit_states import FACTOR, Shape
 
 from ..errors import PlanError
@@ -52,7 +52,7 @@ def export(
     """
     shape = replace(shape, factor=factor)
     registry.demand_apt(kind, shape)
-    result = read_factor(folder, factor) if shape.of == FACTOR else files.read_folder(Path(folder))
+    result = read_factor(folder, factor) if shape.of == FACTOR else read_folder(Path(folder))
     target = result.path / registry.name_of(kind, shape)
     with progress.step(f"writing {target.name}"), registry.staged(target, kind, shape) as path:
         notes = registry.WRITERS[kind](path, result, shape)
@@ -61,9 +61,9 @@ def export(
     return noted(target, notes or ())
 
 
-def read_factor(folder: Place, factor: int) -> files.Folder:
+def read_factor(folder: Place, factor: int) -> Folder:
     """Reads the files of a plan. Raises PlanError if there is no shell of this factor, in per mille."""
-    result = files.read_folder(Path(folder))
+    result = read_folder(Path(folder))
     if factor not in result.factors:
         raise PlanError(f"factor {factor} is not among the factors {', '.join(map(str, result.factors))}")
     return result

@@ -9,9 +9,10 @@ from typing import Optional
 import pandas as pd
 
 from pitplan.blockmodel import missing_blocks
-from pitplan.config.project import REFERENCE_FACTOR, Project
-from pitplan.core import files
+from pitplan.config.project import Project
+from pitplan.config.shells import REFERENCE_FACTOR
 from pitplan.pits import shell_tables
+from pitplan.results import names
 from pitplan.results.rounding import shown, write_csv
 from pitplan.solver import problem
 
@@ -69,7 +70,7 @@ def write_pit(
         write_table(pd.concat([shell_tables.blocks(plan, keeping), of_free], axis=1), run.stage)
         write_csv(shown(table), run.stage / PITS, project)
         note_verified(plan, run)
-        finish(plan, run.record, [*run.mine.files, files.TABLE, PITS], run.stage)
+        finish(plan, run.record, [*run.mine.files, names.TABLE, PITS], run.stage)
     return table
 
 

@@ -8,8 +8,11 @@ from typing import Any
 from pitplan.blockmodel.figure_bounds import demand_within
 from pitplan.config import project_writer
 from pitplan.config.project import Project
-from pitplan.core import files, staging
+from pitplan.core import staging
+from pitplan.core.atomic_files import staged
 from pitplan.core.progress import Progress, silent
+from pitplan.results import names
+from pitplan.solver import mine_files
 
 from ..plan import prepare
 from .writing import demand_apart, finish, write_table
@@ -31,10 +34,10 @@ def write_plan(project: Project, folder: Path, progress: Progress = silent) -> d
     demand_apart(project, folder)
     with staging.alone(folder):
         plan = prepare(project, progress=progress)
-        with files.staged(folder) as stage:
+        with staged(folder, names.RECORD) as stage:
             demand_within(project, plan.grid)
             with progress.step("writing blocks and needs"):
-                pairs = plan.write(stage)
-            project_writer.write(project, stage / files.AS_RUN, folder)
+                pairs = mine_files.write(plan, stage)
+            project_writer.write(project, stage / project_writer.AS_RUN, folder)
             write_table(plan.blocks, stage)
-            return finish(plan, plan.record(pairs), [*files.of_program(stage), files.TABLE], stage)
+            return finish(plan, plan.record(pairs), [*mine_files.of_program(stage), names.TABLE], stage)

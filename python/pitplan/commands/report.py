@@ -5,10 +5,11 @@ from __future__ import annotations
 from pathlib import Path
 from typing import Optional
 
-from pitplan.core import files
+from pitplan.core.atomic_files import staged_file
 from pitplan.core.progress import Progress, silent
 from pitplan.export import planner_table
 from pitplan.report import html
+from pitplan.results.folder import read_folder
 
 from .writing import REPORT, Place
 
@@ -36,8 +37,8 @@ def write_report(folder: Place, sensitivity: Optional[Place] = None, progress: P
     PlanError
         If the folder has no shells, it or an input has changed since the run, or `sensitivity` is no sensitivity of these inputs.
     """
-    result = files.read_folder(Path(folder))
+    result = read_folder(Path(folder))
     project = planner_table.project_of(result)
-    with progress.step("writing the report"), files.staged_file(result.path / REPORT) as path:
+    with progress.step("writing the report"), staged_file(result.path / REPORT) as path:
         html.write(path, result.path, project, None if sensitivity is None else Path(sensitivity))
     return result.path / REPORT

@@ -10,13 +10,14 @@ import pandas as pd
 
 from pitplan import verification
 from pitplan.config.figures import PictureRules
-from pitplan.core import csv_writer, files
+from pitplan.core import csv_writer
+from pitplan.core.atomic_files import staged, write_json
 from pitplan.core.optional_packages import load_library
 from pitplan.export.vtk import write_image as write_vti
 from pitplan.figures import scenario_values, scenarios
-from pitplan.figures.plans_sections import also_as
+from pitplan.figures.style import also_as
 from pitplan.results.conventions import with_discounting
-from pitplan.studies.scenarios import answers, run
+from pitplan.studies.scenarios import pit_probability, run
 from pitplan.studies.scenarios.inclusion import Likely
 from pitplan.studies.scenarios.pit_probability import Gathered
 from pitplan.studies.scenarios.request import Request
@@ -49,9 +50,9 @@ def write_pits(shared: Shared, request: Request, writing: Writing) -> list[str]:
         If an answer is missing, or a result differs from its independent recalculation.
     """
     progress, factor = writing.progress, run.shown_factor(shared, request)
-    with files.staged(shared.folder, whole=writing.removed(shared.folder, PICTURES.values())) as stage:
+    with staged(shared.folder, whole=writing.removed(shared.folder, PICTURES.values())) as stage:
         with progress.step("gathering the answers"):
-            gathered = answers.gather(shared, request.partial)
+            gathered = pit_probability.gather(shared, request.partial)
             write_tables(shared, gathered, stage)
         notes = note_verified(shared, gathered.missing, writing, stage)
         with progress.step("writing the image"):
@@ -78,7 +79,7 @@ def write_schedules(shared: Shared, request: Request, writing: Writing) -> list[
     from pitplan.studies.scenarios.blocks import tables as block_answers
 
     progress = writing.progress
-    with files.staged(shared.folder, whole=writing.removed(shared.folder, [PICTURE_OF_VALUES])) as stage:
+    with staged(shared.folder, whole=writing.removed(shared.folder, [PICTURE_OF_VALUES])) as stage:
         with progress.step(f"digging the one schedule in {len(shared.scenarios):,} scenarios"):
             schedules = block_answers.gather(shared, request.partial)
             write_schedule_tables(schedules, block_answers.quantiles(schedules), shared, stage)
@@ -117,26 +118,26 @@ def note_verified(shared: Shared, missing: dict[int, str], writing: Writing, sta
         verification.demand(rules)
         verified = [f"{rule.name}: {rule.holds}" for rule in rules]
     answered = [scenario.number for scenario in shared.scenarios if scenario.number not in missing]
-    files.write_json(stage / GATHERED, {"answers": answered, "verified": verified, "figures": writing.figures})
+    write_json(stage / GATHERED, {"answers": answered, "verified": verified, "figures": writing.figures})
     return [] if writing.verifies else [f"the results were not verified: run pitplan verify {shared.folder}"]
 
 
 def write_tables(shared: Shared, gathered: Gathered, stage: Path) -> None:
     """Writes the probability of each block, the pits of each scenario, and their quantiles."""
-    blocks = answers.read_blocks(shared.folder, codes_of(shared.project))
-    answers.by_block(shared, gathered, blocks).to_csv(stage / PROBABILITY, index=False, float_format="%.6g")
+    blocks = pit_probability.read_blocks(shared.folder, codes_of(shared.project))
+    pit_probability.by_block(shared, gathered, blocks).to_csv(stage / PROBABILITY, index=False, float_format="%.6g")
     gathered.table.to_csv(stage / TABLE, index=False, float_format="%.10g")
-    answers.quantiles(gathered.table).to_csv(stage / QUANTILES, index=False, float_format="%.10g")
+    pit_probability.quantiles(gathered.table).to_csv(stage / QUANTILES, index=False, float_format="%.10g")
 
 
 def write_schedule_tables(schedules: Schedules, quantiles: pd.DataFrame, shared: Shared, stage: Path) -> None:
     """Writes the tables of schedules and of the one for all, and one_schedule.json."""
-    blocks = answers.read_blocks(shared.folder, codes_of(shared.project))
+    blocks = pit_probability.read_blocks(shared.folder, codes_of(shared.project))
     csv_writer.write(stage / ONE, schedules.by_block(shared, blocks))
     tables = {SCHEDULES: schedules.table, ONE_YEARS: schedules.years, QUANTILES: quantiles}
     for name, table in tables.items():
         with_discounting(table, shared.project).to_csv(stage / name, index=False, float_format="%.12g")
-    files.write_json(stage / ONE_RECORD, schedules.record(shared))
+    write_json(stage / ONE_RECORD, schedules.record(shared))
 
 
 def write_image(shared: Shared, gathered: Gathered, stage: Path) -> list[str]:

@@ -10,9 +10,11 @@ import pandas as pd
 
 from pitplan import verification
 from pitplan.config import project_writer
-from pitplan.core import csv_writer, files, staging
+from pitplan.core import csv_writer, staging
+from pitplan.core.atomic_files import staged, write_json
 from pitplan.figures import sensitivity
-from pitplan.figures.plans_sections import also_as
+from pitplan.figures.style import also_as
+from pitplan.results import names
 from pitplan.results.conventions import with_discounting
 from pitplan.studies.dask_pool import Where
 from pitplan.studies.sensitivity import cases as varied_cases, store
@@ -75,11 +77,11 @@ def write_cases(found: Sensitivity, folder: Path, writing: Writing) -> pd.DataFr
         If a result differs from its independent recalculation.
     """
     cases, project, progress = varied_cases.table(found), found.project, writing.progress
-    with files.staged(folder, RECORD, writing.removed(folder, FIGURES)) as stage:
+    with staged(folder, RECORD, writing.removed(folder, FIGURES)) as stage:
         record = store.record(found, os.path.relpath(project.path, folder)) | {"figures": writing.figures}
         write_tables(found, cases, stage)
-        project_writer.write(found.asked, stage / files.AS_RUN, folder)
-        files.write_json(stage / RECORD, record)
+        project_writer.write(found.asked, stage / project_writer.AS_RUN, folder)
+        write_json(stage / RECORD, record)
         if writing.verifies:
             with progress.step("verifying"):
                 rules = verification.verify_sensitivity(stage, folder)
@@ -88,7 +90,7 @@ def write_cases(found: Sensitivity, folder: Path, writing: Writing) -> pd.DataFr
         if writing.figures:
             with progress.step("drawing"), also_as(project.pictures.formats if project.pictures else ()):
                 sensitivity.write_all(cases, varied_cases.rules_of(project).pairs, project.money.currency, stage)
-        files.write_json(stage / RECORD, record)
+        write_json(stage / RECORD, record)
     return cases
 
 
@@ -96,5 +98,5 @@ def write_tables(found: Sensitivity, cases: pd.DataFrame, stage: Path) -> None:
     """Writes sensitivity.csv, and blocks.csv with the factor of each block in the pits of the project as given."""
     blocks = found.plan.blocks
     blocks["factor"] = found.answers[Case()].entry[blocks["id"].to_numpy()]
-    csv_writer.write(stage / files.TABLE, blocks)
+    csv_writer.write(stage / names.TABLE, blocks)
     with_discounting(store.shown(cases), found.project).to_csv(stage / TABLE, index=False)

@@ -4,9 +4,10 @@ from __future__ import annotations
 
 from pathlib import Path
 
-from pitplan.core import files
+from pitplan.core.atomic_files import staged_file
 from pitplan.core.progress import Progress, silent
 from pitplan.report import viewer3d
+from pitplan.results.folder import read_folder
 
 from .writing import VIEW, Place
 
@@ -21,7 +22,7 @@ def view(folder: Place, progress: Progress = silent) -> Path:
     PlanError
         If the folder has no shells, or has changed since the run.
     """
-    result = files.read_folder(Path(folder))
-    with progress.step("writing the 3D page"), files.staged_file(result.path / VIEW) as path:
+    result = read_folder(Path(folder))
+    with progress.step("writing the 3D page"), staged_file(result.path / VIEW) as path:
         viewer3d.write(path, result)
     return result.path / VIEW

@@ -15,11 +15,13 @@ from pitplan.blockmodel.figure_bounds import demand_within
 from pitplan.config import project_writer
 from pitplan.config.figures import FORMATS
 from pitplan.config.project import Project, inputs_beside, load
-from pitplan.core import csv_writer, files, staging
+from pitplan.core import csv_writer, staging
+from pitplan.core.atomic_files import demand_no_folders, hashes, hashes_of, staged, write_json
 from pitplan.core.progress import Progress, silent
 from pitplan.export import registry
 from pitplan.figures import block_schedule, sensitivity
-from pitplan.solver import problem
+from pitplan.results import names
+from pitplan.solver import mine_files, problem
 from pitplan.solver.choice import PROGRAM, chosen
 from pitplan.solver.problem import Mine
 from pitplan.studies.sensitivity import store
@@ -47,14 +49,14 @@ BLOCK_PICTURES = {"block_schedule": block_schedule.NAME}
 FIGURES = tuple((PICTURES | PHASE_PICTURES | SCHEDULE_PICTURES | BLOCK_PICTURES).values())
 REPORT, VIEW, WORKBOOK = "report.html", "view.html", "schedule.xlsx"
 # The files that every run writes or removes.
-ALWAYS = (*files.OF_PROGRAM, files.RECORD, files.TABLE, files.AS_RUN)
+ALWAYS = (*mine_files.OF_PROGRAM, names.RECORD, names.TABLE, project_writer.AS_RUN)
 WRITTEN = {
     *ALWAYS,
-    files.SHELLS,
-    files.YEARS,
-    files.PHASES,
-    *(files.SCHEDULE, files.SCHEDULE_RECORD, files.MILLING, WORKBOOK),
-    *(files.BLOCK_SCHEDULE, files.WAYS),
+    names.SHELLS,
+    names.YEARS,
+    names.PHASES,
+    *(names.SCHEDULE, names.SCHEDULE_RECORD, names.MILLING, WORKBOOK),
+    *(names.BLOCK_SCHEDULE, names.WAYS),
     *(REPORT, VIEW),
     *FIGURES,
 }
@@ -132,7 +134,7 @@ def read(project: Source) -> Project:
 
 def demand_apart(project: Project, folder: Path) -> None:
     """Refuses a folder in which a file of the plan would replace an input, also of another mine, or has a folder in its place."""
-    files.demand_no_folders(folder, ALWAYS)
+    demand_no_folders(folder, ALWAYS)
     for path in (*project.inputs, *inputs_beside(folder)):
         if path.parent.resolve() == folder.resolve() and path.name in WRITTEN:
             raise PlanError(f"{path}: the plan would be written over it: give another folder by --out")
@@ -166,8 +168,8 @@ def begun(project: Project, folder: Path, writing: Writing, planned: Optional[Pr
     with staging.alone(folder):
         solver = chosen(project.solver)
         plan = prepare_plan(planned or project, progress=progress)
-        with files.staged(folder, whole=(*files.OF_PROGRAM, *writing.removed(folder, FIGURES))) as stage:
-            project_writer.write(project, stage / files.AS_RUN, folder)
+        with staged(folder, names.RECORD, (*mine_files.OF_PROGRAM, *writing.removed(folder, FIGURES))) as stage:
+            project_writer.write(project, stage / project_writer.AS_RUN, folder)
             demand_within(project, plan.grid)
             with progress.step("writing blocks and needs" if solver.by == PROGRAM else "listing the needs"):
                 mine = problem.ready(plan, solver, stage)
@@ -180,7 +182,7 @@ def note_verified(plan: Plan, run: Run) -> None:
     record["project"] = os.path.relpath(plan.project.path, stage.parent)
     record["verified"] = []
     if run.writing.verifies:
-        files.write_json(stage / files.RECORD, record)
+        write_json(stage / names.RECORD, record)
         with run.writing.progress.step("verifying"):
             rules = verification.verify(stage, plan.project, plan.read)
         verification.demand(rules)
@@ -189,12 +191,12 @@ def note_verified(plan: Plan, run: Run) -> None:
 
 def write_table(blocks: pd.DataFrame, stage: Path) -> None:
     """Writes blocks.csv."""
-    csv_writer.write(stage / files.TABLE, blocks)
+    csv_writer.write(stage / names.TABLE, blocks)
 
 
-def finish(plan: Plan, record: dict[str, Any], names: list[str], stage: Path) -> dict[str, Any]:
+def finish(plan: Plan, record: dict[str, Any], files: list[str], stage: Path) -> dict[str, Any]:
     """Writes the record with the hashes of the inputs, by their place relative to the project, and of the written files; returns it."""
-    record["inputs"] = files.hashes_of(plan.project.named_inputs)
-    record["files"] = files.hashes(stage, [files.AS_RUN, *names])
-    files.write_json(stage / files.RECORD, record)
+    record["inputs"] = hashes_of(plan.project.named_inputs)
+    record["files"] = hashes(stage, [project_writer.AS_RUN, *files])
+    write_json(stage / names.RECORD, record)
     return record

@@ -8,13 +8,16 @@ from dataclasses import asdict, replace
 from pathlib import Path
 from typing import Any, Optional
 
-from pitplan.core.files import AS_RUN, hash_of
+from pitplan.config.project import Project, load
+from pitplan.config.scenarios import Scenarios
+from pitplan.config.shells import REFERENCE_FACTOR, Schedule
+from pitplan.config.table import AbsentRock, GridRules, Reblock, TableColumns
+from pitplan.core.atomic_files import hash_of
 
 from .constraints import BLOCKS, FixedRules
 from .economics import ByRegion, Curve, Metal, Money, Process
 from .figures import PictureRules
 from .haulage import KINDS, Haulage
-from .project import REFERENCE_FACTOR, AbsentRock, GridRules, Project, Reblock, Scenarios, Schedule, TableColumns, load
 from .pushbacks import PhaseRules
 from .schedule import ScheduleRules, Sum
 from .sensitivity import SensitivityRules
@@ -23,6 +26,9 @@ from .survey import SurveyFile
 
 # A section: values by key. A key whose value is None is left out.
 Values = dict[str, Any]
+
+# The project of the run, which may be another than its file says.
+AS_RUN = "project-as-run.toml"
 
 
 def of_project(project: Project, folder: Path) -> str:

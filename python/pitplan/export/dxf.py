@@ -9,8 +9,8 @@ from typing import Any
 import numpy as np
 
 from pitplan.blockmodel.grid import metres
-from pitplan.core.files import Folder
 from pitplan.core.optional_packages import load
+from pitplan.results.folder import Folder
 from pitplan.results.pit_states import GROUND, Shape, Stage, places_of, rock, stages_of
 
 from . import pit_topography

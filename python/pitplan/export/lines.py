@@ -10,9 +10,9 @@ from typing import Any
 import pandas as pd
 
 from pitplan.blockmodel.grid import metres
-from pitplan.core.files import Folder
 from pitplan.core.optional_packages import load
 from pitplan.errors import PlanError
+from pitplan.results.folder import Folder
 from pitplan.results.pit_states import Shape
 
 from .toes_and_crests import TOE, Line, lines_of

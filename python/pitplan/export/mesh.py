@@ -10,9 +10,9 @@ from typing import Any
 
 import numpy as np
 
-from pitplan.core.files import Folder
 from pitplan.core.optional_packages import load
 from pitplan.errors import PlanError
+from pitplan.results.folder import Folder
 from pitplan.results.pit_states import FACTOR, GROUND, Shape, Stage, places_of, rock, stages_of
 
 from . import pit_topography

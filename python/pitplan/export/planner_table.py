@@ -9,12 +9,15 @@ import pandas as pd
 
 from pitplan.blockmodel import reader
 from pitplan.blockmodel.grid import Grid
-from pitplan.blockmodel.text_format import TableFormat, demand_text, format_of, names_in_header
+from pitplan.blockmodel.reader import format_of
 from pitplan.config import project_writer
 from pitplan.config.project import Project
-from pitplan.core.files import Folder, hash_of
+from pitplan.core.atomic_files import hash_of
+from pitplan.core.text_format import TableFormat, demand_text, names_in_header
+from pitplan.core.text_tables import read_columns, read_header
 from pitplan.errors import PlanError
 from pitplan.plan import shown_name
+from pitplan.results.folder import Folder
 
 # What blocks.csv has of a block's pits, phase and year, in this order; each where the folder has it.
 FOUND = ("factor", "process_factor", "phase", "year")
@@ -68,6 +71,6 @@ def project_of(folder: Folder) -> Project:
 def as_text(file: Path, project: Project) -> tuple[pd.DataFrame, TableFormat]:
     """Every column of the table as texts, by the names that a plan gives them, and the table's format."""
     form = format_of(file, project.table)
-    frame = reader.read_columns(file, form, reader.read_header(file, form), [])
+    frame = read_columns(file, form, read_header(file, form), [])
     frame.columns = pd.Index([shown_name(name) if name in FOUND else name for name in names_in_header(file, form)])
     return frame, form

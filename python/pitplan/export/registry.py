@@ -10,10 +10,12 @@ from typing import Callable, Iterator, Optional
 import numpy as np
 import pandas as pd
 
-from pitplan.core import csv_writer, files, staging
-from pitplan.core.files import Folder
+from pitplan.core import csv_writer, staging
+from pitplan.core.atomic_files import staged as staged_files, staged_file
 from pitplan.core.optional_packages import load
 from pitplan.errors import PlanError
+from pitplan.results import names
+from pitplan.results.folder import Folder
 from pitplan.results.pit_states import FACTOR, GROUND, Shape, places_of
 
 from . import dxf, lines, mesh as surfaces, planner_table, xlsx
@@ -29,7 +31,7 @@ SURFACES, SINGLE = ("dxf", "stl", "obj"), ("stl", "obj")
 # Those that hold toes and crests alone, with the ending of their files.
 LINES = {"gpkg": "gpkg", "str": "str", "lines": "csv"}
 # The tables of a folder, each a sheet of the workbook by its name.
-SHEETS = (files.SHELLS, files.YEARS, files.PHASES, files.SCHEDULE, files.MILLING)
+SHEETS = (names.SHELLS, names.YEARS, names.PHASES, names.SCHEDULE, names.MILLING)
 # The corners of a cell as VTK counts them in a voxel: steps east, north and up.
 CORNERS = np.array([(x, y, z) for z in (0, 1) for y in (0, 1) for x in (0, 1)])
 
@@ -52,7 +54,7 @@ def is_folder(kind: str, shape: Shape) -> bool:
 def staged(target: Path, kind: str, shape: Shape) -> AbstractContextManager[Path]:
     """A name to write to, or a folder, whose files come to the target where no error comes, and those of an earlier run go."""
     if not is_folder(kind, shape):
-        return files.staged_file(target)
+        return staged_file(target)
     return staged_folder(target, f"{shape.of}-*.{kind}")
 
 
@@ -60,7 +62,7 @@ def staged(target: Path, kind: str, shape: Shape) -> AbstractContextManager[Path
 def staged_folder(target: Path, pattern: str) -> Iterator[Path]:
     """A folder whose files come to the target where no error comes, in place of those of an earlier run, which have such names."""
     with staging.alone(target):
-        with files.staged(target, whole=tuple(path.name for path in target.glob(pattern))) as stage:
+        with staged_files(target, whole=tuple(path.name for path in target.glob(pattern))) as stage:
             yield stage
 
 

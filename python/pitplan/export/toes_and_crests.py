@@ -12,7 +12,7 @@ import numpy as np
 
 from pitplan.blockmodel.grid import Grid
 from pitplan.core.cell_outlines import rings
-from pitplan.core.files import Folder
+from pitplan.results.folder import Folder
 from pitplan.results.pit_states import Shape, Stage, places_of, stages_of
 
 TOE, CREST = "toe", "crest"

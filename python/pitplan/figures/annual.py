@@ -12,9 +12,9 @@ from matplotlib.axes import Axes
 from matplotlib.figure import Figure
 from matplotlib.ticker import MaxNLocator
 
-from pitplan.config.project import Project, Schedule
-
-from .plans_sections import ORE, PLAIN, STYLE, WASTE, finish, list_of, scaled
+from pitplan.config.project import Project
+from pitplan.config.shells import Schedule
+from pitplan.figures.style import ORE, PLAIN, STYLE, WASTE, finish, list_of, scaled
 
 CASES = {"best": "Best case", "worst": "Worst case"}
 MILL, SHOVELS = "#1f3f6e", "#8a7f6a"

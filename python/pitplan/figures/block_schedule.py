@@ -11,8 +11,9 @@ from matplotlib.axes import Axes
 from matplotlib.figure import Figure
 from matplotlib.ticker import MaxNLocator
 
+from pitplan.figures.style import ORE, PLAIN, STYLE, finish, list_of, scaled
+
 from .annual import FAR_ABOVE, MARGIN, MILL, SHOVELS
-from .plans_sections import ORE, PLAIN, STYLE, finish, list_of, scaled
 from .schedule import draw_bars
 
 if TYPE_CHECKING:

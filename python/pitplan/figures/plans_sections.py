@@ -6,9 +6,6 @@ it did not ask for."""
 
 from __future__ import annotations
 
-from collections.abc import Callable, Iterator
-from contextlib import contextmanager
-from contextvars import ContextVar
 from dataclasses import dataclass
 from functools import partial
 from pathlib import Path
@@ -16,49 +13,22 @@ from typing import Any, Optional
 
 import matplotlib
 import numpy as np
-import pandas as pd
 from matplotlib.axes import Axes
 from matplotlib.collections import LineCollection
 from matplotlib.colors import BoundaryNorm, ListedColormap
-from matplotlib.figure import Figure
 from matplotlib.image import AxesImage
-from matplotlib.ticker import MaxNLocator
 
 from pitplan.blockmodel.grid import Grid, metres
 from pitplan.config.figures import PictureRules
 from pitplan.config.project import Metal
 from pitplan.core.cell_outlines import edges
-from pitplan.errors import PlanError
+from pitplan.figures.style import GROUND, MAP
 from pitplan.pits import shell_tables
 from pitplan.plan import Plan
 from pitplan.solver.program import Solution
 
 from .map_marks import axes_of_map, contours, floor_of, mark_map, mark_section_cells, section_titles
-
-ORE, WASTE, GROUND = "#3b6ea5", "#cfc9bd", "#ece8df"
-BEST, WORST, PLAIN, CHOSEN = "#1b7f4b", "#c0392b", "#444444", "#ffe9a6"
-# Red and green are alike to many: the best case points upward.
-BEST_MARK, WORST_MARK = "^", "v"
-STYLE = {
-    "font.size": 9,
-    "axes.spines.top": False,
-    "axes.titlesize": 10,
-    "axes.titlelocation": "left",
-    "savefig.dpi": 120,
-    # Coordinates of seven digits stand in full beside the axes.
-    "axes.formatter.useoffset": False,
-    "axes.formatter.limits": (-6, 9),
-}
-# In what formats pictures are written besides PNG, and what these would tell of the library and the day.
-ALSO: ContextVar[tuple[str, ...]] = ContextVar("ALSO", default=())
-UNDATED: dict[str, dict[str, None]] = {
-    "pdf": {"Creator": None, "Producer": None, "CreationDate": None},
-    "svg": {"Date": None, "Creator": None},
-}
-MOST_TICKS = 11
-MOST_COORDINATES = 6
-# Rows are shown from the bottom of the picture up, each cell as it is.
-MAP: dict[str, Any] = {"origin": "lower", "interpolation": "nearest"}
+from .style import MOST_TICKS, STYLE, finish, list_of, name_axes, panels, write_maps
 
 
 @dataclass(frozen=True)
@@ -158,76 +128,6 @@ def place_of(coordinate: float, grid: Grid, axis: int) -> int:
     return min(int(steps), grid.shape[2 - axis] - 1)
 
 
-def list_of(axes: Any, count: int) -> list[Axes]:
-    """So many axes, given as a list or as an array of any shape. Raises PlanError where there are more or fewer."""
-    found = list(np.ravel(axes))
-    if len(found) != count:
-        raise PlanError(f"{len(found)} axes are given, and the picture has {count}")
-    return found
-
-
-def scaled(most: float) -> tuple[float, str]:
-    """A unit in which numbers up to `most` have two digits before the point or more: its size and its sign."""
-    for size, sign in ((1e6, "M"), (1e3, "k")):
-        if most >= 10 * size:
-            return size, sign
-    return 1.0, ""
-
-
-def write_pit_by_pit(table: pd.DataFrame, currency: str, chosen: int, path: Path) -> None:
-    with matplotlib.rc_context(STYLE):
-        figure = Figure(figsize=(9.5, 4.8))
-        plot_pit_by_pit(table, currency, chosen, figure.subplots())
-        figure.tight_layout()
-        finish(figure, path)
-
-
-def plot_pit_by_pit(table: pd.DataFrame, currency: str, chosen: int, ax: Axes) -> Axes:
-    """Tonnes of ore and waste of each shell, and on a second scale to the right worth and NPV at the price as given; gives `ax`.
-
-    table   as `pitplan.shells` gives it
-    chosen  the factor, in per mille, that is marked
-    """
-    right = ax.twinx()
-    draw_tonnes(ax, table, chosen)
-    draw_worth(right, table, currency)
-    shown = [axis.get_legend_handles_labels() for axis in (ax, right)]
-    handles, names = ([*shown[0][k], *shown[1][k]] for k in (0, 1))
-    ax.legend(handles, names, ncol=6, loc="lower center", bbox_to_anchor=(0.5, 1.0), frameon=False)
-    return ax
-
-
-def draw_tonnes(axis: Axes, table: pd.DataFrame, chosen: int) -> None:
-    """A bar a factor, and a band behind that of the chosen one."""
-    factors = table["factor"].to_numpy()
-    wide = 0.75 * float(np.diff(factors).min()) if len(factors) > 1 else 20.0
-    size, sign = scaled(float(table["tonnes"].max()))
-    ore, waste = table["in_situ_ore_tonnes"] / size, table["waste_tonnes"] / size
-    axis.axvspan(chosen - 0.65 * wide, chosen + 0.65 * wide, color=CHOSEN, zorder=0, label=f"chosen: {chosen}")
-    axis.bar(factors, ore, wide, color=ORE, label="ore", linewidth=0)
-    axis.bar(factors, waste, wide, bottom=ore, color=WASTE, label="waste", linewidth=0)
-    axis.set_xlabel("price factor, per mille of the price as given")
-    axis.set_ylabel(f"rock in the pit, {sign}t")
-
-
-def draw_worth(axis: Axes, table: pd.DataFrame, currency: str) -> None:
-    """A line each for worth and both NPVs, with a ring round its greatest."""
-    curves = (
-        ("worth", "undiscounted", PLAIN, "--o"),
-        ("npv_best", "NPV, best case", BEST, f"-{BEST_MARK}"),
-        ("npv_worst", "NPV, worst case", WORST, f"-{WORST_MARK}"),
-    )
-    amounts = table[[column for column, _, _, _ in curves]]
-    size, sign = scaled(float(amounts.abs().max().max()))
-    for column, label, colour, line in curves:
-        axis.plot(table["factor"], amounts[column] / size, line, color=colour, markersize=4, linewidth=1.4, label=label)
-        peak = amounts[column].idxmax()
-        ring = {"markersize": 9, "markerfacecolor": "none", "markeredgecolor": colour}
-        axis.plot(table["factor"][peak], amounts[column][peak] / size, "o", **ring)
-    axis.set_ylabel(f"worth at the price as given, {sign} {currency}".replace(",  ", ", "))
-    axis.set_ylim(min(0.0, 1.1 * float(amounts.min().min()) / size), axis.get_ylim()[1] * 1.05)
-
-
 def write_plans(scene: Scene, path: Path) -> None:
     write_maps(scene.grid, partial(plot_plans, scene), path, 1 + len(levels_to_show(scene)))
 
@@ -264,33 +164,6 @@ def plot_sections(scene: Scene, axes: Any) -> list[Axes]:
         for ax in (left, right):
             name_axes(ax, label, "elevation")
     return found
-
-
-def name_axes(axis: Axes, across: str, up: str) -> None:
-    """Labels in metres, coordinates in full, and so few ticks below that those of seven digits keep apart."""
-    axis.set_xlabel(f"{across}, m")
-    axis.set_ylabel(f"{up}, m")
-    axis.ticklabel_format(style="plain", useOffset=False)
-    axis.xaxis.set_major_locator(MaxNLocator(MOST_COORDINATES, steps=[1, 2, 2.5, 5, 10]))
-
-
-def write_maps(grid: Grid, plot: Callable[[list[Axes]], object], path: Path, count: int = 4) -> None:
-    """Writes a picture of so many maps of the grid, which `plot` draws on their axes."""
-    with matplotlib.rc_context(STYLE):
-        west, east, south, north, _, _ = grid.extent()
-        figure, axes = panels(east - west, north - south, count)
-        plot(axes)
-        finish(figure, path)
-
-
-def panels(wide: float, high: float, count: int = 4) -> tuple[Figure, list[Axes]]:
-    """A figure of maps in the ground's proportions, two beside each other, and its axes."""
-    share, lines = min(max(high / wide, 0.3), 1.3), -(-count // 2)
-    figure = Figure(figsize=(12, lines * (4.7 * share + 0.75)), constrained_layout=True)
-    axes = list(figure.subplots(lines, 2, squeeze=False).flat)
-    for ax in axes[count:]:
-        ax.set_axis_off()
-    return figure, axes[:count]
 
 
 def plot_floor(scene: Scene, ax: Axes) -> Axes:
@@ -393,26 +266,3 @@ def busiest(dug: np.ndarray, axis: int) -> int:
     """The row or column in which most of the pit lies."""
     others = tuple(k for k in range(3) if k != axis)
     return int(dug.sum(axis=others).argmax()) if dug.any() else dug.shape[axis] // 2
-
-
-@contextmanager
-def also_as(formats: tuple[str, ...]) -> Iterator[None]:
-    """Pictures that are written meanwhile are written in these formats too, beside the PNG."""
-    before = ALSO.set(formats)
-    try:
-        yield
-    finally:
-        ALSO.reset(before)
-
-
-def files_of(drawn: dict[str, str], formats: tuple[str, ...]) -> list[str]:
-    """The names of pictures, in every format that they are written in."""
-    return [str(Path(name).with_suffix(f".{kind}")) for name in drawn.values() for kind in ("png", *formats)]
-
-
-def finish(figure: Figure, path: Path) -> None:
-    # Without the library's version and the day in it, the same plan gives the same bytes.
-    figure.savefig(path, metadata={"Software": None})
-    with matplotlib.rc_context({"svg.hashsalt": "pitplan"}):
-        for name in ALSO.get():
-            figure.savefig(path.with_suffix(f".{name}"), metadata=UNDATED[name])

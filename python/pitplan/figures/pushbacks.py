@@ -17,22 +17,11 @@ from matplotlib.figure import Figure
 from pitplan.blockmodel.grid import Grid, metres
 from pitplan.config.figures import PictureRules
 from pitplan.core.cell_outlines import edges
+from pitplan.figures.plans_sections import section_column, section_levels, section_row
+from pitplan.figures.style import GROUND, MAP, MOST_TICKS, STYLE, finish, list_of, name_axes, write_maps
 from pitplan.pushbacks.nested import Phases
 
 from .map_marks import axes_of_map, contours, floor_of, mark_map, mark_section_cells, section_titles
-from .plans_sections import (
-    GROUND,
-    MAP,
-    MOST_TICKS,
-    STYLE,
-    finish,
-    list_of,
-    name_axes,
-    section_column,
-    section_levels,
-    section_row,
-    write_maps,
-)
 
 Extent = tuple[float, float, float, float]
 LEAST_SHARE, GREATEST_SHARE = 0.18, 0.9

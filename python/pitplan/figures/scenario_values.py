@@ -11,9 +11,8 @@ import pandas as pd
 from matplotlib.axes import Axes
 from matplotlib.figure import Figure
 
+from pitplan.figures.style import STYLE, finish, list_of, scaled
 from pitplan.studies.scenarios.pit_probability import QUANTILES
-
-from .plans_sections import STYLE, finish, list_of, scaled
 
 # By the name of an amount what it is called, and its colour.
 LOOKS = {

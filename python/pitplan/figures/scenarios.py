@@ -19,22 +19,11 @@ from matplotlib.lines import Line2D
 
 from pitplan.blockmodel.grid import metres
 from pitplan.core.cell_outlines import edges
+from pitplan.figures.plans_sections import section_column, section_levels, section_row
+from pitplan.figures.style import GROUND, MAP, STYLE, finish, list_of, name_axes, scaled, write_maps
 from pitplan.studies.scenarios.inclusion import Likely
 
 from .map_marks import axes_of_map, mark_map, mark_section_cells, section_titles
-from .plans_sections import (
-    GROUND,
-    MAP,
-    STYLE,
-    finish,
-    list_of,
-    name_axes,
-    scaled,
-    section_column,
-    section_levels,
-    section_row,
-    write_maps,
-)
 
 STEPS = np.linspace(0, 1, 11)
 COLOURS = ListedColormap(matplotlib.colormaps["viridis_r"](np.linspace(0.02, 1, len(STEPS) - 1)))

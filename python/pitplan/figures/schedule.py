@@ -16,10 +16,10 @@ from matplotlib.ticker import MaxNLocator
 
 from pitplan.blockmodel.grid import metres
 from pitplan.config.project import Metal
+from pitplan.figures.style import BEST, BEST_MARK, ORE, PLAIN, STYLE, WASTE, WORST, WORST_MARK, finish, list_of, scaled
 from pitplan.scheduling.phase_schedule import LP, MILP, RULE, YearlySchedule, years as years_of
 
 from .annual import FAR_ABOVE, MARGIN, MILL, SHOVELS
-from .plans_sections import BEST, BEST_MARK, ORE, PLAIN, STYLE, WASTE, WORST, WORST_MARK, finish, list_of, scaled
 
 TITLES = {RULE: "By rule", LP: "By linear programme", MILP: "By integer programme"}
 COLOURS = {"worst": WORST, RULE: "#d08a1d", LP: ORE, MILP: "#7b4fa3", "best": BEST, "bound": PLAIN}

@@ -15,7 +15,7 @@ from matplotlib.axes import Axes
 from matplotlib.figure import Figure
 from matplotlib.ticker import FuncFormatter
 
-from .plans_sections import STYLE, finish, scaled
+from pitplan.figures.style import STYLE, finish, scaled
 
 WRITTEN = TORNADO, SPIDER = "tornado.png", "spider.png"
 LESS, MORE = "#c0504d", "#1f3f6e"

@@ -16,7 +16,8 @@ import numpy as np
 import pandas as pd
 
 from pitplan.config.economics import MOST_YEARS
-from pitplan.config.project import Project, Schedule
+from pitplan.config.project import Project
+from pitplan.config.shells import Schedule
 from pitplan.economics.period_costs import PLAIN, YearlyMoney
 from pitplan.errors import PlanError
 

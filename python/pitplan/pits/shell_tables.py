@@ -11,7 +11,7 @@ from typing import Optional
 import numpy as np
 import pandas as pd
 
-from pitplan.config.project import REFERENCE_FACTOR, Schedule
+from pitplan.config.shells import REFERENCE_FACTOR, Schedule
 from pitplan.economics import period_costs
 from pitplan.errors import PlanError
 from pitplan.plan import MILLION, Plan

@@ -7,8 +7,8 @@ from decimal import Decimal
 
 import numpy as np
 
+from pitplan.pits.factor_search import LEAST_FACTOR, between, neighbours, with_factors
 from pitplan.plan import Plan
-from pitplan.pushbacks.nested import LEAST_FACTOR, between, neighbours, with_factors
 from pitplan.solver import problem
 
 from . import shell_tables

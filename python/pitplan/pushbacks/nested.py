@@ -16,11 +16,13 @@ import pandas as pd
 from scipy import ndimage
 
 from pitplan.blockmodel.plausibility import WARNING
-from pitplan.config.project import REFERENCE_FACTOR, Project
+from pitplan.config.project import Project
 from pitplan.config.pushbacks import MOST_PHASES, PhaseRules
+from pitplan.config.shells import REFERENCE_FACTOR
 from pitplan.core.progress import Progress, silent
 from pitplan.errors import PlanError
 from pitplan.pits import shell_tables
+from pitplan.pits.factor_search import LEAST_FACTOR, between, neighbours, with_factors
 from pitplan.plan import Plan
 from pitplan.solver import problem
 from pitplan.solver.problem import Mine
@@ -28,9 +30,6 @@ from pitplan.solver.program import Solution
 
 from . import mining_width
 
-LEAST_FACTOR = 1
-# So many factors are tried at once between two that are known.
-TRIED = 8
 # A shell that misses its share by more than this part of it is told as a gap.
 FAR_OFF = 0.1
 # From factors to the tonnes of rock in their shells.
@@ -105,12 +104,6 @@ def selected(plan: Plan, mine: Mine, progress: Progress) -> tuple[Plan, list[str
         last = REFERENCE_FACTOR
         note = f"{WARNING}no shell has a net present value above 0: the last phase ends with the shell of factor {last}"
     return replace(plan, project=ended(plan.project, last)), [note]
-
-
-def with_factors(project: Project, factors: tuple[int, ...]) -> Project:
-    return replace(
-        project, schedule=replace(project.schedule, factors=factors, chosen=factors[-1], reference_added=False)
-    )
 
 
 def divide(plan: Plan, mine: Optional[Mine] = None, progress: Progress = silent) -> Phases:
@@ -216,19 +209,6 @@ def count_of(rules: PhaseRules, whole: float, project: Project) -> int:
         why = f"the pit of {whole:,.0f} t would have {count:,} phases of {rules.tonnes:,.0f} t, and there are at most {MOST_PHASES}"
         raise PlanError(f"{project.path}: [pushbacks] tonnes: {why}")
     return count
-
-
-def neighbours(known: dict[int, float], share: float) -> tuple[int, int]:
-    """The greatest factor that is known with no more tonnes than the share, and the least with more; where one is missing, the other."""
-    below = [factor for factor, rock in known.items() if rock <= share]
-    above = [factor for factor, rock in known.items() if rock > share]
-    low, high = max(below, default=None), min(above, default=None)
-    return (high if low is None else low), (low if high is None else high)
-
-
-def between(low: int, high: int) -> list[int]:
-    """Up to TRIED factors evenly between two; none where they follow each other."""
-    return sorted({low + (high - low) * step // (TRIED + 1) for step in range(1, TRIED + 1)} - {low, high})
 
 
 def gap(known: dict[int, float], low: int, high: int) -> str:

@@ -9,7 +9,7 @@ from jinja2 import Environment, FileSystemLoader, select_autoescape
 
 from pitplan.config.economics import Metal
 from pitplan.config.project import Project
-from pitplan.figures.plans_sections import scaled
+from pitplan.figures.style import scaled
 
 TEMPLATES = Environment(
     loader=FileSystemLoader(Path(__file__).parents[1] / "templates"),

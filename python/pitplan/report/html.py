@@ -14,12 +14,13 @@ from typing import Any, Callable, Optional
 import pandas as pd
 
 from pitplan.config import project_writer
-from pitplan.config.project import REFERENCE_FACTOR, Project
-from pitplan.core import files
-from pitplan.core.files import hash_of
+from pitplan.config.project import Project
+from pitplan.config.shells import IN_WORDS, REFERENCE_FACTOR
+from pitplan.core.atomic_files import hash_of, read_json
 from pitplan.errors import PlanError
 from pitplan.figures import schedule
-from pitplan.results.conventions import IN_WORDS
+from pitplan.results import names
+from pitplan.results.folder import read_record
 
 from . import columns as report
 from .columns import TEMPLATES, Columns
@@ -84,7 +85,7 @@ def sensitivity_beside(
                 raise PlanError(f"{place}: has no {name}: run pitplan sensitivity first")
             return None, ""
     try:
-        record = files.read_json(place / SENSITIVITY_RECORD)
+        record = read_json(place / SENSITIVITY_RECORD)
         others = differing(record["inputs"], inputs) or differing_as_run(project, place, record)
     except (ValueError, LookupError, TypeError, AttributeError):
         others = [SENSITIVITY_RECORD]
@@ -105,7 +106,7 @@ def differing_as_run(project: Project, folder: Path, record: dict[str, Any]) -> 
     """The name of the project's text if that of the sensitivity in a folder, which may have been moved, is of another project."""
     both = (project, project_writer.as_run(folder, record["project"]))
     texts = {replace(it, folder=it.path.parent).to_toml() for it in both}
-    return [files.AS_RUN] if len(texts) > 1 else []
+    return [project_writer.AS_RUN] if len(texts) > 1 else []
 
 
 def write(path: Path, folder: Path, project: Project, sensitivity: Optional[Path] = None) -> None:
@@ -114,7 +115,7 @@ def write(path: Path, folder: Path, project: Project, sensitivity: Optional[Path
     `sensitivity` is the folder of one; without it that in the project's folder is taken, where it is of the same inputs. Raises PlanError
     as `sensitivity_beside` does.
     """
-    record = files.read_record(folder)
+    record = read_record(folder)
     found, missing = sensitivity_beside(project, record["inputs"], sensitivity)
     warnings = [note for note in record["notes"] if note.startswith("WARNING")]
     page = TEMPLATES.get_template("report.html").render(
@@ -128,8 +129,8 @@ def write(path: Path, folder: Path, project: Project, sensitivity: Optional[Path
         rate=project.schedule.rate,
         discounting=IN_WORDS[project.schedule.discounting],
         has_fixed=project.fixed is not None,
-        bins=files.MILLING in record["files"],
-        project_file=files.AS_RUN if files.AS_RUN in record["files"] else project.path.name,
+        bins=names.MILLING in record["files"],
+        project_file=project_writer.AS_RUN if project_writer.AS_RUN in record["files"] else project.path.name,
         project_text=text_of(folder, project, record),
         inputs=record["inputs"],
         outputs=record["files"],
@@ -141,7 +142,7 @@ def write(path: Path, folder: Path, project: Project, sensitivity: Optional[Path
 
 def text_of(folder: Path, project: Project, record: dict[str, Any]) -> str:
     """The project of the run; of a folder of an earlier release the file that it was read from."""
-    path = folder / files.AS_RUN if files.AS_RUN in record["files"] else project.path
+    path = folder / project_writer.AS_RUN if project_writer.AS_RUN in record["files"] else project.path
     return without_comments(path.read_text(encoding="utf-8"))
 
 
@@ -169,16 +170,16 @@ def without_comments(text: str) -> str:
 def of_answer(folder: Path, project: Project, record: dict[str, Any]) -> dict[str, Any]:
     """Figures and tables of shells, and where there are such of phases and of a schedule."""
     chosen = record["shells"]["chosen"]
-    shells, years = read_table(folder, files.SHELLS), read_table(folder, files.YEARS)
+    shells, years = read_table(folder, names.SHELLS), read_table(folder, names.YEARS)
     marks = shells.frame["factor"].map(
         lambda factor: " ".join(["chosen"] * (factor == chosen) + ["given"] * (factor == REFERENCE_FACTOR))
     )
     found: dict[str, Any] = {"shells": parts_of(shells, report.columns_of, project, marks)}
     cases, figures = ["best", "worst"], of_shell(shells, chosen, project)
-    if files.PHASES in record["files"]:
-        found["phases"] = parts_of(read_table(folder, files.PHASES), report.columns_of_phases, project)
-    if files.WAYS in record["files"]:
-        ways = read_table(folder, files.WAYS)
+    if names.PHASES in record["files"]:
+        found["phases"] = parts_of(read_table(folder, names.PHASES), report.columns_of_phases, project)
+    if names.WAYS in record["files"]:
+        ways = read_table(folder, names.WAYS)
         shown = record.get("schedule", BY_BLOCK)
         of_ways = report.columns_by_block if shown == BY_BLOCK else report.columns_of_ways
         found["ways"], found["shown"] = (

@@ -16,9 +16,10 @@ import numpy as np
 import pandas as pd
 
 from pitplan.blockmodel.axes import turn_of
-from pitplan.core.files import TABLE, Folder
 from pitplan.core.optional_packages import three_scripts
 from pitplan.errors import PlanError
+from pitplan.results.folder import Folder
+from pitplan.results.names import TABLE
 
 from .columns import TEMPLATES
 

@@ -7,11 +7,6 @@ import pandas as pd
 
 from pitplan.config.project import Project
 
-IN_WORDS = {
-    "end_of_year": "from the end of each year",
-    "mid_year": "from the middle of each year",
-    "continuous": "evenly through each year",
-}
 DISCOUNTING, OUTLINE = "discounting", "outline"
 SHELL, PUSHBACK = "shell", "pushback"
 # The columns of discounted amounts.

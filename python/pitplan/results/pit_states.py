@@ -7,9 +7,9 @@ from dataclasses import dataclass
 import numpy as np
 
 from pitplan.blockmodel.grid import Grid
-from pitplan.config.project import REFERENCE_FACTOR
-from pitplan.core.files import Folder
+from pitplan.config.shells import REFERENCE_FACTOR
 from pitplan.errors import PlanError
+from pitplan.results.folder import Folder
 
 FACTOR, PHASE, YEAR = "factor", "phase", "year"
 KINDS = (FACTOR, PHASE, YEAR)

@@ -7,8 +7,9 @@ from typing import Optional
 
 import numpy as np
 
-from pitplan.config.project import Project, Schedule
+from pitplan.config.project import Project
 from pitplan.config.schedule import ScheduleRules
+from pitplan.config.shells import Schedule
 from pitplan.economics.period_costs import PLAIN, YearlyMoney
 from pitplan.errors import PlanError
 from pitplan.pits.best_worst_case import MOST_YEARS, year_discounts

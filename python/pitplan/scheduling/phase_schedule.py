@@ -11,8 +11,9 @@ import numpy as np
 import pandas as pd
 import scipy
 
-from pitplan.config.project import Project, Schedule
+from pitplan.config.project import Project
 from pitplan.config.schedule import ScheduleRules
+from pitplan.config.shells import Schedule
 from pitplan.core.progress import Progress, silent
 from pitplan.economics import period_costs
 from pitplan.errors import PlanError

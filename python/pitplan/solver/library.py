@@ -12,10 +12,10 @@ from typing import Any, Callable, Optional
 import numpy as np
 import pandas as pd
 
-from pitplan.core import files
+from pitplan.core.atomic_files import hash_of
 from pitplan.core.optional_packages import LIBRARY, is_of
 from pitplan.errors import ProgramError
-from pitplan.slopes.arc_rows import Rows
+from pitplan.precedences import Rows
 
 from .program import Solution, ended
 
@@ -56,7 +56,7 @@ def loaded() -> ModuleType:
 def identity() -> dict[str, str]:
     """The version of the package, and the SHA-256 of the library, which is loaded then. Raises ProgramError where there is none."""
     pitshell = loaded()
-    return {"version": f"libpitshell {pitshell.__version__}", "sha256": files.hash_of(pitshell.LIBRARY)}
+    return {"version": f"libpitshell {pitshell.__version__}", "sha256": hash_of(pitshell.LIBRARY)}
 
 
 def shells(nodes: tuple[np.ndarray, np.ndarray], rows: Rows, factors: tuple[int, ...]) -> Solution:

@@ -18,14 +18,13 @@ import pandas as pd
 from pitplan import constraints
 from pitplan.blockmodel import missing_blocks
 from pitplan.constraints import Settled
-from pitplan.core import files
 from pitplan.core.decimals import at_factor, greatest
-from pitplan.core.files import Needs, Pairs
 from pitplan.core.progress import Progress, silent
 from pitplan.economics.block_values import Values
 from pitplan.errors import PlanError
 from pitplan.plan import Plan
-from pitplan.slopes.arc_rows import Rows, rows_of
+from pitplan.precedences import MOST_PAIRS, Needs, Pairs, Rows, rows_of
+from pitplan.solver import mine_files
 
 from . import library, program
 from .choice import LIBRARY, Solver, chosen
@@ -51,22 +50,26 @@ class MineInFiles:
     @property
     def files(self) -> tuple[str, ...]:
         """Their names."""
-        return files.of_program(self.folder)
+        return mine_files.of_program(self.folder)
 
     def shells(self, factors: tuple[int, ...]) -> Solution:
         """The shells of the rest that fixed blocks leave; of all where there are none."""
-        names = (files.BLOCKS, files.PREC) if self.plan.settled is None else (files.REST_BLOCKS, files.REST_PREC)
+        names = (
+            (mine_files.BLOCKS, mine_files.PREC)
+            if self.plan.settled is None
+            else (mine_files.REST_BLOCKS, mine_files.REST_PREC)
+        )
         return program.solve_files(*(self.folder / name for name in names), factors)
 
     def free_shells(self, factors: tuple[int, ...]) -> Solution:
         """The shells as if nothing were fixed."""
-        return program.solve_files(self.folder / files.BLOCKS, self.folder / files.PREC, factors)
+        return program.solve_files(self.folder / mine_files.BLOCKS, self.folder / mine_files.PREC, factors)
 
     def pit(self, factor: int) -> Solution:
         """The pit of a factor, with the fixed blocks."""
-        path = self.folder / files.PIT_MODEL
-        files.write_model(path, self.plan.project.title, values_at(self.plan.values.nodes(), factor))
-        return program.solve_pit(path, self.folder / files.PREC, self.folder / files.FIXED, factor)
+        path = self.folder / mine_files.PIT_MODEL
+        mine_files.write_model(path, self.plan.project.title, values_at(self.plan.values.nodes(), factor))
+        return program.solve_pit(path, self.folder / mine_files.PREC, self.folder / mine_files.FIXED, factor)
 
 
 @dataclass(frozen=True)
@@ -85,7 +88,7 @@ class MineInArrays:
 
     def shells(self, factors: tuple[int, ...]) -> Solution:
         settled, values = self.plan.settled, self.plan.values
-        nodes = values.nodes() if settled is None else values.nodes_of_rest(settled)
+        nodes = values.nodes() if settled is None else constraints.nodes_of_rest(values, settled)
         return library.shells(nodes, self.rows_of_rest, factors)
 
     def free_shells(self, factors: tuple[int, ...]) -> Solution:
@@ -104,11 +107,11 @@ def ready(plan: Plan, solver: Solver, folder: Path) -> Mine:
     needs than the solver takes."""
     if solver.by == LIBRARY:
         return MineInArrays(plan, solver, *counted_rows(plan.needs, plan))
-    return MineInFiles(plan, solver, plan.write(folder), folder)
+    return MineInFiles(plan, solver, mine_files.write(plan, folder), folder)
 
 
 def counted_rows(needs: Needs, plan: Plan) -> tuple[Rows, Pairs]:
-    rows, pairs = rows_of(needs, files.MOST_PAIRS)
+    rows, pairs = rows_of(needs, MOST_PAIRS)
     plan.demand_few(pairs)
     return rows, pairs
 

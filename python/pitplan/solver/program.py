@@ -12,7 +12,7 @@ from typing import Optional, Union
 import numpy as np
 import pandas as pd
 
-from pitplan.core import files
+from pitplan.core.atomic_files import hash_of
 from pitplan.core.paths import program
 from pitplan.errors import BudgetUsedUp, ProgramError
 
@@ -53,7 +53,7 @@ def ended(command: str, status: int, said: str) -> ProgramError:
 
 def identity() -> dict[str, str]:
     """What the program says of itself, and the SHA-256 of its file. Raises ProgramError where there is none."""
-    return {"version": call("--version").decode().strip(), "sha256": files.hash_of(program())}
+    return {"version": call("--version").decode().strip(), "sha256": hash_of(program())}
 
 
 def solve_files(blocks: Path, prec: Path, factors: tuple[int, ...]) -> Solution:

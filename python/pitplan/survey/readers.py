@@ -13,10 +13,11 @@ from pathlib import Path
 
 import numpy as np
 
-from pitplan.blockmodel.reader import at_row, demand_columns, numbers_of, read_columns
-from pitplan.blockmodel.text_format import TableFormat, guessed_separator
 from pitplan.config.survey import SurveyFile
 from pitplan.config.toml_section import FARTHEST
+from pitplan.core.numeric_fields import at_row, numbers_of
+from pitplan.core.text_format import TableFormat, guessed_separator
+from pitplan.core.text_tables import demand_columns, read_columns
 from pitplan.errors import PlanError
 
 from . import dxf, gdal, surpac

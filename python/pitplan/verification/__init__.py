@@ -39,6 +39,8 @@ from typing import Optional
 import pandas as pd
 
 from pitplan.config.project import Project
+from pitplan.verification.answer import Answer
+from pitplan.verification.rules import TOLD, Rule, rule
 
 from ..errors import PlanError
 from . import (
@@ -62,7 +64,6 @@ from . import (
     words,
     years,
 )
-from .answer import TOLD, Answer, Rule, rule
 
 OF_PITS = (walls.verify, sums.verify, sums.verify_worth, years.verify)
 CHECKS = (

@@ -5,9 +5,10 @@ from __future__ import annotations
 import numpy as np
 import pandas as pd
 
-from pitplan.config.project import AbsentRock
-
-from .answer import TOLD, UNCUT, Answer, Rule, rule
+from pitplan.config.table import AbsentRock
+from pitplan.verification.answer import Answer
+from pitplan.verification.read_tables import UNCUT
+from pitplan.verification.rules import TOLD, Rule, rule
 
 
 def verify(answer: Answer) -> Rule:

@@ -19,10 +19,11 @@ import numpy as np
 import pandas as pd
 
 from pitplan.core import keyed_arrays
+from pitplan.verification.answer import Answer
+from pitplan.verification.rules import TOLD, Rule, rule
 
 from ..errors import PlanError
 from . import absent, fixed, walls
-from .answer import TOLD, Answer, Rule, rule
 from .best_ore import most_earned
 from .block_schedule import limits_of
 from .scenarios import SHARES, Verification, between, named

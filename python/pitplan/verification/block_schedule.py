@@ -14,9 +14,11 @@ import pandas as pd
 
 from pitplan.config.economics import GRADE_UNITS
 from pitplan.config.schedule import Sum
+from pitplan.verification.answer import Answer
+from pitplan.verification.read_tables import SHARE, YEAR
+from pitplan.verification.rules import TOLD, Rule, rule
 
 from . import fixed, walls, ways_table
-from .answer import SHARE, TOLD, YEAR, Answer, Rule, rule
 from .feed import recovered
 from .money_of_years import premiums
 from .schedule import CENT, discount

@@ -9,9 +9,11 @@ import numpy as np
 
 from pitplan.config.constraints import FixedRules
 from pitplan.config.survey import SurveyFile
+from pitplan.verification.answer import Answer
+from pitplan.verification.read_tables import UNCUT
+from pitplan.verification.rules import Rule, rule
 
 from . import surface, topography
-from .answer import UNCUT, Answer, Rule, rule
 from .topography import ACROSS, EXACTLY, GRAM, HAIR, MANY, MISSED, Ground, some, told
 
 # From this share of its volume on a block counts as mined.

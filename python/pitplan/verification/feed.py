@@ -9,7 +9,8 @@ import numpy as np
 import pandas as pd
 
 from pitplan.config.economics import ByCode, ByRegion, Curve, Metal, Recovery
-from pitplan.config.project import Project, TableColumns
+from pitplan.config.project import Project
+from pitplan.config.table import TableColumns
 
 # Where a recovery is so few millionths from the middle of two, the nearer one is told exactly.
 NEAR = 1e-3

@@ -6,9 +6,10 @@ import numpy as np
 from matplotlib.path import Path as Outline
 
 from pitplan.config.constraints import FixedRules
+from pitplan.verification.answer import Answer
+from pitplan.verification.rules import TOLD, Rule, rule
 
 from . import depletion, own_columns, survey
-from .answer import TOLD, Answer, Rule, rule
 
 # Metres: of a centre that lies at the edge of an area to within so much nothing is demanded.
 HAIR = 1e-6

@@ -8,8 +8,10 @@ from decimal import ROUND_HALF_EVEN, Decimal
 import numpy as np
 
 from pitplan.config.haulage import Haulage, Road
+from pitplan.verification.answer import Answer
+from pitplan.verification.read_tables import HAULED
+from pitplan.verification.rules import TOLD, Rule, rule
 
-from .answer import HAULED, TOLD, Answer, Rule, rule
 from .turned import places_of
 
 ROAD, WASTE, MORE = HAULED

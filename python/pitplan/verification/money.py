@@ -12,9 +12,11 @@ import numpy as np
 
 from pitplan.config.economics import GRADE_UNITS, Curve, Recovery
 from pitplan.config.project import Project
+from pitplan.verification.answer import UNDUG, Answer
+from pitplan.verification.read_tables import PROCESS
+from pitplan.verification.rules import TOLD, Rule, rule
 
 from . import haulage
-from .answer import PROCESS, TOLD, UNDUG, Answer, Rule, rule
 from .feed import at_grade, by_code, of_code
 from .walls import needed_by
 

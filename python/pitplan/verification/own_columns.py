@@ -4,7 +4,9 @@ from __future__ import annotations
 
 import numpy as np
 
-from .answer import TOLD, UNCUT, Answer
+from pitplan.verification.answer import Answer
+from pitplan.verification.read_tables import UNCUT
+from pitplan.verification.rules import TOLD
 
 # Numbers are told with 15 digits at least.
 DIGITS = 1e-14

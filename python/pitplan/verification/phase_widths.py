@@ -9,8 +9,10 @@ import pandas as pd
 from scipy.sparse import coo_matrix
 from scipy.sparse.csgraph import connected_components
 
+from pitplan.verification.answer import NOTHING, Answer
+from pitplan.verification.rules import TOLD, Rule, rule
+
 from . import fixed, walls
-from .answer import NOTHING, TOLD, Answer, Rule, rule
 
 # Rows and columns of blocks.
 Rectangle = tuple[int, int]

@@ -6,8 +6,10 @@ from dataclasses import replace
 
 import numpy as np
 
+from pitplan.verification.answer import Answer
+from pitplan.verification.rules import TOLD, Rule, rule
+
 from . import fixed, phase_widths, sums, walls
-from .answer import TOLD, Answer, Rule, rule
 
 CENT = 0.01
 

@@ -12,10 +12,13 @@ import numpy as np
 import pandas as pd
 
 from pitplan.blockmodel import reader
-from pitplan.blockmodel.text_format import format_of, opened
+from pitplan.blockmodel.reader import format_of
 from pitplan.config.project import Project
+from pitplan.core.text_format import opened
+from pitplan.verification.answer import Answer
+from pitplan.verification.read_tables import own_name
+from pitplan.verification.rules import Rule, rule
 
-from .answer import Answer, Rule, own_name, rule
 from .turned import steps_of
 
 NAME = "table.csv"

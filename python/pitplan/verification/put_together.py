@@ -7,7 +7,8 @@ from typing import Any, Optional
 import numpy as np
 import pandas as pd
 
-from pitplan.config.project import Project, TableColumns
+from pitplan.config.project import Project
+from pitplan.config.table import TableColumns
 
 from ..errors import PlanError
 from .turned import places_of, steps_of

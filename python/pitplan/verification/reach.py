@@ -7,8 +7,10 @@ from dataclasses import replace
 import numpy as np
 import pandas as pd
 
+from pitplan.verification.answer import NOTHING, UNDUG, Answer
+from pitplan.verification.rules import TOLD, Rule, rule
+
 from . import topography
-from .answer import NOTHING, TOLD, UNDUG, Answer, Rule, rule
 from .money import gains_by_floats
 from .turned import steps_of
 from .walls import Run, cone, runs

@@ -8,8 +8,9 @@ import numpy as np
 import pandas as pd
 
 from pitplan.config.project import Project
+from pitplan.verification.answer import Answer
+from pitplan.verification.rules import TOLD, Rule, rule
 
-from .answer import TOLD, Answer, Rule, rule
 from .put_together import divided, together
 from .turned import steps_of
 

@@ -17,10 +17,12 @@ import numpy as np
 import pandas as pd
 
 from pitplan.config.project import Project
+from pitplan.verification.answer import Answer
+from pitplan.verification.read_tables import own_columns
+from pitplan.verification.rules import TOLD, Rule, rule
 
 from ..errors import PlanError
 from . import absent, fixed, money, sums, walls
-from .answer import TOLD, Answer, Rule, own_columns, rule
 from .simulated import QUANTILES, SCENARIOS, Scenario, Simulated, Told, prices_of, read
 from .weighing import gains, weighed
 

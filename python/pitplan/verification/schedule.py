@@ -12,8 +12,10 @@ from typing import Any
 import numpy as np
 import pandas as pd
 
+from pitplan.verification.answer import Answer
+from pitplan.verification.rules import TOLD, Rule, rule
+
 from . import milling, ways_table, years
-from .answer import TOLD, Answer, Rule, rule
 from .money_of_years import capital, more_by_prices, most_premium
 
 FILE = "schedule.json"

@@ -19,10 +19,12 @@ from pitplan.config import toml_text
 from pitplan.config.project import Project, of_data
 from pitplan.config.project_writer import AS_RUN, as_run
 from pitplan.core import keyed_arrays
+from pitplan.verification.answer import Answer
+from pitplan.verification.read_tables import beside, own_columns, read_blocks, rows_of, said_of
+from pitplan.verification.rules import TOLD, Rule, rule
 
 from ..errors import PlanError
 from . import absent, depletion, fixed, haulage, money, sums, walls, years
-from .answer import TOLD, Answer, Rule, beside, own_columns, read_blocks, rows_of, rule, said_of
 from .weighing import gains, weighed
 from .written import read_table
 

@@ -15,12 +15,14 @@ import numpy as np
 import pandas as pd
 
 from pitplan.blockmodel import reader as tables
-from pitplan.blockmodel.text_format import format_of
-from pitplan.config.project import Project, Scenarios, load
+from pitplan.blockmodel.reader import format_of
+from pitplan.config.project import Project, load
+from pitplan.config.scenarios import Scenarios
 from pitplan.core import keyed_arrays
+from pitplan.core.text_tables import read_header
+from pitplan.verification.read_tables import beside, nearest_cells, read_blocks
 
 from ..errors import PlanError
-from .answer import beside, nearest_cells, read_blocks
 
 PROBABILITY, SCENARIOS, QUANTILES = "probability.csv", "scenarios.csv", "quantiles.csv"
 # In place of probability.csv, where blocks are scheduled.
@@ -190,7 +192,7 @@ def models_of(project: Project) -> list[Model]:
     if scenarios.folder is not None:
         files = [path for path in scenarios.folder.iterdir() if path.name.endswith((".csv", ".csv.gz"))]
         return [Model(path.name.split(".")[0], {}, path) for path in sorted(files)]
-    header = tables.read_header(table.file, format_of(table.file, table))
+    header = read_header(table.file, format_of(table.file, table))
     named = {
         metal: [it for name in names for it in matching(name, header)] for metal, names in scenarios.columns.items()
     }

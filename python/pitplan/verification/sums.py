@@ -6,7 +6,8 @@ from decimal import Decimal
 
 import numpy as np
 
-from .answer import TOLD, Answer, Rule, rule
+from pitplan.verification.answer import Answer
+from pitplan.verification.rules import TOLD, Rule, rule
 
 # Up to here a float holds every whole number, and 64 bits do.
 EXACT_WHOLE, MOST_WHOLE = 2**53, 2**63

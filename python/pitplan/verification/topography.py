@@ -12,9 +12,11 @@ import pandas as pd
 from scipy.spatial import Delaunay
 
 from pitplan.config.survey import SurveyFile
+from pitplan.verification.answer import Answer
+from pitplan.verification.read_tables import UNCUT
+from pitplan.verification.rules import TOLD, Rule, rule
 
 from . import survey
-from .answer import TOLD, UNCUT, Answer, Rule, rule
 from .triangles import highest, near
 from .turned import steps_of
 

@@ -10,8 +10,8 @@ from scipy.ndimage import maximum_filter1d
 from scipy.spatial import ConvexHull, QhullError
 
 from pitplan.config.slopes import Wall
-
-from .answer import NOTHING, TOLD, UNDUG, Answer, Rule, rule
+from pitplan.verification.answer import NOTHING, UNDUG, Answer
+from pitplan.verification.rules import TOLD, Rule, rule
 
 NEIGHBOURS = {"1:5": 1, "1:9": 2}
 HAIR = 1e-9

@@ -8,8 +8,10 @@ from decimal import Decimal
 import numpy as np
 import pandas as pd
 
+from pitplan.verification.answer import Answer
+from pitplan.verification.read_tables import PROCESS
+
 from . import money, sums
-from .answer import PROCESS, Answer
 
 
 def weighed(whole: Answer) -> Answer:

@@ -4,7 +4,9 @@ from __future__ import annotations
 
 import pandas as pd
 
-from .answer import Answer, Rule, rule
+from pitplan.verification.answer import Answer
+from pitplan.verification.rules import Rule, rule
+
 from .written import WORDS
 
 TABLES = ("shells.csv", "pits.csv", "years.csv", "schedule.csv", "ways.csv")

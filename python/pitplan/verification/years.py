@@ -9,7 +9,9 @@ from itertools import product
 import numpy as np
 import pandas as pd
 
-from .answer import Answer, Rule, rule
+from pitplan.verification.answer import Answer
+from pitplan.verification.rules import Rule, rule
+
 from .yearly_flows import years_of
 
 CENT = 0.01

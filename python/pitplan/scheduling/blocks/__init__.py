@@ -13,6 +13,6 @@ made in the order in which the relaxation digs (`toposort`, `filling`, `moving`)
 
 from .problem import BlockProblem, Limit, Needs
 from .schedule import BlockSchedule
-from .solve import Scheduled, solve
+from .scheduler import Scheduled, solve
 
 __all__ = ["BlockProblem", "BlockSchedule", "Limit", "Needs", "Scheduled", "solve"]

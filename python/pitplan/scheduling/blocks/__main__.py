@@ -14,12 +14,12 @@ from minelib import MinelibError
 from minelib.ending import INTERRUPTED, ended
 from minelib.schedule_models import SECONDS
 from pitplan.config.schedule import Effort
-from pitplan.core.files import staged_file
+from pitplan.core.atomic_files import staged_file
 from pitplan.core.progress import on_standard_error, silent
 from pitplan.errors import PlanError
 
 from .from_minelib import of_minelib
-from .solve import Scheduled, solve
+from .scheduler import Scheduled, solve
 
 
 def parser() -> argparse.ArgumentParser:

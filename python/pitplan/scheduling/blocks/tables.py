@@ -10,8 +10,8 @@ import numpy as np
 import pandas as pd
 import scipy
 
-from pitplan.config.project import REFERENCE_FACTOR
 from pitplan.config.schedule import ScheduleRules
+from pitplan.config.shells import REFERENCE_FACTOR
 from pitplan.core.progress import Progress, silent
 from pitplan.economics.period_costs import of_project
 from pitplan.pits.best_worst_case import year_discounts
@@ -19,7 +19,7 @@ from pitplan.plan import Plan
 from pitplan.pushbacks.bench_table import CASH, ORE, ROCK
 
 from .from_plan import PlannedBlocks, cash_of, of_plan
-from .solve import Scheduled, gap_of, solve
+from .scheduler import Scheduled, gap_of, solve
 
 # What years.csv calls the case, and how the names of blocks.csv's columns of shares begin.
 CASE, SHARE = "block", "share_"

@@ -14,7 +14,7 @@ import shlex
 import sys
 from pathlib import Path
 
-from pitplan.core.files import staged_file
+from pitplan.core.atomic_files import staged_file
 from pitplan.core.paths import PACKAGES
 from pitplan.errors import PlanError
 from pitplan.solver import choice

@@ -15,10 +15,12 @@ from pitplan.blockmodel.figure_bounds import demand_within
 from pitplan.config import project_writer
 from pitplan.config.economics import ByRegion
 from pitplan.config.project import Project
-from pitplan.core import csv_writer, files
+from pitplan.core import csv_writer
+from pitplan.core.atomic_files import hashes, staged, write_json
 from pitplan.core.optional_packages import load_library
 from pitplan.core.progress import Progress
 from pitplan.plan import Plan
+from pitplan.solver import mine_files
 from pitplan.solver.choice import LIBRARY, Solver, chosen
 from pitplan.solver.problem import counted_rows
 
@@ -60,7 +62,7 @@ def prepare(project: Project, folder: Path, progress: Progress, by: str = store.
     if of_blocks:
         of_blocks.write(laid, folder, progress)
     else:
-        with progress.step("writing blocks and needs"), files.staged(folder, store.RECORD) as stage:
+        with progress.step("writing blocks and needs"), staged(folder, store.RECORD) as stage:
             written = [*write_shared(laid, stage), *write_needs(laid.plan, solver, stage)]
             parts = common_parts(laid)
             parts["project"] |= {"factors": list(project.schedule.factors)}
@@ -148,8 +150,8 @@ def write_shared(laid: Laid, stage: Path) -> list[str]:
 def write_needs(plan: Plan, solver: Solver, stage: Path) -> list[str]:
     """The needs that all scenarios share, as the solver takes them; gives the names of the files."""
     if solver.by != LIBRARY:
-        plan.write_needs(stage / files.PREC, plan.needs_of_rest)
-        return [files.PREC]
+        mine_files.write_needs(stage / mine_files.PREC, plan, plan.needs_of_rest)
+        return [mine_files.PREC]
     rows, _ = counted_rows(plan.needs_of_rest, plan)
     np.save(stage / store.STARTS, rows.starts)
     np.save(stage / store.NEEDS, rows.needs)
@@ -201,7 +203,7 @@ def write_record(laid: Laid, scenarios: list[Scenario], written: list[str], stag
         "walls": [pattern.as_json() for pattern in plan.walls.patterns],
         "mining_cost_reference": plan.reference,
         "notes": [note for note in plan.notes if "amounts were rounded" not in note],
-        "files": files.hashes(stage, written),
+        "files": hashes(stage, written),
         "scenarios": [vars(scenario) for scenario in scenarios],
     }
-    files.write_json(stage / store.RECORD, record | more)
+    write_json(stage / store.RECORD, record | more)

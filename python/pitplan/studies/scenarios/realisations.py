@@ -13,10 +13,13 @@ import pandas as pd
 
 from pitplan.blockmodel import grid as grids, missing_blocks, reader
 from pitplan.blockmodel.grid import Grid
-from pitplan.blockmodel.reader import HEADER_ROWS, Table, at_row
-from pitplan.blockmodel.text_format import demand_text, format_of
+from pitplan.blockmodel.reader import HEADER_ROWS, Table, format_of
 from pitplan.config.economics import Metal
-from pitplan.config.project import Project, Scenarios
+from pitplan.config.project import Project
+from pitplan.config.scenarios import Scenarios
+from pitplan.core.numeric_fields import at_row
+from pitplan.core.text_format import demand_text
+from pitplan.core.text_tables import demand_columns, read_header
 from pitplan.errors import PlanError
 from pitplan.plan import Plan, notes_of, plan_of
 from pitplan.slopes import domains
@@ -83,7 +86,7 @@ def column_lists(project: Project) -> dict[str, list[str]]:
         return {}
     columns = project.table
     demand_text(columns.file, "[scenarios] columns")
-    header = list(reader.read_header(columns.file, format_of(columns.file, columns)))
+    header = list(read_header(columns.file, format_of(columns.file, columns)))
     lists = {}
     for metal, names in asked.items():
         lists[metal] = [found for name in names for found in (fnmatch.filter(header, name) if "*" in name else [name])]
@@ -136,7 +139,7 @@ def read_model(path: Path, base: Base) -> np.ndarray:
     codes = [columns.id] if columns.id else []
     frame, _ = reader.read_as_written(path, columns, codes, [*codes, *places, *grades])
     by_id = columns.id is not None and columns.id in frame.columns
-    reader.demand_columns(frame, [*(codes if by_id else places), *grades], source)
+    demand_columns(frame, [*(codes if by_id else places), *grades], source)
     at = rows_by_id(frame, base, source) if by_id else rows_by_place(frame, base, source)
     demand_every_block(at, base, source)
     result = np.zeros((len(base.frame), len(metals)))

@@ -10,9 +10,10 @@ from typing import Any, Optional
 
 import pandas as pd
 
+from pitplan.blockmodel.grid import grid_of
 from pitplan.config.figures import PictureRules
-from pitplan.config.project import REFERENCE_FACTOR, load
-from pitplan.core.files import grid_of
+from pitplan.config.project import load
+from pitplan.config.shells import REFERENCE_FACTOR
 from pitplan.errors import PlanError
 from pitplan.plan import codes_of, shown_name
 

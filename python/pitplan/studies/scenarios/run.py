@@ -11,7 +11,8 @@ from dataclasses import dataclass
 from pathlib import Path
 from typing import Optional
 
-from pitplan.config.project import REFERENCE_FACTOR, Project
+from pitplan.config.project import Project
+from pitplan.config.shells import REFERENCE_FACTOR
 from pitplan.core.progress import Progress
 from pitplan.errors import PlanError
 from pitplan.studies import dask_pool

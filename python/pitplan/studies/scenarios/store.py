@@ -28,14 +28,13 @@ import numpy as np
 import pandas as pd
 import scipy
 
-from pitplan.blockmodel.grid import Grid
+from pitplan.blockmodel.grid import Grid, grid_of
 from pitplan.config.project import Project, load
 from pitplan.config.schedule import ScheduleRules
 from pitplan.constraints import Settled
-from pitplan.core import files
-from pitplan.core.files import staged_file
+from pitplan.core.atomic_files import hash_of, staged_file, write_json
 from pitplan.errors import PlanError
-from pitplan.slopes.arc_rows import Rows
+from pitplan.precedences import Rows
 from pitplan.solver.choice import Solver
 
 RECORD, PROJECT, BASE = "scenarios.json", "project.toml", "base.npz"
@@ -166,7 +165,7 @@ def read_shared(folder: Path) -> Shared:
     try:
         record = json.loads((folder / RECORD).read_text(encoding="utf-8"))
         for name, digest in record["files"].items():
-            if files.hash_of(folder / name) != digest:
+            if hash_of(folder / name) != digest:
                 raise PlanError(f"{folder / name}: has changed since {RECORD} was written: run pitplan scenarios again")
         with np.load(folder / BASE, allow_pickle=False) as base:
             arrays = {name: base[name] for name in base.files}
@@ -175,7 +174,7 @@ def read_shared(folder: Path) -> Shared:
         raise PlanError(f"{error.filename}: cannot be read: run pitplan scenarios first") from error
     except (ValueError, KeyError, TypeError) as error:
         raise PlanError(f"{folder / RECORD}: is no record of scenarios: {error}") from error
-    grid = files.grid_of(record["grid"], arrays.pop("cells"))
+    grid = grid_of(record["grid"], arrays.pop("cells"))
     ore = arrays.pop("ore")
     settled = Settled(arrays.pop("dug"), arrays.pop("left")) if "dug" in arrays else None
     project = referred(load(folder / PROJECT), record["mining_cost_reference"])
@@ -208,7 +207,7 @@ def meaning_of_years(project: Project, years: int) -> dict[str, Any]:
     limits = {"ore": shells.ore_per_year, "rock": shells.rock_per_year, "rules": asdict(rules)}
     search = {
         "highs": f"scipy {scipy.__version__}",
-        "sources": [files.hash_of(path) for path in sorted(SEARCH.glob("*.py"))],
+        "sources": [hash_of(path) for path in sorted(SEARCH.glob("*.py"))],
     }
     return {**limits, **search, "rate": shells.rate, "discounting": shells.discounting, "years": years}
 
@@ -236,7 +235,7 @@ def save_failure(shared: Shared, scenario: Scenario, status: Optional[int], sent
     """Notes why a scenario has no answer; `status` is the solver's, None where it did not get to run."""
     path = shared.failure(scenario)
     with staged_file(path) as place:
-        files.write_json(place, {"number": scenario.number, "label": scenario.label, "status": status, "why": sentence})
+        write_json(place, {"number": scenario.number, "label": scenario.label, "status": status, "why": sentence})
 
 
 def read_failure(shared: Shared, scenario: Scenario) -> str:

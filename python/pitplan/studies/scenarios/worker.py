@@ -11,16 +11,17 @@ from pathlib import Path
 
 import numpy as np
 
+from pitplan import constraints
 from pitplan.blockmodel import missing_blocks
-from pitplan.core import files, keyed_arrays
-from pitplan.core.files import staged_file
+from pitplan.core import keyed_arrays
+from pitplan.core.atomic_files import hash_of, staged_file
 from pitplan.core.optional_packages import load_library
 from pitplan.economics import block_values
 from pitplan.errors import PlanError, ProgramError
 from pitplan.pits import shell_tables
 from pitplan.plan import Plan
 from pitplan.slopes.domains import Walls
-from pitplan.solver import choice, library, problem, program
+from pitplan.solver import choice, library, mine_files, problem, program
 from pitplan.solver.program import Solution
 
 from . import store
@@ -61,7 +62,7 @@ def solve(folder: str, number: int) -> Outcome:
     """Solves a scenario and writes its answer, unless it stands there already. Never raises PlanError."""
     began = time.perf_counter()
     try:
-        shared = shared_of(folder, files.hash_of(Path(folder) / store.RECORD))
+        shared = shared_of(folder, hash_of(Path(folder) / store.RECORD))
         scenario = shared.jobs[number - 1]
     except OSError as error:
         return Outcome(number, REFUSED, f"{error.filename}: cannot be read: run pitplan scenarios first", 0.0)
@@ -109,13 +110,13 @@ def shells_of(shared: Shared, plan: Plan) -> Solution:
     """The shells of a scenario by the solver of all. Raises ProgramError where that is another here, or refuses."""
     choice.demand_same(shared.solver)
     factors = plan.project.schedule.factors
-    nodes = plan.values.nodes() if plan.settled is None else plan.values.nodes_of_rest(plan.settled)
+    nodes = plan.values.nodes() if plan.settled is None else constraints.nodes_of_rest(plan.values, plan.settled)
     if shared.solver.by == choice.LIBRARY:
         return library.shells(nodes, shared.rows, factors)
     with tempfile.TemporaryDirectory(prefix="pitplan-") as place:
-        blocks = Path(place) / files.BLOCKS
-        files.write_blocks(blocks, plan.grid, plan.values.processed, nodes)
-        return program.solve_files(blocks, shared.folder / files.PREC, factors)
+        blocks = Path(place) / mine_files.BLOCKS
+        mine_files.write_blocks(blocks, plan.grid, plan.values.processed, nodes)
+        return program.solve_files(blocks, shared.folder / mine_files.PREC, factors)
 
 
 def write_block_answer(shared: Shared, scenario: Scenario) -> None:

@@ -18,7 +18,8 @@ import pandas as pd
 from pitplan.blockmodel import reader
 from pitplan.config.project import Project
 from pitplan.config.sensitivity import SensitivityRules
-from pitplan.core import files, keyed_arrays
+from pitplan.core import keyed_arrays
+from pitplan.core.atomic_files import hashes_of, staged_file
 from pitplan.core.optional_packages import load
 from pitplan.core.progress import Progress, silent
 from pitplan.errors import PlanError
@@ -139,7 +140,7 @@ def solve(project: Project, folder: Path, where: dask_pool.Where | None, progres
     rules = rules_of(project)
     begun = {
         "project": project.to_toml(),
-        "inputs": files.hashes_of(project.named_inputs),
+        "inputs": hashes_of(project.named_inputs),
         "solver": found_by.sha256,
         "factor": factor,
         "skin": str(rules.skin),
@@ -222,7 +223,7 @@ def write(path: Path, found: Found) -> None:
     numbers = {name: float(amount) for name, amount in found.row.items() if name != "worth_at_factor"}
     texts = {"worth_at_factor": f"{found.row['worth_at_factor']:f}", "walls": json.dumps(found.walls)}
     skin = {} if found.skin is None else {"skin": found.skin.cells, "skin_factor": found.skin.factor}
-    with files.staged_file(path) as place:
+    with staged_file(path) as place:
         keyed_arrays.write(
             place, path.stem, entry=found.entry, names=list(numbers), amounts=list(numbers.values()), **texts, **skin
         )

@@ -8,7 +8,7 @@ from typing import Any
 import numpy as np
 import pandas as pd
 
-from pitplan.core import files
+from pitplan.core.atomic_files import hashes_of
 
 from .cases import SKIN_WORTH, Case, Sensitivity
 
@@ -21,7 +21,7 @@ def record(found: Sensitivity, project: str) -> dict[str, Any]:
         "project": project,
         "title": found.project.title,
         "solver": asdict(found.solver),
-        "inputs": files.hashes_of(found.project.named_inputs),
+        "inputs": hashes_of(found.project.named_inputs),
         "grid": found.plan.record_of_grid(),
         "factor": found.factor,
         "skin": (skin := skin_of(found)),

@@ -7,9 +7,11 @@ from pathlib import Path
 import numpy as np
 import pandas as pd
 
-from pitplan.config.project import REFERENCE_FACTOR, Project
+from pitplan.blockmodel.grid import grid_of
+from pitplan.config.project import Project
 from pitplan.config.schedule import ScheduleRules
-from pitplan.core import files
+from pitplan.config.shells import REFERENCE_FACTOR
+from pitplan.core.atomic_files import staged
 from pitplan.core.progress import Progress
 from pitplan.errors import PlanError
 from pitplan.pushbacks.bench_table import CASH
@@ -38,7 +40,7 @@ def demand_apt(project: Project) -> None:
 def write(laid: Laid, folder: Path, progress: Progress) -> None:
     """Writes what schedules are made of, and scenarios.json. Raises PlanError where a scenario cannot be weighed, or its pit would take too
     many years."""
-    with files.staged(folder, store.RECORD) as stage:
+    with staged(folder, store.RECORD) as stage:
         blocks, mean = spread(laid, folder, progress)
         written = [*prepare.write_shared(laid, stage), store.DIGGABLE, store.MEAN]
         np.savez_compressed(stage / store.DIGGABLE, **blocks.arrays())
@@ -85,6 +87,6 @@ def shared_of(laid: Laid, folder: Path) -> Shared:
     """What weighing a scenario needs, before it is written."""
     base, plan = laid.base, laid.plan
     arrays = prepare.arrays_of(base)
-    grid = files.grid_of(plan.grid.as_json(), arrays.pop("cells"))
+    grid = grid_of(plan.grid.as_json(), arrays.pop("cells"))
     project = store.referred(base.project, plan.reference)
     return Shared(folder, project, pd.DataFrame(arrays), grid, plan.values.processed, {}, laid.solver, plan.settled)

@@ -11,9 +11,9 @@ import numpy as np
 from numpy.typing import NDArray
 
 from pitplan.blockmodel import missing_blocks
-from pitplan.config.project import REFERENCE_FACTOR
+from pitplan.config.shells import REFERENCE_FACTOR
 from pitplan.core import keyed_arrays
-from pitplan.core.files import staged_file
+from pitplan.core.atomic_files import staged_file
 from pitplan.errors import PlanError
 from pitplan.pushbacks.bench_table import ORE, ROCK
 from pitplan.scheduling.blocks import Scheduled, solve

@@ -15,10 +15,8 @@ from dataclasses import dataclass
 from pathlib import Path
 from typing import IO, Optional
 
-from pitplan.config.project import TableColumns
+from pitplan.core.parquet import is_parquet
 from pitplan.errors import PlanError
-
-from .parquet import is_parquet
 
 SEPARATORS = (",", ";", "\t", "|")
 NAMES = {",": "commas", ";": "semicolons", "\t": "tabs", "|": "bars"}
@@ -38,13 +36,6 @@ class TableFormat:
     separator: str
     decimal: str
     encoding: str
-
-
-def format_of(file: Path, columns: TableColumns) -> TableFormat:
-    """The format that the project names; what it does not name is told by the header. Raises PlanError where the file cannot be
-    read."""
-    separator = columns.separator or guessed_separator(file, columns.encoding)
-    return TableFormat(separator, columns.decimal or ".", columns.encoding)
 
 
 def guessed_separator(file: Path, encoding: str) -> str:

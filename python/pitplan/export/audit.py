@@ -18,15 +18,16 @@ import numpy as np
 import pandas as pd
 
 from pitplan import constraints
-from pitplan.core import files, paths
-from pitplan.core.files import Folder
+from pitplan.core import paths
+from pitplan.core.atomic_files import hashes, read_json, write_json
 from pitplan.core.progress import Progress
 from pitplan.errors import PlanError
 from pitplan.export.planner_table import project_of
 from pitplan.plan import Plan, prepare
-
-from . import program
-from .problem import values_at
+from pitplan.results import names
+from pitplan.results.folder import Folder
+from pitplan.solver import mine_files, program
+from pitplan.solver.problem import values_at
 
 CHECKER = paths.checker()
 MODEL, PREC, FIXED, CERTIFICATE = "shell.upit", "shell.prec", "shell.fixed", "shell.cert"
@@ -69,18 +70,18 @@ def prepared_again(folder: Folder, progress: Progress) -> Plan:
 def write_mine(stage: Path, folder: Folder, factor: int, progress: Progress) -> None:
     """Writes the mine at a factor: the model, the needs, and where blocks are fixed these. Raises PlanError where it is not that of the
     plan any more, or a value does not fit a model."""
-    if files.BLOCKS in folder.record["files"]:
-        nodes = read_nodes(folder.path / files.BLOCKS)
-        for name, copy in ((files.PREC, PREC), (files.FIXED, FIXED)):
+    if mine_files.BLOCKS in folder.record["files"]:
+        nodes = read_nodes(folder.path / mine_files.BLOCKS)
+        for name, copy in ((mine_files.PREC, PREC), (mine_files.FIXED, FIXED)):
             if name in folder.record["files"]:
                 shutil.copyfile(folder.path / name, stage / copy)
     else:
         plan = prepared_again(folder, progress)
         nodes = plan.values.nodes()
-        plan.write_needs(stage / PREC, plan.needs)
+        mine_files.write_needs(stage / PREC, plan, plan.needs)
         if plan.settled is not None:
             constraints.write(stage / FIXED, plan.fixed)
-    files.write_model(stage / MODEL, f"shell {factor} of {folder.record['title']}", values_at(nodes, factor))
+    mine_files.write_model(stage / MODEL, f"shell {factor} of {folder.record['title']}", values_at(nodes, factor))
 
 
 def write(stage: Path, folder: Folder, factor: int, progress: Progress) -> None:
@@ -97,9 +98,9 @@ def write(stage: Path, folder: Folder, factor: int, progress: Progress) -> None:
     (stage / PIT).write_bytes(program.call("solve", *options))
     worth = demand_same(stage, folder, factor)
     names = [MODEL, PREC, *fixed, CERTIFICATE, PIT, CHECKER.name]
-    hashes = files.hashes(stage, names)
+    digests = hashes(stage, names)
     (stage / "hashes.txt").write_text(
-        "".join(f"{digest}  {name}\n" for name, digest in hashes.items()), encoding="ascii"
+        "".join(f"{digest}  {name}\n" for name, digest in digests.items()), encoding="ascii"
     )
     record = {
         "title": folder.record["title"],
@@ -107,12 +108,12 @@ def write(stage: Path, folder: Folder, factor: int, progress: Progress) -> None:
         "worth_at_factor": str(worth),
         "solver": folder.record["shells"]["solver"],
         "program": program.identity(),
-        "files": hashes,
+        "files": digests,
         "inputs": folder.record["inputs"],
         "plan": folder.record["files"],
         "not_proved": "how the mine was made from the table",
     }
-    files.write_json(stage / RECORD, record)
+    write_json(stage / RECORD, record)
     words = {
         "factor": factor,
         "title": folder.record["title"],
@@ -127,7 +128,7 @@ def write(stage: Path, folder: Folder, factor: int, progress: Progress) -> None:
 
 def notes(folder: Path) -> list[str]:
     """That the shells were found by another release than that of the program which audits, where it is so."""
-    record = files.read_json(folder / RECORD)
+    record = read_json(folder / RECORD)
     found, audited = (record[name]["version"] for name in ("solver", "program"))
     return (
         []
@@ -142,7 +143,7 @@ def demand_same(stage: Path, folder: Folder, factor: int) -> Decimal:
     lines = (stage / PIT).read_text(encoding="ascii").split("\n")
     pit = np.array(lines[4:-1], dtype=np.int64)
     worth = Decimal(lines[3].split()[1]) / 1000
-    shells = pd.read_csv(folder.path / files.SHELLS, index_col="factor", dtype={"worth_at_factor": str})
+    shells = pd.read_csv(folder.path / names.SHELLS, index_col="factor", dtype={"worth_at_factor": str})
     ids, first = folder.blocks["id"].to_numpy(), folder.blocks["factor"].to_numpy()
     expected = ids[(first > 0) & (first <= factor)]
     if not np.array_equal(np.intersect1d(pit, ids), expected) or worth != Decimal(shells["worth_at_factor"][factor]):

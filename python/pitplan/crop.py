@@ -19,9 +19,8 @@ from pitplan.blockmodel.grid import Grid
 from pitplan.config.project import Project
 from pitplan.economics import block_values
 from pitplan.errors import PlanError
-
-from . import closure
-from .domains import Walls
+from pitplan.slopes import closure
+from pitplan.slopes.domains import Walls
 
 
 @dataclass(frozen=True)

@@ -1,0 +1,144 @@
+"""Checks of a project across its sections."""
+
+from __future__ import annotations
+
+from typing import TYPE_CHECKING
+
+from pitplan.errors import PlanError
+
+from .economics import ByRegion
+from .schedule import ScheduleRules
+
+if TYPE_CHECKING:
+    from .project import Project
+
+
+def demand_agreement(project: Project) -> None:
+    """Refuses sections that each are right and do not fit together."""
+    path = project.path
+    money = project.money
+    priced = [money.mining_cost, money.mining_recovery, money.dilution]
+    for way in project.ways:
+        priced += [
+            way.money.processing_cost,
+            *(share for metal in way.metals for share in (metal.recovery, metal.fixed_tail)),
+        ]
+    if project.table.rock is None and any(isinstance(price, dict) for price in priced):
+        raise PlanError(f"{path}: [table] rock: is missing, and prices or recoveries are given by rock")
+    if project.table.region is None and any(isinstance(price, ByRegion) for price in priced):
+        raise PlanError(f"{path}: [table] region: is missing, and mining recovery or dilution is given by region")
+    if project.table.density and not project.table.volume and project.grid.size is None:
+        raise PlanError(
+            f"{path}: [grid] size: is missing, by which a density gives tonnes, unless [table] names a volume"
+        )
+    if project.table.reblock and project.scenarios:
+        raise PlanError(f"{path}: [table] reblock: is not done of [scenarios]: give a table that is reblocked")
+    if project.table.topography and project.scenarios:
+        raise PlanError(f"{path}: [table] topography: is not taken by [scenarios]: give a table of blocks that are cut")
+    if project.fixed and project.fixed.surface and project.scenarios:
+        raise PlanError(
+            f"{path}: [fixed] surface: is not taken by [scenarios]: give a table of what remains, and forced"
+        )
+    demand_ground(project)
+    demand_processes_agree(project)
+    names = [metal.name for metal in project.metals]
+    if len(set(names)) < len(names):
+        raise PlanError(f"{path}: two [[metals]] have one name")
+    demand_sums_agree(project)
+    varied = project.sensitivity
+    if (
+        varied
+        and not project.haulage
+        and "haulage" in {*varied.vary, *(name for pair in varied.pairs for name in pair)}
+    ):
+        raise PlanError(f"{path}: [sensitivity] varies haulage, and there is no section [haulage]")
+    for name in project.schedule_rules.metal_per_year if project.schedule_rules else ():
+        if name not in names:
+            raise PlanError(
+                f"{path}: [schedule] metal_per_year names {name}, which is none of the [[metals]] {', '.join(names)}"
+            )
+    if project.scenarios is not None:
+        named = [*project.scenarios.columns, *(name for prices in project.scenarios.prices for name in prices)]
+        for name in named:
+            if name not in names:
+                raise PlanError(f"{path}: [scenarios] names {name}, which is none of the [[metals]] {', '.join(names)}")
+
+
+def demand_ground(project: Project) -> None:
+    """Refuses an as-mined surface if the original ground is unknown or is given twice."""
+    rules, path = project.fixed, project.path
+    if rules is None or rules.surface is None:
+        return
+    named = bool(rules.topography or rules.by_blocks)
+    if named and project.table.topography:
+        raise PlanError(
+            f"{path}: [fixed] topography: [table] topography is the original ground already: leave one of them out"
+        )
+    if not named and not project.table.topography:
+        raise PlanError(
+            f"{path}: [fixed] topography: is missing: the mined volume lies between the original ground and the as-mined surface. Give the file "
+            'of the original ground if the tonnes of the table are cut by it, or "blocks" if all blocks are whole'
+        )
+
+
+def demand_sums_agree(project: Project) -> None:
+    """Refuses least amounts and sums of what there is not, or of a name that stands for several things; and a least above the most."""
+    rules, names = project.schedule_rules, [process.name for process in project.processes]
+    if rules is None:
+        return
+    shells, metals = project.schedule, [metal.name for metal in project.metals]
+    most = {"ore": rules.ore_per_year or shells.ore_per_year, "rock": rules.rock_per_year or shells.rock_per_year}
+    most |= rules.metal_per_year | {process.name: process.per_year for process in project.processes}
+    several = "stands for several things: call the metal or the process otherwise"
+    for name, least in rules.least.items():
+        if name not in ("ore", "rock", *metals, *names):
+            raise PlanError(
+                f"{project.path}: [schedule.least] {name}: is none of {', '.join(('ore', 'rock', *metals, *names))}"
+            )
+        if ("ore", "rock", *metals, *names).count(name) > 1:
+            raise PlanError(f"{project.path}: [schedule.least] {name}: {several}")
+        if (limit := most.get(name)) and least > limit:
+            raise PlanError(
+                f"{project.path}: [schedule.least] {name}: {least:.10g} is above the most of a year, {limit:.10g}"
+            )
+    for it in rules.sums:
+        if it.of not in ("ore", "rock", *names):
+            raise PlanError(
+                f"{project.path}: [schedule.sums] {it.name}: of {it.of} is none of {', '.join(('rock', 'ore', *names))}"
+            )
+        if ("ore", "rock", *names).count(it.of) > 1:
+            raise PlanError(f"{project.path}: [schedule.sums] {it.name}: of {it.of} {several}")
+    demand_sums_of_parts(project, rules)
+
+
+def demand_sums_of_parts(project: Project, rules: ScheduleRules) -> None:
+    """Refuses sums of whole blocks where a topography cuts these, and where those that are put together have the means of that column."""
+    means = {*rules.columns_of(a_tonne=True), *(metal.column for metal in project.metals)}
+    for it in [it for it in rules.sums if not it.a_tonne]:
+        if project.table.topography:
+            why = "is of whole blocks, and [table] topography cuts some: give it a_tonne, or leave out one of the two"
+            raise PlanError(f"{project.path}: [schedule.sums] {it.name}: {why}")
+        if project.table.reblock and it.column in means:
+            why = f"{it.column} is of a tonne too, and [table] reblock makes means of that: let the table have it twice"
+            raise PlanError(f"{project.path}: [schedule.sums] {it.name}: {why}")
+
+
+def demand_processes_agree(project: Project) -> None:
+    """Refuses processes of one name or of metals that there are not, and what does not go with several."""
+    path, names = project.path, [process.name for process in project.processes]
+    metals = [metal.name for metal in project.metals]
+    if len(set(names)) < len(names):
+        raise PlanError(f"{path}: two [[processes]] have one name")
+    for process in project.processes:
+        for name in process.recovery:
+            if name not in metals:
+                raise PlanError(
+                    f"{path}: [[processes]] {process.name} recovers {name}, which is none of the [[metals]] {', '.join(metals)}"
+                )
+    if names and project.scenarios:
+        raise PlanError(f"{path}: [scenarios] are solved with one process: leave out [[processes]]")
+    rules = project.schedule_rules
+    if names and rules and (rules.bins is not None or rules.ore_per_year is not None):
+        raise PlanError(
+            f"{path}: [schedule] bins and ore_per_year are of one process: leave them out, or [[processes]]"
+        )

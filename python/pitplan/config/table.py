@@ -1,0 +1,178 @@
+"""`[table]` and `[grid]`: columns, missing blocks, reblocking and the grid."""
+
+from __future__ import annotations
+
+import codecs
+from dataclasses import dataclass
+from decimal import Decimal
+from pathlib import Path
+from typing import Optional, Union
+
+from .survey import SurveyFile, read_survey
+from .toml_section import Section, cut, shown
+
+
+@dataclass(frozen=True)
+class AbsentRock:
+    """What lies in cells that the table has no row of: tonnes a cell, and codes of rock and region, "" where none is given."""
+
+    tonnes: float
+    rock: str
+    region: str
+
+
+@dataclass(frozen=True)
+class Reblock:
+    """Of what rows blocks are put together: so many blocks each way, or all that lie in blocks of a size, from a corner on, in metres.
+
+    Counts and sizes are east, north and up; the corner is x, y, z at the west, the south and the floor of some block.
+    """
+
+    counts: Optional[tuple[int, int, int]]
+    size: Optional[tuple[float, float, float]] = None
+    corner: Optional[tuple[float, float, float]] = None
+
+
+@dataclass(frozen=True)
+class TableColumns:
+    """Where the table is, which of its columns say what, and what lies where it has no row: "refuse", "air" or a rock.
+
+    tonnes   the column of tonnes, or what the product of density and volume is called
+    density  a column of tonnes a cubic metre, where the table has no tonnes
+    volume   a column of cubic metres; without it a block has the grid's size
+    reblock  of what rows blocks are put together; None: each row is a block
+    topography  heights of the ground, by which blocks are cut; None: they are whole
+    """
+
+    file: Path
+    x: str
+    y: str
+    z: str
+    tonnes: str
+    density: Optional[str]
+    volume: Optional[str]
+    id: Optional[str]
+    rock: Optional[str]
+    region: Optional[str]
+    separator: Optional[str]
+    decimal: Optional[str]
+    encoding: str
+    empty: str
+    absent: Union[str, AbsentRock]
+    reblock: Optional[Reblock] = None
+    topography: Optional[SurveyFile] = None
+
+
+@dataclass(frozen=True)
+class GridRules:
+    """The blocks' size in metres, where it is given, and how far a centre may lie off the grid, in metres.
+
+    azimuth  degrees clockwise from north to the grid's north, from -360 to 360; None: as the centres tell it
+    """
+
+    size: Optional[tuple[float, float, float]]
+    tolerance: float
+    azimuth: Optional[float] = None
+
+
+def read_table(section: Section, folder: Path) -> TableColumns:
+    columns = TableColumns(
+        file=folder / section.text("file"),
+        x=section.text("x", "x"),
+        y=section.text("y", "y"),
+        z=section.text("z", "z"),
+        tonnes=section.text("tonnes", "tonnes"),
+        density=section.optional_text("density"),
+        volume=section.optional_text("volume"),
+        id=section.optional_text("id"),
+        rock=section.optional_text("rock"),
+        region=section.optional_text("region"),
+        separator=read_separator(section),
+        decimal=section.choice("decimal", (".", ","), None) if section.has("decimal") else None,
+        encoding=read_encoding(section),
+        empty=section.choice("empty", ("refuse", "zero"), "refuse"),
+        absent=read_absent(section),
+        reblock=read_reblock(section),
+        topography=read_survey(section, "topography", folder) if section.has("topography") else None,
+    )
+    section.finish()
+    if columns.density and section.has("tonnes"):
+        raise section.wrong("density", "give it or tonnes, not both")
+    if columns.volume and not columns.density:
+        raise section.wrong("volume", "is multiplied by a density, which is missing")
+    for name, code in (("rock", columns.rock), ("region", columns.region)):
+        if isinstance(columns.absent, AbsentRock) and bool(getattr(columns.absent, name)) != bool(code):
+            raise section.wrong("absent", f"needs a {name} where, and only where, a column of the table is its {name}")
+    return columns
+
+
+def read_encoding(section: Section) -> str:
+    """A name that Python knows; of UTF-8 a byte-order mark is passed over."""
+    name = section.text("encoding", "utf-8")
+    try:
+        known = codecs.lookup(name).name
+        # Codecs such as base64 and rot13 are known too, and are none of texts.
+        "".encode(known)
+    except (LookupError, ValueError) as error:
+        raise section.wrong("encoding", f'"{cut(name)}" is no encoding: such are utf-8, cp1252 and utf-16') from error
+    return "utf-8-sig" if known == "utf-8" else known
+
+
+def read_separator(section: Section) -> Optional[str]:
+    """One sign of ASCII that is no part of a number or a name."""
+    sign = section.optional_text("separator")
+    if sign is not None and (
+        len(sign) != 1
+        or not sign.isascii()
+        or sign.isalnum()
+        or sign in '".+-_'
+        or not (sign.isprintable() or sign == "\t")
+    ):
+        raise section.wrong(
+            "separator", f'{shown(sign)} parts no fields: give one sign, such as ",", ";", "|" or "\\t"'
+        )
+    return sign
+
+
+def read_absent(section: Section) -> Union[str, AbsentRock]:
+    if not section.has("absent") or not isinstance(section.data["absent"], dict):
+        return section.choice("absent", ("refuse", "air"), "refuse")
+    rock = section.section("absent")
+    tonnes = float(rock.number("tonnes", least=0))
+    absent = AbsentRock(tonnes, rock.optional_text("rock") or "", rock.optional_text("region") or "")
+    rock.finish()
+    return absent
+
+
+def read_reblock(section: Section) -> Optional[Reblock]:
+    if not section.has("reblock"):
+        return None
+    if isinstance(section.data["reblock"], dict):
+        inner = section.section("reblock")
+        (east, north, up), (x, y, z) = inner.numbers("size", 3), inner.numbers("corner", 3)
+        inner.finish()
+        if min(east, north, up) <= 0:
+            raise inner.wrong("size", "a block's size is above 0")
+        return Reblock(None, (east, north, up), (x, y, z))
+    counts = section.numbers("reblock", 3)
+    if any(count != int(count) or count < 1 for count in counts) or max(counts) == 1:
+        raise section.wrong(
+            "reblock", "must be whole numbers of blocks east, north and up, such as [2, 2, 1], or a size and a corner"
+        )
+    east, north, up = map(int, counts)
+    return Reblock((east, north, up))
+
+
+def read_grid(section: Section) -> GridRules:
+    size = section.numbers("size", 3) if section.has("size") else None
+    if size is not None and min(size) <= 0:
+        raise section.wrong("size", "a block's size is above 0")
+    rules = GridRules(
+        size=None if size is None else (size[0], size[1], size[2]),
+        tolerance=float(section.number("tolerance", Decimal("0.01"), least=0)),
+        azimuth=float(section.number("azimuth")) if section.has("azimuth") else None,
+    )
+    section.finish()
+    if rules.azimuth is not None and abs(rules.azimuth) > 360:
+        raise section.wrong("azimuth", f"{rules.azimuth:.10g} is no angle from -360 to 360 degrees")
+    return rules

@@ -1,0 +1,123 @@
+"""Notes on block values: units, recoveries, haulage and codes that match no row."""
+
+from __future__ import annotations
+
+from dataclasses import replace
+from decimal import Decimal
+
+import numpy as np
+import pandas as pd
+
+from pitplan.blockmodel.reader import HEADER_ROWS
+from pitplan.config.economics import ByCode, ByRegion, Curve, Metal
+from pitplan.config.project import Project
+
+from .weighing import GRADES, Feed, Rows
+
+
+def grade_notes(rows: Rows) -> list[str]:
+    """Warnings of grades that a unit hardly allows: more than all of the rock, or a mean that few mines have."""
+    notes = []
+    for metal in rows.project.metals:
+        grades, (whole, usual) = rows.frame[metal.column].to_numpy(), GRADES[metal.unit]
+        some = grades[grades > 0]
+        if len(some) and some.max() > whole:
+            row = int((grades > whole).argmax()) + HEADER_ROWS
+            notes.append(
+                f"WARNING: {np.count_nonzero(some > whole):,} grades of {metal.name} are above {whole:,g} {metal.sign}, the first in row {row}"
+            )
+        elif len(some) and some.mean() > usual:
+            notes.append(
+                f'WARNING: the mean grade of {metal.name}, where there is any, is {some.mean():.4g} {metal.sign}: is the unit "{metal.unit}" right?'
+            )
+    return notes
+
+
+def notes_of(rows: Rows, feed: Feed) -> tuple[str, ...]:
+    """Warnings of grades, and what a planner should know of rocks, of what comes to the mill, and of recoveries."""
+    solid, project = np.array(rows.tonnes.whole > 0, dtype=bool), rows.project
+    notes = [*grade_notes(rows), *feed_notes(project), *haulage_notes(rows)]
+    for process, way in zip([process.name for process in project.processes] or [""], project.ways):
+        of_way = [*rock_notes(way, rows.rock, solid), *recovery_notes(replace(rows, project=way), feed)]
+        notes += [f"{process}: {note}" for note in of_way] if process else of_way
+    return tuple(notes)
+
+
+def feed_notes(project: Project) -> list[str]:
+    """What of a block comes to the mill, and what is owed for it, where the project says anything of it."""
+    money, notes = project.money, []
+    if money.mining_recovery != 1 or money.dilution != 0:
+        recovery, dilution = said_of(money.mining_recovery), said_of(money.dilution)
+        notes.append(
+            f"of the tonnes of ore there come to the mill {recovery} (mining recovery), and with each of these {dilution} of "
+            "grade 0 (dilution); ore tonnes, grades and processing cost are those of what comes to the mill"
+        )
+    if money.royalty:
+        notes.append(
+            f"a royalty of {(100 * money.royalty).normalize():f} % is taken off the gross revenue of every block, before selling costs, at every factor"
+        )
+    if money.royalty_per_tonne:
+        notes.append(
+            f"a royalty of {money.royalty_per_tonne:f} {money.currency} a tonne of ore is part of the processing cost"
+        )
+    return notes
+
+
+def haulage_notes(rows: Rows) -> list[str]:
+    """How long roads are, and where their cost stands."""
+    if rows.roads is None:
+        return []
+    rules, metres = rows.roads.rules, rows.roads.metres.floats()
+    place = ", ".join(f"{axis:f}" for axis in rules.exit)
+    return [
+        f"roads from blocks to the exit at {place} are {metres.min():,.0f} to {metres.max():,.0f} m long: the way in plan, and a ramp of "
+        f"{(100 * rules.gradient).normalize():f} %; hauling as waste is part of mining cost, what ore costs more of processing cost"
+    ]
+
+
+def recovery_notes(rows: Rows, feed: Feed) -> list[str]:
+    """How recoveries go by grade, and what is lost as a fixed tail."""
+    notes = []
+    for metal in rows.project.metals:
+        of_rocks = metal.recovery if isinstance(metal.recovery, dict) else {"": metal.recovery}
+        notes += [curve_note(rows, feed, metal, rock) for rock, share in of_rocks.items() if isinstance(share, Curve)]
+        if metal.fixed_tail:
+            notes.append(
+                f"of each tonne that comes to the mill {said_of(metal.fixed_tail)} {metal.sign} of {metal.name} are lost, whatever it holds"
+            )
+    return notes
+
+
+def curve_note(rows: Rows, feed: Feed, metal: Metal, rock: str) -> str:
+    """That a recovery goes by grade, of a rock or, where that has no name, of all, and how many blocks lie beyond the grades named."""
+    curve = metal.recovery[rock] if isinstance(metal.recovery, dict) else metal.recovery
+    assert isinstance(curve, Curve)
+    least, most = float(curve.points[0][0]), float(curve.points[-1][0])
+    grades = rows.frame[metal.column].to_numpy() / feed.tonnes_of.floats()
+    mine = (grades > 0) & ((rows.rock == rock) | (not isinstance(metal.recovery, dict)))
+    beyond = np.count_nonzero(mine & ((grades < least) | (grades > most)))
+    return (
+        f"recovery of {metal.name}{f' of {rock}' if rock else ''} goes by the grade at the mill; {beyond:,} of {np.count_nonzero(mine):,} "
+        f"blocks lie beyond {least:g} to {most:g} {metal.sign}, and have the recovery there"
+    )
+
+
+def said_of(value: ByCode) -> str:
+    """One number, or those of all codes."""
+    if isinstance(value, Decimal):
+        return f"{value:f}"
+    by_code = value.values if isinstance(value, ByRegion) else value
+    return ", ".join(f"{number:f} of {code}" for code, number in by_code.items())
+
+
+def rock_notes(project: Project, rock: np.ndarray, solid: np.ndarray) -> list[str]:
+    """What a planner should know of codes: rocks that are never processed, and names that no block bears."""
+    notes, present = [], set(pd.unique(rock[solid]))
+    for metal in project.metals:
+        if isinstance(metal.recovery, dict):
+            for code in sorted(present - set(metal.recovery)):
+                blocks = int(np.count_nonzero(solid & (rock == code)))
+                notes.append(f"{blocks:,} blocks of rock {code} have no recovery of {metal.name} and yield none of it")
+            for code in sorted(set(metal.recovery) - present):
+                notes.append(f"recovery of {metal.name} names rock {code}, which no block is of")
+    return notes

@@ -1,0 +1,203 @@
+"""Rows of a block model weighed in money: mill feed, recovered metal, revenue and cost of each process."""
+
+from __future__ import annotations
+
+from dataclasses import dataclass
+from decimal import Decimal
+from functools import cached_property
+from typing import Optional
+
+import numpy as np
+import pandas as pd
+
+from pitplan.blockmodel.grid import Grid
+from pitplan.config.economics import GRADE_UNITS, ByCode, ByRegion, Metal, Money
+from pitplan.config.project import Project
+from pitplan.core.decimals import Exact, Rounding
+from pitplan.core.numeric_fields import at_row
+
+from . import recovery_curves
+from .haulage import Hauled, Roads
+from .process_routing import Way
+from .recovery_curves import Head
+
+
+def added_cost(money: Money, elevation: float) -> Decimal:
+    """What mining a tonne costs more at an elevation, to a micrometre: linear between two that are named, kept to a millionth, and the same
+    beyond them."""
+    pairs = money.mining_cost_by_elevation
+    at = Decimal(repr(round(float(elevation), 6)))
+    if at <= pairs[0][0]:
+        return pairs[0][1]
+    for (low, cost), (high, then) in zip(pairs, pairs[1:]):
+        if at <= high:
+            return (cost + (then - cost) * (at - low) / (high - low)).quantize(Decimal("1e-6"))
+    return pairs[-1][1]
+
+
+MILLIONTHS = 6
+
+# The files' decimals have twelve digits before the point, and a fixed cut-off adds two amounts.
+GREATEST = 10**17
+
+# By unit the grade of pure metal, and a mean grade that hardly any mine reaches.
+GRADES = {"percent": (100.0, 10.0), "fraction": (1.0, 0.1), "gram_per_tonne": (1e6, 100.0)}
+
+
+@dataclass(frozen=True)
+class Weighed:
+    """What each row yields and costs in one process, in millionths, with what was rounded of it, and the metals that are recovered."""
+
+    revenue: np.ndarray
+    cost: np.ndarray
+    metal: dict[str, Exact]
+    roundings: dict[str, Rounding]
+
+    def way(self, name: str, grid: Grid) -> Way:
+        """From one value a row of the table to one a cell."""
+        metal = {metal: grid.spread(amounts.floats()) for metal, amounts in self.metal.items()}
+        return Way(name, grid.spread(self.revenue), grid.spread(np.where(self.revenue > 0, self.cost, 0)), metal)
+
+
+@dataclass(frozen=True)
+class Feed:
+    """What comes to the mill of each row, if it is processed.
+
+    undiluted  tonnes of the block itself
+    tonnes_of  tonnes that come with each of these, itself among them: 1.05 with 5 % of rock of grade 0
+    """
+
+    undiluted: Exact
+    tonnes_of: Exact
+
+    @property
+    def tonnes(self) -> Exact:
+        return self.undiluted.times(self.tonnes_of)
+
+
+@dataclass(frozen=True)
+class Rows:
+    """The table's rows while they are weighed, with the exact tonnes of each."""
+
+    frame: pd.DataFrame
+    grid: Grid
+    project: Project
+    source: str
+    tonnes: Exact
+
+    def every(self, value: Decimal) -> Exact:
+        return Exact.of(value, len(self.frame))
+
+    def codes(self, column: Optional[str]) -> np.ndarray:
+        return self.frame[column].to_numpy() if column else np.full(len(self.frame), "")
+
+    @cached_property
+    def roads(self) -> Optional[Roads]:
+        return None if self.project.haulage is None else Roads.of(self.grid, self.project.haulage)
+
+    @property
+    def rock(self) -> np.ndarray:
+        return self.codes(self.project.table.rock)
+
+    def by_code(self, price: ByCode, needed: np.ndarray, key: str) -> Exact:
+        """One number a row by its rock or its region. Raises PlanError where a row in `needed` is of one that has none."""
+        if isinstance(price, Decimal):
+            return self.every(price)
+        name, column, by_code = "rock", self.project.table.rock, price
+        if isinstance(price, ByRegion):
+            name, column, by_code = "region", self.project.table.region, price.values
+        inverse, codes = pd.factorize(self.codes(column), sort=True)
+        for number, code in enumerate(codes):
+            lacking = needed & (inverse == number)
+            if code not in by_code and lacking.any():
+                why = f'[money] {key} names no {name} "{code}"'
+                raise at_row(self.source, int(lacking.argmax()), column or name, why)
+        table = Exact.of_decimals([by_code.get(code, Decimal(0)) for code in codes])
+        return Exact(table.whole[inverse], table.places)
+
+    def mining(self, first_level: int) -> Exact:
+        """Cost of mining, with that of hauling as waste; it rises with each level below the first one, or goes by the elevation of the
+        block's centre."""
+        money, solid = self.project.money, np.array(self.tonnes.whole > 0, dtype=bool)
+        _, _, level = self.grid.indices(self.grid.rows)
+        if money.mining_cost_by_elevation:
+            more = Exact.of_decimals([added_cost(money, z) for z in self.grid.elevations()])
+            deeper = Exact(more.whole[level], more.places)
+        else:
+            steps = np.maximum(level - first_level, 0).astype(np.int64)
+            deeper = Exact(steps, 0).times(self.every(money.mining_cost_per_level))
+        a_tonne = self.by_code(money.mining_cost, solid, "mining_cost").plus(deeper)
+        return self.tonnes.times(a_tonne.plus(self.roads.waste) if self.roads else a_tonne)
+
+    def feed(self) -> Feed:
+        """What comes to the mill of each row. Raises PlanError where a row with metal is of a code without a number."""
+        money, some = self.project.money, np.zeros(len(self.frame), dtype=bool)
+        for metal in self.project.metals:
+            some |= self.frame[metal.column].to_numpy() > 0
+        some &= np.array(self.tonnes.whole > 0, dtype=bool)
+        undiluted = self.tonnes.times(self.by_code(money.mining_recovery, some, "mining_recovery"))
+        return Feed(undiluted, self.every(Decimal(1)).plus(self.by_code(money.dilution, some, "dilution")))
+
+    def recovered(self, metal: Metal, feed: Feed) -> Exact:
+        """The quantity of a metal that is recovered: tonnes, or grams where the grade is in grams a tonne."""
+        grade, nowhere = Exact.of_floats(self.frame[metal.column].to_numpy()), np.zeros(len(self.frame), dtype=bool)
+        share = recovery_curves.of_rows(metal.recovery, self.rock, Head(grade, feed.tonnes_of))
+        if metal.fixed_tail:
+            tail = self.by_code(metal.fixed_tail, nowhere, "fixed_tail").times(feed.tonnes_of)
+            left = grade.minus(tail)
+            grade = Exact(np.maximum(left.whole, 0), left.places)
+        return feed.undiluted.times(grade).times(self.every(GRADE_UNITS[metal.unit])).times(share)
+
+    def weighed(self, feed: Feed) -> Weighed:
+        """What the project's own process yields and costs. Raises PlanError where a rock has no cost, an amount is 10^11 or more, or ore
+        costs so much less to haul than waste that nothing is left of its processing cost."""
+        costs, metals = self.project.money, self.project.metals
+        metal = {m.name: self.recovered(m, feed) for m in metals}
+        revenue = selling = self.every(Decimal(0))
+        for m in metals:
+            revenue = revenue.plus(metal[m.name].times(self.every(m.price * (1 - costs.royalty))))
+            selling = selling.plus(metal[m.name].times(self.every(m.selling_cost)))
+        yields = np.array(revenue.whole > 0, dtype=bool)
+        a_tonne = self.by_code(costs.processing_cost, yields, "processing_cost").plus(
+            self.every(costs.royalty_per_tonne)
+        )
+        if self.roads:
+            a_tonne = self.with_haulage(a_tonne, yields)
+        amounts = {"revenue": revenue, "processing cost": feed.tonnes.times(a_tonne).plus(selling)}
+        (gain, first), (cost, second) = (self.millionths(value, name) for name, value in amounts.items())
+        return Weighed(gain, cost, metal, dict(zip(amounts, (first, second))))
+
+    def with_haulage(self, a_tonne: Exact, yields: np.ndarray) -> Exact:
+        """The cost of processing a tonne with what ore costs more to haul than waste. Raises PlanError where that is below 0."""
+        assert self.roads is not None
+        found = a_tonne.plus(self.roads.ore_more)
+        below = yields & np.array(found.whole < 0, dtype=bool)
+        if below.any():
+            columns, row = self.project.table, int(below.argmax())
+            less, cost = (float(it.floats()[row]) for it in (self.roads.ore_more, a_tonne))
+            why = f"[haulage] a tonne of ore costs {-less:.6g} less to haul from here than one of waste, and its processing {cost:.6g}"
+            raise at_row(self.source, row, f"{columns.x}, {columns.y}, {columns.z}", why)
+        return found
+
+    def hauled(self, feed: Feed) -> tuple[Optional[Hauled], dict[str, Rounding]]:
+        """Roads and what hauling costs, by cell, and what was rounded of that."""
+        if self.roads is None:
+            return None, {}
+        amounts = {
+            "haulage cost": self.tonnes.times(self.roads.waste),
+            "haulage cost of ore": feed.tonnes.times(self.roads.ore_more),
+        }
+        (waste, first), (more, second) = (self.millionths(value, name) for name, value in amounts.items())
+        road, waste, more = (self.grid.spread(values) for values in (self.roads.metres.whole, waste, more))
+        return Hauled(road, waste, more), dict(zip(amounts, (first, second)))
+
+    def millionths(self, value: Exact, name: str) -> tuple[np.ndarray, Rounding]:
+        """int64 millionths, rounded to the decimals that the project keeps. Raises PlanError from 10^11 on."""
+        decimals = self.project.money.decimals
+        rounded, rounding = value.rounded(decimals)
+        millionths = Exact(rounded, decimals).at(MILLIONTHS)
+        too_great = np.array(millionths >= GREATEST, dtype=bool)
+        if too_great.any():
+            why = "the amount is 10^11 or more: give prices and costs in a greater unit of money"
+            raise at_row(self.source, int(too_great.argmax()), name, why)
+        return millionths.astype(np.int64), rounding

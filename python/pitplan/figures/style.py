@@ -1,0 +1,115 @@
+"""What all figures share: style, formats, axes and files."""
+
+from __future__ import annotations
+
+from collections.abc import Callable, Iterator
+from contextlib import contextmanager
+from contextvars import ContextVar
+from pathlib import Path
+from typing import Any
+
+import matplotlib
+import numpy as np
+from matplotlib.axes import Axes
+from matplotlib.figure import Figure
+from matplotlib.ticker import MaxNLocator
+
+from pitplan.blockmodel.grid import Grid
+from pitplan.errors import PlanError
+
+ORE, WASTE, GROUND = "#3b6ea5", "#cfc9bd", "#ece8df"
+BEST, WORST, PLAIN, CHOSEN = "#1b7f4b", "#c0392b", "#444444", "#ffe9a6"
+# Red and green are alike to many: the best case points upward.
+BEST_MARK, WORST_MARK = "^", "v"
+# Rows are shown from the bottom of the picture up, each cell as it is.
+MAP: dict[str, Any] = {"origin": "lower", "interpolation": "nearest"}
+
+
+STYLE = {
+    "font.size": 9,
+    "axes.spines.top": False,
+    "axes.titlesize": 10,
+    "axes.titlelocation": "left",
+    "savefig.dpi": 120,
+    # Coordinates of seven digits stand in full beside the axes.
+    "axes.formatter.useoffset": False,
+    "axes.formatter.limits": (-6, 9),
+}
+
+# In what formats pictures are written besides PNG, and what these would tell of the library and the day.
+ALSO: ContextVar[tuple[str, ...]] = ContextVar("ALSO", default=())
+
+UNDATED: dict[str, dict[str, None]] = {
+    "pdf": {"Creator": None, "Producer": None, "CreationDate": None},
+    "svg": {"Date": None, "Creator": None},
+}
+
+MOST_TICKS = 11
+
+MOST_COORDINATES = 6
+
+
+def list_of(axes: Any, count: int) -> list[Axes]:
+    """So many axes, given as a list or as an array of any shape. Raises PlanError where there are more or fewer."""
+    found = list(np.ravel(axes))
+    if len(found) != count:
+        raise PlanError(f"{len(found)} axes are given, and the picture has {count}")
+    return found
+
+
+def scaled(most: float) -> tuple[float, str]:
+    """A unit in which numbers up to `most` have two digits before the point or more: its size and its sign."""
+    for size, sign in ((1e6, "M"), (1e3, "k")):
+        if most >= 10 * size:
+            return size, sign
+    return 1.0, ""
+
+
+def name_axes(axis: Axes, across: str, up: str) -> None:
+    """Labels in metres, coordinates in full, and so few ticks below that those of seven digits keep apart."""
+    axis.set_xlabel(f"{across}, m")
+    axis.set_ylabel(f"{up}, m")
+    axis.ticklabel_format(style="plain", useOffset=False)
+    axis.xaxis.set_major_locator(MaxNLocator(MOST_COORDINATES, steps=[1, 2, 2.5, 5, 10]))
+
+
+def write_maps(grid: Grid, plot: Callable[[list[Axes]], object], path: Path, count: int = 4) -> None:
+    """Writes a picture of so many maps of the grid, which `plot` draws on their axes."""
+    with matplotlib.rc_context(STYLE):
+        west, east, south, north, _, _ = grid.extent()
+        figure, axes = panels(east - west, north - south, count)
+        plot(axes)
+        finish(figure, path)
+
+
+def panels(wide: float, high: float, count: int = 4) -> tuple[Figure, list[Axes]]:
+    """A figure of maps in the ground's proportions, two beside each other, and its axes."""
+    share, lines = min(max(high / wide, 0.3), 1.3), -(-count // 2)
+    figure = Figure(figsize=(12, lines * (4.7 * share + 0.75)), constrained_layout=True)
+    axes = list(figure.subplots(lines, 2, squeeze=False).flat)
+    for ax in axes[count:]:
+        ax.set_axis_off()
+    return figure, axes[:count]
+
+
+@contextmanager
+def also_as(formats: tuple[str, ...]) -> Iterator[None]:
+    """Pictures that are written meanwhile are written in these formats too, beside the PNG."""
+    before = ALSO.set(formats)
+    try:
+        yield
+    finally:
+        ALSO.reset(before)
+
+
+def files_of(drawn: dict[str, str], formats: tuple[str, ...]) -> list[str]:
+    """The names of pictures, in every format that they are written in."""
+    return [str(Path(name).with_suffix(f".{kind}")) for name in drawn.values() for kind in ("png", *formats)]
+
+
+def finish(figure: Figure, path: Path) -> None:
+    # Without the library's version and the day in it, the same plan gives the same bytes.
+    figure.savefig(path, metadata={"Software": None})
+    with matplotlib.rc_context({"svg.hashsalt": "pitplan"}):
+        for name in ALSO.get():
+            figure.savefig(path.with_suffix(f".{name}"), metadata=UNDATED[name])

@@ -1,0 +1,8 @@
+"""Names of the files in a results folder."""
+
+from __future__ import annotations
+
+RECORD, TABLE, SHELLS, YEARS = "prepare.json", "blocks.csv", "shells.csv", "years.csv"
+PHASES = "phases.csv"
+SCHEDULE, SCHEDULE_RECORD, MILLING = "schedule.csv", "schedule.json", "milling.csv"
+BLOCK_SCHEDULE, WAYS = "block_schedule.json", "ways.csv"

@@ -1,0 +1,102 @@
+"""The mine of a plan as the files that the program reads."""
+
+from __future__ import annotations
+
+from pathlib import Path
+
+import numpy as np
+
+from pitplan import constraints
+from pitplan.blockmodel.grid import Grid
+from pitplan.core import byte_lines
+from pitplan.plan import Plan
+from pitplan.precedences import MOST_PAIRS, Needs, Pairs
+from pitplan.slopes.arcs import ABSENT, slices
+
+BLOCKS, MODEL, PREC, FIXED = "mine.blocks", "mine.upit", "mine.prec", "mine.fixed"
+REST_BLOCKS, REST_PREC, PIT_MODEL = "rest.blocks", "rest.prec", "pit.upit"
+ANSWER = "shells.txt"
+# What the program reads and writes; where the library solves none of them is there.
+OF_PROGRAM = (BLOCKS, MODEL, PREC, FIXED, REST_BLOCKS, REST_PREC, PIT_MODEL, ANSWER)
+CHUNK = 200_000
+
+
+def write(plan: Plan, folder: Path) -> Pairs:
+    """Writes mine.blocks, mine.upit and mine.prec into a folder, and if the project has `[fixed]` mine.fixed, and the rest's rest.blocks
+    and rest.prec.
+
+    Returns how many precedences the mine has. Raises PlanError if the program takes fewer.
+    """
+    nodes, processed = plan.values.nodes(), plan.values.processed
+    write_blocks(folder / BLOCKS, plan.grid, processed, nodes)
+    write_model(folder / MODEL, plan.project.title, nodes[0] - nodes[1])
+    pairs = write_needs(folder / PREC, plan, plan.needs)
+    if plan.settled is not None:
+        constraints.write(folder / FIXED, plan.fixed)
+        write_blocks(folder / REST_BLOCKS, plan.grid, processed, constraints.nodes_of_rest(plan.values, plan.settled))
+        write_needs(folder / REST_PREC, plan, plan.needs_of_rest)
+    return pairs
+
+
+def write_needs(path: Path, plan: Plan, needs: Needs) -> Pairs:
+    """Writes precedences of a plan. Raises PlanError if the program takes fewer."""
+    pairs = write_prec(path, needs, MOST_PAIRS)
+    plan.demand_few(pairs)
+    return pairs
+
+
+def of_program(folder: Path) -> tuple[str, ...]:
+    """The names of the files for the program that are in a folder."""
+    return tuple(name for name in OF_PROGRAM if (folder / name).is_file())
+
+
+def write_blocks(path: Path, grid: Grid, processed: np.ndarray, nodes: tuple[np.ndarray, np.ndarray]) -> None:
+    """`id x y z revenue cost` a node, x, y, z being its block's column, row and level from the floor."""
+    revenue, cost = nodes
+    block = np.concatenate([np.arange(grid.count), processed])
+    with open(path, "wb") as file:
+        for start in range(0, len(block), CHUNK):
+            part = slice(start, min(start + CHUNK, len(block)))
+            column, row, level = grid.indices(block[part])
+            places = [byte_lines.whole(axis) for axis in (column, row, grid.shape[0] - 1 - level)]
+            numbers = byte_lines.whole(np.arange(part.start, part.stop))
+            file.write(
+                byte_lines.lines(
+                    [numbers, *places, byte_lines.decimals(revenue[part]), byte_lines.decimals(cost[part])]
+                )
+            )
+
+
+def write_model(path: Path, name: str, values: np.ndarray) -> None:
+    """An optimisation model: one value a node, in millionths."""
+    with open(path, "wb") as file:
+        file.write(f"NAME: {name}\nTYPE: UPIT\nNBLOCKS: {len(values)}\nOBJECTIVE_FUNCTION:\n".encode())
+        for start in range(0, len(values), CHUNK):
+            part = values[start : start + CHUNK]
+            numbers = np.arange(start, start + len(part))
+            file.write(byte_lines.lines([byte_lines.whole(numbers), byte_lines.decimals(part)]))
+
+
+def write_prec(path: Path, needs: Needs, most: int) -> Pairs:
+    """A line for each block and each processing node that needs others. Needs above the most are counted alone."""
+    written = clipped = 0
+    nodes, blocks = needs.binding()
+    with open(path, "wb") as file:
+        for part in slices(needs.grid, needs.walls, needs.blocks):
+            needed = needs.open(part.needs)
+            count = (needed != ABSENT).sum(axis=1)
+            some = count > 0
+            written += int(count.sum())
+            clipped += part.clipped
+            if some.any() and written <= most:
+                heads = [byte_lines.whole(part.ids[some]), byte_lines.whole(count[some])]
+                file.write(byte_lines.ragged(heads, needed[some], ABSENT))
+        for start in range(0, len(nodes), CHUNK):
+            part_of = slice(start, start + CHUNK)
+            ones = np.ones(len(nodes[part_of]))
+            file.write(
+                byte_lines.lines(
+                    [byte_lines.whole(nodes[part_of]), byte_lines.whole(ones), byte_lines.whole(blocks[part_of])]
+                )
+            )
+    return Pairs(written, clipped, len(nodes))

@@ -1,0 +1,71 @@
+"""The packages of pitplan are layers: each imports only itself and earlier ones, and no module is long."""
+
+import ast
+from pathlib import Path
+
+import pytest
+from conftest import ROOT
+
+# From the lowest to the highest. `errors`, `constraints`, `precedences`, `crop` and `plan` are modules beside the packages.
+LAYERS = (
+    *("errors", "core", "config", "survey", "blockmodel", "economics", "slopes", "constraints", "precedences", "crop"),
+    *("plan", "solver", "pits", "pushbacks", "scheduling", "results", "verification", "studies", "export", "figures"),
+    *("report", "commands", "cli", "__main__"),
+)
+PACKAGE = ROOT / "python" / "pitplan"
+MODULES = sorted(PACKAGE.rglob("*.py"))
+MOST_LINES = 400
+
+
+def imported(module: Path) -> set[str]:
+    """The layers of pitplan that a module imports, at its head, within functions and for type checkers; `pitplan` is the package itself."""
+    places = [*module.relative_to(PACKAGE.parent).parts[:-1]]
+    found = set()
+    for node in ast.walk(ast.parse(module.read_text(encoding="utf-8"))):
+        if isinstance(node, ast.ImportFrom):
+            stem = places[: len(places) + 1 - node.level] if node.level else []
+            origin = [*stem, *(node.module or "").split(".")] if node.module else stem
+            found |= {(*origin, alias.name) for alias in node.names}
+        elif isinstance(node, ast.Import):
+            found |= {tuple(alias.name.split(".")) for alias in node.names}
+    layers = {(path[1] if path[1] in LAYERS else path[0]) for path in found if path[0] == "pitplan" and len(path) > 1}
+    return layers | {path[0] for path in found if path == ("pitplan",)}
+
+
+def layer_of(module: Path) -> str:
+    return module.relative_to(PACKAGE).parts[0].removesuffix(".py")
+
+
+def test_imports_are_found_in_every_form(tmp_path, monkeypatch):
+    module = tmp_path / "pitplan" / "export" / "some.py"
+    module.parent.mkdir(parents=True)
+    monkeypatch.setitem(globals(), "PACKAGE", tmp_path / "pitplan")
+    lines = (
+        "from ..core import files",
+        "from . import vtk",
+        "import pitplan.report.html",
+        "def f():\n    from pitplan import plan",
+    )
+    module.write_text(
+        "\n".join((*lines, "from pitplan.cli.parser import main as run", "from pitplan import __version__"))
+    )
+    assert imported(module) == {"core", "export", "report", "plan", "cli", "pitplan"}
+
+
+@pytest.mark.parametrize("module", MODULES, ids=lambda it: str(it.relative_to(PACKAGE)))
+def test_a_module_imports_its_own_layer_and_earlier_ones(module):
+    layer = layer_of(module)
+    if layer == "__init__":
+        return
+    # The public package is lazy, and the command line prints its version.
+    allowed = {*LAYERS[: LAYERS.index(layer) + 1], *(["pitplan"] if layer == "cli" else [])}
+    assert imported(module) <= allowed
+
+
+def test_every_module_has_a_layer():
+    assert {layer_of(module) for module in MODULES} == {*LAYERS, "__init__"}
+
+
+def test_no_module_is_long():
+    long = {str(it.relative_to(PACKAGE)): len(it.read_text().splitlines()) for it in MODULES}
+    assert {name: lines for name, lines in long.items() if lines > MOST_LINES} == {}
