@@ -1,5 +1,5 @@
 # `make try` runs the program at once, unproved; `make` proves it, builds it and solves the small mine; `make test` runs the gate.
-.PHONY: all try build library dist demo install test test-program test-plan test-library mutants sweep storm bench setup
+.PHONY: all try build library dist demo install test style test-program test-plan test-library mutants sweep storm bench setup
 
 SMALL_MINE = examples/small_mine
 PROGRAM = build/pitshell
@@ -60,7 +60,14 @@ test: setup
 	tools/uncited.py
 	tools/named.py
 	tools/mutants.py --changed
-	$(MAKE) test-program test-plan
+	$(MAKE) style test-program test-plan
+
+# Layout, imports, unused names and types of the Python code; nothing is changed. `black python && isort python` lays it out.
+style: setup
+	/usr/bin/python3 -m black --check --quiet python
+	/usr/bin/python3 -m isort --check-only --quiet python
+	/usr/bin/python3 -m pyflakes python/pitplan python/minelib python/tests
+	/usr/bin/python3 -m mypy -p pitplan -p minelib -p pitshell
 
 # The tests of the built program and of the tools beside it alone.
 test-program: setup

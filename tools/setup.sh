@@ -26,6 +26,10 @@ parallel              tests    the test of pitplan scenarios --on parallel
 python3-pytest        tests    make test
 python3-pytest-xdist  tests    make test-plan, as many processes as processors
 python3-hypothesis    tests    the same: properties
+black                 tests    make style: the layout of Python code
+isort                 tests    the same: the order of imports
+python3-pyflakes      tests    the same: names that nothing uses or defines
+mypy                  tests    the same: types
 python3-setuptools    tests    make dist: wheels
 python3-wheel         tests    the same
 python3-venv          tests    the test that installs these wheels

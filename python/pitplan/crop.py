@@ -117,7 +117,8 @@ def cropped(model: Model, box: Box, inside: np.ndarray) -> Model:
     kept = np.flatnonzero(ids[grid.rows] >= 0)
     origin = tuple(float(axis) for axis in grid.centres(inside.flat[0]))
     rows = ids[grid.rows[kept]].astype(np.int64)
-    small = Grid(inside.shape, (origin[0], origin[1], origin[2]), grid.size, rows, grid.azimuth)
+    levels, rows_of_cells, columns = inside.shape
+    small = Grid((levels, rows_of_cells, columns), (origin[0], origin[1], origin[2]), grid.size, rows, grid.azimuth)
     frame = model.frame.iloc[kept].reset_index(drop=True)
     known = int(np.count_nonzero(kept < model.known))
     return Model(frame, small, model.region[inside.ravel()], f"of what a shell can reach in {model.source}", known)

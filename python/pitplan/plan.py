@@ -316,7 +316,7 @@ def hash_of_all(text: str, arrays: list[np.ndarray]) -> str:
     digest = hashlib.sha256(text.encode())
     for array in arrays:
         digest.update(f"{array.dtype} {array.shape};".encode())
-        digest.update(np.ascontiguousarray(array))
+        digest.update(np.ascontiguousarray(array).data)
     return digest.hexdigest()
 
 

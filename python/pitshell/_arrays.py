@@ -11,7 +11,7 @@ from numpy.typing import ArrayLike, NDArray
 from ._refusals import Refusal
 
 # What the library takes for granted of memory.
-PLAIN = ["C_CONTIGUOUS", "ALIGNED"]
+PLAIN: list[Any] = ["C_CONTIGUOUS", "ALIGNED"]
 MOST_WHOLE = 2**32 - 1
 
 

@@ -48,7 +48,7 @@ def certificate(values: ArrayLike, needs: Any, *, millionths: bool = False) -> C
     marks = np.zeros(blocks, dtype=np.uint8)
     high, low = np.zeros(pairs, dtype=np.int64), np.zeros(pairs, dtype=np.uint64)
     found = _library.Found()
-    arrays = (amounts.amounts, rows.starts, rows.needs, marks, high, low)
+    arrays: list[np.ndarray] = [amounts.amounts, rows.starts, rows.needs, marks, high, low]
     number = _library.certificate(*(part for array in arrays for part in (array, len(array))), ctypes.byref(found))
     if number:
         raise refused(number, found.place, rows, blocks)
@@ -75,7 +75,7 @@ def check(
     high, low = (rows.forth(part) for part in _parted(listed))
     marks = _marks(in_pit)
     yes, place = ctypes.c_bool(), ctypes.c_uint32()
-    arrays = (amounts.amounts, rows.starts, rows.needs, marks, high, low)
+    arrays: list[np.ndarray] = [amounts.amounts, rows.starts, rows.needs, marks, high, low]
     words = [part for array in arrays for part in (array, len(array))]
     number = _library.check(*words, ctypes.byref(yes), ctypes.byref(place))
     if number in (4, 15) and len(listed) and not 0 <= int(listed[rows.need(place.value)]) <= 10**30:

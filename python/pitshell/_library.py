@@ -3,6 +3,7 @@
 import ctypes
 import os
 from pathlib import Path
+from typing import Any
 
 import numpy as np
 from numpy.ctypeslib import ndpointer
@@ -31,7 +32,7 @@ def _find() -> Path:
     raise ImportError(f"no libpitshell.so at {' or '.join(map(str, places))}: make library builds it", name=__package__)
 
 
-def _slice(dtype: type, flags: str = "C_CONTIGUOUS,ALIGNED") -> list:
+def _slice(dtype: type, flags: Any = "C_CONTIGUOUS,ALIGNED") -> list:
     return [ndpointer(dtype=dtype, ndim=1, flags=flags), ctypes.c_size_t]
 
 

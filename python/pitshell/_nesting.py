@@ -53,7 +53,7 @@ def shells(
     first = np.zeros(blocks, dtype=np.uint32)
     high, low = np.zeros(len(listed), dtype=np.int64), np.zeros(len(listed), dtype=np.uint64)
     place = ctypes.c_uint32()
-    arrays = (revenue.amounts, cost.amounts, rows.starts, rows.needs, listed, first, high, low)
+    arrays: list[np.ndarray] = [revenue.amounts, cost.amounts, rows.starts, rows.needs, listed, first, high, low]
     number = _library.shells(*(part for array in arrays for part in (array, len(array))), ctypes.byref(place))
     if number:
         raise refused(number, place.value, rows, blocks)

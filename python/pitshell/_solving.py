@@ -64,7 +64,8 @@ def solve(
     numbers = _numbers(fixed, blocks)
     marks = np.zeros(blocks, dtype=np.uint8)
     found = _library.Found()
-    slices = [part for array in (amounts.amounts, rows.starts, rows.needs, numbers) for part in (array, len(array))]
+    arrays: list[np.ndarray] = [amounts.amounts, rows.starts, rows.needs, numbers]
+    slices = [part for array in arrays for part in (array, len(array))]
     number = _library.solve(*slices, pit == "greatest", marks, blocks, ctypes.byref(found))
     if number:
         raise refused(number, found.place, rows, blocks)

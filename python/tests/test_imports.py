@@ -41,13 +41,15 @@ def test_every_public_name_is_there_and_no_other():
     with pytest.raises(AttributeError, match="module 'pitplan' has no attribute 'nowhere'"):
         pitplan.nowhere
     with pytest.raises(ImportError, match="nowhere"):
-        from pitplan import nowhere  # noqa: F401
+        exec("from pitplan import nowhere")
 
 
 def test_type_checkers_see_the_same_names():
     tree = ast.parse((ROOT / "python" / "pitplan" / "__init__.py").read_text())
     (checked,) = [node for node in tree.body if isinstance(node, ast.If)]
-    assert {node.module: tuple(name.name for name in node.names) for node in checked.body} == pitplan.MODULES
+    assert {
+        node.module.removeprefix("pitplan."): tuple(name.name for name in node.names) for node in checked.body
+    } == pitplan.MODULES
 
 
 def test_a_missing_package_is_named_by_debians(monkeypatch, capsys):

@@ -85,7 +85,7 @@ def columns_of(frame: pd.DataFrame) -> Columns:
         key: found for key, found in named.items() if key in ("id", "rock", "region") or is_number(frame, found.column)
     }
     taken = {guess.column for group in (centres, sizes, named) for guess in group.values()}
-    metals = [found for name in map(str, frame.columns) if name not in taken and (found := metal_of(frame, name))]
+    metals = [metal for name in map(str, frame.columns) if name not in taken and (metal := metal_of(frame, name))]
     texts = tuple(
         name for name in map(str, frame.columns) if not is_number(frame, name) and is_called_like_an_amount(name)
     )
@@ -146,7 +146,7 @@ def metal_of(frame: pd.DataFrame, name: str) -> Optional[MetalGuess]:
         return None
     sign, rest = signed
     metal, joined = METALS[sign], "".join(rest)
-    unit = "percent" if "%" in rest else next((UNITS[word] for word in (*rest, joined) if word in UNITS), None)
+    unit = "percent" if "%" in rest else next((UNITS[word] for word in (*rest, joined) if word in UNITS), "")
     if unit:
         return MetalGuess(metal, name, unit, "unit by the column's name")
     mean = float(frame.loc[frame[name] > 0, name].mean())

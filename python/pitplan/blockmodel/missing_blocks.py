@@ -39,9 +39,9 @@ def with_rows(frame: pd.DataFrame, grid: Grid, project: Project) -> tuple[pd.Dat
         added[name] = centres
     added[columns.tonnes] = rock.tonnes
     codes = {columns.id: [f"absent-{cell}" for cell in cells], columns.rock: rock.rock, columns.region: rock.region}
-    for name, code in codes.items():
-        if name is not None:
-            added[name] = code
+    for column, code in codes.items():
+        if column is not None:
+            added[column] = code
     table = pd.concat([frame, added], ignore_index=True)
     return table, replace(grid, rows=np.concatenate([grid.rows, cells]))
 

@@ -7,7 +7,8 @@ from __future__ import annotations
 
 from dataclasses import dataclass, replace
 from decimal import Decimal
-from math import prod
+from functools import reduce
+from operator import mul
 from pathlib import Path
 from typing import Optional
 
@@ -213,7 +214,8 @@ def tonnes_by_density(frame: pd.DataFrame, project: Project) -> np.ndarray:
     if project.table.volume:
         volume = Exact.of_floats(frame[project.table.volume].to_numpy())
     else:
-        volume = Exact.of(prod(Decimal(repr(float(side))) for side in project.grid.size or ()), len(frame))
+        sides = [Decimal(repr(float(side))) for side in project.grid.size or ()]
+        volume = Exact.of(reduce(mul, sides, Decimal(1)), len(frame))
     return Exact(density.times(volume).rounded(TONNES_PLACES)[0], TONNES_PLACES).floats()
 
 

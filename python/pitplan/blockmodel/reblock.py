@@ -131,13 +131,11 @@ def put_together(frame: pd.DataFrame, lattice: Lattice, project: Project) -> tup
     result = result.assign(
         **{columns.tonnes: parts.sums(parts.tonnes, TONNES_PLACES)}, **amounts(frame, parts, project)
     )
-    for name in (columns.rock, columns.region):
-        if name:
-            result[name], other = parts.most(frame[name].to_numpy())
-            mixed.append(f"of {parts.tonnes.sum():,.0f} t {other:,.0f} are of another {name} than their block")
-    for name in dict.fromkeys((fixed.forced, fixed.barred) if fixed else ()):
-        if name:
-            result[name] = parts.greatest(frame[name].to_numpy())
+    for code in filter(None, (columns.rock, columns.region)):
+        result[code], other = parts.most(frame[code].to_numpy())
+        mixed.append(f"of {parts.tonnes.sum():,.0f} t {other:,.0f} are of another {code} than their block")
+    for mark in filter(None, dict.fromkeys((fixed.forced, fixed.barred) if fixed else ())):
+        result[mark] = parts.greatest(frame[mark].to_numpy())
     return result, mixed
 
 

@@ -260,7 +260,7 @@ def tonnes_of(model: Model) -> np.ndarray:
     if "tonnes" in model.columns.named:
         return np.nan_to_num(model.numbers("tonnes"))
     size, _ = size_of(model)
-    volume = model.numbers("volume") if "volume" in model.columns.named else np.prod(size)
+    volume = model.numbers("volume") if "volume" in model.columns.named else np.prod(size or ())
     return np.nan_to_num(model.numbers("density") * volume)
 
 

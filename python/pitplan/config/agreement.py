@@ -2,7 +2,7 @@
 
 from __future__ import annotations
 
-from typing import TYPE_CHECKING
+from typing import TYPE_CHECKING, Any
 
 from pitplan.errors import PlanError
 
@@ -17,7 +17,7 @@ def demand_agreement(project: Project) -> None:
     """Refuses sections that each are right and do not fit together."""
     path = project.path
     money = project.money
-    priced = [money.mining_cost, money.mining_recovery, money.dilution]
+    priced: list[Any] = [money.mining_cost, money.mining_recovery, money.dilution]
     for way in project.ways:
         priced += [
             way.money.processing_cost,

@@ -6,7 +6,7 @@ import json
 import os
 from dataclasses import asdict, replace
 from pathlib import Path
-from typing import Any, Optional
+from typing import Any, Optional, Union
 
 from pitplan.config.project import Project, load
 from pitplan.config.scenarios import Scenarios
@@ -130,11 +130,15 @@ def of_survey(file: Optional[SurveyFile], folder: Path) -> Any:
     return {"file": place(file.path, folder), "layer": file.layers or None, "height": file.height}
 
 
+def of_absent(absent: Union[str, AbsentRock]) -> Union[str, Values]:
+    if not isinstance(absent, AbsentRock):
+        return absent
+    return {"tonnes": absent.tonnes, "rock": absent.rock or None, "region": absent.region or None}
+
+
 def of_table(table: TableColumns, folder: Path) -> Values:
     names = ("x", "y", "z", "density", "volume", "id", "rock", "region", "separator", "decimal", "encoding", "empty")
-    absent, values = table.absent, {name: getattr(table, name) for name in names}
-    if isinstance(absent, AbsentRock):
-        absent = {"tonnes": absent.tonnes, "rock": absent.rock or None, "region": absent.region or None}
+    values, absent = {name: getattr(table, name) for name in names}, of_absent(table.absent)
     return {
         "file": place(table.file, folder),
         **values,
@@ -202,9 +206,9 @@ def of_wall(wall: Wall) -> Values:
     if wall.bench:
         return found | {"bench": asdict(wall.bench)}
     if wall.pattern or wall.steps:
-        return found | ({"pattern": wall.pattern} if wall.pattern else {"steps": wall.steps})
+        return {**found, "pattern": wall.pattern} if wall.pattern else {**found, "steps": wall.steps}
     is_one = len(wall.angles) == 1 and wall.angles[0][0] == 0
-    return found | ({"angle": wall.angles[0][1]} if is_one else {"azimuths": wall.angles})
+    return {**found, "angle": wall.angles[0][1]} if is_one else {**found, "azimuths": wall.angles}
 
 
 def of_shells(schedule: Schedule) -> Values:

@@ -6,7 +6,10 @@ from pathlib import Path
 from typing import TYPE_CHECKING, Iterable
 
 # Before Python 3.12 only the class of the system's own paths can be inherited.
-SystemPath = Path if TYPE_CHECKING else type(Path())
+if TYPE_CHECKING:
+    SystemPath = Path
+else:
+    SystemPath = type(Path())
 
 
 class NotedPath(SystemPath):

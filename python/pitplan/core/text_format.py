@@ -13,7 +13,7 @@ from collections.abc import Iterator
 from contextlib import contextmanager
 from dataclasses import dataclass
 from pathlib import Path
-from typing import IO, Optional
+from typing import IO, Optional, cast
 
 from pitplan.core.parquet import is_parquet
 from pitplan.errors import PlanError
@@ -93,8 +93,8 @@ def opened(file: Path) -> Iterator[IO[bytes]]:
     """The bytes of a table's text, of a .gz or a .zip file those that it packs. Raises one of UNREADABLE, and PlanError where a .zip file
     packs several files or none, and where another file is packed too."""
     if file.suffix == ".gz":
-        with gzip.open(file) as data:
-            yield data
+        with gzip.open(file) as unzipped:
+            yield cast(IO[bytes], unzipped)
     elif file.suffix == ".zip":
         with zipfile.ZipFile(file) as packed, unpacked(file, packed) as data:
             yield data

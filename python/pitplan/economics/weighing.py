@@ -103,9 +103,10 @@ class Rows:
         """One number a row by its rock or its region. Raises PlanError where a row in `needed` is of one that has none."""
         if isinstance(price, Decimal):
             return self.every(price)
-        name, column, by_code = "rock", self.project.table.rock, price
+        name, column = "rock", self.project.table.rock
         if isinstance(price, ByRegion):
-            name, column, by_code = "region", self.project.table.region, price.values
+            name, column = "region", self.project.table.region
+        by_code = price.values if isinstance(price, ByRegion) else price
         inverse, codes = pd.factorize(self.codes(column), sort=True)
         for number, code in enumerate(codes):
             lacking = needed & (inverse == number)

@@ -92,9 +92,11 @@ def write(stage: Path, folder: Folder, factor: int, progress: Progress) -> None:
     """
     write_mine(stage, folder, factor, progress)
     shutil.copyfile(CHECKER, stage / CHECKER.name)
-    options = ["--model", stage / MODEL, "--prec", stage / PREC, "--certificate", stage / CERTIFICATE]
+    options: list[str | Path] = ["--model", stage / MODEL, "--prec", stage / PREC]
+    options += ["--certificate", stage / CERTIFICATE]
     fixed = [FIXED] if (stage / FIXED).exists() else []
-    options += [word for name in fixed for word in ("--fixed", stage / name)]
+    for name in fixed:
+        options += ["--fixed", stage / name]
     (stage / PIT).write_bytes(program.call("solve", *options))
     worth = demand_same(stage, folder, factor)
     names = [MODEL, PREC, *fixed, CERTIFICATE, PIT, CHECKER.name]

@@ -63,7 +63,9 @@ def heights_of(rock: np.ndarray, stage: Stage, grid: Grid) -> Heights:
     stays = rock & ~stage.dug & (np.arange(levels)[::-1, None, None] > after)
     if stays.any():
         level, row, column = np.argwhere(stays)[0]
-        x, y, z = grid.centres(np.ravel_multi_index((level, row, column), grid.shape))
+        x, y, z = (
+            float(axis) for axis in grid.centres(np.array(np.ravel_multi_index((level, row, column), grid.shape)))
+        )
         raise PlanError(
             f"the block at {metres(x)}, {metres(y)}, {metres(z)} stays over one that is dug: the ground is no surface"
         )

@@ -24,7 +24,7 @@ def image_of(grid: Grid, cells: dict[str, np.ndarray], purpose: str) -> Any:
     image = vtk.vtkImageData()
     image.SetDimensions(columns + 1, rows + 1, levels + 1)
     image.SetSpacing(*grid.size)
-    x, y = grid.frame.back(west, south)
+    x, y = grid.frame.back(np.array(west), np.array(south))
     image.SetOrigin(float(x), float(y), floor)
     east = turn_of(grid.azimuth)
     image.SetDirectionMatrix(east.real, -east.imag, 0, east.imag, east.real, 0, 0, 0, 1)

@@ -57,7 +57,7 @@ def turned_arrow(ax: Axes, grid: Grid, arrow: dict[str, Any], at: dict[str, Any]
 
 def section_titles(grid: Grid, row: int, column: int) -> tuple[str, str]:
     """What the sections along a row from the south and a column from the west are called."""
-    east, north, _ = grid.middles(np.array(row * grid.shape[2] + column))
+    east, north = (float(axis) for axis in grid.middles(np.array(row * grid.shape[2] + column))[:2])
     if not grid.azimuth:
         return f"west to east (A) at north {metres(north)}", f"south to north (B) at east {metres(east)}"
     rows, columns = grid.frame.names
@@ -97,7 +97,7 @@ def mark_sections(ax: Axes, grid: Grid, north_of: float, east_of: float) -> None
 
 def mark_section_cells(ax: Axes, grid: Grid, row: int, column: int) -> None:
     """The lines of sections through the middles of a row from the south and of a column from the west."""
-    east, north, _ = grid.middles(np.array(row * grid.shape[2] + column))
+    east, north = (float(axis) for axis in grid.middles(np.array(row * grid.shape[2] + column))[:2])
     mark_sections(ax, grid, float(north), float(east))
 
 

@@ -100,7 +100,7 @@ class Course:
 
     def years(self, count: int) -> Years:
         """The years of the first `count` pieces, at least one."""
-        full = self.ends[: np.searchsorted(self.ends, count)]
+        full = self.ends[: int(np.searchsorted(self.ends, count))]
         before = at(self.used, full[-1:])[0] if len(full) else np.zeros(self.used.shape[1])
         part = float((self.used[count] - before).max())
         if part <= HAIR and len(full):

@@ -21,8 +21,7 @@ def neighbours(known: dict[int, float], share: float) -> tuple[int, int]:
     """The greatest factor that is known with no more tonnes than the share, and the least with more; where one is missing, the other."""
     below = [factor for factor, rock in known.items() if rock <= share]
     above = [factor for factor, rock in known.items() if rock > share]
-    low, high = max(below, default=None), min(above, default=None)
-    return (high if low is None else low), (low if high is None else high)
+    return max(below or [min(above)]), min(above or [max(below)])
 
 
 def between(low: int, high: int) -> list[int]:

@@ -130,7 +130,7 @@ def divide(plan: Plan, mine: Optional[Mine] = None, progress: Progress = silent)
         )
 
     if rules.factors is not None:
-        tonnes, gaps = tonnes_at(rules.factors), []
+        tonnes, gaps = tonnes_at(rules.factors), list[str]()
     else:
         tonnes, gaps = even_shells(rules, last, tonnes_at, plan.project)
     factors, more = not_empty(tonnes, plan.project)

@@ -206,7 +206,7 @@ def parts_of(
     """A table of the page with its file, headings and rows; several, each with the first column, where it is too wide for a page."""
     first, *others = columns_of(table.frame, project)
     count = -(-len(others) // (MOST_COLUMNS - 1))
-    parts = []
+    parts: list[dict[str, Any]] = []
     while others:
         many = -(-len(others) // (count - len(parts)))
         # The grade of a metal and what is recovered of it stay beside each other.

@@ -56,9 +56,9 @@ def programme_of(problem: Problem, years: int) -> tuple[Programme, float]:
     gain = by_end(problem.worths(years)).ravel()
     unit = float(np.abs(gain).max(initial=0.0)) or 1.0
     parts = [order_rows(benches, years), *limit_rows(benches, limits, years)]
-    matrix, most = (joined([part[k] for part in parts]) for k in (0, 1))
+    matrix, most = joined(parts)
     upper = furthest(benches, limits, years).ravel()
-    return Programme(gain / unit, matrix.tocsr(), most, upper, np.zeros(len(gain), dtype=bool)), unit
+    return Programme(gain / unit, matrix, most, upper, np.zeros(len(gain), dtype=bool)), unit
 
 
 def by_end(worths: np.ndarray) -> np.ndarray:
@@ -111,8 +111,9 @@ def left_over(takes: np.ndarray, before: np.ndarray, most: np.ndarray) -> np.nda
         return np.clip(np.where(takes[:, None] > 0, free / takes[:, None], np.where(free >= 0, 1.0, 0.0)), 0.0, 1.0)
 
 
-def joined(parts: list) -> np.ndarray:
-    return np.concatenate(parts) if isinstance(parts[0], np.ndarray) else vstack(parts, format="csr")
+def joined(rows: list[tuple[csr_matrix, np.ndarray]]) -> tuple[csr_matrix, np.ndarray]:
+    """Several sets of rows, each a matrix with the most that its rows may be, as one."""
+    return vstack([matrix for matrix, _ in rows], format="csr"), np.concatenate([most for _, most in rows])
 
 
 def order_rows(benches: PhaseBenches, years: int) -> tuple[csr_matrix, np.ndarray]:

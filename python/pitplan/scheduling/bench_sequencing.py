@@ -173,7 +173,7 @@ def dig(problem: Problem, sequence: Sequence, years: Optional[int] = None) -> np
 
     Raises PlanError where it takes more than a thousand years.
     """
-    digging, found = Digging(problem), []
+    digging, found = Digging(problem), list[np.ndarray]()
     pending = sequence.order.tolist()
     while pending and (years is None or len(found) < years):
         if len(found) == MOST_YEARS:

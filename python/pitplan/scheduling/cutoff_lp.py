@@ -124,10 +124,10 @@ class MillingProblem:
         gain = by_end(self.worths).ravel()
         unit = float(np.abs(gain).max(initial=0.0)) or 1.0
         rows = [*self.digging_rows(), *self.parcel_rows(), *self.mill_rows()]
-        matrix, most = (joined([part[k] for part in rows]) for k in (0, 1))
+        matrix, most = joined(rows)
         upper = furthest(benches, self.of_digging, years)
         upper = np.concatenate([upper.ravel(), np.tile(upper[parcels.bench].ravel(), self.kinds)])
-        return Programme(gain / unit, matrix.tocsr(), most, upper, np.zeros(len(gain), dtype=bool)), unit
+        return Programme(gain / unit, matrix, most, upper, np.zeros(len(gain), dtype=bool)), unit
 
     @property
     def of_digging(self) -> Limits:

@@ -8,7 +8,7 @@ import subprocess
 import sys
 import tempfile
 from pathlib import Path
-from typing import Optional
+from typing import Any, Optional
 
 import numpy as np
 
@@ -53,7 +53,7 @@ def here(programme: Programme, effort: Effort = Effort()) -> Optimum:
 def run(folder: Path, patience: Optional[float] = None) -> bool:
     """Solves what stands in a folder; gives whether that was done in the seconds of patience. Raises as `solve` does."""
     # A session of its own, so that an interruption from the keyboard reaches this process alone, which ends the other.
-    options = {"stdout": subprocess.DEVNULL, "stderr": subprocess.PIPE, "start_new_session": True}
+    options: dict[str, Any] = {"stdout": subprocess.DEVNULL, "stderr": subprocess.PIPE, "start_new_session": True}
     # A program's own folder is the first in which it seeks modules, and this package's has names that others may have.
     child = subprocess.Popen([sys.executable, shutil.copy(highs.__file__, folder), str(folder)], **options)
     try:

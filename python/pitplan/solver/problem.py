@@ -59,7 +59,8 @@ class MineInFiles:
             if self.plan.settled is None
             else (mine_files.REST_BLOCKS, mine_files.REST_PREC)
         )
-        return program.solve_files(*(self.folder / name for name in names), factors)
+        blocks, prec = (self.folder / name for name in names)
+        return program.solve_files(blocks, prec, factors)
 
     def free_shells(self, factors: tuple[int, ...]) -> Solution:
         """The shells as if nothing were fixed."""

@@ -68,7 +68,9 @@ def solve_pit(model: Path, prec: Path, fixed: Optional[Path], factor: int) -> So
 
     Raises ProgramError where the program refuses, as where a block must be dug and may not be.
     """
-    options = ("--model", model, "--prec", prec, *(("--fixed", fixed) if fixed else ()))
+    options: list[Union[str, Path]] = ["--model", model, "--prec", prec]
+    if fixed:
+        options += ["--fixed", fixed]
     answer = call("solve", *options)
     lines = answer.decode().split("\n")
     nodes, count, worth = (lines[k].split()[1] for k in (1, 2, 3))

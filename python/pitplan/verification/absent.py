@@ -2,6 +2,8 @@
 
 from __future__ import annotations
 
+from typing import Optional
+
 import numpy as np
 import pandas as pd
 
@@ -30,7 +32,11 @@ def words(answer: Answer, rock: AbsentRock) -> dict[str, str | float]:
     """What each column says of such a block: its tonnes, unless a surface cuts them, and codes, and 0 in every other but for its centre
     and its id."""
     columns = answer.project.table
-    told = {columns.tonnes: rock.tonnes, columns.rock: rock.rock, columns.region: rock.region}
+    told: dict[Optional[str], str | float] = {
+        columns.tonnes: rock.tonnes,
+        columns.rock: rock.rock,
+        columns.region: rock.region,
+    }
     passed = {
         columns.x,
         columns.y,

@@ -221,8 +221,8 @@ class Answer:
     @cached_property
     def cells(self) -> tuple[np.ndarray, np.ndarray, np.ndarray]:
         """Level from the top, row from the south and column from the west of each block, told by its centre."""
-        steps = self.steps
-        return tuple(np.rint(axis).astype(np.int64) for axis in steps[::-1])
+        east, north, up = (np.rint(axis).astype(np.int64) for axis in self.steps)
+        return up, north, east
 
     @property
     def steps(self) -> tuple[np.ndarray, np.ndarray, np.ndarray]:

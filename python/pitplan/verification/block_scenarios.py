@@ -276,7 +276,7 @@ class Tables:
         ]
         for scenario in self.scenarios:
             years = self.years[self.years["scenario"] == scenario.number]
-            heads = {
+            heads: dict[str, str | float] = {
                 "model": scenario.model.name,
                 **{f"price_{metal}": float(price) for metal, price in scenario.prices.items()},
             }

@@ -119,8 +119,9 @@ def verify_order(answer: Answer, told: dict[str, Any]) -> Rule:
     found = walls.verify(dated)
     differences = [difference.replace("dug at", "dug in year", 1) for difference in found.differences]
     wrong = (year < 0) | (year > told["years"])
-    whole = sum(share for _, share in shares_of(answer))
-    wrong |= (whole > 1 + SLIGHT) | (np.minimum.reduce([share for _, share in shares_of(answer)]) < -SLIGHT)
+    shares = [share for _, share in shares_of(answer)]
+    whole = np.sum(shares, axis=0)
+    wrong |= (whole > 1 + SLIGHT) | (np.min(shares, axis=0) < -SLIGHT)
     wrong |= (year == 0) & (whole > SLIGHT)
     rows = np.flatnonzero(wrong)[:TOLD]
     differences += [f"{answer.called(row)}: year {year[row]}, of which {whole[row]:.6g} is processed" for row in rows]
@@ -149,7 +150,7 @@ def verify_limits(answer: Answer, told: dict[str, Any], sums: pd.DataFrame) -> R
     if told.get("least", {}) != due:
         differences.append(f"least amounts are told as {told.get('least', {})} for {due}")
     for (name, least), year in product(due.items(), range(1, told["years"] + 1)):
-        of_mill = answer.project.schedule_rules.ramp_up if name.startswith("ore_tonnes") else (1.0,)
+        of_mill = rules.ramp_up if rules and name.startswith("ore_tonnes") else (1.0,)
         amount, owed = float(sums[name].get(year, 0.0)), least * of_mill[min(year, len(of_mill)) - 1]
         if amount < owed * (1 - 1e-8) - CENT:
             differences.append(f"year {year}: {name} {amount:.10g} below {owed:.10g}")

@@ -139,13 +139,19 @@ class Costs:
     @staticmethod
     def of(project: Project, rock: str, region: str) -> Costs:
         money, metals = project.money, project.metals
-        told = (money.mining_cost, money.processing_cost, money.mining_recovery, money.dilution)
         shares = [
             metal.recovery.get(rock, Decimal(0)) if isinstance(metal.recovery, dict) else metal.recovery
             for metal in metals
         ]
         tails = [of_code(metal.fixed_tail, rock, "") for metal in metals]
-        return Costs(*(of_code(value, rock, region) for value in told), tuple(shares), tuple(tails))
+        return Costs(
+            of_code(money.mining_cost, rock, region),
+            of_code(money.processing_cost, rock, region),
+            of_code(money.mining_recovery, rock, region),
+            of_code(money.dilution, rock, region),
+            tuple(shares),
+            tuple(tails),
+        )
 
     def recovered(self, number: int, grade: Decimal) -> Decimal:
         """The grade of a metal that is recovered of each tonne of the block itself that comes to the mill."""
@@ -194,9 +200,10 @@ class Exactly:
     def amounts(self, row: int) -> Amounts:
         """Mining cost, revenue and processing cost of a block."""
         place = self.level[row], self.roads[row]
-        numbers = (self.tonnes[row], self.codes[row], place, *(grades[row] for grades in self.grades))
+        grades = tuple(grades[row] for grades in self.grades)
+        numbers = (self.tonnes[row], self.codes[row], place, grades)
         if numbers not in self.weighed:
-            self.weighed[numbers] = self.of_numbers(*numbers)
+            self.weighed[numbers] = self.of_numbers(self.tonnes[row], self.codes[row], place, *grades)
         return self.weighed[numbers]
 
     def of_numbers(self, rock: float, codes: tuple[str, str], place: tuple[int, float], *grades: float) -> Amounts:

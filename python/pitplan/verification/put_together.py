@@ -30,12 +30,10 @@ def together(parts: pd.DataFrame, project: Project, grid: dict[str, Any]) -> pd.
         found[name] = (by[f"content_{name}"].sum() / found[columns.tonnes]).fillna(0.0)
     for name in {it.column for it in sums if not it.a_tonne}:
         found[name] = by[name].sum()
-    for name in (columns.rock, columns.region):
-        if name:
-            found[name] = of_most(frame, name, columns)
-    for name in (fixed.forced, fixed.barred) if fixed else ():
-        if name:
-            found[name] = by[name].max()
+    for code in filter(None, (columns.rock, columns.region)):
+        found[code] = of_most(frame, code, columns)
+    for mark in filter(None, (fixed.forced, fixed.barred) if fixed else ()):
+        found[mark] = by[mark].max()
     up, north, east = (found.index.get_level_values(name).to_numpy() for name in found.index.names)
     found[columns.x], found[columns.y] = places_of(np.stack([east, north], axis=1), grid).T
     found[columns.z] = grid["origin"][2] + grid["size"][2] * (up - (grid["shape"][0] - 1))

@@ -171,6 +171,7 @@ class Told:
     def outside_skin(self) -> Rule:
         """The pit as given without its skin is a shell, with what must be dug, and has at most the other share of the rock."""
         given, record, tonnes = self.cases[0], self.ground.record["skin"], self.ground.tonnes
+        assert given.skin is not None
         shell = self.dug(np.where(given.skin, 0, given.entry), self.ground.project, given.walls)
         differences = [*walls.verify(shell).differences, *(fixed.verify(shell).differences if record["factor"] else ())]
         ids = self.ground.said["id"].to_numpy()
@@ -238,6 +239,7 @@ class Told:
         if moves_walls:
             return rule("skin", "", [] if np.isnan(said) else ["skin_worth is given, and walls are others"])
         given = self.cases[0]
+        assert given.skin is not None
         skin = weighed(self.dug(np.where(given.skin, self.factor, 0), project, given.walls))
         worth, gross = sums.sums(skin, self.factor)["worth"], float(np.abs(skin.worths).sum())
         is_near = abs(said - worth) <= 6e-4 + 1e-12 * gross

@@ -100,7 +100,7 @@ def highest(centres: np.ndarray, corners: np.ndarray, heights: np.ndarray) -> np
     best = np.full(len(centres), -np.inf)
     if heights.shape[1] > MOST_ON_A_CIRCLE:
         return -best
-    for three in map(list, combinations(range(heights.shape[1]), 3)):
+    for three in (np.array(it) for it in combinations(range(heights.shape[1]), 3)):
         a, b, c = np.moveaxis(corners[:, three] - centres[:, None], 1, 0)
         parts = np.stack([cross(b, c), cross(c, a), cross(a, b)], axis=1)
         whole = parts.sum(axis=1, keepdims=True)

@@ -4,6 +4,7 @@ from __future__ import annotations
 
 from dataclasses import dataclass, replace
 from decimal import Decimal
+from typing import Any
 
 import numpy as np
 import pandas as pd
@@ -18,7 +19,7 @@ def weighed(whole: Answer) -> Answer:
     """The blocks that are dug at any factor, with exact costs and revenue."""
     dug = (whole.said["factor"] > 0).to_numpy()
     part = replace(whole, rows=whole.rows[dug].reset_index(drop=True), said=whole.said[dug].reset_index(drop=True))
-    told = {}
+    told: dict[str, Any] = {}
     for way, names in zip(part.project.ways, part.amounts_of_ways):
         exactly = money.Exactly.of(replace(part, project=way))
         amounts = [[float(amount) for amount in exactly.amounts(row)] for row in range(len(part.rows))]
@@ -73,7 +74,8 @@ def at_price(answer: Answer) -> AtPrice:
 
 def gains(answer: Answer) -> pd.DataFrame:
     """Revenue and processing cost of each block: by floats, and exactly where these are close to one another."""
-    told, unit = {}, 10.0**-answer.project.money.decimals
+    told: dict[str, np.ndarray] = {}
+    unit = 10.0**-answer.project.money.decimals
     for way, names in zip(answer.project.ways, answer.amounts_of_ways):
         part = replace(answer, project=way)
         revenue, processing = money.gains_by_floats(part)

@@ -43,8 +43,8 @@ def parts_of(uses: list[list[float]]) -> Parts:
             left -= fits
             if left > 0:
                 room, year = [1.0] * len(room), year + 1
-    piece, year_of, share = (np.array(column) for column in zip(*found))
-    return Parts(piece, year_of, share, year - 1 + max(1 - free for free in room))
+    pieces, years, shares = (np.array(column) for column in zip(*found))
+    return Parts(pieces, years, shares, year - 1 + max(1 - free for free in room))
 
 
 def discounts(until: np.ndarray, years: np.ndarray, project: Project) -> np.ndarray:

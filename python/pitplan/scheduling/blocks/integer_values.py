@@ -9,6 +9,7 @@ from __future__ import annotations
 
 from dataclasses import dataclass
 from fractions import Fraction
+from typing import Any
 
 import numpy as np
 from numpy.typing import NDArray
@@ -38,7 +39,7 @@ def upward(values: NDArray[np.float64], error: NDArray[np.float64] | float = 0.0
     return Whole(np.ceil(np.ldexp(safe, -exponent)).astype(np.int64), float(np.ldexp(1.0, exponent)))
 
 
-def by_end(amounts: NDArray[np.int64]) -> NDArray[np.int64]:
+def by_end(amounts: NDArray[Any]) -> NDArray[Any]:
     """From what is earned where something is done in each step, by the last axis, what is earned where it is done by the end of a step and
     not before, less the same of the next step: these add up to what the step earns."""
     return -np.diff(amounts, axis=-1, append=0)

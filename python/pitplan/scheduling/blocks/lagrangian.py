@@ -88,7 +88,7 @@ def earned_at(nodes: Nodes, prices: NDArray[np.float64]) -> Whole:
     """What each block earns by destination and year less the prices of what it takes, rounded upward."""
     problem = nodes.problem
     values, size = problem.values.copy(), np.abs(problem.values)
-    for amounts, by_year in zip((it.amounts for it in (*problem.limits, *problem.dues)), prices):
+    for amounts, by_year in zip(problem.sums, prices):
         cost = amounts[:, :, None] * by_year
         values -= cost
         size += np.abs(cost)

@@ -95,6 +95,11 @@ class BlockProblem:
     dues: tuple[Due, ...] = ()
 
     @property
+    def sums(self) -> list[NDArray[np.float64]]:
+        """The amounts of all limits and dues, in this order."""
+        return [*(it.amounts for it in self.limits), *(it.amounts for it in self.dues)]
+
+    @property
     def owes(self) -> bool:
         """Whether something is the least that must be held."""
         return any(due.least > 0 for due in self.dues) or any((limit.floor > 0).any() for limit in self.limits)
@@ -124,16 +129,14 @@ class BlockProblem:
 
     def in_order(self, order: NDArray[np.int64]) -> BlockProblem:
         """The same problem with its blocks in an order."""
-        limits, dues = (
-            tuple(replace(it, amounts=it.amounts[order]) for it in sums) for sums in (self.limits, self.dues)
-        )
+        limits = tuple(replace(it, amounts=it.amounts[order]) for it in self.limits)
+        dues = tuple(replace(it, amounts=it.amounts[order]) for it in self.dues)
         return BlockProblem(self.values[order], self.needs.in_order(order), limits, dues)
 
     def of_blocks(self, kept: NDArray[np.bool_]) -> BlockProblem:
         """The problem of these blocks alone, which need none of the others."""
-        limits, dues = (
-            tuple(replace(it, amounts=it.amounts[kept]) for it in sums) for sums in (self.limits, self.dues)
-        )
+        limits = tuple(replace(it, amounts=it.amounts[kept]) for it in self.limits)
+        dues = tuple(replace(it, amounts=it.amounts[kept]) for it in self.dues)
         return BlockProblem(self.values[kept], self.needs.within(kept), limits, dues)
 
 

@@ -59,7 +59,9 @@ def places_of(starts: NDArray[np.integer], rows: NDArray[np.int64]) -> NDArray[n
     first = starts[rows].astype(np.int64)
     counts = starts[rows + 1].astype(np.int64) - first
     ends = np.cumsum(counts)
-    return np.repeat(first - (ends - counts), counts) + np.arange(ends[-1] if len(ends) else 0)
+    total = int(ends[-1]) if len(ends) else 0
+    before: NDArray[np.int64] = np.repeat(first - (ends - counts), counts)
+    return before + np.arange(total, dtype=np.int64)
 
 
 def rows_of(starts: NDArray[np.integer], entries: NDArray[np.integer], rows: NDArray[np.int64]) -> NDArray[np.integer]:

@@ -123,7 +123,7 @@ class Master:
     def limits(self, groups: Groups) -> NDArray[np.float64]:
         """What each group adds to each of the places: shape (places, groups)."""
         problem = self.nodes.problem
-        sums = [self.sums(it.amounts, groups) for it in (*problem.limits, *problem.dues)]
+        sums = [self.sums(amounts, groups) for amounts in problem.sums]
         found = [
             sums[place.number].sum(axis=0) if place.year is None else sums[place.number][place.year]
             for place in self.places

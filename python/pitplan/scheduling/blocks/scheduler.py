@@ -116,7 +116,7 @@ def solve(problem: BlockProblem, effort: Optional[Effort] = None, progress: Prog
         return Scheduled(nothing(problem), 0.0, 0.0, 0, 0)
     progress.say(f"bounding all schedules of {part.problem.blocks:,} blocks by {len(part.nodes):,} nodes")
     relaxation = relaxed(
-        part.nodes, Effort(RELAXED, effort and effort.seconds), lambda found: progress.say(told(found))
+        part.nodes, Effort(RELAXED, effort.seconds if effort else None), lambda found: progress.say(told(found))
     )
     search = Search(part, relaxation, progress)
     try:

@@ -9,6 +9,7 @@ from typing import Any
 import numpy as np
 import pandas as pd
 import scipy
+from numpy.typing import NDArray
 
 from pitplan.config.schedule import ScheduleRules
 from pitplan.config.shells import REFERENCE_FACTOR
@@ -42,7 +43,9 @@ class ScheduledBlocks:
         """Rows of blocks, by `id`, with the year of each, from 1, 0 where it is not mined; and share_NAME, the share of it that goes to each
         process, share_mill where the project names none. The rest of it is waste."""
         problem, schedule = self.planned.problem, self.found.schedule
-        columns = {"year": np.where(schedule.year < problem.years, schedule.year + 1, 0).astype(np.int16)}
+        columns: dict[str, NDArray[Any]] = {
+            "year": np.where(schedule.year < problem.years, schedule.year + 1, 0).astype(np.int16)
+        }
         for number, name in enumerate(self.planned.destinations):
             if number:
                 columns[SHARE + name] = schedule.share[:, number]

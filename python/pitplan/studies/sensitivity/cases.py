@@ -8,6 +8,7 @@ from __future__ import annotations
 
 import json
 from dataclasses import dataclass, replace
+from decimal import Decimal
 from itertools import product
 from pathlib import Path
 from typing import Any
@@ -205,6 +206,7 @@ def find(case: Case, asked: Asked) -> Found:
     earned = of_last(shell_tables.shells(plan, replace(solution, entry=nodes)))
     row |= {f"kept_{name}": np.nan if case.moves_walls else earned[name] for name in KEPT}
     skin = of_pit(plan, rules_of(asked.project).skin) if asked.as_given is None else asked.as_given.skin
+    assert skin is not None
     worth = shell_tables.cells_of(plan, solution).worth[skin.cells].sum()
     row[SKIN_WORTH] = np.nan if case.moves_walls else worth
     return Found(
@@ -251,7 +253,7 @@ def table(found: Sensitivity) -> pd.DataFrame:
     and worst case."""
     rows = []
     for case, answer in found.answers.items():
-        (name, share), (second, other) = (*case.changes, ("", 0), ("", 0))[:2]
+        (name, share), (second, other) = (*case.changes, ("", Decimal(0)), ("", Decimal(0)))[:2]
         rows.append(
             {"number": name, "share": float(share), "second": second, "second_share": float(other), **answer.row}
         )

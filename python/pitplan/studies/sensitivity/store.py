@@ -41,6 +41,7 @@ def record(found: Sensitivity, project: str) -> dict[str, Any]:
 def skin_of(found: Sensitivity) -> dict[str, Any]:
     """The skin of the pit as given: the factor of the shell within it, tonnes of rock, their share of the pit's, and worth."""
     skin, row = found.answers[Case()].skin, found.answers[Case()].row
+    assert skin is not None
     tonnes = float(found.plan.values.tonnes[skin.cells].sum())
     return {
         "factor": skin.factor,

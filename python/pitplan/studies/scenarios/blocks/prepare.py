@@ -3,6 +3,7 @@
 from __future__ import annotations
 
 from pathlib import Path
+from typing import Optional
 
 import numpy as np
 import pandas as pd
@@ -73,7 +74,8 @@ def spread(laid: Laid, folder: Path, progress: Progress) -> tuple[Diggable, Weig
     def years(weights: Weights) -> int:
         return rules.years or years_asked(weights, pit_of(weights.flows[CASH], needs, forced), project)
 
-    shared, longest, total = shared_of(laid, folder), 0, None
+    shared, longest = shared_of(laid, folder), 0
+    total: Optional[Weights] = None
     with progress.step(f"weighing the blocks of {count:,} scenarios"):
         for scenario in laid.scenarios:
             weights = weights_of(plan_of(shared, scenario), cells)

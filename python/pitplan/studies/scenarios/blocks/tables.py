@@ -95,7 +95,8 @@ def planned_ore(shared: Shared, one: Kept) -> NDArray[np.float64]:
     """Tonnes of ore of each year of the one schedule, from the first, on the mean of all scenarios."""
     ore = np.zeros(shared.grid.count)
     ore[diggable_of(shared).cells] = mean_of(shared).flows[ORE]
-    return np.bincount(one.year, ore[shared.grid.rows] * one.share, minlength=shared.record["years"] + 1)[1:]
+    years = np.bincount(one.year, ore[shared.grid.rows] * one.share, minlength=shared.record["years"] + 1)
+    return years[1:].astype(np.float64)
 
 
 def quantiles(schedules: Schedules) -> pd.DataFrame:
