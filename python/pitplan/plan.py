@@ -23,7 +23,7 @@ from pitplan.blockmodel import (
     topography_cut,
 )
 from pitplan.blockmodel.grid import Grid
-from pitplan.config.project import Project, load
+from pitplan.config.project import Project, load, validated
 from pitplan.config.shells import IN_WORDS
 from pitplan.core.progress import Progress, silent
 from pitplan.crop import Model
@@ -234,12 +234,28 @@ class Plan:
 def prepare(
     project: Union[str, Path, Project], table: Optional[pd.DataFrame] = None, progress: Progress = silent
 ) -> Plan:
-    """Reads a project and its table, or takes the table from pandas, and makes grid, values and needs of it.
+    """Reads a project and its block model, and prepares the mine: grid, block values and slope precedences.
 
-    The table has one row a block: centres x, y, z in metres, tonnes of rock, grades, and codes of rock and region, by
-    the column names that the project gives. Raises PlanError with file, row and column where the input is not usable.
+    Parameters
+    ----------
+    project : str, Path or Project
+        A project.toml or its path. A project that was changed in Python is checked as a file is.
+    table : DataFrame, optional
+        One row for each block, in place of the project's own file: centres x, y, z in metres, tonnes, grades, and codes of rock and
+        region, by the column names that the project gives.
+    progress : Progress
+        Reports the steps; silent by default.
+
+    Raises
+    ------
+    PlanError
+        If the input is not usable, with section and key or with file, row and column.
     """
-    project = project if isinstance(project, Project) else load(project)
+    return prepared(validated(project) if isinstance(project, Project) else load(project), table, progress)
+
+
+def prepared(project: Project, table: Optional[pd.DataFrame] = None, progress: Progress = silent) -> Plan:
+    """The plan of a checked project; see `prepare`."""
     source = str(project.table.file) if table is None else "table"
     with progress.step(f"reading {source}"):
         checked = reader.read(project) if table is None else reader.checked(table, project)

@@ -6,7 +6,7 @@ from pitplan.blockmodel.figure_bounds import demand_within
 from pitplan.core.progress import Progress, silent
 from pitplan.solver.problem import counted_rows
 
-from ..plan import prepare
+from ..plan import prepared
 from .writing import Source, read
 
 
@@ -31,7 +31,7 @@ def check(project: Source, progress: Progress = silent) -> list[str]:
         If the input is not usable.
     """
     project = read(project)
-    plan = prepare(project, progress=progress)
+    plan = prepared(project, progress=progress)
     demand_within(project, plan.grid)
     with progress.step("counting the precedences"):
         _, pairs = counted_rows(plan.needs, plan)

@@ -14,8 +14,8 @@ from pitplan.core.progress import Progress, silent
 from pitplan.results import names
 from pitplan.solver import mine_files
 
-from ..plan import prepare
-from .writing import demand_apart, finish, write_table
+from ..plan import prepared
+from .writing import demand_apart, finish, read, write_table
 
 
 def write_plan(project: Project, folder: Path, progress: Progress = silent) -> dict[str, Any]:
@@ -31,9 +31,10 @@ def write_plan(project: Project, folder: Path, progress: Progress = silent) -> d
     PlanError
         If the input is not usable. Nothing is written then.
     """
+    project = read(project)
     demand_apart(project, folder)
     with staging.alone(folder):
-        plan = prepare(project, progress=progress)
+        plan = prepared(project, progress=progress)
         with staged(folder, names.RECORD) as stage:
             demand_within(project, plan.grid)
             with progress.step("writing blocks and needs"):

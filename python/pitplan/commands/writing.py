@@ -14,7 +14,7 @@ from pitplan import verification
 from pitplan.blockmodel.figure_bounds import demand_within
 from pitplan.config import project_writer
 from pitplan.config.figures import FORMATS
-from pitplan.config.project import Project, inputs_beside, load
+from pitplan.config.project import Project, inputs_beside, load, validated
 from pitplan.core import csv_writer, staging
 from pitplan.core.atomic_files import demand_no_folders, hashes, hashes_of, staged, write_json
 from pitplan.core.progress import Progress, silent
@@ -27,7 +27,7 @@ from pitplan.solver.problem import Mine
 from pitplan.studies.sensitivity import store
 
 from ..errors import PlanError
-from ..plan import Plan, prepare as prepare_plan
+from ..plan import Plan, prepared
 
 # A project, or the path of its project.toml; and a folder.
 Source = Union[str, Path, Project]
@@ -128,8 +128,8 @@ class Run:
 
 
 def read(project: Source) -> Project:
-    """Returns the project, reading its file if a path is given."""
-    return project if isinstance(project, Project) else load(project)
+    """Returns the project, reading its file if a path is given. A project from Python is checked as a file is. Raises PlanError."""
+    return validated(project) if isinstance(project, Project) else load(project)
 
 
 def demand_apart(project: Project, folder: Path) -> None:
@@ -167,7 +167,7 @@ def begun(project: Project, folder: Path, writing: Writing, planned: Optional[Pr
     progress = writing.progress
     with staging.alone(folder):
         solver = chosen(project.solver)
-        plan = prepare_plan(planned or project, progress=progress)
+        plan = prepared(planned or project, progress=progress)
         with staged(folder, names.RECORD, (*mine_files.OF_PROGRAM, *writing.removed(folder, FIGURES))) as stage:
             project_writer.write(project, stage / project_writer.AS_RUN, folder)
             demand_within(project, plan.grid)

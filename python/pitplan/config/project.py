@@ -104,8 +104,27 @@ def inputs_beside(folder: Path) -> tuple[Path, ...]:
         return ()
 
 
-def of_data(data: dict, path: Path) -> Project:
-    top = Section(str(path), "", data)
+def validated(project: Project) -> Project:
+    """Checks a project that was made or changed in Python, as `load` checks a file.
+
+    The project is written as TOML and read back, so that one place checks types, ranges, units and keys. Numbers become those that a file
+    has: a price of 9000.0 is Decimal("9000.0"), and revenue factors rise. The reference factor is not added.
+
+    Raises
+    ------
+    PlanError
+        If a value is one that no file may have, with the section and the key.
+    """
+    source = f"{project.path} as changed in Python"
+    found = of_data(toml_text.parsed(project.to_toml(), source), project.path, source)
+    kept, factors = project.schedule, tuple(it for it in found.schedule.factors if it in project.schedule.factors)
+    schedule = replace(found.schedule, factors=factors, chosen=kept.chosen, reference_added=kept.reference_added)
+    return replace(found, schedule=schedule, folder=project.folder, solver=project.solver)
+
+
+def of_data(data: dict, path: Path, source: Optional[str] = None) -> Project:
+    """The project of a TOML file's sections. Paths in it are relative to that of the file; errors name `source`, by default the file."""
+    top = Section(source or str(path), "", data)
     output = top.section("output", optional=True)
     processes = tuple(read_process(section) for section in top.sections("processes")) if top.has("processes") else ()
     project = Project(

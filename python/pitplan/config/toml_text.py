@@ -49,6 +49,11 @@ def read(path: Path) -> dict[str, Any]:
         raise PlanError(f"{path}: is not written in UTF-8: save it so") from error
     except ValueError as error:
         raise PlanError(f"{str(path)!r}: is no name of a file: {error}") from error
+    return parsed(text, str(path))
+
+
+def parsed(text: str, path: str) -> dict[str, Any]:
+    """The sections of a text, which errors name by `path`. Raises PlanError, with the line if it is known, if it is no TOML or no project's."""
     long = LONG_KEY.search(text)
     if long:
         raise PlanError(

@@ -23,7 +23,7 @@ from pitplan.core.atomic_files import hashes, read_json, write_json
 from pitplan.core.progress import Progress
 from pitplan.errors import PlanError
 from pitplan.export.planner_table import project_of
-from pitplan.plan import Plan, prepare
+from pitplan.plan import Plan, prepared
 from pitplan.results import names
 from pitplan.results.folder import Folder
 from pitplan.solver import mine_files, program
@@ -64,7 +64,7 @@ def prepared_again(folder: Folder, progress: Progress) -> Plan:
     """The plan that the library solved. Raises PlanError if an input has changed since."""
     project = project_of(folder)
     schedule = replace(project.schedule, factors=tuple(folder.record["factors"]))
-    return prepare(replace(project, schedule=schedule), progress=progress)
+    return prepared(replace(project, schedule=schedule), progress=progress)
 
 
 def write_mine(stage: Path, folder: Folder, factor: int, progress: Progress) -> None:

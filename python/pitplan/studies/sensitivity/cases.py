@@ -26,7 +26,7 @@ from pitplan.core.progress import Progress, silent
 from pitplan.errors import PlanError
 from pitplan.pits import shell_tables
 from pitplan.pits.skin import Skin, of_pit
-from pitplan.plan import Plan, prepare
+from pitplan.plan import Plan, prepared
 from pitplan.solver import choice as solver, problem
 from pitplan.solver.choice import Solver
 from pitplan.studies import dask_pool
@@ -131,7 +131,7 @@ def solve(project: Project, folder: Path, where: dask_pool.Where | None, progres
     found_by, given_project = solver.chosen(project.solver), project
     project = replace(project, solver=found_by.by)
     frame = reader.read(project).frame
-    plan = prepare(project, frame, progress)
+    plan = prepared(project, frame, progress)
     if plan.left_out:
         why = "is too large for the program, and what shells can reach of it is another with each number: reblock it by [table] reblock"
         raise PlanError(f"{project.table.file}: {why}, or give a smaller model")
@@ -197,7 +197,7 @@ def up_to(project: Project, factor: int) -> Project:
 def find(case: Case, asked: Asked) -> Found:
     """The pit of a case, and what the pit as given, where there is one, earns in it. Raises ProgramError where the solver here is another."""
     solver.demand_same(asked.solver)
-    plan = prepare(varied(asked.project, case.changes), asked.frame)
+    plan = prepared(varied(asked.project, case.changes), asked.frame)
     solution = problem.solve(plan)
     row = of_last(shell_tables.shells(plan, solution))
     entry = solution.entry[: plan.grid.count]
