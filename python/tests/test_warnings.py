@@ -18,10 +18,9 @@ def ore(**more):
 def test_a_price_by_the_pound_is_warned_of(plan_folder):
     """Copper at 4 USD a tonne pays in no block, and at 4 USD a pound, 8818 a tonne, in each."""
     (said,) = warnings_of(plan_folder(ore(), PROJECT, ("price = 8000", "price = 4.0")))
-    assert (
-        said == "WARNING: processing pays in no block, copper at 4 USD per t: a price per lb is multiplied by 2,204.62"
-    )
-    assert not warnings_of(plan_folder(ore(), PROJECT, ("price = 8000", "price = 8818")))
+    hint = 'set price_per = "lb" if a price is per lb'
+    assert said == f"WARNING: processing pays in no block, copper at 4 USD per t: {hint}"
+    assert not warnings_of(plan_folder(ore(), PROJECT, ("price = 8000", 'price = 4.0\nprice_per = "lb"')))
 
 
 def test_a_table_without_metal_is_not_warned_of_its_price(plan_folder):

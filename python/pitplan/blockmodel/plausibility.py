@@ -6,14 +6,15 @@ from typing import Sequence
 
 import numpy as np
 
-from pitplan.config.economics import METAL_UNITS, Metal
+from pitplan.config.economics import Metal
 
 from .grid import Grid
 
 WARNING = "WARNING: "
 # Tonnes a cubic metre between which blocks of rock lie, cut ones among them: lighter than pumice, heavier than massive sulphide ore.
 LIGHT, HEAVY = 0.1, 10.0
-POUNDS_IN_A_TONNE, GRAMS_IN_AN_OUNCE = 2204.62, 31.1035
+# By what a metal that is counted in t or g is sold otherwise.
+SOLD_BY = {"t": "lb", "g": "oz"}
 
 
 def of_tonnes(tonnes: np.ndarray, grid: Grid) -> list[str]:
@@ -37,14 +38,11 @@ def of_prices(pays: np.ndarray, metals: Sequence[Metal], grades: Sequence[np.nda
     if pays.any() or not any((grade > 0).any() for grade in grades):
         return []
     listed = ", ".join(
-        f"{metal.name} at {metal.price.normalize():f} {currency} per {METAL_UNITS[metal.unit]}" for metal in metals
+        f"{metal.name} at {metal.price.normalize():f} {currency} per {metal.price_unit}" for metal in metals
     )
-    hints = {
-        "t": f"a price per lb is multiplied by {POUNDS_IN_A_TONNE:,}",
-        "g": f"one per oz divided by {GRAMS_IN_AN_OUNCE}",
-    }
-    units = dict.fromkeys(METAL_UNITS[metal.unit] for metal in metals)
-    return [f"{WARNING}processing pays in no block, {listed}: {', '.join(hints[unit] for unit in units)}"]
+    natural = dict.fromkeys(metal.quantity for metal in metals if metal.price_per is None)
+    hints = [f'set price_per = "{SOLD_BY[unit]}" if a price is per {SOLD_BY[unit]}' for unit in natural]
+    return [f"{WARNING}processing pays in no block, {listed}{': ' if hints else ''}{', '.join(hints)}"]
 
 
 def of_codes(name: str, values: np.ndarray) -> list[str]:

@@ -4,7 +4,7 @@ from __future__ import annotations
 
 import re
 from dataclasses import dataclass
-from decimal import Decimal
+from decimal import ROUND_HALF_EVEN, Decimal
 from typing import Any, Optional, Union
 
 from .toml_section import Section
@@ -17,6 +17,16 @@ MOST_YEARS = 1_000
 GRADE_UNITS = {"percent": Decimal("0.01"), "fraction": Decimal(1), "gram_per_tonne": Decimal(1)}
 METAL_UNITS = {"percent": "t", "fraction": "t", "gram_per_tonne": "g"}
 GRADE_SIGNS = {"percent": "%", "fraction": "t/t", "gram_per_tonne": "g/t"}
+# Grams of the units of prices: the avoirdupois pound and the troy ounce are exact by definition.
+GRAMS = {
+    "t": Decimal(10**6),
+    "kg": Decimal(1000),
+    "g": Decimal(1),
+    "lb": Decimal("453.59237"),
+    "oz": Decimal("31.1034768"),
+}
+# A price that is converted from one unit to another keeps so many decimals, halves to the even one.
+PRICE_PLACES = Decimal(1).scaleb(-12)
 
 
 @dataclass(frozen=True)
@@ -43,8 +53,9 @@ Recovery = Union[Decimal, Curve]
 
 @dataclass(frozen=True)
 class Metal:
-    """What is sold: its grade column, and price and selling cost for a tonne of metal (for gram_per_tonne, a gram).
+    """A metal that is sold: its grade column, price and selling cost.
 
+    price_per   the unit of price, selling cost and prices: t, kg, g, lb or oz (troy); none: t, or g if the grade is in grams a tonne
     recovery    the share that is recovered of what comes to the mill, less the fixed tail; one, or by rock
     fixed_tail  the grade, in the column's unit, of what is lost of each tonne that comes to the mill, whatever it holds
     prices      of each year from the first, in years and schedules, the last one staying; none: the price, as in the worth of blocks
@@ -58,6 +69,18 @@ class Metal:
     recovery: Union[Recovery, dict[str, Recovery]]
     fixed_tail: ByRock = Decimal(0)
     prices: tuple[Decimal, ...] = ()
+    price_per: Optional[str] = None
+
+    @property
+    def price_unit(self) -> str:
+        """The unit of the prices, for example lb."""
+        return self.price_per or self.quantity
+
+    def by_quantity(self, price: Decimal) -> Decimal:
+        """A price of the metal for one unit of its quantity (t or g). One that needs a conversion is rounded to twelve decimals."""
+        if self.price_unit == self.quantity:
+            return price
+        return (price * GRAMS[self.quantity] / GRAMS[self.price_unit]).quantize(PRICE_PLACES, ROUND_HALF_EVEN)
 
     @property
     def sign(self) -> str:
@@ -198,6 +221,7 @@ def read_metal(section: Section, has_processes: bool = False) -> Metal:
         recovery=Decimal(0) if has_processes else read_recovery(section, "recovery"),
         fixed_tail=section.by_rock("fixed_tail") if section.has("fixed_tail") else Decimal(0),
         prices=section.amounts("prices", "of prices, one a year, such as [8000, 8200]; the last one stays"),
+        price_per=section.choice("price_per", tuple(GRAMS), None) if section.has("price_per") else None,
     )
     section.finish()
     # A block without revenue at the price as given costs nothing to process.

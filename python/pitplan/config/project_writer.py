@@ -185,7 +185,7 @@ def of_recovery(value: Any) -> Any:
 def of_metal(metal: Metal, has_processes: bool) -> Values:
     values = {name: getattr(metal, name) for name in ("name", "column", "unit", "price", "selling_cost")}
     recovery = {} if has_processes else {"recovery": of_recovery(metal.recovery), "fixed_tail": metal.fixed_tail}
-    return {**values, **recovery, "prices": metal.prices or None}
+    return {**values, **recovery, "prices": metal.prices or None, "price_per": metal.price_per}
 
 
 def of_process(process: Process) -> Values:

@@ -51,7 +51,10 @@ PLAIN = YearlyMoney()
 def of_project(project: Project) -> YearlyMoney:
     money = project.money
     premiums = {
-        f"metal_{metal.name}": tuple(float((price - metal.price) * (1 - money.royalty)) for price in metal.prices)
+        f"metal_{metal.name}": tuple(
+            float((metal.by_quantity(price) - metal.by_quantity(metal.price)) * (1 - money.royalty))
+            for price in metal.prices
+        )
         for metal in project.metals
         if metal.prices
     }

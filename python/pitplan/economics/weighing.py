@@ -156,8 +156,8 @@ class Rows:
         metal = {m.name: self.recovered(m, feed) for m in metals}
         revenue = selling = self.every(Decimal(0))
         for m in metals:
-            revenue = revenue.plus(metal[m.name].times(self.every(m.price * (1 - costs.royalty))))
-            selling = selling.plus(metal[m.name].times(self.every(m.selling_cost)))
+            revenue = revenue.plus(metal[m.name].times(self.every(m.by_quantity(m.price) * (1 - costs.royalty))))
+            selling = selling.plus(metal[m.name].times(self.every(m.by_quantity(m.selling_cost))))
         yields = np.array(revenue.whole > 0, dtype=bool)
         a_tonne = self.by_code(costs.processing_cost, yields, "processing_cost").plus(
             self.every(costs.royalty_per_tonne)

@@ -18,6 +18,7 @@ from pitplan.verification.rules import TOLD, Rule, rule
 
 from . import haulage
 from .feed import at_grade, by_code, of_code
+from .prices import converted
 from .walls import needed_by
 
 SAMPLE = 10_000
@@ -221,8 +222,8 @@ class Exactly:
                 continue
             grade = costs.recovered(number, Decimal(repr(told)))
             quantity = tonnes * costs.mining_recovery * grade * GRADE_UNITS[metal.unit]
-            revenue += quantity * metal.price
-            selling += quantity * metal.selling_cost
+            revenue += quantity * converted(metal, metal.price)
+            selling += quantity * converted(metal, metal.selling_cost)
         unit = Decimal(1).scaleb(-project.money.decimals)
         processing = (
             tonnes
@@ -264,8 +265,8 @@ def gains_by_floats(answer: Answer) -> tuple[np.ndarray, np.ndarray]:
     revenue, selling = np.zeros(len(answer.rows)), np.zeros(len(answer.rows))
     for metal in project.metals:
         quantity = answer.quantities[metal.name]
-        revenue += quantity * float(metal.price) * (1 - float(money.royalty))
-        selling += quantity * float(metal.selling_cost)
+        revenue += quantity * float(converted(metal, metal.price)) * (1 - float(money.royalty))
+        selling += quantity * float(converted(metal, metal.selling_cost))
     a_tonne = by_code(money.processing_cost, answer.rows, columns) + float(money.royalty_per_tonne)
     if rules := project.haulage:
         a_tonne = a_tonne + haulage.rate(haulage.roads_of(answer, rules), rules.ore, rules.waste)

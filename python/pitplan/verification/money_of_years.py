@@ -7,6 +7,8 @@ import pandas as pd
 
 from pitplan.config.project import Project
 
+from .prices import converted
+
 HAIR = 1e-9
 
 
@@ -14,7 +16,8 @@ def premiums(project: Project, year: int) -> dict[str, float]:
     """By the name of a metal's amount what a unit of it earns more in a year, numbered from 1, than at the price as given."""
     return {
         f"metal_{metal.name}": float(
-            (metal.prices[min(year, len(metal.prices)) - 1] - metal.price) * (1 - project.money.royalty)
+            (converted(metal, metal.prices[min(year, len(metal.prices)) - 1]) - converted(metal, metal.price))
+            * (1 - project.money.royalty)
         )
         for metal in project.metals
         if metal.prices
