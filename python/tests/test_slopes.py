@@ -230,6 +230,28 @@ def test_azimuth_90_is_the_east_wall(plan_folder):
     assert max(x for x, _, _ in offsets) > -min(x for x, _, _ in offsets)
 
 
+@pytest.mark.parametrize("turn", [0, 30])
+def test_dip_directions_are_the_opposite_bearings(plan_folder, turn):
+    """The flat east wall dips to the west: the same pit, on an upright grid and on one that is turned."""
+    grid = rows(5, 5, 3)
+    angle = np.radians(turn)
+    grid = grid.assign(
+        x=grid["x"] * np.cos(angle) + grid["y"] * np.sin(angle), y=grid["y"] * np.cos(angle) - grid["x"] * np.sin(angle)
+    )
+    by_wall = "azimuths = [[0, 60], [90.5, 30], [180, 60], [270, 80]]"
+    by_dip = 'azimuths = [[180, 60], [270.5, 30], [0, 60], [90, 80]]\nazimuth_of = "dip"'
+    found = [pitplan.prepare(plan_folder(grid, PROJECT, ('pattern = "1:5"', text))) for text in (by_wall, by_dip)]
+    walls, dips = (plan.walls.patterns[0] for plan in found)
+    assert np.array_equal(walls.offsets, dips.offsets) and np.array_equal(walls.angles, dips.angles)
+    assert "60 at 0 80 at 90 60 at 180 30 at 270.5 (dip directions)" in dips.name
+
+
+def test_azimuth_of_needs_azimuths(plan_folder):
+    path = plan_folder(rows(3, 3, 2), PROJECT, ('pattern = "1:5"', 'angle = 45\nazimuth_of = "dip"'))
+    with pytest.raises(PlanError, match="azimuth_of: says what azimuths are of: give azimuths, or leave it out"):
+        pitplan.prepare(path)
+
+
 def test_each_region_has_its_walls(plan_folder, tmp_path):
     table = rows(4, 3, 2, region=lambda i, j, k: "soft" if i < 2 else "hard")
     walls = 'region = "hard"\npattern = "1:5"\n[[slopes.walls]]\nregion = ["soft", "clay"]\npattern = "1:9"'

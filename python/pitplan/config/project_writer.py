@@ -21,7 +21,7 @@ from .haulage import KINDS, Haulage
 from .pushbacks import PhaseRules
 from .schedule import ScheduleRules, Sum
 from .sensitivity import SensitivityRules
-from .slopes import Slopes, Wall
+from .slopes import WALL, Slopes, Wall
 from .survey import SurveyFile
 
 # A section: values by key. A key whose value is None is left out.
@@ -208,7 +208,9 @@ def of_wall(wall: Wall) -> Values:
     if wall.pattern or wall.steps:
         return {**found, "pattern": wall.pattern} if wall.pattern else {**found, "steps": wall.steps}
     is_one = len(wall.angles) == 1 and wall.angles[0][0] == 0
-    return {**found, "angle": wall.angles[0][1]} if is_one else {**found, "azimuths": wall.angles}
+    if is_one and wall.azimuth_of == WALL:
+        return {**found, "angle": wall.angles[0][1]}
+    return {**found, "azimuths": wall.angles, "azimuth_of": wall.azimuth_of if wall.azimuth_of != WALL else None}
 
 
 def of_shells(schedule: Schedule) -> Values:

@@ -10,6 +10,7 @@ from .toml_section import Section
 
 PATTERNS = ("1:5", "1:9")
 MOST_LEVELS, MOST_STEPS = 40, 200
+WALL, DIP = "wall", "dip"
 
 
 @dataclass(frozen=True)
@@ -30,8 +31,9 @@ class Bench:
 class Wall:
     """The walls of some regions: a pattern of needs, steps of the planner's own, or angles in degrees by azimuth (north 0, east 90).
 
-    steps  each so many blocks east, north and up
-    bench  of what benches and berms the angle was made
+    steps       each so many blocks east, north and up
+    bench       of what benches and berms the angle was made
+    azimuth_of  what the azimuths are of: "wall", the bearing from the pit to the wall, or "dip", the dip direction of its face
     """
 
     regions: Optional[tuple[str, ...]]
@@ -39,6 +41,14 @@ class Wall:
     angles: tuple[tuple[float, float], ...]
     steps: tuple[tuple[int, int, int], ...] = ()
     bench: Optional[Bench] = None
+    azimuth_of: str = WALL
+
+    @property
+    def bearings(self) -> tuple[tuple[float, float], ...]:
+        """The angles by the bearing from the pit to the wall, rising; a face dips away from it."""
+        if self.azimuth_of == WALL:
+            return self.angles
+        return tuple(sorted((round((azimuth + 180) % 360, 9) % 360, angle) for azimuth, angle in self.angles))
 
 
 @dataclass(frozen=True)
@@ -85,7 +95,10 @@ def read_wall(section: Section) -> Wall:
         raise section.wrong(given[0], "azimuths are from 0 to below 360 degrees, each named once")
     pattern = section.choice("pattern", PATTERNS, None) if given == ["pattern"] else None
     steps = read_steps(section) if given == ["steps"] else ()
-    wall = Wall(section.names("region"), pattern, tuple(sorted(angles)), steps, bench)
+    azimuth_of = section.choice("azimuth_of", (WALL, DIP), WALL)
+    if section.has("azimuth_of") and given != ["azimuths"]:
+        raise section.wrong("azimuth_of", "says what azimuths are of: give azimuths, or leave it out")
+    wall = Wall(section.names("region"), pattern, tuple(sorted(angles)), steps, bench, azimuth_of)
     section.finish()
     return wall
 

@@ -13,7 +13,7 @@ from dataclasses import dataclass, replace
 import numpy as np
 from scipy.spatial import ConvexHull, QhullError
 
-from pitplan.config.slopes import MOST_LEVELS, Slopes, Wall
+from pitplan.config.slopes import DIP, MOST_LEVELS, WALL, Slopes, Wall
 from pitplan.errors import PlanError
 
 from . import cone_templates
@@ -165,7 +165,8 @@ def angles_of_cone(cone: np.ndarray, size: tuple[float, float, float]) -> np.nda
 
 
 def from_grid_north(wall: Wall, azimuth: float) -> Wall:
-    """A wall whose azimuths are counted from the north of a grid, which has an azimuth of its own."""
+    """A wall whose azimuths are bearings to the wall, counted from the north of a grid, which has an azimuth of its own."""
+    wall = replace(wall, angles=wall.bearings, azimuth_of=WALL)
     if not azimuth or len(wall.angles) < 2:
         return wall
     return replace(
@@ -190,13 +191,14 @@ def pattern_of(asked_wall: Wall, size: tuple[float, float, float], slopes: Slope
             angles_of_cone(cells, size),
             np.zeros(0),
         )
+    of_dip = " (dip directions)" if asked_wall.azimuth_of == DIP else ""
     asked = np.degrees(np.arctan2(1.0, cotangents(wall.angles, AZIMUTHS)))
     levels = levels_of(wall, size, asked) if slopes.levels is None else slopes.levels
     widened = widening(wall, size, levels, asked) if slopes.never_steeper else 1.0
     cells = cone(wall.angles, size, levels, widened)
     angles = angles_of_cone(cells, size)
     said = (
-        " ".join(f"{angle:g} at {of_wall:g}" for of_wall, angle in asked_wall.angles)
+        " ".join(f"{angle:g} at {of_wall:g}" for of_wall, angle in asked_wall.angles) + of_dip
         if len(wall.angles) > 1
         else f"{wall.angles[0][1]:g}"
     )

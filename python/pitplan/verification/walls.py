@@ -34,8 +34,11 @@ def flatness(wall: Wall, azimuth: np.ndarray) -> np.ndarray:
         return np.full(
             np.shape(azimuth), 1 / math.tan(math.radians(wall.bench.face)) + wall.bench.berm / wall.bench.height
         )
-    given = [azimuth for azimuth, _ in wall.angles]
-    back = [math.cos(math.radians(angle)) / math.sin(math.radians(angle)) for _, angle in wall.angles]
+    # A face dips away from its wall.
+    turned = 180 if wall.azimuth_of == "dip" else 0
+    pairs = sorted(((azimuth + turned) % 360, angle) for azimuth, angle in wall.angles)
+    given = [azimuth for azimuth, _ in pairs]
+    back = [math.cos(math.radians(angle)) / math.sin(math.radians(angle)) for _, angle in pairs]
     return np.interp(azimuth, [given[-1] - 360, *given, given[0] + 360], [back[-1], *back, back[0]])
 
 
