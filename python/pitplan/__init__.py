@@ -13,7 +13,7 @@ Functions write what the subcommands do, by default into the project's own folde
     notes = pitplan.check("project.toml")                  # reads and validates all inputs, without solving
     table = pitplan.write_shells("project.toml", "out")    # as pitplan shells, verified: one row a factor
     pitplan.view("out")                                    # the path of view.html; write_report("out") that of report.html
-    pitplan.export("out", "csv")                           # that of pit.csv; or table, xlsx, vti, vtu; with a factor or `shape=Shape(...)` dxf, stl or obj
+    pitplan.write_export("out", "csv")                     # that of pit.csv; or table, xlsx, vti, vtu; with a factor or `shape=Shape(...)` dxf, stl or obj
     pitplan.audit("out", 800)                              # that of a folder by which others can check the shell
     rules = pitplan.verify("out")                          # each with what holds, differences, and their count
     pits = pitplan.write_pit("project.toml", 1000)         # a row with the fixed blocks and one without
@@ -27,10 +27,10 @@ Functions write what the subcommands do, by default into the project's own folde
 `Writing` says how a command writes its folder, `Request` where and how scenarios are solved, and `Where` on which Dask cases are;
 `gather(folder)` gathers the scenarios that others have solved.
 
-Functions `plot_...` draw on axes of your own, which they give back, and leave matplotlib's backend as it is: those of `pitplan.figures.plans_sections`
-take a table of shells, or `pictures.scene_of(plan, solution)`; those of `pitplan.figures.pushbacks` its
-`scene_of(pitplan.pushbacks.nested.divide(plan))`; `pitplan.figures.annual.plot_years` a table of years; and those of `pitplan.figures.scenarios`
-`found.likely(1000)` or `found.table`; those of `pitplan.figures.sensitivity` a table of cases.
+Functions `plot_...` draw on axes of your own, which they give back, and leave matplotlib's backend as it is. Those of
+`pitplan.figures.pit_by_pit` take a table of shells, those of `plans_sections` their `scene_of(plan, solution)`, those of `pushbacks` their
+`scene_of(pitplan.pushbacks.nested.divide(plan))`, `annual.plot_years` a table of years, those of `scenarios` `found.likely(1000)` or
+`found.table`, and those of `sensitivity` a table of cases. Import the module first: `import pitplan.figures.pit_by_pit`.
 
 The library `libpitshell` solves where it is there, else the program `pitshell`; `dataclasses.replace(project, solver="program")`, or
 "library", asks for one. That a shell is the smallest set of greatest worth that keeps the needs is proved of both, for what they are given.
@@ -55,7 +55,7 @@ if TYPE_CHECKING:
 
     from .commands.audit import audit
     from .commands.check import check
-    from .commands.export import export
+    from .commands.export import write_export
     from .commands.pit import write_pit
     from .commands.pushbacks import write_pushbacks
     from .commands.report import write_report
@@ -68,7 +68,20 @@ if TYPE_CHECKING:
     from .commands.writing import Writing
     from .errors import BudgetUsedUp, MissingPackage, PlanError, ProgramError
     from .plan import Plan, prepare
-    from .verification import Rule
+    from .verification.rules import Rule
+else:
+
+    def __getattr__(name: str) -> Any:
+        """Imports a public name, or a module of the package, on first use."""
+        if name in PLACES:
+            found = getattr(import_module(f".{PLACES[name]}", __name__), name)
+        elif not name.startswith("_") and find_spec(f"{__name__}.{name}"):
+            return import_module(f".{name}", __name__)
+        else:
+            raise AttributeError(f"module {__name__!r} has no attribute {name!r}")
+        globals()[name] = found
+        return found
+
 
 __version__ = "0.1.0"
 
@@ -76,7 +89,7 @@ __version__ = "0.1.0"
 MODULES = {
     "commands.audit": ("audit",),
     "commands.check": ("check",),
-    "commands.export": ("export",),
+    "commands.export": ("write_export",),
     "commands.pit": ("write_pit",),
     "commands.pushbacks": ("write_pushbacks",),
     "commands.report": ("write_report",),
@@ -97,7 +110,7 @@ MODULES = {
     "studies.dask_pool": ("Where",),
     "studies.scenarios.request": ("Request",),
     "studies.scenarios.result": ("ScenarioResult",),
-    "verification": ("Rule",),
+    "verification.rules": ("Rule",),
 }
 PLACES = {name: module for module, names in MODULES.items() for name in names}
 
@@ -118,7 +131,6 @@ __all__ = [
     "audit",
     "blocks",
     "check",
-    "export",
     "gather",
     "load",
     "prepare",
@@ -127,6 +139,7 @@ __all__ = [
     "verify",
     "view",
     "write_block_schedule",
+    "write_export",
     "write_pit",
     "write_pushbacks",
     "write_report",
@@ -136,18 +149,6 @@ __all__ = [
     "write_shells",
     "years",
 ]
-
-
-def __getattr__(name: str) -> Any:
-    """Imports a public name, or a module of the package, on first use."""
-    if name in PLACES:
-        found = getattr(import_module(f".{PLACES[name]}", __name__), name)
-    elif not name.startswith("_") and find_spec(f"{__name__}.{name}"):
-        return import_module(f".{name}", __name__)
-    else:
-        raise AttributeError(f"module {__name__!r} has no attribute {name!r}")
-    globals()[name] = found
-    return found
 
 
 def __dir__() -> list[str]:

@@ -8,10 +8,11 @@ from __future__ import annotations
 
 from dataclasses import dataclass
 from pathlib import Path
-from typing import Optional
+from typing import Any, Optional
 
 import numpy as np
 import pandas as pd
+from numpy.typing import NDArray
 
 from pitplan.blockmodel import depletion, tin
 from pitplan.blockmodel.grid import Grid
@@ -35,8 +36,8 @@ class FixedBlocks:
     barred  blocks that may not be dug, nor what needs them
     """
 
-    forced: np.ndarray
-    barred: np.ndarray
+    forced: NDArray[Any]
+    barred: NDArray[Any]
     notes: tuple[str, ...] = ()
 
 
@@ -47,16 +48,17 @@ NOTHING = FixedBlocks(np.zeros(0, dtype=np.int64), np.zeros(0, dtype=np.int64))
 class Settled:
     """What is dug and what is left in every pit that keeps to the fixed blocks: a truth for each cell."""
 
-    dug: np.ndarray
-    left: np.ndarray
+    dug: NDArray[Any]
+    left: NDArray[Any]
 
     @property
-    def rest(self) -> np.ndarray:
+    def rest(self) -> NDArray[Any]:
         """The cells of which a pit is still to be found."""
-        return ~(self.dug | self.left)
+        rest: NDArray[Any] = ~(self.dug | self.left)
+        return rest
 
 
-def nodes_of_rest(values: Values, settled: Settled) -> tuple[np.ndarray, np.ndarray]:
+def nodes_of_rest(values: Values, settled: Settled) -> tuple[NDArray[Any], NDArray[Any]]:
     """Revenue and cost of every node of the rest, in millionths; 0 if the constraints settle what becomes of the node.
 
     A forced block may still be processed or not, so its processing node belongs to the rest.
@@ -72,7 +74,7 @@ def settled(fixed: FixedBlocks, grid: Grid, walls: Walls) -> Settled:
     return Settled(dug, users_of(grid, walls, marks(grid, fixed.barred)))
 
 
-def marks(grid: Grid, cells: np.ndarray) -> np.ndarray:
+def marks(grid: Grid, cells: NDArray[Any]) -> NDArray[Any]:
     """A truth for each cell: whether it is one of these."""
     found = np.zeros(grid.count, dtype=bool)
     found[cells] = True
@@ -102,12 +104,12 @@ def of_table(frame: pd.DataFrame, grid: Grid, project: Project, source: str = "t
     return FixedBlocks(np.sort(grid.rows[forced]), np.sort(grid.rows[barred]), tuple(notes))
 
 
-def marked(frame: pd.DataFrame, column: Optional[str]) -> np.ndarray:
+def marked(frame: pd.DataFrame, column: Optional[str]) -> NDArray[Any]:
     """Which rows have a number above 0 in a column."""
-    return np.zeros(len(frame), dtype=bool) if column is None else frame[column].to_numpy() > 0
+    return np.zeros(len(frame), dtype=bool) if column is None else np.asarray(frame[column].to_numpy() > 0)
 
 
-def in_area(grid: Grid, area: Area) -> tuple[np.ndarray, list[str]]:
+def in_area(grid: Grid, area: Area) -> tuple[NDArray[Any], list[str]]:
     """Which rows have their centre in the barred side of an area, and notes. Raises PlanError where the file is not usable, or bars all."""
     file, areas = area.polygon.path, readers.areas(area.polygon)
     x, y, _ = grid.centres(np.arange(grid.per_level))
@@ -126,7 +128,7 @@ def in_area(grid: Grid, area: Area) -> tuple[np.ndarray, list[str]]:
     return barred == (area.barred == "inside"), notes
 
 
-def within(x: np.ndarray, y: np.ndarray, corners: np.ndarray) -> np.ndarray:
+def within(x: NDArray[Any], y: NDArray[Any], corners: NDArray[Any]) -> NDArray[Any]:
     """Which points lie in a ring: those from which a ray to the east crosses its sides an odd number of times.
 
     By code of its own, since every planner would have to have shapely for these lines alone.
@@ -139,7 +141,7 @@ def within(x: np.ndarray, y: np.ndarray, corners: np.ndarray) -> np.ndarray:
     return odd
 
 
-def numbers(fixed: FixedBlocks, nodes: int) -> np.ndarray:
+def numbers(fixed: FixedBlocks, nodes: int) -> NDArray[Any]:
     """For each node 1 where it must be dug, 2 where it may not be, and else 0; uint8, shape (nodes,)."""
     found = np.zeros(nodes, dtype=np.uint8)
     found[fixed.forced], found[fixed.barred] = 1, 2

@@ -2,7 +2,6 @@
 
 from __future__ import annotations
 
-import hashlib
 import json
 import sys
 from dataclasses import dataclass, field, replace
@@ -11,6 +10,7 @@ from typing import Any, Optional, Union
 
 import numpy as np
 import pandas as pd
+from numpy.typing import NDArray
 
 from pitplan.blockmodel import (
     depletion,
@@ -25,6 +25,7 @@ from pitplan.blockmodel import (
 from pitplan.blockmodel.grid import Grid
 from pitplan.config.project import Project, load, validated
 from pitplan.config.shells import IN_WORDS
+from pitplan.core.keyed_arrays import hash_of_all
 from pitplan.core.progress import Progress, silent
 from pitplan.crop import Model
 from pitplan.economics import block_values, haulage, period_costs
@@ -81,7 +82,7 @@ class Plan:
     grid: Grid
     values: Values
     walls: Walls
-    used: np.ndarray
+    used: NDArray[Any]
     source: str
     filled: int = 0
     notes: list[str] = field(default_factory=list)
@@ -320,20 +321,11 @@ def demand_no_clash(plan: Plan, settled: Settled) -> None:
         raise PlanError(f"{plan.source}: {first} must be dug and needs {second}, which may not be dug{more}")
 
 
-def wanted(values: Values, project: Project, fixed: FixedBlocks) -> np.ndarray:
+def wanted(values: Values, project: Project, fixed: FixedBlocks) -> NDArray[Any]:
     """The cells for which a pit digs others: those that can pay for themselves, and those that must be dug."""
     found = np.array(values.greatest_value(project.schedule.factors[-1]) > 0, dtype=bool)
     found[fixed.forced] = True
     return found
-
-
-def hash_of_all(text: str, arrays: list[np.ndarray]) -> str:
-    """A hash of a text and of arrays, with their types and shapes."""
-    digest = hashlib.sha256(text.encode())
-    for array in arrays:
-        digest.update(f"{array.dtype} {array.shape};".encode())
-        digest.update(np.ascontiguousarray(array).data)
-    return digest.hexdigest()
 
 
 def notes_of(plan: Plan) -> list[str]:

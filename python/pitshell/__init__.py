@@ -26,7 +26,17 @@ from ._solving import BARRED, FORCED, FREE, Pit, solve
 __version__ = "0.1.0"
 
 __all__ = [
-    *("Certificate", "NoMemory", "Pit", "Refusal", "Shells"),
-    *("BARRED", "FORCED", "FREE", "LIBRARY"),
-    *("certificate", "check", "shells", "solve"),
+    "BARRED",
+    "FORCED",
+    "FREE",
+    "LIBRARY",
+    "Certificate",
+    "NoMemory",
+    "Pit",
+    "Refusal",
+    "Shells",
+    "certificate",
+    "check",
+    "shells",
+    "solve",
 ]

@@ -118,7 +118,7 @@ def solved(solved_once, tmp_path):
 
 @pytest.fixture(scope="module")
 def without_figures():
-    """Commands draw no figures, whoever calls them: figures take most of a run's time, and other tests check them."""
+    """No command draws figures, which take most of the time of a run. Other tests check them."""
     from pitplan.commands.writing import Writing
 
     with pytest.MonkeyPatch.context() as patch:

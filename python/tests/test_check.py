@@ -25,9 +25,9 @@ def test_it_notes_what_prepare_notes_and_writes_nothing(mine):
 
 def test_the_command_line(mine, capsys):
     assert main(["check", str(mine)]) == 0
-    told = capsys.readouterr()
-    assert told.out == f"{mine}: no errors\n"
-    assert told.err.startswith("reading ") and told.err.count("blocks lie on a grid") == 1
+    said = capsys.readouterr()
+    assert said.out == f"{mine}: no errors\n"
+    assert said.err.startswith("reading ") and said.err.count("blocks lie on a grid") == 1
     assert main(["check", str(mine), "--quiet"]) == 0
     assert capsys.readouterr().err.splitlines() == pitplan.check(mine)
 

@@ -50,7 +50,7 @@ def test_a_nul_byte_in_a_field_is_named_by_row_and_column(plan_folder, column, f
 
 
 def test_a_nul_byte_is_named_in_whatever_piece_form_and_place_it_stands(plan_folder, monkeypatch):
-    monkeypatch.setattr(pitplan.blockmodel.reader, "PIECE", 3)
+    monkeypatch.setattr("pitplan.core.text_tables.PIECE", 3)
     packed = ("blocks.csv", "blocks.csv.gz")
     text = text_with(11, "tonnes", "1\x000")
     path = plan_folder(text, PROJECT, packed)
@@ -91,7 +91,7 @@ def test_a_column_of_truths_is_none_of_numbers(plan_folder, column, word):
 
 
 def test_truths_in_one_piece_alone_are_refused_there(plan_folder, monkeypatch):
-    monkeypatch.setattr(pitplan.blockmodel.reader, "PIECE", 3)
+    monkeypatch.setattr("pitplan.core.text_tables.PIECE", 3)
     table = rows(3, 2, 2).astype(object)
     table.loc[3:5, "cu"] = "TRUE"
     assert 'row 5 column cu: "True" is not a number' in refused(plan_folder(table))

@@ -36,23 +36,30 @@ def figures_in(folder):
 
 
 @pytest.mark.parametrize(
-    ("command", "name", "drawn"),
+    ("command", "name", "drawn", "headings"),
     [
-        (pitplan.write_shells, "", PICTURES),
-        (pitplan.write_schedule, "schedule", PICTURES | PHASE_PICTURES | SCHEDULE_PICTURES),
-        (pitplan.write_block_schedule, "block_schedule", PICTURES | BLOCK_PICTURES),
+        (pitplan.write_shells, "", PICTURES, ["Pit by pit"]),
+        (
+            pitplan.write_schedule,
+            "schedule",
+            PICTURES | PHASE_PICTURES | SCHEDULE_PICTURES,
+            ["Yearly schedule", "Phases"],
+        ),
+        (pitplan.write_block_schedule, "block_schedule", PICTURES | BLOCK_PICTURES, ["Schedule by block"]),
     ],
 )
-def test_a_run_without_figures_removes_those_of_an_earlier_run(mine, command, name, drawn):
+def test_a_run_without_figures_removes_those_of_an_earlier_run(mine, command, name, drawn, headings):
     folder = mine.parent / "plan" / name
     first = command(mine, writing=ONCE)
     page, record = (folder / "report.html").read_text(), json.loads((folder / "prepare.json").read_text())
     assert figures_in(folder) == {*drawn.values()} < {*record["files"]} and record["figures"] is True
     assert page.count("data:image/png") == len(drawn) and "<h2>Pictures</h2>" in page
+    assert all(f"<h3>{heading}</h3>" in page for heading in headings)
     second = command(mine, writing=BARE)
     page, record = (folder / "report.html").read_text(), json.loads((folder / "prepare.json").read_text())
     assert figures_in(folder) == set() and record["figures"] is False and not {*FIGURES} & {*record["files"]}
     assert "<img" not in page and "<h2>Pictures</h2>" not in page and "<h2>Tables</h2>" in page
+    assert not any(f"<h3>{heading}</h3>" in page for heading in headings)
     assert first.to_csv() == second.to_csv()
 
 
@@ -75,8 +82,12 @@ def test_a_sensitivity_without_figures(mine):
     assert (mine.parent / "plan" / "report.html").read_text().count(
         "<img"
     ) == 1, "the tornado, which the sensitivity has drawn"
+    (folder / "grid-map.png").touch()
     pitplan.write_sensitivity(mine, writing=BARE)
-    assert figures_in(folder) == set() and json.loads((folder / "sensitivity.json").read_text())["figures"] is False
+    assert (
+        figures_in(folder) == {"grid-map.png"}
+        and json.loads((folder / "sensitivity.json").read_text())["figures"] is False
+    )
     page = pitplan.write_report(mine.parent / "plan").read_text()
     assert "<img" not in page and "sensitivity.csv" in page
 

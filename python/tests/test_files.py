@@ -180,14 +180,14 @@ def test_values_of_an_audit_are_exact(tmp_path):
 
 def test_a_factor_that_is_not_solved_is_refused(solved):
     _, folder = solved
-    for call in (lambda: pitplan.audit(folder, 900, silent), lambda: pitplan.export(folder, "dxf", 900, silent)):
+    for call in (lambda: pitplan.audit(folder, 900, silent), lambda: pitplan.write_export(folder, "dxf", 900, silent)):
         with pytest.raises(PlanError, match="factor 900 is not among the factors 500, 1000, 1500"):
             call()
 
 
 def test_csv_has_the_blocks_of_all_pits(solved):
     _, folder = solved
-    table = pd.read_csv(pitplan.export(folder, "csv", 1000, silent))
+    table = pd.read_csv(pitplan.write_export(folder, "csv", 1000, silent))
     blocks = pd.read_csv(folder / "blocks.csv")
     assert len(table) == (blocks["factor"] > 0).sum() > 0 and set(table["name"]) == set(
         blocks["name"][blocks["factor"] > 0]
@@ -200,7 +200,7 @@ def test_vti_is_read_back_by_vtk_cell_by_cell(solved):
 
     _, folder = solved
     reader = vtk.vtkXMLImageDataReader()
-    reader.SetFileName(str(pitplan.export(folder, "vti", 1000, silent)))
+    reader.SetFileName(str(pitplan.write_export(folder, "vti", 1000, silent)))
     reader.Update()
     image = reader.GetOutput()
     assert image.GetDimensions() == (11, 10, 6) and image.GetBounds() == (0, 100, 0, 90, 0, 50)
@@ -218,7 +218,7 @@ def test_vtu_has_a_cell_a_block_of_rock_where_the_block_lies(plan_folder):
     path = plan_folder(rows(4, 3, 2, **ORE, tonnes=lambda i, j, k: 100 * int((i, j, k) != (2, 0, 1))))
     pitplan.write_shells(path, writing=pitplan.Writing(verifies=False))
     reader = vtk.vtkXMLUnstructuredGridReader()
-    reader.SetFileName(str(pitplan.export(path.parent / "plan", "vtu")))
+    reader.SetFileName(str(pitplan.write_export(path.parent / "plan", "vtu")))
     reader.Update()
     mesh = reader.GetOutput()
     blocks = pd.read_csv(path.parent / "plan" / "blocks.csv")
@@ -238,7 +238,7 @@ def test_vtu_has_a_cell_a_block_of_rock_where_the_block_lies(plan_folder):
 def test_a_workbook_has_all_tables_of_the_folder(solved):
     openpyxl = pytest.importorskip("openpyxl")
     _, folder = solved
-    book = openpyxl.load_workbook(pitplan.export(folder, "xlsx"))
+    book = openpyxl.load_workbook(pitplan.write_export(folder, "xlsx"))
     assert book.sheetnames == ["shells", "years"]
     for name in book.sheetnames:
         table = pd.read_csv(folder / f"{name}.csv")
@@ -250,7 +250,7 @@ def test_a_workbook_has_all_tables_of_the_folder(solved):
 def test_dxf_has_the_area_of_the_pit_on_each_level(solved):
     ezdxf = pytest.importorskip("ezdxf")
     _, folder = solved
-    drawing = ezdxf.readfile(pitplan.export(folder, "dxf", 1000, silent))
+    drawing = ezdxf.readfile(pitplan.write_export(folder, "dxf", 1000, silent))
     blocks = pd.read_csv(folder / "blocks.csv")
     dug = blocks[(blocks["factor"] > 0) & (blocks["factor"] <= 1000)]
     areas = {}
@@ -536,6 +536,6 @@ def test_a_plan_is_shown_in_a_few_lines(plan_folder):
 def test_image_data_is_xml_with_raw_arrays(solved):
     pytest.importorskip("vtk")
     _, folder = solved
-    text = pitplan.export(folder, "vti", 1000, silent).read_bytes()
+    text = pitplan.write_export(folder, "vti", 1000, silent).read_bytes()
     assert text.startswith(b"<?xml") or text.startswith(b"<VTKFile")
     assert xml.fromstring(text.split(b"<AppendedData")[0] + b"</VTKFile>").attrib["type"] == "ImageData"

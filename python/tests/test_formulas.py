@@ -61,9 +61,9 @@ def test_csv_files_keep_the_text(plan_folder, without_figures, capsys):
     folder = pitplan.load(path).folder
     with open(folder / "blocks.csv", newline="") as written:
         assert sorted(row["rock"] for row in csv.DictReader(written)) == ["=1+2", "@a", *["R"] * 16]
-    with open(pitplan.export(folder, "table"), newline="") as written:
+    with open(pitplan.write_export(folder, "table"), newline="") as written:
         assert [row["rock"] for row in csv.DictReader(written)] == table["rock"].tolist()
-    with open(pitplan.export(folder, "csv"), newline="") as written:
+    with open(pitplan.write_export(folder, "csv"), newline="") as written:
         assert "=1+2" in {row["rock"] for row in csv.DictReader(written)}
 
 

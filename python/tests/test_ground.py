@@ -172,14 +172,14 @@ def test_a_file_of_an_earlier_run_goes_and_those_of_others_stay(folder):
     (folder / "ground-years-stl").mkdir()
     for name in ("year-99.stl", "notes.txt"):
         (folder / "ground-years-stl" / name).touch()
-    pitplan.export(folder, "stl", shape=Shape("year", "ground"))
+    pitplan.write_export(folder, "stl", shape=Shape("year", "ground"))
     names = {path.name for path in (folder / "ground-years-stl").iterdir()}
     assert "notes.txt" in names and "year-1.stl" in names and "year-99.stl" not in names
 
 
 def test_phases_have_closed_bodies_too(folder):
     pytest.importorskip("vtk")
-    target = pitplan.export(folder, "stl", shape=Shape("phase"))
+    target = pitplan.write_export(folder, "stl", shape=Shape("phase"))
     for number in (1, 2):
         assert volume_of(triangles_of(target / f"phase-{number}.stl")) == pytest.approx(
             volume_dug(folder, "phase", number)
@@ -189,7 +189,7 @@ def test_phases_have_closed_bodies_too(folder):
 
 def test_a_drawing_has_a_layer_a_bench_and_phase(folder):
     ezdxf = pytest.importorskip("ezdxf")
-    drawing = ezdxf.readfile(pitplan.export(folder, "dxf", shape=Shape("phase", "ground")))
+    drawing = ezdxf.readfile(pitplan.write_export(folder, "dxf", shape=Shape("phase", "ground")))
     faces = {}
     for face in drawing.modelspace().query("3DFACE"):
         faces.setdefault(face.dxf.layer, []).append([list(face.dxf.vtx0), list(face.dxf.vtx1), list(face.dxf.vtx2)])
@@ -235,7 +235,7 @@ def test_what_cannot_be_is_refused(folder, capsys, words, said):
 def test_a_folder_without_phases_is_told_what_makes_them(solved):
     for name, command in (("phase", "pushbacks"), ("year", "schedule")):
         with pytest.raises(PlanError, match=f"has no {name}s: run pitplan {command}, and name its folder by --out"):
-            pitplan.export(solved[1], "dxf", shape=Shape(name))
+            pitplan.write_export(solved[1], "dxf", shape=Shape(name))
 
 
 def test_a_year_by_whose_end_nothing_is_dug_has_no_body_and_is_told(folder, monkeypatch):
@@ -244,7 +244,7 @@ def test_a_year_by_whose_end_nothing_is_dug_has_no_body_and_is_told(folder, monk
     result = read_folder(folder)
     later = replace(result, blocks=result.blocks.assign(year=np.where(result.blocks["year"] > 0, 2, 0)))
     monkeypatch.setattr("pitplan.commands.export.read_folder", lambda path: later)
-    target = pitplan.export(folder, "obj", shape=Shape("year"))
+    target = pitplan.write_export(folder, "obj", shape=Shape("year"))
     assert [path.name for path in target.iterdir()] == ["year-2.obj"]
 
 
@@ -260,6 +260,6 @@ def test_by_how_much_smoothing_changes_the_volume_is_told_with_quiet_and_to_pyth
     assert main(words) == 0
     aloud = capsys.readouterr()
     assert aloud.err.count("smoothed within half a block") == 1 and aloud.out == quiet.out
-    path = pitplan.export(folder, "stl", shape=Shape(surface="ground", smooth=True))
+    path = pitplan.write_export(folder, "stl", shape=Shape(surface="ground", smooth=True))
     assert path == folder / "ground-1000.stl" and [*path.notes] == quiet.err.splitlines()
-    assert pitplan.export(folder, "csv").notes == ()
+    assert pitplan.write_export(folder, "csv").notes == ()

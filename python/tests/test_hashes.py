@@ -56,7 +56,7 @@ def test_an_input_elsewhere_is_named_by_its_way_from_the_project(plan_folder, tm
     inputs = json.loads((tmp_path / "elsewhere" / "prepare.json").read_text())["inputs"]
     assert inputs == {"project.toml": sha256(project), "../table/blocks.csv": sha256(tmp_path / "table" / "blocks.csv")}
     assert pitplan.write_report(tmp_path / "elsewhere").is_file()
-    assert len(pd.read_csv(pitplan.export(tmp_path / "elsewhere", "table"))) == 168
+    assert len(pd.read_csv(pitplan.write_export(tmp_path / "elsewhere", "table"))) == 168
 
 
 def digests(page, heading):

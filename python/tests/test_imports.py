@@ -56,3 +56,12 @@ def test_a_missing_package_is_named_by_debians(monkeypatch, capsys):
     monkeypatch.setitem(entry.REQUIRED, "nowhere_at_all", "python3-nowhere")
     assert main(["verify", "folder"]) == 1
     assert capsys.readouterr().err == "pitplan: nowhere_at_all: not installed: apt-get install python3-nowhere\n"
+
+
+def test_a_package_that_cannot_be_imported_is_named(tmp_path):
+    (tmp_path / "jinja2.py").write_text("from json import nowhere_at_all\n")
+    words = [sys.executable, str(ROOT / "tools" / "pitplan"), "init", "blocks.csv"]
+    path = {"PYTHONPATH": str(tmp_path), "PATH": "/usr/bin:/bin"}
+    ran = subprocess.run(words, cwd=tmp_path, capture_output=True, text=True, env=path)
+    assert ran.returncode == 1 and ran.stdout == "" and len(ran.stderr.splitlines()) == 1
+    assert ran.stderr.startswith("pitplan: cannot import name 'nowhere_at_all'") and "python3-jinja2" in ran.stderr

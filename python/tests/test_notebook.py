@@ -24,7 +24,9 @@ FUNCTIONS = [name for name in pitplan.__all__ if inspect.isfunction(getattr(pitp
 
 def test_no_function_hides_a_module():
     """A module of the name would take the function's place as soon as something imports it."""
-    assert {"pit", "pushbacks", "view", "export", "audit", "scenarios", "verify"} < set(FUNCTIONS)
+    assert {"write_pit", "write_pushbacks", "view", "write_export", "audit", "write_scenarios", "verify"} < set(
+        FUNCTIONS
+    )
     assert [name for name in pitplan.__all__ if importlib.util.find_spec(f"pitplan.{name}")] == []
 
 
@@ -59,10 +61,10 @@ def test_shells_are_written_and_given_as_a_frame(plan):
 def test_a_page_exports_and_a_folder_for_auditors_are_told_by_their_paths(solved):
     folder = solved[1]
     assert pitplan.view(str(folder)) == folder / "view.html"
-    assert pitplan.export(folder, "csv") == folder / "pit.csv"
+    assert pitplan.write_export(folder, "csv") == folder / "pit.csv"
     blocks = pd.read_csv(folder / "blocks.csv")
     assert len(pd.read_csv(folder / "pit.csv")) == (blocks["factor"] > 0).sum()
-    assert pitplan.export(folder, "dxf", 500) == folder / "pit-500.dxf"
+    assert pitplan.write_export(folder, "dxf", 500) == folder / "pit-500.dxf"
     assert (pitplan.audit(folder, 500) / "check.sh").exists()
 
 
@@ -70,10 +72,13 @@ def test_a_page_exports_and_a_folder_for_auditors_are_told_by_their_paths(solved
     ("call", "said"),
     [
         (
-            lambda folder: pitplan.export(folder, "dwg"),
+            lambda folder: pitplan.write_export(folder, "dwg"),
             "dwg is none of table, csv, xlsx, vti, vtu, dxf, stl, obj, gpkg, str, lines",
         ),
-        (lambda folder: pitplan.export(folder, "dxf", 900), "factor 900 is not among the factors 500, 1000, 1500"),
+        (
+            lambda folder: pitplan.write_export(folder, "dxf", 900),
+            "factor 900 is not among the factors 500, 1000, 1500",
+        ),
         (lambda folder: pitplan.audit(folder, 900), "factor 900 is not among the factors 500, 1000, 1500"),
         (
             lambda folder: pitplan.view(folder / "nowhere"),
@@ -157,11 +162,11 @@ def test_the_notebook_from_a_frame_to_a_schedule_runs(monkeypatch):
     blocks = names["plan"].blocks.set_index("planner_id")
     assert blocks["cu_pct"].to_numpy() == pytest.approx(0.9 * given["cu_pct"][blocks.index].to_numpy())
     inside = names["divided"].phase[blocks["id"]] > 0
-    ways = names["yearly_schedule"].ways(names["schedule"])
+    ways = names["phase_schedule"].ways(names["schedule"])
     assert (ways["tonnes"] + ways["left_tonnes"]).tolist() == pytest.approx(
         [given["tonnes"][blocks.index[inside]].sum()] * len(ways)
     )
-    years = names["yearly_schedule"].years(names["schedule"])
+    years = names["phase_schedule"].years(names["schedule"])
     assert (years["ore_tonnes"] <= 800_000 * (1 + 1e-9)).all() and (
         years["rock_tonnes"] <= 2_000_000 * (1 + 1e-9)
     ).all()

@@ -44,8 +44,8 @@ def test_only_the_missing_library_of_pits_is_called_missing(monkeypatch):
     module = "pitplan.scheduling.blocks.tables"
     monkeypatch.setitem(sys.modules, "pitshell", sys)
     monkeypatch.setitem(sys.modules, module, None)
-    monkeypatch.delattr(pitplan.scheduling.blocks, "result", raising=False)
-    with pytest.raises(ImportError, match="result"):
+    monkeypatch.delattr(pitplan.scheduling.blocks, "tables", raising=False)
+    with pytest.raises(ImportError, match="tables"):
         pitplan.write_block_schedule("project.toml")
 
 

@@ -13,7 +13,7 @@ from matplotlib.figure import Figure
 
 import pitplan
 from pitplan.blockmodel.grid import Grid
-from pitplan.figures import annual, plans_sections, pushbacks, scenarios
+from pitplan.figures import annual, plans_sections, pushbacks, scenarios, style
 from pitplan.figures.pit_by_pit import plot_pit_by_pit
 
 YEARS = pd.DataFrame(
@@ -172,7 +172,7 @@ def at_a_zone(origin=(430010.0, 6512012.5, 806.25)):
 def drawn_of(monkeypatch, module, draw):
     """The figure that a picture would write, drawn."""
     figures = []
-    for place in (module, plans_sections):
+    for place in (module, style):
         monkeypatch.setattr(
             place, "finish", lambda figure, path: (FigureCanvasAgg(figure).draw(), figures.append(figure))
         )

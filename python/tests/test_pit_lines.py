@@ -49,7 +49,7 @@ def strings_of(path):
 
 @pytest.mark.parametrize("name", ["phase", "year"])
 def test_strings_go_round_what_is_dug_on_each_bench(folder, name):
-    path = pitplan.export(folder, "str", shape=Shape(name))
+    path = pitplan.write_export(folder, "str", shape=Shape(name))
     assert path == folder / f"lines-{name}s.str"
     areas = defaultdict(float)
     for string in strings_of(path):
@@ -64,7 +64,7 @@ def test_strings_go_round_what_is_dug_on_each_bench(folder, name):
 
 
 def test_a_table_has_the_same_lines(folder):
-    table = pd.read_csv(pitplan.export(folder, "lines", shape=Shape("phase")))
+    table = pd.read_csv(pitplan.write_export(folder, "lines", shape=Shape("phase")))
     assert table.columns.tolist() == ["phase", "line", "kind", "bench", "x", "y", "z"]
     areas = defaultdict(float)
     for (number, _, kind, bench), line in table.groupby(["phase", "line", "kind", "bench"]):
@@ -75,9 +75,9 @@ def test_a_table_has_the_same_lines(folder):
 
 def test_a_geopackage_is_read_by_gdal_and_is_the_same_each_time(folder):
     ogr = pytest.importorskip("osgeo.ogr", reason="needs the Debian package python3-gdal")
-    path = pitplan.export(folder, "gpkg", shape=Shape("phase"))
+    path = pitplan.write_export(folder, "gpkg", shape=Shape("phase"))
     before = path.read_bytes()
-    assert pitplan.export(folder, "gpkg", shape=Shape("phase")).read_bytes() == before
+    assert pitplan.write_export(folder, "gpkg", shape=Shape("phase")).read_bytes() == before
     source, areas = ogr.Open(str(path)), defaultdict(float)
     layer = source.GetLayerByName("lines")
     assert (
@@ -95,7 +95,7 @@ def test_a_geopackage_is_read_by_gdal_and_is_the_same_each_time(folder):
 def test_a_geopackage_is_one_for_those_who_read_its_tables(folder):
     """Of SQLite, with the mark of a GeoPackage and the extent of all lines."""
     pytest.importorskip("osgeo.ogr")
-    with sqlite3.connect(pitplan.export(folder, "gpkg", shape=Shape("year"))) as base:
+    with sqlite3.connect(pitplan.write_export(folder, "gpkg", shape=Shape("year"))) as base:
         assert base.execute("pragma application_id").fetchone()[0] == int.from_bytes(b"GPKG", "big")
         ((name, west, south, east, north),) = base.execute(
             "select table_name, min_x, min_y, max_x, max_y from gpkg_contents"
@@ -105,7 +105,7 @@ def test_a_geopackage_is_one_for_those_who_read_its_tables(folder):
     ends = [dug["x"].min() - 5, dug["y"].min() - 5, dug["x"].max() + 5, dug["y"].max() + 5]
     assert name == "lines" and [west, south, east, north] == pytest.approx(ends)
     assert count == sum(
-        1 for string in strings_of(pitplan.export(folder, "str", shape=Shape("year"))) if string[0][4] == "toe"
+        1 for string in strings_of(pitplan.write_export(folder, "str", shape=Shape("year"))) if string[0][4] == "toe"
     )
 
 
@@ -132,7 +132,7 @@ def test_an_empty_pit_has_no_lines(plan_folder):
     pitplan.write_shells(path, writing=pitplan.Writing(verifies=False))
     for kind in ("str", "lines"):
         with pytest.raises(PlanError, match="the pit of factor 1000 is empty"):
-            pitplan.export(path.parent / "plan", kind)
+            pitplan.write_export(path.parent / "plan", kind)
     assert not list((path.parent / "plan").glob("lines-*"))
 
 
@@ -141,5 +141,5 @@ def test_without_gdal_its_package_is_named(solved, monkeypatch):
     with pytest.raises(
         MissingPackage, match="export --to gpkg needs the Debian package python3-gdal: apt-get install python3-gdal"
     ):
-        pitplan.export(solved[1], "gpkg")
+        pitplan.write_export(solved[1], "gpkg")
     assert not list(solved[1].glob("lines-*"))

@@ -42,7 +42,7 @@ def scheduled(tmp_path_factory, without_figures):
 
 def test_rows_and_fields_are_the_planners_and_numbers_those_of_their_block(solved):
     project, folder = solved
-    before, after = lines(project.table.file), lines(pitplan.export(folder, "table"))
+    before, after = lines(project.table.file), lines(pitplan.write_export(folder, "table"))
     assert after[0] == [*before[0], *FOUND]
     assert [line[: len(before[0])] for line in after] == before
     blocks = pd.read_csv(folder / "blocks.csv", dtype=str).set_index("name")
@@ -53,7 +53,7 @@ def test_rows_and_fields_are_the_planners_and_numbers_those_of_their_block(solve
 def test_a_schedule_gives_each_row_its_phase_and_year(scheduled):
     """Both ores have their phase and year from the first to the last row of the table, which runs from the top down."""
     path = scheduled / "plan" / "schedule"
-    after = pd.read_csv(pitplan.export(path, "table")).set_index("name")
+    after = pd.read_csv(pitplan.write_export(path, "table")).set_index("name")
     assert list(after.columns[-4:]) == [*FOUND, "phase", "year"]
     assert after.index[0] == "b8-4-2" and after.index[-1] == "b0-0-0"
     assert after.loc["b2-2-1", "phase"] == 1 and after.loc["b6-2-1", "phase"] == 2
@@ -75,7 +75,7 @@ def test_the_tables_own_format_stays(plan_folder):
     )
     (path.parent / "blocks.csv").write_text(text, encoding="cp1252")
     pitplan.write_shells(path, writing=pitplan.Writing(verifies=False))
-    after = lines(pitplan.export(path.parent / "plan", "table"), ";", "cp1252")
+    after = lines(pitplan.write_export(path.parent / "plan", "table"), ";", "cp1252")
     before = lines(path.parent / "blocks.csv", ";", "cp1252")
     assert [line[:9] for line in after[:-1]] == before[:-1] and after[-1][:9] == [*before[-1], ""]
     assert any(line[4:9] == ["100", "6,5", "R", "1", 'über "alles"; hier'] and int(line[9]) == 500 for line in after)
@@ -89,14 +89,14 @@ def test_a_compressed_table_is_written_plain(solved):
     text = project.path.read_text().replace('"blocks.csv"', '"blocks.csv.gz"')
     project.path.write_text(text)
     pitplan.write_shells(project.path, writing=pitplan.Writing(verifies=False))
-    assert [",".join(line[:8]) for line in lines(pitplan.export(folder, "table"))] == plain.decode().split()
+    assert [",".join(line[:8]) for line in lines(pitplan.write_export(folder, "table"))] == plain.decode().split()
 
 
 def test_a_column_of_the_planners_with_such_a_name_is_kept_beside(plan_folder):
     table = rows(5, 5, 3, cu=lambda i, j, k: 6 if (i, j, k) == (2, 2, 1) else 0, factor=lambda i, j, k: i + 7)
     path = plan_folder(table)
     pitplan.write_shells(path, writing=pitplan.Writing(verifies=False))
-    after = pd.read_csv(pitplan.export(path.parent / "plan", "table"))
+    after = pd.read_csv(pitplan.write_export(path.parent / "plan", "table"))
     assert list(after.columns) == [*table.columns[:-1], "planner_factor", *FOUND]
     assert after["planner_factor"].tolist() == table["factor"].tolist() and set(after["factor"]) == {0, 500}
 
@@ -108,7 +108,7 @@ def test_rock_of_cells_without_rows_has_none(plan_folder):
     words = ('file = "blocks.csv"', 'file = "blocks.csv"\nabsent = { tonnes = 100, rock = "R", region = "1" }')
     path = plan_folder(table, PROJECT, words)
     pitplan.write_shells(path)
-    after = pd.read_csv(pitplan.export(path.parent / "plan", "table"))
+    after = pd.read_csv(pitplan.write_export(path.parent / "plan", "table"))
     assert after["name"].tolist() == table["name"].tolist()
     assert "absent-37" in set(pd.read_csv(path.parent / "plan" / "blocks.csv")["name"])
 
@@ -117,7 +117,7 @@ def test_rows_that_are_put_together_have_the_numbers_of_their_block(plan_folder)
     table = rows(8, 8, 3, cu=lambda i, j, k: 6 if (i // 2, j // 2, k) == (2, 2, 1) else 0).iloc[::-1]
     path = plan_folder(table, PROJECT, ('file = "blocks.csv"', 'file = "blocks.csv"\nreblock = [2, 2, 1]'))
     pitplan.write_shells(path, writing=pitplan.Writing(verifies=False))
-    after = pd.read_csv(pitplan.export(path.parent / "plan", "table"))
+    after = pd.read_csv(pitplan.write_export(path.parent / "plan", "table"))
     assert after["name"].tolist() == table["name"].tolist()
     # The ore, and above it the block itself and those beside it, each of four rows.
     assert (after["factor"] == 500).sum() == 4 * 6 and (after["process_factor"] == 500).sum() == 4
@@ -150,7 +150,7 @@ def swap(table):
 )
 def test_a_table_that_is_bent_is_found(solved, bend, said):
     _, folder = solved
-    bent(pitplan.export(folder, "table"), bend)
+    bent(pitplan.write_export(folder, "table"), bend)
     (rule,) = [rule for rule in verify(folder) if rule.differences]
     assert rule.name == "table" and rule.differences[0].startswith(said)
 
@@ -184,7 +184,7 @@ def test_a_table_that_is_not_right_is_not_written(solved, monkeypatch):
 
     monkeypatch.setitem(registry.WRITERS, "table", careless)
     with pytest.raises(PlanError, match="what was written is not right in"):
-        pitplan.export(folder, "table")
+        pitplan.write_export(folder, "table")
     assert not (folder / "table.csv").exists()
 
 
@@ -200,7 +200,7 @@ def test_a_project_or_a_table_that_has_changed_is_refused(solved, tmp_path, caps
         shutil.copy(kept, path)
     project.table.file.unlink()
     with pytest.raises(PlanError, match="blocks.csv: cannot be read"):
-        pitplan.export(folder, "table")
+        pitplan.write_export(folder, "table")
 
 
 def test_the_planners_own_table_of_that_name_is_never_written_over(plan_folder):

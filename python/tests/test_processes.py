@@ -137,7 +137,8 @@ def test_nodes_by_hand(plan_folder, tmp_path):
 def test_nodes_of_a_block_that_must_be_dug_by_hand(plan_folder, tmp_path):
     """Its first step needs nothing more, the second still the first."""
     table = one_column().assign(must=[1, 0])
-    pitplan.prepare(plan_folder(table, PROJECT + '[fixed]\nforced = "must"\n', *WITH)).write(tmp_path)
+    plan = pitplan.prepare(plan_folder(table, PROJECT + '[fixed]\nforced = "must"\n', *WITH))
+    mine_files.write(plan, tmp_path)
     assert (tmp_path / mine_files.REST_BLOCKS).read_text().splitlines()[2:] == ["2 0 0 0 2560 300", "3 0 0 0 3200 1000"]
     assert (tmp_path / mine_files.REST_PREC).read_text().splitlines() == ["3 1 2"]
 

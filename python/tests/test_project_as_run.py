@@ -21,9 +21,9 @@ FIXED = '[fixed]\nforced = "due"\n'
 RUNS = {
     "shells": pitplan.write_shells,
     "pit": lambda project, folder: pitplan.write_pit(project, 500, folder),
-    "pushbacks": pitplan.pushbacks,
+    "pushbacks": pitplan.write_pushbacks,
     "schedule": pitplan.write_schedule,
-    "sensitivity": pitplan.sensitivity,
+    "sensitivity": pitplan.write_sensitivity,
     "block schedule": pitplan.write_block_schedule,
 }
 

@@ -273,7 +273,7 @@ def test_what_is_right_passes(copied, capsys):
     ]
     page = (copied / "report.html").read_text()
     assert (
-        "<h3>Phases</h3>" in page
+        "<h3>Phase by phase</h3>" in page
         and "how phases were made of shells, the other numbers" in page
         and "data:image/png" not in page
     )

@@ -142,7 +142,7 @@ def test_a_table_written_back_has_no_factor_where_it_was_left_out(plan_folder, f
     path = plan_folder(deposit(), PROJECT, ANGLES)
     pitplan.write_shells(path)
     blocks = pd.read_csv(path.parent / "plan" / "blocks.csv").set_index("name")
-    after = pd.read_csv(pitplan.export(path.parent / "plan", "table")).set_index("name")
+    after = pd.read_csv(pitplan.write_export(path.parent / "plan", "table")).set_index("name")
     assert after.index.tolist() == deposit()["name"].tolist()
     pd.testing.assert_series_equal(after["factor"], blocks["factor"].reindex(after.index, fill_value=0))
 

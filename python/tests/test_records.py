@@ -175,7 +175,7 @@ def bends():
 def test_records_that_do_not_fit_what_stands_beside_them(solved):
     _, folder = solved
     whole = read_record(folder)
-    calls = (verification.verify_folder, lambda it: pitplan.export(it, "csv"), pitplan.view)
+    calls = (verification.verify_folder, lambda it: pitplan.write_export(it, "csv"), pitplan.view)
     refusals = 0
     for place, value in bends():
         (folder / "prepare.json").write_text(

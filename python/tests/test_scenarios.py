@@ -17,7 +17,8 @@ from test_shells import BOX, CLOSED, best_by_trying
 
 import pitplan
 from pitplan import MissingPackage, PlanError, ProgramError, Request, load
-from pitplan.cli import main, parser
+from pitplan.cli import main
+from pitplan.cli.parser import parser
 from pitplan.commands import scenario_files
 from pitplan.core.progress import Progress, silent
 from pitplan.figures import scenarios

@@ -97,5 +97,5 @@ def test_a_zipped_table_is_written_back(plan_folder):
     with zipfile.ZipFile(path.parent / "blocks.zip", "w") as packed:
         packed.write(path.parent / "blocks.csv", "blocks.csv")
     pitplan.write_shells(path)
-    written = pd.read_csv(pitplan.export(path.parent / "plan", "table"))
+    written = pd.read_csv(pitplan.write_export(path.parent / "plan", "table"))
     assert written["name"].tolist() == two_blocks()["name"].tolist() and (written["factor"] > 0).sum() == 2

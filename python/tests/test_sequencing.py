@@ -8,6 +8,7 @@ from hypothesis import given, strategies as st
 
 from pitplan import PlanError
 from pitplan.pushbacks.bench_table import PhaseBenches
+from pitplan.scheduling.bench_milp import TOLERATED
 from pitplan.scheduling.bench_sequencing import Limits, Problem, Sequence, by_lead, by_rule, dig, leads
 
 NAMES = ("rock_tonnes", "ore_tonnes", "metal_copper", "cash")
@@ -131,17 +132,17 @@ def random_benches(pit, lag):
 
 
 def demand_diggable(benches, limits, shares):
-    """Each bench once, within the limits, and begun in no year by whose end what it waits for is not through."""
+    """Each bench once, within the limits to the tolerance of `bench_milp`, and begun in no year by whose end what it waits for is not
+    through."""
     done = shares.cumsum(axis=1)
     assert (shares >= 0).all() and (done <= 1 + 1e-9).all()
     for year in range(shares.shape[1]):
         ramp = limits.ramp_up[min(year, len(limits.ramp_up) - 1)]
         for name, most in limits.most.items():
-            assert (
-                benches.of(name) @ shares[:, year] <= most * (ramp if name == "ore_tonnes" else 1) * (1 + 1e-9) + 1e-9
-            )
+            allowed = most * (ramp if name == "ore_tonnes" else 1)
+            assert benches.of(name) @ shares[:, year] <= allowed * (1 + TOLERATED) + 1e-9
         for phase in set(benches.phase.tolist()):
-            assert shares[benches.phase == phase, year].sum() <= limits.sinking_rate + 1e-9
+            assert shares[benches.phase == phase, year].sum() <= limits.sinking_rate * (1 + TOLERATED) + 1e-9
         for bench in np.flatnonzero(shares[:, year]):
             for other in range(len(benches)):
                 above = benches.phase[other] == benches.phase[bench] and benches.level[other] < benches.level[bench]

@@ -146,7 +146,8 @@ def test_commands_that_only_read_work_beside_a_run_and_each_other(mine):
         for write in (pitplan.write_report, pitplan.audit, pitplan.view):
             assert write(folder, *([500] if write is pitplan.audit else [])).exists()
         assert (
-            pitplan.export(folder, "csv", 500).exists() and pitplan.export(folder, "obj", shape=Shape("year")).exists()
+            pitplan.write_export(folder, "csv", 500).exists()
+            and pitplan.write_export(folder, "obj", shape=Shape("year")).exists()
         )
 
 
@@ -157,7 +158,7 @@ def test_two_audits_or_exports_into_one_folder_are_kept_apart(mine):
         pitplan.audit(folder, 500)
     target = folder / registry.name_of("obj", Shape("year"))
     with staging.alone(target), pytest.raises(PlanError, match=f"{target.name}: {OTHER}"):
-        pitplan.export(folder, "obj", shape=Shape("year"))
+        pitplan.write_export(folder, "obj", shape=Shape("year"))
 
 
 def test_gathering_is_kept_apart_from_another_run(tmp_path):
@@ -245,7 +246,7 @@ def test_a_folder_in_place_of_an_export_is_refused(mine):
     pitplan.write_shells(mine, folder, writing=pitplan.Writing(verifies=False))
     (folder / "pit.csv").mkdir()
     with pytest.raises(PlanError, match="out/pit.csv: found a folder, expected a file or nothing"):
-        pitplan.export(folder, "csv")
+        pitplan.write_export(folder, "csv")
     assert list((folder / "pit.csv").iterdir()) == []
 
 

@@ -81,7 +81,7 @@ def test_an_empty_pit_has_no_surface(plan_folder):
     path = plan_folder(rows(3, 3, 2), PROJECT)
     pitplan.write_shells(path, writing=pitplan.Writing(verifies=False))
     with pytest.raises(PlanError, match="the pit of factor 1000 is empty: it has no surface"):
-        pitplan.export(path.parent / "plan", "stl")
+        pitplan.write_export(path.parent / "plan", "stl")
     assert not (path.parent / "plan" / "pit-1000.stl").exists()
 
 
@@ -97,11 +97,11 @@ def test_a_surface_that_holds_something_else_is_not_kept(far, monkeypatch):
     with pytest.raises(
         PlanError, match=r"pit-500.obj: \d+ triangles hold 18,036 m3, and the 18 blocks 18,000 m3: please report this"
     ):
-        pitplan.export(far.parent / "plan", "obj", 500)
+        pitplan.write_export(far.parent / "plan", "obj", 500)
     assert not (far.parent / "plan" / "pit-500.obj").exists()
 
 
 def test_a_missing_library_is_named(far, monkeypatch):
     monkeypatch.setitem(sys.modules, "vtk", None)
     with pytest.raises(MissingPackage, match="export --to stl needs the Debian package python3-vtk9"):
-        pitplan.export(far.parent / "plan", "stl")
+        pitplan.write_export(far.parent / "plan", "stl")

@@ -233,7 +233,7 @@ def test_strings_that_are_written_are_read(plan_folder, tmp_path, without_figure
     """The toes and crests of a pit, which the export has in two forms."""
     path = plan_folder(rows(7, 7, 3, cu=lambda i, j, k: 9 * ((i, j, k) == (3, 3, 1))), PROJECT)
     pitplan.write_shells(path)
-    strings, table = (pitplan.export(path.parent / "plan", kind) for kind in ("str", "lines"))
+    strings, table = (pitplan.write_export(path.parent / "plan", kind) for kind in ("str", "lines"))
     expected = pd.read_csv(table)[["x", "y", "z"]].to_numpy()
     assert sorted(map(tuple, read(strings, "*").points)) == sorted(map(tuple, expected)) and len(expected) > 8
     assert len(areas(strings, "*").polygons) > 1

@@ -166,7 +166,7 @@ def test_a_table_that_is_read_in_pieces_is_the_same(plan_folder, monkeypatch, de
     text = written.to_csv(sep=";", index=False)
     project = pitplan.load(plan_folder(text, PROJECT, ('id = "name"', 'id = "name"\nempty = "zero"')))
     whole = read(project)
-    monkeypatch.setattr(pitplan.blockmodel.reader, "PIECE", piece)
+    monkeypatch.setattr("pitplan.core.text_tables.PIECE", piece)
     pieces = read(project)
     pd.testing.assert_frame_equal(pieces.frame, whole.frame)
     assert (
@@ -177,7 +177,7 @@ def test_a_table_that_is_read_in_pieces_is_the_same(plan_folder, monkeypatch, de
 
 
 def test_what_is_no_number_is_named_in_whatever_piece_it_stands(plan_folder, monkeypatch):
-    monkeypatch.setattr(pitplan.blockmodel.reader, "PIECE", 3)
+    monkeypatch.setattr("pitplan.core.text_tables.PIECE", 3)
     table = rows(3, 2, 2).astype(object)
     table.loc[7, "cu"] = "n/a"
     assert refused(plan_folder(table)).endswith('blocks.csv row 9 column cu: "n/a" is not a number')

@@ -191,9 +191,7 @@ def test_what_is_right_passes(copied, capsys):
 def test_the_report_and_the_workbook_have_the_schedule(copied):
     page = (copied / "report.html").read_text()
     assert (
-        "<h3>Yearly schedule</h3>" in page
-        and "data:image/png" not in page
-        and "the schedule and its bound, the other numbers" in page
+        "ways.csv" in page and "data:image/png" not in page and "the schedule and its bound, the other numbers" in page
     )
     book = pd.read_excel(copied / "schedule.xlsx", sheet_name=None)
     assert list(book) == ["ways", "schedule", "years", "phases", "shells"]

@@ -36,14 +36,19 @@ def main(arguments: Optional[Sequence[str]] = None) -> int:
 
 
 def run(options: argparse.Namespace) -> int:
-    """Runs the subcommand of these options; returns its status. Raises MissingPackage if a required package is not installed."""
+    """Runs the subcommand of these options; returns its status. Raises MissingPackage if a required package cannot be imported."""
     if options.command != "convert":
         demand_packages()
-    status: int = options.run(options)
+    try:
+        status: int = options.run(options)
+    except ImportError as error:
+        again = f"apt-get install --reinstall {' '.join(REQUIRED.values())}"
+        raise MissingPackage(f"{error}: a required package cannot be imported: {again}") from error
     return status
 
 
 def demand_packages() -> None:
+    """Raises MissingPackage if a required package is not installed."""
     missing = [name for name in REQUIRED if find_spec(name) is None]
     if missing:
         raise MissingPackage(

@@ -136,8 +136,8 @@ def add_schedule(subs: Subparsers) -> None:
     add_writing(sub)
     add_figures(sub)
     add_solver(sub)
-    text = "schedule the benches of pushbacks (phase), or single blocks, with an upper bound on the NPV of all such schedules (block) (default: phase)"
-    sub.add_argument("--by", choices=("phase", "block"), default="phase", help=text)
+    text = "schedule the benches of pushbacks (phase), or single blocks with an upper bound on the NPV of all such schedules (block)"
+    sub.add_argument("--by", choices=("phase", "block"), default="phase", help=f"{text} (default: phase)")
 
 
 def add_sensitivity(subs: Subparsers) -> None:

@@ -212,7 +212,7 @@ def view(options: Namespace) -> int:
 def export(options: Namespace) -> int:
     from pitplan.results.pit_states import Shape
 
-    from ..commands.export import export as write_export
+    from ..commands.export import write_export
     from .printing import print_path
 
     shape = Shape(options.of, options.surface, options.smooth)

@@ -17,7 +17,7 @@ from ..errors import PlanError
 from .writing import Place
 
 
-def export(
+def write_export(
     folder: Place, kind: str, factor: int = REFERENCE_FACTOR, progress: Progress = silent, shape: Shape = Shape()
 ) -> NotedPath:
     """Writes the shells of a folder that `write_shells` has written for other programs.

@@ -18,7 +18,7 @@ from pitplan.solver import problem
 
 from ..errors import PlanError
 from .answers import check_fixed
-from .writing import PITS, Place, Source, Writing, begun, finish, note_verified, read, write_table
+from .writing import PITS, Place, Run, Source, Writing, begun, finish, note_verified, read, write_table
 
 
 def write_pit(
@@ -26,9 +26,8 @@ def write_pit(
 ) -> pd.DataFrame:
     """Solves the pit of one factor with the project's fixed blocks and without them, as `pitplan pit` does.
 
-    The folder gets this table, blocks.csv and the record prepare.json. blocks.csv has the pit with the fixed blocks. It also has the
-    shells of the project's lower factors within that pit, which the best case mines in turn. Its columns free_factor and
-    free_process_factor have the same without the fixed blocks.
+    The folder gets this table, blocks.csv and prepare.json. blocks.csv has the pit with the fixed blocks, and the shells of the project's
+    lower factors, which the best case mines in turn; free_factor and free_process_factor are the same without the fixed blocks.
 
     Parameters
     ----------
@@ -55,23 +54,35 @@ def write_pit(
     target = project.folder / "pit" if folder is None else Path(folder)
     if project.fixed is None:
         raise PlanError(f"{project.path}: [fixed] is missing: it says which blocks must be dug and which may not be")
-    planned = with_lower_factors(project, factor)
-    with begun(project, target, writing, planned) as run:
-        plan = run.mine.plan
-        keeping = problem.solve(plan, run.mine, writing.progress)
-        free = replace(run.mine.free_shells(planned.schedule.factors), of=plan.key)
-        missing_blocks.demand_known(free.entry, plan.grid, project, plan.source)
-        check_fixed(run.mine, keeping, factor, writing.progress)
-        table = pd.concat(
-            [shell_tables.shells(plan, solution).tail(1) for solution in (keeping, free)], ignore_index=True
-        )
-        table.insert(0, "fixed_blocks", ["kept", "free"])
-        of_free = shell_tables.blocks(plan, free)[["factor", "process_factor"]].add_prefix("free_")
-        write_table(pd.concat([shell_tables.blocks(plan, keeping), of_free], axis=1), run.stage)
+    with begun(project, target, writing, with_lower_factors(project, factor)) as run:
+        table, blocks = compared(run, factor)
+        write_table(blocks, run.stage)
         write_csv(shown(table), run.stage / PITS, project)
-        note_verified(plan, run)
-        finish(plan, run.record, [*run.mine.files, names.TABLE, PITS], run.stage)
+        note_verified(run.mine.plan, run)
+        finish(run.mine.plan, run.record, [*run.mine.files, names.TABLE, PITS], run.stage)
     return table
+
+
+def compared(run: Run, factor: int) -> tuple[pd.DataFrame, pd.DataFrame]:
+    """Solves the pit of a factor, in per mille, with the fixed blocks and without them.
+
+    Returns
+    -------
+    table : DataFrame
+        One row for each of the two.
+    blocks : DataFrame
+        One row for each block, with the factors at which it is in either pit.
+    """
+    plan, progress = run.mine.plan, run.writing.progress
+    keeping = problem.solve(plan, run.mine, progress)
+    free = replace(run.mine.free_shells(plan.project.schedule.factors), of=plan.key)
+    missing_blocks.demand_known(free.entry, plan.grid, run.project, plan.source)
+    check_fixed(run.mine, keeping, factor, progress)
+    both = [shell_tables.shells(plan, solution).tail(1) for solution in (keeping, free)]
+    table = pd.concat(both, ignore_index=True)
+    table.insert(0, "fixed_blocks", ["kept", "free"])
+    of_free = shell_tables.blocks(plan, free)[["factor", "process_factor"]].add_prefix("free_")
+    return table, pd.concat([shell_tables.blocks(plan, keeping), of_free], axis=1)
 
 
 def with_lower_factors(project: Project, factor: int) -> Project:

@@ -83,8 +83,7 @@ def write_block_schedule(project: Source, folder: Optional[Place] = None, writin
     MissingPackage
         Without the library libpitshell.so.
     PlanError
-        If the project asks for something that no schedule by block supports, has too many blocks, or a result differs from its independent
-        recalculation.
+        If the project asks for what no schedule by block supports, has too many blocks, or a result differs from its recalculation.
     """
     load_library("a schedule by block")
     # Its modules import the library themselves.
@@ -93,9 +92,8 @@ def write_block_schedule(project: Source, folder: Optional[Place] = None, writin
     project = read(project)
     target = project.folder / "block_schedule" if folder is None else Path(folder)
     with begun(project, target, writing) as run:
-        plan = run.mine.plan
-        solution = problem.solve(plan, run.mine, writing.progress)
-        made = tables.make(plan, writing.progress)
+        solution = problem.solve(run.mine.plan, run.mine, writing.progress)
+        made = tables.make(run.mine.plan, writing.progress)
         run.record["notes"] += made.notes
-        write_answer(Answered(plan, solution, blocks=made), run)
+        write_answer(Answered(run.mine.plan, solution, blocks=made), run)
     return made.table

@@ -23,9 +23,6 @@ from pitplan.studies.sensitivity.store import RECORD, TABLE
 
 from .writing import Place, Source, Writing, demand_apart, read
 
-# Those of pairs have the names of both numbers.
-FIGURES = (*sensitivity.WRITTEN, "grid-*.png")
-
 
 def write_sensitivity(
     project: Source, folder: Optional[Place] = None, where: Optional[Where] = None, writing: Writing = Writing()
@@ -77,7 +74,9 @@ def write_cases(found: Sensitivity, folder: Path, writing: Writing) -> pd.DataFr
         If a result differs from its independent recalculation.
     """
     cases, project, progress = varied_cases.table(found), found.project, writing.progress
-    with staged(folder, RECORD, writing.removed(folder, FIGURES)) as stage:
+    pairs = varied_cases.rules_of(project).pairs
+    figures = [*sensitivity.WRITTEN, *map(sensitivity.grid_name, pairs)]
+    with staged(folder, RECORD, writing.removed(folder, figures)) as stage:
         record = store.record(found, os.path.relpath(project.path, folder)) | {"figures": writing.figures}
         write_tables(found, cases, stage)
         project_writer.write(found.asked, stage / project_writer.AS_RUN, folder)
@@ -89,7 +88,7 @@ def write_cases(found: Sensitivity, folder: Path, writing: Writing) -> pd.DataFr
             record["verified"] = [f"{rule.name}: {rule.holds}" for rule in rules]
         if writing.figures:
             with progress.step("drawing"), also_as(project.pictures.formats if project.pictures else ()):
-                sensitivity.write_all(cases, varied_cases.rules_of(project).pairs, project.money.currency, stage)
+                sensitivity.write_all(cases, pairs, project.money.currency, stage)
         write_json(stage / RECORD, record)
     return cases
 

@@ -6,7 +6,7 @@ from pathlib import Path
 from typing import Union
 
 from .. import verification
-from ..verification import Rule
+from ..verification.rules import Rule
 
 
 def verify(folder: Union[str, Path]) -> list[Rule]:

@@ -89,17 +89,11 @@ class Writing:
         folder : Path
             The output folder.
         names : iterable of str
-            The names of figures, such as plans.png; `*` is any text.
+            The names of figures, such as plans.png.
         """
-        stems = [] if self.figures else [Path(name).stem for name in names]
-        found = {
-            path.name
-            for stem in stems
-            for kind in ("png", *FORMATS)
-            for path in folder.glob(f"{stem}.{kind}")
-            if path.is_file()
-        }
-        return tuple(sorted(found))
+        places = [folder / name for name in names if not self.figures]
+        each = (place.with_suffix(f".{kind}") for place in places for kind in ("png", *FORMATS))
+        return tuple(place.name for place in each if place.is_file())
 
 
 @dataclass(frozen=True)

@@ -6,7 +6,7 @@ import os
 from dataclasses import dataclass, replace
 from decimal import Decimal
 from pathlib import Path
-from typing import Optional, Union
+from typing import Any, Optional, Union
 
 from pitplan.errors import PlanError
 
@@ -122,7 +122,7 @@ def validated(project: Project) -> Project:
     return replace(found, schedule=schedule, folder=project.folder, solver=project.solver)
 
 
-def of_data(data: dict, path: Path, source: Optional[str] = None) -> Project:
+def of_data(data: dict[str, Any], path: Path, source: Optional[str] = None) -> Project:
     """The project of a TOML file's sections. Paths in it are relative to that of the file; errors name `source`, by default the file."""
     top = Section(source or str(path), "", data)
     output = top.section("output", optional=True)

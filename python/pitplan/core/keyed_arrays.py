@@ -2,6 +2,7 @@
 
 from __future__ import annotations
 
+import hashlib
 import struct
 import zipfile
 import zlib
@@ -9,6 +10,17 @@ from pathlib import Path
 from typing import Any
 
 import numpy as np
+from numpy.typing import NDArray
+
+
+def hash_of_all(text: str, arrays: list[NDArray[Any]]) -> str:
+    """A hash of a text and of arrays, with their types and shapes."""
+    digest = hashlib.sha256(text.encode())
+    for array in arrays:
+        digest.update(f"{array.dtype} {array.shape};".encode())
+        digest.update(np.ascontiguousarray(array).data)
+    return digest.hexdigest()
+
 
 KEY = "key"
 # What Python and numpy raise of a file that is cut short or bent.

@@ -8,9 +8,9 @@ from decimal import Decimal
 import numpy as np
 import pandas as pd
 
-from pitplan.blockmodel.reader import HEADER_ROWS
 from pitplan.config.economics import ByCode, ByRegion, Curve, Metal
 from pitplan.config.project import Project
+from pitplan.core.numeric_fields import HEADER_ROWS
 
 from .weighing import GRADES, Feed, Rows
 

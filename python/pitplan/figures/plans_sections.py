@@ -19,8 +19,8 @@ from matplotlib.colors import BoundaryNorm, ListedColormap
 from matplotlib.image import AxesImage
 
 from pitplan.blockmodel.grid import Grid, metres
+from pitplan.config.economics import Metal
 from pitplan.config.figures import PictureRules
-from pitplan.config.project import Metal
 from pitplan.core.cell_outlines import edges
 from pitplan.figures.style import GROUND, MAP
 from pitplan.pits import shell_tables

@@ -15,7 +15,7 @@ from matplotlib.patches import Rectangle
 from matplotlib.ticker import MaxNLocator
 
 from pitplan.blockmodel.grid import metres
-from pitplan.config.project import Metal
+from pitplan.config.economics import Metal
 from pitplan.figures.style import BEST, BEST_MARK, ORE, PLAIN, STYLE, WASTE, WORST, WORST_MARK, finish, list_of, scaled
 from pitplan.scheduling.phase_schedule import LP, MILP, RULE, YearlySchedule, years as years_of
 

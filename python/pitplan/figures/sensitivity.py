@@ -29,7 +29,12 @@ def write_all(table: pd.DataFrame, pairs: tuple[tuple[str, str], ...], currency:
     write_tornado(table, currency, folder / TORNADO)
     write_spider(table, currency, folder / SPIDER)
     for pair in pairs:
-        write_grid(table, pair, currency, folder / f"grid-{pair[0]}-{pair[1]}.png".replace(" ", "-"))
+        write_grid(table, pair, currency, folder / grid_name(pair))
+
+
+def grid_name(pair: tuple[str, str]) -> str:
+    """The file of a pair's grid."""
+    return f"grid-{pair[0]}-{pair[1]}.png".replace(" ", "-")
 
 
 def singles(table: pd.DataFrame) -> dict[str, pd.Series]:

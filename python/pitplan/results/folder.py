@@ -8,6 +8,7 @@ from typing import Any
 
 import numpy as np
 import pandas as pd
+from numpy.typing import NDArray
 
 from pitplan.blockmodel.grid import Grid, grid_of
 from pitplan.core.atomic_files import hash_of
@@ -42,7 +43,7 @@ class Folder:
     def factors(self) -> list[int]:
         return list(self.record["shells"]["factors"])
 
-    def dug(self, factor: int) -> np.ndarray:
+    def dug(self, factor: int) -> NDArray[Any]:
         """Whether the pit of a factor digs rock of a cell; a truth for each level (from the top), row and column."""
         first, grid = self.blocks["factor"], self.grid
         dug = (first > 0) & (first <= factor) & (self.blocks[self.record["tonnes"]] > 0)

@@ -3,8 +3,10 @@
 from __future__ import annotations
 
 from dataclasses import dataclass
+from typing import Any
 
 import numpy as np
+from numpy.typing import NDArray
 
 from pitplan.blockmodel.grid import Grid
 from pitplan.config.shells import REFERENCE_FACTOR
@@ -39,7 +41,7 @@ class Stage:
 
     kind: str
     number: int
-    dug: np.ndarray
+    dug: NDArray[Any]
 
     @property
     def name(self) -> str:
@@ -69,18 +71,18 @@ def stages_of(folder: Folder, shape: Shape) -> list[Stage]:
     return [Stage(shape.of, last, (number > 0) & (number <= last)) for last in range(first, int(number.max()) + 1)]
 
 
-def rock(folder: Folder) -> np.ndarray:
+def rock(folder: Folder) -> NDArray[Any]:
     """Whether each cell holds rock."""
     grid = folder.grid
     return grid.cube(grid.spread((folder.blocks[folder.record["tonnes"]] > 0).to_numpy(), fill=False))
 
 
-def cube_of(folder: Folder, name: str) -> np.ndarray:
+def cube_of(folder: Folder, name: str) -> NDArray[Any]:
     grid = folder.grid
     return grid.cube(grid.spread(folder.blocks[name].to_numpy()))
 
 
-def places_of(grid: Grid, corners: np.ndarray) -> np.ndarray:
+def places_of(grid: Grid, corners: NDArray[Any]) -> NDArray[Any]:
     """The planner's x, y, z in metres of corners of blocks, given as steps from the west, the south and the floor of the grid; arrays of three
     columns."""
     west, _, south, _, floor, _ = grid.extent()

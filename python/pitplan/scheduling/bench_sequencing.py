@@ -7,12 +7,13 @@ from typing import Optional
 
 import numpy as np
 
+from pitplan.config.economics import MOST_YEARS
 from pitplan.config.project import Project
 from pitplan.config.schedule import ScheduleRules
 from pitplan.config.shells import Schedule
 from pitplan.economics.period_costs import PLAIN, YearlyMoney
 from pitplan.errors import PlanError
-from pitplan.pits.best_worst_case import MOST_YEARS, year_discounts
+from pitplan.pits.best_worst_case import year_discounts
 from pitplan.pushbacks.bench_table import CASH, ORE, ROCK, PhaseBenches
 
 # A share so small is taken as nothing, since sums of fractions miss it by a hair.

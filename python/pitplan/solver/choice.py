@@ -10,6 +10,7 @@ from dataclasses import dataclass
 from pathlib import Path
 from typing import Optional
 
+from pitplan.core import paths
 from pitplan.errors import PlanError, ProgramError
 
 from . import library, program
@@ -46,7 +47,7 @@ def preferred() -> str:
 
 def place_of(solver: Solver) -> tuple[str, Path]:
     """The variable that names a solver, and the file that is found here. Raises ProgramError where there is none."""
-    return ("PITSHELL_LIBRARY", library.loaded().LIBRARY) if solver.by == LIBRARY else ("PITSHELL", program.program())
+    return ("PITSHELL_LIBRARY", library.loaded().LIBRARY) if solver.by == LIBRARY else ("PITSHELL", paths.program())
 
 
 def demand_same(begun: Solver) -> None:

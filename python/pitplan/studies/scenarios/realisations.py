@@ -13,11 +13,11 @@ import pandas as pd
 
 from pitplan.blockmodel import grid as grids, missing_blocks, reader
 from pitplan.blockmodel.grid import Grid
-from pitplan.blockmodel.reader import HEADER_ROWS, Table, format_of
+from pitplan.blockmodel.reader import Table, format_of
 from pitplan.config.economics import Metal
 from pitplan.config.project import Project
 from pitplan.config.scenarios import Scenarios
-from pitplan.core.numeric_fields import at_row
+from pitplan.core.numeric_fields import HEADER_ROWS, at_row
 from pitplan.core.text_format import demand_text
 from pitplan.core.text_tables import demand_columns, read_header
 from pitplan.errors import PlanError
