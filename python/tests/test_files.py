@@ -302,16 +302,20 @@ def test_the_planners_own_table_is_never_written_over(plan_folder):
 @pytest.mark.parametrize(
     "module, limit, words",
     [
-        ("money", "MOST_BLOCKS", "144 blocks and 3 processing nodes are 147 nodes, and the program takes at most 100"),
+        (
+            "economics.block_values",
+            "MOST_BLOCKS",
+            "144 blocks and 3 processing nodes are 147 nodes, and the program takes at most 100",
+        ),
         ("plan", "MOST_PAIRS", "needs, and the program takes at most 100: give fewer"),
-        ("page", "MOST_FACTORS", "the 3D page can show 2 shells, and there are 3: give fewer factors"),
+        ("report.viewer3d", "MOST_FACTORS", "the 3D page can show 2 shells, and there are 3: give fewer factors"),
     ],
 )
 def test_what_is_above_a_limit_is_refused(plan_folder, monkeypatch, solved, module, limit, words):
-    monkeypatch.setattr(f"pitplan.{module}.{limit}", 2 if module == "page" else 100)
+    monkeypatch.setattr(f"pitplan.{module}.{limit}", 2 if "viewer" in module else 100)
     path = plan_folder(rows(6, 6, 4, **ORE))
     with pytest.raises(PlanError, match=words):
-        pitplan.view(solved[1], silent) if module == "page" else write_plan(load(path), path.parent / "out", silent)
+        pitplan.view(solved[1], silent) if "viewer" in module else write_plan(load(path), path.parent / "out", silent)
 
 
 def test_levels_that_were_chosen_are_named_where_their_needs_are_too_many(plan_folder, monkeypatch):

@@ -380,7 +380,7 @@ def test_cost_by_elevation_is_looked_at(plan_folder, monkeypatch):
     change = ("mining_cost_per_level = 0.25", "mining_cost_by_elevation = [[10, 0.7], [20, 0.3], [40, 0.1]]")
     path = plan_folder(deposit(), TEXT, change)
     assert [rule.differences for rule in looked_at(prepare(path))] == [()] * 10
-    monkeypatch.setattr(block_values, "added_cost", lambda *_: Decimal(0))
+    monkeypatch.setattr("pitplan.economics.weighing.added_cost", lambda *_: Decimal(0))
     differences = {rule.name: rule.differences for rule in looked_at(prepare(path)) if rule.differences}
     # 99.7 t, of which each costs 0.7 more.
     assert differences["money"][0] == "block b0-0-0: mining_cost 199.4 for 269.19"
@@ -595,7 +595,7 @@ def test_a_cost_that_is_counted_from_the_tables_highest_block_is_found(plan_fold
 
 def test_a_shell_of_other_blocks_is_found(plan_folder, monkeypatch):
     """The needs are left out of what the solver is given; what it answers is right for that and wrong for the mine."""
-    for module in ("files", "rows"):
+    for module in ("solver.mine_files", "precedences"):
         monkeypatch.setattr(f"pitplan.{module}.slices", lambda *_: iter(()))
     assert "walls: " in refused(plan_folder, None, TEXT, ('[fixed]\nforced = "must"\nbarred = "never"\n', ""))
 
