@@ -84,6 +84,7 @@ def add_check(subs: Subparsers) -> None:
     more = "Print what prepare notes, and write nothing."
     sub = subs.add("check", "read and validate a project and its files, without solving", subcommands.check, more)
     add_project(sub)
+    add_set(sub)
     add_quiet(sub)
 
 
@@ -93,6 +94,7 @@ def add_prepare(subs: Subparsers) -> None:
         "prepare", "write the solver's input files and prepare.json, without solving", subcommands.prepare, more
     )
     add_project(sub)
+    add_set(sub)
     add_out(sub, "the project's output folder")
     add_quiet(sub)
 
@@ -100,6 +102,7 @@ def add_prepare(subs: Subparsers) -> None:
 def add_shells(subs: Subparsers) -> None:
     sub = subs.add("shells", "find the nested pit shells; write tables, figures and the report", subcommands.shells)
     add_project(sub)
+    add_set(sub)
     add_out(sub, "the project's output folder")
     add_writing(sub)
     add_figures(sub)
@@ -111,6 +114,7 @@ def add_pit(subs: Subparsers) -> None:
         "pit", "solve the pit of one factor with the fixed blocks and without, and compare the two", subcommands.pit
     )
     add_project(sub)
+    add_set(sub)
     add_out(sub, "pit in the project's output folder")
     add_writing(sub)
     add_solver(sub)
@@ -121,6 +125,7 @@ def add_pushbacks(subs: Subparsers) -> None:
     does = "divide the pit of one factor into pushbacks; write tables, figures and the report"
     sub = subs.add("pushbacks", does, subcommands.pushbacks)
     add_project(sub)
+    add_set(sub)
     add_out(sub, "pushbacks in the project's output folder")
     add_writing(sub)
     add_figures(sub)
@@ -132,6 +137,7 @@ def add_schedule(subs: Subparsers) -> None:
     does = "schedule pushbacks or blocks by years; write tables, figures and the report"
     sub = subs.add("schedule", does, subcommands.schedule, more)
     add_project(sub)
+    add_set(sub)
     add_out(sub, "schedule in the project's output folder, or block_schedule")
     add_writing(sub)
     add_figures(sub)
@@ -145,6 +151,7 @@ def add_sensitivity(subs: Subparsers) -> None:
     does = "vary price, cost, recovery, slope angle and capacity, and compare the selected pit shell"
     sub = subs.add("sensitivity", does, subcommands.sensitivity, more)
     add_project(sub)
+    add_set(sub)
     add_out(sub, "sensitivity in the project's output folder")
     add_writing(sub)
     add_figures(sub)
@@ -158,6 +165,7 @@ def add_scenarios(subs: Subparsers) -> None:
     does = "solve simulated models at several prices: inclusion probabilities, or schedules"
     sub = subs.add("scenarios", does, subcommands.scenarios)
     sub.add_argument("project", type=Path, metavar="PROJECT", help="project.toml, with [scenarios]")
+    add_set(sub)
     add_out(sub, "scenarios in the project's output folder, or block_scenarios")
     add_writing(sub)
     add_figures(sub)
@@ -272,6 +280,11 @@ def add_figures(sub: Parser) -> None:
     sub.add_argument(
         "--no-figures", action="store_true", help="draw no figures, and remove those of an earlier run in the folder"
     )
+
+
+def add_set(sub: Parser) -> None:
+    text = "set a key of the project, for example money.mining_cost=2.6 or metals.copper.price=9000 (may be repeated)"
+    sub.add_argument("--set", action="append", default=[], metavar="KEY=VALUE", help=text)
 
 
 def add_solver(sub: Parser) -> None:

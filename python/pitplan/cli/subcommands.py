@@ -24,12 +24,13 @@ def progress_of(options: Namespace) -> Progress:
 
 
 def project_of(options: Namespace) -> Project:
-    """The project, with the solver that is asked for."""
+    """The project, with the keys that are set and the solver that is asked for."""
     from dataclasses import replace
 
     from pitplan.config.project import load
 
-    return replace(load(options.project), solver=getattr(options, "solver", None))
+    overrides = getattr(options, "set", [])
+    return replace(load(options.project, overrides=overrides), solver=getattr(options, "solver", None))
 
 
 def folder_of(options: Namespace) -> Path:

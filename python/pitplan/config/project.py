@@ -6,7 +6,7 @@ import os
 from dataclasses import dataclass, replace
 from decimal import Decimal
 from pathlib import Path
-from typing import Any, Optional, Union
+from typing import Any, Iterable, Optional, Union
 
 from pitplan.errors import PlanError
 
@@ -16,6 +16,7 @@ from .constraints import FixedRules, read_fixed
 from .economics import Metal, Money, Process, read_metal, read_money, read_process
 from .figures import PictureRules, read_pictures
 from .haulage import Haulage, read_haulage
+from .overrides import overridden
 from .pushbacks import PhaseRules, read_phases
 from .scenarios import Scenarios, read_scenarios
 from .schedule import ScheduleRules, read_schedule_rules
@@ -87,13 +88,26 @@ class Project:
         return replace(self, money=replace(self.money, processing_cost=process.cost), metals=metals, processes=())
 
 
-def load(path: Union[str, Path], original: Optional[Path] = None) -> Project:
-    """Reads a project; of a copy, `original` is the place that it was copied from, beside which the files lie that it names.
+def load(path: Union[str, Path], original: Optional[Path] = None, overrides: Iterable[str] = ()) -> Project:
+    """Reads a project.
 
-    Raises PlanError, with the file, the section and the key, where something is missing or wrong.
+    Parameters
+    ----------
+    path : str or Path
+        The project.toml.
+    original : Path, optional
+        The file of which `path` is a copy: paths in the project are relative to its folder.
+    overrides : iterable of str
+        Keys to set in place of those of the file, each `KEY=VALUE`, such as `money.mining_cost=2.6`.
+
+    Raises
+    ------
+    PlanError
+        If something is missing or wrong, with the file, the section and the key.
     """
-    path = Path(path)
-    return of_data(toml_text.read(path), original or path)
+    path, overrides = Path(path), list(overrides)
+    data = overridden(toml_text.read(path), overrides)
+    return of_data(data, original or path, f"{path} with --set {' '.join(overrides)}" if overrides else None)
 
 
 def inputs_beside(folder: Path) -> tuple[Path, ...]:
