@@ -105,6 +105,7 @@ def add_shells(subs: Subparsers) -> None:
     add_set(sub)
     add_out(sub, "the project's output folder")
     add_writing(sub)
+    add_json(sub)
     add_figures(sub)
     add_solver(sub)
 
@@ -117,6 +118,7 @@ def add_pit(subs: Subparsers) -> None:
     add_set(sub)
     add_out(sub, "pit in the project's output folder")
     add_writing(sub)
+    add_json(sub)
     add_solver(sub)
     add_factor(sub, positive)
 
@@ -128,6 +130,7 @@ def add_pushbacks(subs: Subparsers) -> None:
     add_set(sub)
     add_out(sub, "pushbacks in the project's output folder")
     add_writing(sub)
+    add_json(sub)
     add_figures(sub)
     add_solver(sub)
 
@@ -140,6 +143,7 @@ def add_schedule(subs: Subparsers) -> None:
     add_set(sub)
     add_out(sub, "schedule in the project's output folder, or block_schedule")
     add_writing(sub)
+    add_json(sub)
     add_figures(sub)
     add_solver(sub)
     text = "schedule the benches of pushbacks (phase), or single blocks with an upper bound on the NPV of all such schedules (block)"
@@ -154,6 +158,7 @@ def add_sensitivity(subs: Subparsers) -> None:
     add_set(sub)
     add_out(sub, "sensitivity in the project's output folder")
     add_writing(sub)
+    add_json(sub)
     add_figures(sub)
     add_solver(sub)
     text = "solve the cases on local (processes of this machine, by Dask) or tcp://host:port (a Dask scheduler) (default: one by one)"
@@ -280,6 +285,11 @@ def add_figures(sub: Parser) -> None:
     sub.add_argument(
         "--no-figures", action="store_true", help="draw no figures, and remove those of an earlier run in the folder"
     )
+
+
+def add_json(sub: Parser) -> None:
+    text = "print the table as JSON, with unrounded numbers, and the path of the report or table"
+    sub.add_argument("--json", action="store_true", help=text)
 
 
 def add_set(sub: Parser) -> None:

@@ -2,8 +2,13 @@
 
 from __future__ import annotations
 
+import json
+import math
+from decimal import Decimal
 from pathlib import Path
+from typing import Any
 
+import numpy as np
 import pandas as pd
 
 from minelib.ending import tell
@@ -15,11 +20,30 @@ from pitplan.results.folder import read_record
 from ..commands.writing import REPORT
 
 
-def print_answer(table: pd.DataFrame, columns: Columns, folder: Path) -> None:
+def print_answer(table: pd.DataFrame, columns: Columns, folder: Path, as_json: bool = False) -> None:
     """Prints an answer's table and the path of its report, and its notes on standard error."""
-    print_table([heading for _, heading, _, _ in columns], cells_of(table, columns))
+    if not as_json:
+        print_table([heading for _, heading, _, _ in columns], cells_of(table, columns))
     print_notes(read_record(folder)["notes"])
-    print(folder / REPORT)
+    if as_json:
+        print_json(table, folder / REPORT)
+    else:
+        print(folder / REPORT)
+
+
+def print_json(table: pd.DataFrame, path: Path) -> None:
+    """Prints a table and the path of its file as one JSON object: `{"path": .., "table": [{column: value, ..}, ..]}`. Numbers are not
+    rounded, and one that is missing is null."""
+    rows = [{name: plain_of(value) for name, value in row.items()} for row in table.to_dict("records")]
+    print(json.dumps({"path": str(path), "table": rows}, indent=2, ensure_ascii=False))
+
+
+def plain_of(value: Any) -> Any:
+    """A field as JSON has it."""
+    if isinstance(value, Decimal):
+        return str(value)
+    value = value.item() if isinstance(value, np.generic) else value
+    return None if isinstance(value, float) and not math.isfinite(value) else value
 
 
 def print_path(path: NotedPath) -> None:

@@ -86,7 +86,7 @@ def shells(options: Namespace) -> int:
     project = project_of(options)
     folder = options.out or project.folder
     table = write_shells(project, folder, writing_of(options))
-    print_answer(table, columns_of(table, project), folder)
+    print_answer(table, columns_of(table, project), folder, options.json)
     return 0
 
 
@@ -96,15 +96,18 @@ def pit(options: Namespace) -> int:
 
     from ..commands.pit import write_pit
     from ..commands.writing import PITS
-    from .printing import print_notes, print_table
+    from .printing import print_json, print_notes, print_table
 
     project = project_of(options)
     folder = options.out or project.folder / "pit"
     table = write_pit(project, options.factor, folder, writing_of(options))
+    print_notes(read_record(folder)["notes"])
+    if options.json:
+        print_json(table, folder / PITS)
+        return 0
     columns = columns_of(table, project)
     lines = [[name, *row] for name, row in zip(table["fixed_blocks"], cells_of(table, columns))]
     print_table(["fixed, blocks", *(heading for _, heading, _, _ in columns)], lines)
-    print_notes(read_record(folder)["notes"])
     print(folder / PITS)
     return 0
 
@@ -118,7 +121,7 @@ def pushbacks(options: Namespace) -> int:
     project = project_of(options)
     folder = options.out or project.folder / "pushbacks"
     table = write_pushbacks(project, folder, writing_of(options))
-    print_answer(table, columns_of_phases(table, project), folder)
+    print_answer(table, columns_of_phases(table, project), folder, options.json)
     return 0
 
 
@@ -134,7 +137,8 @@ def schedule(options: Namespace) -> int:
     project, by_block = project_of(options), options.by == "block"
     folder = options.out or project.folder / ("block_schedule" if by_block else "schedule")
     table = (write_block_schedule if by_block else write_schedule)(project, folder, writing_of(options))
-    print_answer(table, (columns_by_block if by_block else columns_of_ways)(table, project), folder)
+    columns = (columns_by_block if by_block else columns_of_ways)(table, project)
+    print_answer(table, columns, folder, options.json)
     if read_json(folder / (names.BLOCK_SCHEDULE if by_block else names.SCHEDULE_RECORD))["interrupted"]:
         raise KeyboardInterrupt
     return 0
@@ -147,15 +151,19 @@ def sensitivity(options: Namespace) -> int:
     from pitplan.studies.sensitivity import store
 
     from ..commands.sensitivity import write_sensitivity
-    from .printing import print_notes, print_table
+    from .printing import print_json, print_notes, print_table
 
     project = project_of(options)
     folder = options.out or project.folder / "sensitivity"
     where = Where(options.on, options.workers) if options.on else None
-    table = report.of_cases(write_sensitivity(project, folder, where, writing_of(options)))
+    cases = write_sensitivity(project, folder, where, writing_of(options))
+    print_notes(read_json(folder / store.RECORD)["notes"])
+    if options.json:
+        print_json(cases, folder / store.TABLE)
+        return 0
+    table = report.of_cases(cases)
     columns = report.columns_of_cases(table, project)
     print_table([heading for _, heading, _, _ in columns], report.cells_of(table, columns))
-    print_notes(read_json(folder / store.RECORD)["notes"])
     print(folder / store.TABLE)
     return 0
 
