@@ -1,6 +1,6 @@
 //! The side of the holder of the lock: the list of the mergers made, and the two copies of the tree.
 //! Each arc is published at once, so that nothing is ever left pending.
-ghost use Rattle.std.specs.Prelude.{◌≡◌, ◌<◌, [], ◌∷◌, ◌++◌, true, drop, fold, IsTrue, IfOk, IfErr};
+ghost use Rattle.std.specs.Prelude.{◌≡◌, ◌<◌, ◌^◌, [], ◌∷◌, ◌++◌, true, drop, fold, length, IsTrue, IfOk, IfErr};
 ghost use mathlib.Core.List.{IsPrefix};
 ghost use Rattle.faults.specs.Refused.{no_memory, no_seat, IsNoRoom};
 ghost use Rattle.pit_model.specs.Tree.{is_merger, opening};
@@ -123,10 +123,13 @@ impl<V: ListId> Publisher<V> {
     }
 
     /// Merges over the arc and publishes that. It waits for readers that have not left an old version.
-    /// Errors: `NoMemory` where memory was refused; then nothing changed.
+    ///
+    /// # Errors
+    /// `NoMemory`, where memory was refused, and always after 2^36 mergers. Then nothing changed.
     pub fn publish<R: Wait>(&mut self, rt: &R, arc: u32) -> Result<(), Fault>
         requires { IsTrue (is_merger V.mine (version_tree V.mine self.old) arc) }
         ensures published { IfOk result (λ _. self.new ≡ self.old ++ arc ∷ []) }
+        ensures few { IfOk result (λ _. length self.old < 2 ^ 36) }
         ensures refused { IfErr result (λ fault. (fault ≡ no_memory) × (self.new ≡ self.old)) }
     {
         self.tree().law();
