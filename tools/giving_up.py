@@ -25,8 +25,8 @@ from crates import TOP
 # What a call that gives up answers, with its name in the table.
 NO_MEMORY = "Err(faults::Fault::from(std::alloc::AllocError))"
 NO_SEAT = "Err(faults::Fault::no_seat())"
-NONE, NO, BACK = "None", "false", "Err(self)"
-SAID = {NO_MEMORY: "no memory", NO_SEAT: "no seat", NONE: "None", NO: "no", BACK: "the seat that came"}
+NONE, NO, BACK, SEAT = "None", "false", "Err(self)", "Err(seat)"
+SAID = {NO_MEMORY: "no memory", NO_SEAT: "no seat", NONE: "None", NO: "no", BACK: "the seat that came", SEAT: "the seat that was handed in"}
 
 
 class Planted(NamedTuple):
@@ -62,6 +62,7 @@ PLANTED: list[Planted | Exchanged] = [
     Planted("tree_lock/src/holder.rt", "pub fn apply", NO_MEMORY, "lock_tests"),
     Planted("tree_lock/src/serve.rt", "pub fn serve", NO_MEMORY, "lock_tests"),
     Planted("tree_lock/src/shared.rt", "pub fn look_seat", NO_SEAT, "lock_tests"),
+    Planted("tree_lock/src/shared.rt", "pub fn look", SEAT, "lock_tests"),
     Planted("versions/src/look.rt", "pub fn look", BACK, "lock_tests"),
     Planted("proposals/src/serve.rt", "pub fn claim_ask", NONE, "lock_tests"),
     Planted("proposals/src/ask.rt", "pub fn collect", NONE, "lock_tests"),

@@ -1,7 +1,7 @@
 //! Looks beside the decisions under the lock: what each look shows was worked out by hand.
 use crate::board_calls::ask_for;
 use crate::failures::{Failed, first_failure, pass_or_name};
-use crate::looks::{FIRST, LAST, OPENING, Shown, look_shows};
+use crate::looks::{FIRST, LAST, OPENING, Shown, look_shows, looked_shows};
 use crate::trial::{Setting, Trial, failure_of};
 use faults::Fault;
 use proposals::{Board, WorkerSeat};
@@ -43,7 +43,7 @@ impl Trial for AskThenLook {
         };
         let seat = shared.look_seat()?;
         let first = answer(rt, board, shared, worker, 0);
-        let (mut seat, shown) = look_shows(seat, &FIRST);
+        let (mut seat, shown) = looked_shows(shared.look(seat), &FIRST);
         let second = answer(rt, board, shared, worker, 0);
         let past = answer(rt, board, shared, worker, 3);
         let told = shared.tell(rt, &mut seat);

@@ -55,7 +55,15 @@ fn is_shown<V: ListId>(version: &Version<V>, expected: &Shown) -> bool {
 
 /// Looks: whether there was a version, which showed this. The seat comes back.
 pub fn look_shows<V: ListId>(seat: LookSeat<V>, expected: &Shown) -> (LookSeat<V>, bool) {
-    match seat.look() {
+    looked_shows(seat.look(), expected)
+}
+
+/// Whether a look gave a version, which showed this. The seat comes back.
+pub fn looked_shows<V: ListId>(
+    looked: Result<Version<V>, LookSeat<V>>,
+    expected: &Shown,
+) -> (LookSeat<V>, bool) {
+    match looked {
         Ok(version) => {
             let is_shown = is_shown(&version, expected);
             (version.leave(), is_shown)

@@ -1,5 +1,5 @@
 //! The holder under a mutex, so that each thread takes its turn, and beside it what gives seats to look from without the lock.
-ghost use Rattle.std.specs.Prelude.{◌≡◌, true, IfErr};
+ghost use Rattle.std.specs.Prelude.{◌≡◌, true, IfErr, MatchResult};
 ghost use mathlib.Core.List.{IsPrefix};
 ghost use Rattle.faults.specs.Refused.{no_memory, no_seat, IsNoRoom};
 ghost use Rattle.pit_model.specs.Tree.{opening};
@@ -12,7 +12,7 @@ use norm_tree::NormTree;
 use proposals::{Board, HolderSeat};
 use std::alloc::Global;
 use std::sync::{Mutex, MutexGuard, Wait};
-use versions::{LookSeat, LookSeats, Publisher, UnnamedList};
+use versions::{LookSeat, LookSeats, Publisher, UnnamedList, Version};
 
 /// A tree that threads share. It is not `Drop`, as its holder: end it by `into_holder`.
 pub struct SharedTree<S: LockId> {
@@ -62,6 +62,17 @@ impl<S: LockId> SharedTree<S> {
             Some(look_seats) => look_seats.seat(),
             None => Err(Fault::no_seat()),
         }
+    }
+
+    /// Looks from a seat at the version that is published now, as [`LookSeat::look`] does. It takes no lock.
+    ///
+    /// # Errors
+    /// The seat, where there is no version.
+    pub fn look(&self, seat: LookSeat<S>) -> Result<Version<S>, LookSeat<S>>
+        ensures { MatchResult result (λ version. IsPrefix seat version) (λ back. back ≡ seat) }
+    {
+        let _ = &self.look_seats;
+        seat.look()
     }
 
     /// Takes the lock and serves the board as the holder does.
