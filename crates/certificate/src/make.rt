@@ -6,10 +6,14 @@ ghost use Rattle.certificate.specs.Certificate.{AnswersTree};
 use crate::pit_with_flow::Certificate;
 use faults::Fault;
 use norm_tree::NormTree;
+use std::alloc::Global;
 
-/// The strong blocks of a tree and its flow, where no merger arc is left; None exactly where one is.
-/// Refused for want of memory alone. (Hochbaum 2008; Picard 1976)
-pub fn of_tree(tree: &NormTree) -> Result<Option<Certificate>, Fault>
+/// Makes the certificate of a tree without a merger arc, its strong blocks and its flow; None exactly where a merger arc is
+/// left. (Hochbaum 2008; Picard 1976)
+///
+/// # Errors
+/// `NoMemory`.
+pub fn of_tree(alloc: Global, tree: &NormTree) -> Result<Option<Certificate>, Fault>
     ensures answer { IfOk result (AnswersTree tree.now) }
     ensures refused { IfErr result (λ e. e ≡ no_memory) }
 {
@@ -17,7 +21,7 @@ pub fn of_tree(tree: &NormTree) -> Result<Option<Certificate>, Fault>
     if tree.find_merger().is_some() {
         return Ok(None);
     }
-    let pit = tree.pit()?;
-    let flow = tree.flow()?;
+    let pit = tree.pit_in(alloc)?;
+    let flow = tree.flow_in(alloc)?;
     Ok(Some(Certificate { pit, flow }))
 }

@@ -11,6 +11,7 @@ use faults::Fault;
 use merging::Outcome;
 use norm_tree::NormTree;
 use rayon::prelude::*;
+use std::alloc::Global;
 use std::sync::Wait;
 use std::thread::Threads;
 use tree_lock::{Entry, Holder, LockId, Verdict};
@@ -61,13 +62,13 @@ pub fn is_ended<S: LockId, R: Threads + Wait + Sync>(
 }
 
 /// The certificate of the holder's tree, or that the budget is used up.
-fn outcome_of<S: LockId>(holder: &Holder<S>) -> Result<Outcome, Fault>
+fn outcome_of<S: LockId>(alloc: Global, holder: &Holder<S>) -> Result<Outcome, Fault>
     requires { IsEnded holder.now }
     ensures ends { IfOk result (EndsBy holder.now.mine holder.now.budget holder.now.journal) }
     ensures refused { IfErr result (λ e. e ≡ no_memory) }
 {
     holder.law();
-    if let Some(certificate) = of_tree(holder.tree())? {
+    if let Some(certificate) = of_tree(alloc, holder.tree())? {
         return Ok(Outcome::Pit(certificate));
     }
     match holder.budget() {
@@ -77,7 +78,11 @@ fn outcome_of<S: LockId>(holder: &Holder<S>) -> Result<Outcome, Fault>
 }
 
 /// The outcome of the holder's tree, and its journal. Refused for want of memory alone.
-pub fn end_of<S: LockId, R: Wait>(rt: &R, holder: Holder<S>) -> Result<(Outcome, Vec<Entry>), Fault>
+pub fn end_of<S: LockId, R: Wait>(
+    rt: &R,
+    alloc: Global,
+    holder: Holder<S>,
+) -> Result<(Outcome, Vec<Entry>), Fault>
     requires ended { IsEnded holder }
     requires known { S.arcs ≡ arcs S.mine }
     ensures solved { IfOk result (λ r. IsSolvedTogether S.mine S.workers S.budget r.0 r.1.items) }
@@ -85,7 +90,7 @@ pub fn end_of<S: LockId, R: Wait>(rt: &R, holder: Holder<S>) -> Result<(Outcome,
     ensures refused { IfErr result (λ e. e ≡ no_memory) }
 {
     holder.law();
-    let outcome = outcome_of(&holder);
+    let outcome = outcome_of(alloc, &holder);
     let (_, journal) = holder.into_parts(rt);
     Ok((outcome?, journal))
 }

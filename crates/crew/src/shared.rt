@@ -83,7 +83,8 @@ fn run_crew<'a, S: LockId + Send + Sync, G: Gate + Sync, R: Threads + Wait + Syn
     ensures refused { IfErr result IsNoRoom }
 {
     let mut crew = crew;
-    end_of(rt, crew.run(rt, alloc, holder)?)
+    let holder = crew.run(rt, alloc, holder)?;
+    end_of(rt, alloc, holder)
 }
 
 fn solve_at<S: LockId + Send + Sync, G: Gate + Sync, R: Threads + Wait + Sync>(

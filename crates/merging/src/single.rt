@@ -31,12 +31,12 @@ fn solved_tree(alloc: Global, instance: &Instance) -> Result<NormTree, Fault>
 }
 
 /// The certificate in a tree with no merger arc left. Refused for want of memory alone.
-fn certificate_in(tree: &NormTree) -> Result<Certificate, Fault>
+fn certificate_in(alloc: Global, tree: &NormTree) -> Result<Certificate, Fault>
     requires none_left { (k : ℕ) → is_merger tree.now.mine tree.now.tree k ≡ false }
     ensures answer { IfOk result (IsCertificateOf tree.now.mine) }
     ensures refused { IfErr result (λ e. e ≡ no_memory) }
 {
-    match of_tree(tree)? {
+    match of_tree(alloc, tree)? {
         Some(certificate) => Ok(certificate),
         None => unreachable!(),
     }
@@ -48,7 +48,7 @@ pub(crate) fn certificate_of(alloc: Global, instance: &Instance) -> Result<Certi
     ensures refused { IfErr result (λ e. e ≡ no_memory) }
 {
     let tree = solved_tree(alloc, instance)?;
-    certificate_in(&tree)
+    certificate_in(alloc, &tree)
 }
 
 /// The pit alone: the flow that shows it stays in the tree. Refused for want of memory alone.
@@ -81,12 +81,12 @@ fn first_tree(alloc: Global, instance: &Instance, budget: u64) -> Result<NormTre
 }
 
 /// What the tree of the first run answers.
-fn answer_of(tree: &NormTree, budget: u64) -> Result<Outcome, Fault>
+fn answer_of(alloc: Global, tree: &NormTree, budget: u64) -> Result<Outcome, Fault>
     requires run { tree.now.tree ≡ first_run tree.now.mine budget }
     ensures solved { IfOk result (IsSolvedAlone tree.now.mine (Some budget)) }
     ensures refused { IfErr result (λ e. e ≡ no_memory) }
 {
-    match of_tree(tree)? {
+    match of_tree(alloc, tree)? {
         Some(certificate) => Ok(Outcome::Pit(certificate)),
         None => Ok(Outcome::Exhausted(budget)),
     }
@@ -98,7 +98,7 @@ fn solve_by_first_run(alloc: Global, instance: &Instance, budget: u64) -> Result
     ensures refused { IfErr result (λ e. e ≡ no_memory) }
 {
     let tree = first_tree(alloc, instance, budget)?;
-    answer_of(&tree, budget)
+    answer_of(alloc, &tree, budget)
 }
 
 /// The same. Where no run uses the budget up, the order of the mergers is free.

@@ -7,6 +7,7 @@ ghost use Rattle.pit_model.specs.Tree.{flow};
 
 use crate::bare::BareTree;
 use faults::Fault;
+use std::alloc::Global;
 
 impl BareTree {
     /// The flow on an arc.
@@ -26,12 +27,21 @@ impl BareTree {
     }
 
     /// The flow of each arc in turn.
-    fn flows(&self) -> Result<Vec<i128>, Fault>
+    fn flows(&self, alloc: Global) -> Result<Vec<i128>, Fault>
         ensures flows { IfOk result (λ v. v.items ≡ map (flow self.now.tree) (range_with_len 0 (arcs self.now.mine))) }
         ensures no_memory { IfErr result (λ e. e ≡ no_memory) }
     {
         let m = self.instance().graph().arcs();
-        Ok((0..m).map(|arc| self.flow_on(arc)).collect(self.alloc())?)
+        Ok((0..m).map(|arc| self.flow_on(arc)).collect(alloc)?)
+    }
+
+    /// The flow by arc, in millionths, in memory of this allocator.
+    pub(crate) fn flow_in(&self, alloc: Global) -> Result<Vec<i128>, Fault>
+        ensures ok { IfOk result (λ v. v.items ≡ self.now.tree.flows) }
+        ensures no_memory { IfErr result (λ e. e ≡ no_memory) }
+    {
+        self.law();
+        self.flows(alloc)
     }
 
     /// The flow by arc, in millionths.
@@ -39,7 +49,6 @@ impl BareTree {
         ensures ok { IfOk result (λ v. v.items ≡ self.now.tree.flows) }
         ensures no_memory { IfErr result (λ e. e ≡ no_memory) }
     {
-        self.law();
-        self.flows()
+        self.flow_in(self.alloc())
     }
 }

@@ -6,14 +6,23 @@ ghost use Rattle.pit_model.specs.Tree.{is_strong};
 
 use crate::tree::NormTree;
 use faults::Fault;
+use std::alloc::Global;
 
 impl NormTree {
+    /// The strong blocks, rising, in memory of this allocator.
+    pub fn pit_in(&self, alloc: Global) -> Result<Vec<u32>, Fault>
+        ensures strong { IfOk result (λ v. v.items ≡ members self.now.mine.blocks (is_strong self.now.mine self.now.tree)) }
+        ensures no_memory { IfErr result (λ e. e ≡ no_memory) }
+    {
+        let n = self.instance().graph().n();
+        Ok((0..n).filter(|&u| self.is_strong(u)).collect(alloc)?)
+    }
+
     /// The strong blocks, rising.
     pub fn pit(&self) -> Result<Vec<u32>, Fault>
         ensures strong { IfOk result (λ v. v.items ≡ members self.now.mine.blocks (is_strong self.now.mine self.now.tree)) }
         ensures no_memory { IfErr result (λ e. e ≡ no_memory) }
     {
-        let n = self.instance().graph().n();
-        Ok((0..n).filter(|&u| self.is_strong(u)).collect(self.alloc())?)
+        self.pit_in(self.alloc())
     }
 }

@@ -2,7 +2,7 @@
 use Rattle.std.proofs.Common.{◌≡◌, subst, List}
 use Rattle.std.specs.Prelude.{IfOk, ℤ}
 use Rattle.norm_tree.proofs.Showing.{flows_again}
-use Rattle.norm_tree.proofs.bare.BareTree.flow.Goals as goal
+use Rattle.norm_tree.proofs.bare.BareTree.flow_in.Goals as goal
 
 pub returns-clause-ok : goal.returns-clause-ok
 returns-clause-ok c =
