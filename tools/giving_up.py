@@ -68,6 +68,8 @@ PLANTED: list[Planted | Exchanged] = [
     Planted("proposals/src/ask.rt", "pub fn collect", NONE, "lock_tests"),
     Planted("proposals/src/ask.rt", "pub fn withdraw", NO, "lock_tests"),
     Planted("mine_graph/src/parts.rt", "pub fn parts", NO_MEMORY, "tree_tests"),
+    Planted("mine_graph/src/graph.rt", "pub fn new", NO_MEMORY, "tree_tests"),
+    Planted("minelib_reader/src/prec.rt", "pub fn read_prec", NO_MEMORY, "tree_tests"),
     Exchanged("tree_lock/src/shared.rt", "the shared tree serves no board", "let served = holder.serve(rt, board);", "let served = Ok(0);"),
     Exchanged("tree_lock/src/shared.rt", "no place to look from beside the workers'", "saturating_add(1)", "max(1)"),
     Exchanged("versions/src/look.rt", "a seat looks once at a version", "if list.begins(&seen) =>", "if list.begins(&seen) && !seen.begins(&list) =>"),

@@ -61,7 +61,7 @@ fn graph_of_rows(alloc: Global, blocks: u32, needs: NeedRows) -> Result<Arc<Grap
     ensures same { IfOk result (λ g. AreSamePairs needs.pairs g.value.pairs) }
     ensures refused { IfErr result (λ e. RefusesPairs needs.pairs blocks e.refusal) }
 {
-    match Graph::new(alloc, blocks, needs) {
+    match Graph::of_rows(alloc, blocks, needs) {
         Ok(graph) => Ok(Arc::new(alloc, graph)?),
         Err(fault) => Err(Unsound {
             refusal: fault.refusal,

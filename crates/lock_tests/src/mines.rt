@@ -1,7 +1,7 @@
 //! Mines by their texts: small ones, and two kinds of larger ones, whose mergers one by one were worked out by hand.
 use faults::Fault;
 use mine_graph::{Graph, Instance};
-use minelib_reader::{parse_prec, parse_upit};
+use minelib_reader::{parse_prec_rows, parse_upit};
 use small_mines::SmallMine;
 use std::alloc::{AllocError, Global};
 use std::fmt::Write;
@@ -36,8 +36,8 @@ fn read(alloc: Global, model: &str, prec: &str) -> Result<Instance, Fault> {
         return Err(Fault::no_seat());
     }
     let mine = parse_upit(alloc, model.as_bytes())?;
-    let needs = parse_prec(alloc, prec.as_bytes(), mine.n)?;
-    let graph = Graph::new(alloc, mine.n, needs)?;
+    let needs = parse_prec_rows(alloc, prec.as_bytes(), mine.n)?;
+    let graph = Graph::of_rows(alloc, mine.n, needs)?;
     Ok(Instance::new(Arc::new(alloc, graph)?, mine.values))
 }
 

@@ -88,7 +88,7 @@ fn graph_of_arcs(alloc: Global, graph: &Graph, arcs: &[u32]) -> Result<Graph, Fa
     graph.law();
     acyclic_has_no_needy();
     let needs = pairs_at(alloc, graph, arcs)?;
-    let links = Graph::new(alloc, graph.n(), needs)?;
+    let links = Graph::of_rows(alloc, graph.n(), needs)?;
     Ok(links)
 }
 

@@ -46,9 +46,34 @@ impl Model for Graph {
 }
 
 impl Graph {
-    /// The graph of exactly these pairs, in the order of (u, p). Refused for want of memory, and by the cycle of the
-    /// pairs where they have one. Time is linear in blocks and pairs.
-    pub fn new(alloc: Global, n: u32, needs: NeedRows) -> Result<Graph, Fault>
+    /// Makes the graph of these pairs (u, p), which may come in any order, and numbers its arcs in the order of (u, p). It sorts
+    /// the pairs; [`of_rows`](Graph::of_rows) takes rows and no such time.
+    ///
+    /// # Errors
+    /// `NoMemory`, and `Cycle` with the cycle of the pairs where they have one.
+    pub fn new(alloc: Global, n: u32, pairs: Vec<(u32, u32)>) -> Result<Graph, Fault>
+        requires few_blocks { n ≤ most_blocks }
+        requires few_pairs { length pairs.items ≤ most_pairs }
+        requires in_range { AreInRange pairs.items n }
+        requires apart { AreApart pairs.items }
+        ensures blocks { IfOk result (λ g. g.blocks ≡ n) }
+        ensures same { IfOk result (λ g. AreSamePairs pairs.items g.pairs) }
+        ensures acyclic { IfOk result (λ _. IsAcyclic pairs.items) }
+        ensures refused { IfErr result (IsGraphFault pairs.items n) }
+    {
+        let mut pairs = pairs;
+        pairs.sort_unstable();
+        let needs = NeedRows::of_pairs(alloc, n, &pairs)?;
+        drop(pairs);
+        Graph::of_rows(alloc, n, needs)
+    }
+
+    /// Makes the graph of the pairs that rows spell, and numbers its arcs in the order of (u, p). Time is linear in blocks and
+    /// pairs.
+    ///
+    /// # Errors
+    /// `NoMemory`, and `Cycle` with the cycle of the pairs where they have one.
+    pub fn of_rows(alloc: Global, n: u32, needs: NeedRows) -> Result<Graph, Fault>
         requires few_blocks { n ≤ most_blocks }
         requires few_pairs { length needs.pairs ≤ most_pairs }
         requires rows { needs.blocks ≡ n }
@@ -66,11 +91,11 @@ impl Graph {
             seconds: &needs,
         };
         check_acyclic(alloc, n, rows)?;
-        Ok(Graph::of_rows(alloc, n, starts, needs)?)
+        Ok(Graph::of_acyclic_rows(alloc, n, starts, needs)?)
     }
 
     /// The graph of the pairs that rows spell. It takes no time to look for a cycle.
-    fn of_rows(
+    fn of_acyclic_rows(
         alloc: Global,
         n: u32,
         starts: Vec<u32>,
@@ -109,7 +134,7 @@ impl Graph {
         ensures pairs { IfOk result (λ g. g.pairs ≡ needs.pairs) }
     {
         let (starts, needs) = needs.into_rows();
-        Graph::of_rows(alloc, n, starts, needs)
+        Graph::of_acyclic_rows(alloc, n, starts, needs)
     }
 
     /// What is true of each graph.
@@ -196,7 +221,7 @@ impl Graph {
         let alloc = self.alloc();
         let starts = Vec::from_slice(alloc, &self.user_starts)?;
         let needs = Vec::from_slice(alloc, &self.users)?;
-        Ok(Graph::of_rows(alloc, self.blocks, starts, needs)?)
+        Ok(Graph::of_acyclic_rows(alloc, self.blocks, starts, needs)?)
     }
 
     /// The number of a pair, by halving the row of its block.

@@ -28,7 +28,7 @@ pub use input::{FileReader, MemoryReader, read_all};
 pub use lines::{next_field, next_whole, two_fields};
 pub use number::{Decimal, cut, decimal, digits, whole_number};
 pub use output::{MemoryWriter, StreamWriter, write_all};
-pub use prec::{parse_prec, prec_law, read_prec};
+pub use prec::{parse_prec_rows, prec_law, read_prec, read_prec_rows};
 pub use rows::{Row, TextRows};
 pub use stream::{InputStream, OutputStream};
 pub use table::BlockTable;

@@ -364,7 +364,7 @@ pub fn prec_law()
 
 /// The pairs (u, p) of "u needs p" that a text spells for n blocks, by rows, in order of line and place, else the first fault of
 /// the text, or `NoMemory`.
-pub fn parse_prec(alloc: Global, text: &[u8], n: u32) -> Result<NeedRows, Fault>
+pub fn parse_prec_rows(alloc: Global, text: &[u8], n: u32) -> Result<NeedRows, Fault>
     requires { length text.now ≤ 2 ^ 40 }
     // Which pairs or which fault it is.
     ensures exact { Gives (λ v. v.pairs) result (prec_of n text.now) }
@@ -378,10 +378,11 @@ pub fn parse_prec(alloc: Global, text: &[u8], n: u32) -> Result<NeedRows, Fault>
     parse_lines(alloc, text, n)
 }
 
-/// The pairs (u, p) of "u needs p" for n blocks, by rows, in order of line and place, that all spells which the reader has left,
-/// else the first fault of that text. Refused by `ReadFailed` exactly where the reader counted a failure in this call, and
-/// by `NoMemory`.
-pub fn read_prec<R: InBytes>(alloc: Global, reader: &mut R, n: u32) -> Result<NeedRows, Fault>
+/// Reads the pairs (u, p) of "u needs p" for n blocks, by rows, in order of line and place, from all that the reader has left.
+///
+/// # Errors
+/// The first fault of that text; `ReadFailed` exactly where the reader counted a failure in this call; `NoMemory`.
+pub fn read_prec_rows<R: InBytes>(alloc: Global, reader: &mut R, n: u32) -> Result<NeedRows, Fault>
     requires countable { (R.progress reader.old).failures < 2 ^ 63 }
     requires bounded { (R.progress reader.old).allowance ≤ 2 ^ 40 }
     ensures answers { AnswersBy (λ v. v.pairs) (SpellsPrec n) (IsFirstPrecFault n) sources.Precedence (R.progress reader.old) (R.progress reader.new) (R.IsAtEnd reader.new) result }
@@ -393,4 +394,24 @@ pub fn read_prec<R: InBytes>(alloc: Global, reader: &mut R, n: u32) -> Result<Ne
     ensures exact { Answers (λ v. v.pairs) (prec_of n) sources.Precedence (R.progress reader.old) (R.progress reader.new) (R.IsAtEnd reader.new) result }
 {
     read_pieces(alloc, reader, n)
+}
+
+/// Reads the same pairs as a list. It holds rows and list at the same time; [`read_prec_rows`] holds the rows alone.
+///
+/// # Errors
+/// Those of [`read_prec_rows`].
+pub fn read_prec<R: InBytes>(
+    alloc: Global,
+    reader: &mut R,
+    n: u32,
+) -> Result<Vec<(u32, u32)>, Fault>
+    requires countable { (R.progress reader.old).failures < 2 ^ 63 }
+    requires bounded { (R.progress reader.old).allowance ≤ 2 ^ 40 }
+    ensures answers { AnswersBy (λ v. v.items) (SpellsPrec n) (IsFirstPrecFault n) sources.Precedence (R.progress reader.old) (R.progress reader.new) (R.IsAtEnd reader.new) result }
+    ensures lawful { IfOk result (λ v. ArePrecedences n v.items) }
+    ensures known { Keeps (R.known_text reader.old) (R.known_text reader.new) }
+    ensures exact { Answers (λ v. v.items) (prec_of n) sources.Precedence (R.progress reader.old) (R.progress reader.new) (R.IsAtEnd reader.new) result }
+{
+    let needs = read_prec_rows(alloc, reader, n)?;
+    Ok(needs.to_pairs(alloc)?)
 }

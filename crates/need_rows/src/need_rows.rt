@@ -126,6 +126,22 @@ impl NeedRows {
         &self.needs[begin..end]
     }
 
+    /// Copies the pairs out of the rows, in their order.
+    pub fn to_pairs(&self, alloc: Global) -> Result<Vec<(u32, u32)>, AllocError>
+        requires { self.now.blocks < 2 ^ 32 }
+        ensures { IfOk result (λ v. v.items ≡ self.now.pairs) }
+    {
+        let mut pairs = Vec::with_capacity(alloc, self.needs.len())?;
+        let mut block = 0;
+        for k in 0..self.needs.len() {
+            while block + 1 < self.starts.len() && self.starts[block + 1] as usize <= k {
+                block += 1;
+            }
+            pairs.push((block as u32, self.needs[k]))?;
+        }
+        Ok(pairs)
+    }
+
     /// Where the row of each block begins and ends, and the needs, row by row.
     pub fn into_rows(self) -> (Vec<u32>, Vec<u32>)
         ensures spelled { pairs_of result.0.items result.1.items ≡ self.pairs }

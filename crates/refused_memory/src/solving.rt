@@ -14,7 +14,7 @@ use tree_lock::Entry;
 pub fn solved<R: AllocGlobal + Threads + Wait + Sync>(rt: &R) -> Result<Vec<Entry>, Fault> {
     let alloc = rt.alloc();
     let needs = NeedRows::of_pairs(alloc, 4, &[(0, 3), (1, 2)])?;
-    let graph = Arc::new(alloc, Graph::new(alloc, 4, needs)?)?;
+    let graph = Arc::new(alloc, Graph::of_rows(alloc, 4, needs)?)?;
     let values = vec![in alloc; 5, 5, -3, -3]?;
     let mine = Instance::new(graph, values);
     let (_, journal) = solve_shared(rt, alloc, &mine, 1, None, 1, &OpenGate)?;

@@ -29,7 +29,7 @@ fn pairs(alloc: Global) -> Result<Arc<Graph>, Fault>
     ensures { IfOk result (λ graph. graph.value.blocks ≡ 4) }
 {
     let needs = NeedRows::of_pairs(alloc, 4, &[(0, 1), (0, 3), (2, 1)])?;
-    Ok(Arc::new(alloc, Graph::new(alloc, 4, needs)?)?)
+    Ok(Arc::new(alloc, Graph::of_rows(alloc, 4, needs)?)?)
 }
 
 fn over(arc: u32, parents: [Option<u32>; 4]) -> TracedMerger {

@@ -35,6 +35,7 @@ use Rattle.certificate.specs.CertificateGrammar.{SpellsCertificate}
 use Rattle.certificate.specs.CertificateLines.{PitAndFlow}
 use Rattle.certificate.proofs.TextRead as certificates
 use Rattle.merging.specs.Parts.{graph_of}
+use Rattle.mine_graph.proofs.Sorted.{same_joined}
 use Rattle.shells.specs.Prices.{Prices}
 use Rattle.report.specs.AnswerText.{answer_text}
 use Rattle.runs.specs.Solve.{Choice, no_reader, one_reader, gone, Files, FixedMine, Reading, Gave, GaveFixed, GaveInOrder, GaveMine, GaveTask, IsPitText, fixed_in, mine_of}
@@ -95,13 +96,6 @@ one_lists (one_reader r) no_reader n m l k alike count one other = absurd alike
 one_lists (one_reader r) gone n m l k alike count one other = absurd alike
 one_lists gone d n m l k alike count one other = absurd alike
 
-through : (ps qs rs : List (ℕ × ℕ)) → AreSamePairs ps qs → AreSamePairs qs rs → AreSamePairs ps rs
-through ps qs rs a b = record {
-  count = a.count ∙ b.count;
-  forth = λ k l. let x = a.forth k l in let y = b.forth x.0 x.1 in (y.0, y.1, y.2 ∙ x.2);
-  back = λ k l. let y = b.back k l in let x = a.back y.0 y.1 in (x.0, x.1, x.2 ∙ y.2);
-}
-
 same_mine : (m n : Instance) → m.blocks ≡ n.blocks → m.values ≡ n.values → m.pairs ≡ n.pairs → m ≡ n
 same_mine m n b v p = ap (λ k. instance_of k m.values m.pairs) b ∙ ap (λ vs. instance_of n.blocks vs m.pairs) v ∙ ap (instance_of n.blocks n.values) p
 
@@ -114,7 +108,7 @@ mine_in_order files other same m n x y =
     let u = one_model files.model files.prec other.model other.prec same.model same.prec x.upit y.upit x.pairs y.pairs x.given y.given in
     let p = one_precedence files.model files.prec other.model other.prec same.model same.prec x.upit y.upit x.pairs y.pairs x.given y.given in
     let l = one_lists files.fixed other.fixed x.upit.n y.upit.n m.lists n.lists same.fixed (ap (λ (w : Upit). w.n) u) x.fixed_given y.fixed_given in
-    let pairs : AreSamePairs m.mine.pairs n.mine.pairs = through m.mine.pairs x.pairs n.mine.pairs (turned x.pairs m.mine.pairs x.same) (subst (λ ps. AreSamePairs ps n.mine.pairs) (sym p) y.same) in
+    let pairs : AreSamePairs m.mine.pairs n.mine.pairs = same_joined m.mine.pairs x.pairs n.mine.pairs (turned x.pairs m.mine.pairs x.same) (subst (λ ps. AreSamePairs ps n.mine.pairs) (sym p) y.same) in
     let mine = same_mine m.mine n.mine (x.blocks ∙ ap (λ (w : Upit). w.n) u ∙ sym y.blocks) (x.values ∙ ap (λ (w : Upit). w.values) u ∙ sym y.values)
     (pairs_have_one_order m.mine.pairs n.mine.pairs pairs x.instance.graph.rising y.instance.graph.rising) in
     same_task m n mine l

@@ -9,7 +9,7 @@ ghost use Rattle.runs.specs.Solve.{choice, files_of, task_of, GaveFixed, HoldsMi
 use counters::Phase;
 use faults::Fault;
 use mine_graph::{Fixed, Graph, Instance};
-use minelib_reader::{InBytes, read_fixed, read_prec, read_upit};
+use minelib_reader::{InBytes, read_fixed, read_prec_rows, read_upit};
 use std::alloc::Global;
 use std::sync::Arc;
 
@@ -62,9 +62,9 @@ pub fn read_mine<M: InBytes, P: InBytes, F: InBytes>(
 {
     files.model.counters().enter(Phase::Reading);
     let model = read_upit(alloc, &mut files.model)?;
-    let needs = read_prec(alloc, &mut files.prec, model.n)?;
+    let needs = read_prec_rows(alloc, &mut files.prec, model.n)?;
     let (forced, barred) = read_lists(alloc, &mut files.fixed, model.n)?;
-    let graph = Graph::new(alloc, model.n, needs)?;
+    let graph = Graph::of_rows(alloc, model.n, needs)?;
     let counters = files.model.counters();
     counters.enter(Phase::Solving);
     let mine = Instance::watched(Arc::new(alloc, graph)?, model.values, counters);

@@ -7,6 +7,8 @@ mod fault_tests;
 #[cfg(test)]
 mod forest_tests;
 #[cfg(test)]
+mod graph_tests;
+#[cfg(test)]
 mod mines;
 #[cfg(test)]
 mod norm_tree_tests;

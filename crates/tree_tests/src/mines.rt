@@ -3,7 +3,7 @@ ghost use Rattle.std.specs.Prelude.{◌≡◌, IfOk};
 
 use faults::{Fault, Refusal, Source};
 use mine_graph::{Graph, Instance};
-use minelib_reader::{parse_prec, parse_upit};
+use minelib_reader::{parse_prec_rows, parse_upit};
 use small_mines::SmallMine;
 use std::alloc::Global;
 use std::sync::Arc;
@@ -21,8 +21,8 @@ pub(crate) fn graph_of(alloc: Global, blocks: u32, prec: &str) -> Result<Graph, 
     if blocks > MOST_BLOCKS || prec.len() > MOST_BYTES {
         return Err(Fault::at_line(Source::Precedence, Refusal::OverLimit, 0));
     }
-    let needs = parse_prec(alloc, prec.as_bytes(), blocks)?;
-    Graph::new(alloc, blocks, needs)
+    let needs = parse_prec_rows(alloc, prec.as_bytes(), blocks)?;
+    Graph::of_rows(alloc, blocks, needs)
 }
 
 /// The instance. Refused as its graph is, and where the text of its model is.

@@ -5,13 +5,13 @@ use Rattle.pit_model.specs.Graph.{AreInRange}
 use Rattle.merging.proofs.Planning.{named_in_range, named_apart, named_acyclic, only_memory}
 use Rattle.merging.proofs.plan.graph_of_arcs.Goals as goal
 
-pub new-requires-clause-in_range : goal.new-requires-clause-in_range
-new-requires-clause-in_range c =
+pub of_rows-requires-clause-in_range : goal.of_rows-requires-clause-in_range
+of_rows-requires-clause-in_range c =
     subst (AreInRange c.in_ok-needs.needs.pairs) (sym c.n.ensures)
     (named_in_range c.args.graph.now.blocks c.args.graph.now.pairs c.args.arcs.now c.in_ok-needs.needs.pairs c.law.ensures.graph c.in_ok-needs.ensures.count c.in_ok-needs.ensures.each c.requires.below)
 
-pub new-requires-clause-apart : goal.new-requires-clause-apart
-new-requires-clause-apart c =
+pub of_rows-requires-clause-apart : goal.of_rows-requires-clause-apart
+of_rows-requires-clause-apart c =
     named_apart c.args.graph.now.blocks c.args.graph.now.pairs c.args.arcs.now c.in_ok-needs.needs.pairs c.law.ensures.graph c.in_ok-needs.ensures.count c.in_ok-needs.ensures.each c.requires.below c.requires.rising
 
 pub returns-in_err-links-clause-refused : goal.returns-in_err-links-clause-refused

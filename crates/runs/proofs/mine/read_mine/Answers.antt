@@ -26,7 +26,7 @@ returns-in_err-needs-clause-refused g c =
     let p = err_from_is_err_and c.from_residual-in_err-needs.result c.from_residual-in_err-needs.ensures.1 in
     let e = c.in_err-needs.field-0.0 in
     let now = c.args.files.now in
-    let files = files_of g.M.InBytes.progress g.M.InBytes.IsAtEnd g.P.InBytes.progress g.P.InBytes.IsAtEnd g.F.InBytes.progress g.F.InBytes.IsAtEnd c.args.files.now (record { model = c.read_upit.new.reader; prec = c.read_prec.new.reader; fixed = now.fixed }) in
+    let files = files_of g.M.InBytes.progress g.M.InBytes.IsAtEnd g.P.InBytes.progress g.P.InBytes.IsAtEnd g.F.InBytes.progress g.F.InBytes.IsAtEnd c.args.files.now (record { model = c.read_upit.new.reader; prec = c.read_prec_rows.new.reader; fixed = now.fixed }) in
     let m = c.in_ok-model.ensures.answers in
     rw (p.1, p.2) (prec_refused e.refusal e files (upit c.in_ok-model.model.n c.in_ok-model.model.values.items) m.0 refl (still g.F.InBytes.progress g.F.InBytes.IsAtEnd now.fixed) m.1 m.2 c.in_err-needs.ensures.answers)
 
@@ -34,7 +34,7 @@ pub returns-in_err-forced-clause-refused : goal.returns-in_err-forced-clause-ref
 returns-in_err-forced-clause-refused g c =
     let p = err_from_is_err_and c.from_residual-in_err-forced.result c.from_residual-in_err-forced.ensures.1 in
     let e = c.in_err-forced.field-0.0 in
-    let files = files_of g.M.InBytes.progress g.M.InBytes.IsAtEnd g.P.InBytes.progress g.P.InBytes.IsAtEnd g.F.InBytes.progress g.F.InBytes.IsAtEnd c.args.files.now (record { model = c.read_upit.new.reader; prec = c.read_prec.new.reader; fixed = c.read_lists.new.fixed }) in
+    let files = files_of g.M.InBytes.progress g.M.InBytes.IsAtEnd g.P.InBytes.progress g.P.InBytes.IsAtEnd g.F.InBytes.progress g.F.InBytes.IsAtEnd c.args.files.now (record { model = c.read_upit.new.reader; prec = c.read_prec_rows.new.reader; fixed = c.read_lists.new.fixed }) in
     let m = c.in_ok-model.ensures.answers in
     let q = c.in_ok-needs.ensures.answers in
     rw (p.1, p.2) (fixed_refused e.refusal e files (upit c.in_ok-model.model.n c.in_ok-model.model.values.items) c.in_ok-needs.needs.pairs refl
@@ -45,7 +45,7 @@ pub returns-in_err-graph-clause-refused : goal.returns-in_err-graph-clause-refus
 returns-in_err-graph-clause-refused g c =
     let p = err_from_is_err_and c.from_residual-in_err-graph.result c.from_residual-in_err-graph.ensures.1 in
     let e = c.in_err-graph.field-0.0 in
-    let files = files_of g.M.InBytes.progress g.M.InBytes.IsAtEnd g.P.InBytes.progress g.P.InBytes.IsAtEnd g.F.InBytes.progress g.F.InBytes.IsAtEnd c.args.files.now (record { model = c.read_upit.new.reader; prec = c.read_prec.new.reader; fixed = c.read_lists.new.fixed }) in
+    let files = files_of g.M.InBytes.progress g.M.InBytes.IsAtEnd g.P.InBytes.progress g.P.InBytes.IsAtEnd g.F.InBytes.progress g.F.InBytes.IsAtEnd c.args.files.now (record { model = c.read_upit.new.reader; prec = c.read_prec_rows.new.reader; fixed = c.read_lists.new.fixed }) in
     let m = c.in_ok-model.ensures.answers in
     let q = c.in_ok-needs.ensures.answers in
     rw (p.1, p.2) (pairs_refused e.refusal e files (upit c.in_ok-model.model.n c.in_ok-model.model.values.items) c.in_ok-needs.needs.pairs _
@@ -54,7 +54,7 @@ returns-in_err-graph-clause-refused g c =
 
 pub returns-in_err-new-clause-refused : goal.returns-in_err-new-clause-refused
 returns-in_err-new-clause-refused g c =
-    let files = files_of g.M.InBytes.progress g.M.InBytes.IsAtEnd g.P.InBytes.progress g.P.InBytes.IsAtEnd g.F.InBytes.progress g.F.InBytes.IsAtEnd c.args.files.now (record { model = c.read_upit.new.reader; prec = c.read_prec.new.reader; fixed = c.read_lists.new.fixed }) in
+    let files = files_of g.M.InBytes.progress g.M.InBytes.IsAtEnd g.P.InBytes.progress g.P.InBytes.IsAtEnd g.F.InBytes.progress g.F.InBytes.IsAtEnd c.args.files.now (record { model = c.read_upit.new.reader; prec = c.read_prec_rows.new.reader; fixed = c.read_lists.new.fixed }) in
     let m = c.in_ok-model.ensures.answers in
     let q = c.in_ok-needs.ensures.answers in
     let p = err_from_is_err_and c.from_residual-in_err-new.result c.from_residual-in_err-new.ensures.1 in
@@ -66,7 +66,7 @@ pub returns-in_err-fixed-clause-refused : goal.returns-in_err-fixed-clause-refus
 returns-in_err-fixed-clause-refused g c =
     let p = err_from_is_err_and c.from_residual-in_err-fixed.result c.from_residual-in_err-fixed.ensures.1 in
     let e = c.in_err-fixed.field-0.0 in
-    let files = files_of g.M.InBytes.progress g.M.InBytes.IsAtEnd g.P.InBytes.progress g.P.InBytes.IsAtEnd g.F.InBytes.progress g.F.InBytes.IsAtEnd c.args.files.now (record { model = c.read_upit.new.reader; prec = c.read_prec.new.reader; fixed = c.read_lists.new.fixed }) in
+    let files = files_of g.M.InBytes.progress g.M.InBytes.IsAtEnd g.P.InBytes.progress g.P.InBytes.IsAtEnd g.F.InBytes.progress g.F.InBytes.IsAtEnd c.args.files.now (record { model = c.read_upit.new.reader; prec = c.read_prec_rows.new.reader; fixed = c.read_lists.new.fixed }) in
     let m = c.in_ok-model.ensures.answers in
     let q = c.in_ok-needs.ensures.answers in
     let mine = c.watched-mine.result in
@@ -91,7 +91,7 @@ returns-in_err-fixed-clause-refused g c =
 
 pub returns-clause-mine : goal.returns-clause-mine
 returns-clause-mine g c =
-    let files = files_of g.M.InBytes.progress g.M.InBytes.IsAtEnd g.P.InBytes.progress g.P.InBytes.IsAtEnd g.F.InBytes.progress g.F.InBytes.IsAtEnd c.args.files.now (record { model = c.read_upit.new.reader; prec = c.read_prec.new.reader; fixed = c.read_lists.new.fixed }) in
+    let files = files_of g.M.InBytes.progress g.M.InBytes.IsAtEnd g.P.InBytes.progress g.P.InBytes.IsAtEnd g.F.InBytes.progress g.F.InBytes.IsAtEnd c.args.files.now (record { model = c.read_upit.new.reader; prec = c.read_prec_rows.new.reader; fixed = c.read_lists.new.fixed }) in
     let m = c.in_ok-model.ensures.answers in
     let q = c.in_ok-needs.ensures.answers in
     let mine = c.watched-mine.result in

@@ -1,37 +1,42 @@
--- The same pairs in their order: refused by the same cycle, and without one where they have none.
-use Rattle.std.proofs.Common.{arith, sym, subst}
-use Rattle.std.proofs.lemmas.Result.{err_from_is_err_and}
-use Rattle.pit_model.specs.Graph.{AreSamePairs, IsAcyclic}
-use Rattle.mine_graph.specs.Faults.{IsGraphFault}
-use Rattle.need_rows.specs.Rows.{pairs_of}
-use Rattle.need_rows.proofs.Spelled.{length-pairs_of, of_lent}
+-- Sorted pairs are the same pairs in an order that rows take.
+use Rattle.std.proofs.Common.{ℕ, ◌<◌, ◌≤◌, List, length, arith, subst, sym, ◌∙◌}
+use Rattle.std.proofs.lemmas.Result.{IfOk-weaker, IfErr-weaker}
+use Rattle.pit_model.specs.Graph.{first_of, AreApart, AreInRange, AreSamePairs}
 use Rattle.mine_graph.proofs.Made.{acyclic-back, fault-back}
+use Rattle.mine_graph.proofs.Sorted.{same_joined, sorted_apart, sorted_firsts, sorted_range, sorted_same}
 use Rattle.mine_graph.proofs.graph.Graph.new.Goals as goal
 
-pub in_order-requires-clause-few : goal.in_order-requires-clause-few
-in_order-requires-clause-few c = omega (arith, c.into_rows-starts.ensures.count, c.requires.few_pairs)
+pub of_pairs-requires-clause-order : goal.of_pairs-requires-clause-order
+of_pairs-requires-clause-order c =
+    subst (λ (qs : List (ℕ × ℕ)). (k l : ℕ) → k ≤ l → l < length qs → first_of qs k ≤ first_of qs l) (sym c.deref.ensures.value)
+    (sorted_firsts c.sort_unstable.new.self.items c.sort_unstable.ensures.sorted)
 
-pub returns-in_err-check_acyclic-clause-refused : goal.returns-in_err-check_acyclic-clause-refused
-returns-in_err-check_acyclic-clause-refused c =
-    let starts = c.in_ok-starts.starts.items in
-    let needs = c.in_ok-starts.needs.items in
-    let p = err_from_is_err_and c.from_residual-in_err-check_acyclic.result c.from_residual-in_err-check_acyclic.ensures.1 in
-    let e = c.in_err-check_acyclic.field-0.0 in
-    let same = subst (λ q. AreSamePairs q (pairs_of starts needs)) c.into_rows-starts.ensures.spelled c.in_ok-starts.ensures.same in
-    rw (p.1, p.2) (fault-back c.args.needs.pairs (pairs_of starts needs) c.args.n e same
-    (of_lent (λ s f. IsGraphFault (pairs_of s f) c.args.n e) c.deref.result.now c.deref-2.result.now starts needs (sym c.deref.ensures.value) (sym c.deref-2.ensures.value) c.in_err-check_acyclic.ensures.refused))
+pub of_pairs-requires-clause-below : goal.of_pairs-requires-clause-below
+of_pairs-requires-clause-below c =
+    subst (λ (qs : List (ℕ × ℕ)). (k : ℕ) → k < length qs → first_of qs k ≤ c.args.n) (sym c.deref.ensures.value)
+    (λ k l. let r = (sorted_range c.args.pairs.items c.sort_unstable.new.self.items c.sort_unstable.ensures.permutation c.args.n c.requires.in_range k l).0 in omega arith)
 
-pub of_rows-requires-clause-few_pairs : goal.of_rows-requires-clause-few_pairs
-of_rows-requires-clause-few_pairs c =
-    let starts = c.in_ok-starts.starts.items in
-    let needs = c.in_ok-starts.needs.items in
-    let same = subst (λ q. AreSamePairs q (pairs_of starts needs)) c.into_rows-starts.ensures.spelled c.in_ok-starts.ensures.same in
-    omega (arith, same.count, length-pairs_of starts needs, c.requires.few_pairs)
+pub of_rows-requires-clause-in_range : goal.of_rows-requires-clause-in_range
+of_rows-requires-clause-in_range c =
+    subst (λ qs. AreInRange qs c.args.n) (sym (c.in_ok-needs.ensures.pairs ∙ c.deref.ensures.value))
+    (sorted_range c.args.pairs.items c.sort_unstable.new.self.items c.sort_unstable.ensures.permutation c.args.n c.requires.in_range)
+
+pub of_rows-requires-clause-apart : goal.of_rows-requires-clause-apart
+of_rows-requires-clause-apart c =
+    subst AreApart (sym (c.in_ok-needs.ensures.pairs ∙ c.deref.ensures.value))
+    (sorted_apart c.args.pairs.items c.sort_unstable.new.self.items c.sort_unstable.ensures.permutation c.requires.apart)
+
+pub returns-clause-same : goal.returns-clause-same
+returns-clause-same c =
+    let same = subst (AreSamePairs c.args.pairs.items) (sym (c.in_ok-needs.ensures.pairs ∙ c.deref.ensures.value)) (sorted_same c.args.pairs.items c.sort_unstable.new.self.items c.sort_unstable.ensures.permutation) in
+    IfOk-weaker c.of_rows.result _ _ (λ g graph. same_joined c.args.pairs.items c.in_ok-needs.needs.pairs g.pairs same graph) c.of_rows.ensures.same
 
 pub returns-clause-acyclic : goal.returns-clause-acyclic
 returns-clause-acyclic c =
-    let starts = c.in_ok-starts.starts.items in
-    let needs = c.in_ok-starts.needs.items in
-    let same = subst (λ q. AreSamePairs q (pairs_of starts needs)) c.into_rows-starts.ensures.spelled c.in_ok-starts.ensures.same in
-    acyclic-back c.args.needs.pairs (pairs_of starts needs) same
-    (of_lent (λ s f. IsAcyclic (pairs_of s f)) c.deref.result.now c.deref-2.result.now starts needs (sym c.deref.ensures.value) (sym c.deref-2.ensures.value) c.in_ok-check_acyclic.ensures.acyclic)
+    let same = subst (AreSamePairs c.args.pairs.items) (sym (c.in_ok-needs.ensures.pairs ∙ c.deref.ensures.value)) (sorted_same c.args.pairs.items c.sort_unstable.new.self.items c.sort_unstable.ensures.permutation) in
+    IfOk-weaker c.of_rows.result _ _ (λ g. acyclic-back c.args.pairs.items c.in_ok-needs.needs.pairs same) c.of_rows.ensures.acyclic
+
+pub returns-clause-refused : goal.returns-clause-refused
+returns-clause-refused c =
+    let same = subst (AreSamePairs c.args.pairs.items) (sym (c.in_ok-needs.ensures.pairs ∙ c.deref.ensures.value)) (sorted_same c.args.pairs.items c.sort_unstable.new.self.items c.sort_unstable.ensures.permutation) in
+    IfErr-weaker c.of_rows.result _ _ (λ e. fault-back c.args.pairs.items c.in_ok-needs.needs.pairs c.args.n e same) c.of_rows.ensures.refused

@@ -9,8 +9,8 @@ use Rattle.mine_graph.proofs.Reversed.{reversed_is_graph, turned_same}
 use Rattle.need_rows.proofs.Spelled.{length-pairs_of, spelled}
 use Rattle.mine_graph.proofs.graph.Graph.reversed.Goals as goal
 
-pub of_rows-requires-clause-few_pairs : goal.of_rows-requires-clause-few_pairs
-of_rows-requires-clause-few_pairs c =
+pub of_acyclic_rows-requires-clause-few_pairs : goal.of_acyclic_rows-requires-clause-few_pairs
+of_acyclic_rows-requires-clause-few_pairs c =
     let n = c.self.inside.blocks in
     let own = pairs_of c.self.inside.starts.items c.self.inside.needs.items in
     let kept = c.self.invariant in
@@ -20,8 +20,8 @@ of_rows-requires-clause-few_pairs c =
     let few = kept.few_arcs in
     omega (arith, by_second-count own n kept.graph.in_range, length-pairs_of c.self.inside.starts.items c.self.inside.needs.items)
 
-pub of_rows-requires-clause-graph : goal.of_rows-requires-clause-graph
-of_rows-requires-clause-graph c =
+pub of_acyclic_rows-requires-clause-graph : goal.of_acyclic_rows-requires-clause-graph
+of_acyclic_rows-requires-clause-graph c =
     let n = c.self.inside.blocks in
     let own = pairs_of c.self.inside.starts.items c.self.inside.needs.items in
     let kept = c.self.invariant in
@@ -30,8 +30,8 @@ of_rows-requires-clause-graph c =
     let is = spelled (by_second own n) c.self.inside.user_starts.items n kept.way_back.begin c.self.inside.users.items (by_second-range own n kept.graph.in_range) kept.way_back.hold in
     rw (starts, needs, is) (reversed_is_graph own n kept.graph)
 
-pub of_rows-requires-clause-rows : goal.of_rows-requires-clause-rows
-of_rows-requires-clause-rows c =
+pub of_acyclic_rows-requires-clause-rows : goal.of_acyclic_rows-requires-clause-rows
+of_acyclic_rows-requires-clause-rows c =
     let n = c.self.inside.blocks in
     let own = pairs_of c.self.inside.starts.items c.self.inside.needs.items in
     let kept = c.self.invariant in
@@ -48,9 +48,9 @@ returns-clause-reversed c =
     let starts = c.in_ok-starts.ensures.items ∙ c.deref.ensures.value in
     let needs = c.in_ok-needs.ensures.items ∙ c.deref-2.ensures.value in
     let is = spelled (by_second own n) c.self.inside.user_starts.items n kept.way_back.begin c.self.inside.users.items (by_second-range own n kept.graph.in_range) kept.way_back.hold in
-    let made : c.in_ok-of_rows.field-0.pairs ≡ by_second own n = c.in_ok-of_rows.ensures.pairs ∙ ap (λ s. pairs_of s c.in_ok-needs.needs.items) starts ∙ ap (pairs_of c.self.inside.user_starts.items) needs ∙ is in
+    let made : c.in_ok-of_acyclic_rows.field-0.pairs ≡ by_second own n = c.in_ok-of_acyclic_rows.ensures.pairs ∙ ap (λ s. pairs_of s c.in_ok-needs.needs.items) starts ∙ ap (pairs_of c.self.inside.user_starts.items) needs ∙ is in
     record {
-      same_blocks = c.in_ok-of_rows.ensures.blocks ∙ ap (λ (g : Graph). g.blocks) c.self.view_is;
-      pairs_are = subst (λ (g : Graph). AreSamePairs (turned g.pairs) c.in_ok-of_rows.field-0.pairs) c.self.view_is
+      same_blocks = c.in_ok-of_acyclic_rows.ensures.blocks ∙ ap (λ (g : Graph). g.blocks) c.self.view_is;
+      pairs_are = subst (λ (g : Graph). AreSamePairs (turned g.pairs) c.in_ok-of_acyclic_rows.field-0.pairs) c.self.view_is
           (subst (AreSamePairs (turned own)) (sym made) (turned_same own n kept.graph.in_range));
     }

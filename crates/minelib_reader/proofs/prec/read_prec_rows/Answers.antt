@@ -8,7 +8,7 @@ use Rattle.minelib_reader.proofs.AnswerLemmas.{answered, answered_value}
 use Rattle.minelib_reader.proofs.PrecGrammarLemmas.{spelled}
 use Rattle.minelib_reader.proofs.PrecFaultLemmas.{fails_first}
 use Rattle.minelib_reader.proofs.PrecLimitLemmas.{lawful}
-use Rattle.minelib_reader.proofs.prec.read_prec.Goals as goal
+use Rattle.minelib_reader.proofs.prec.read_prec_rows.Goals as goal
 
 pub returns-clause-answers : goal.returns-clause-answers
 returns-clause-answers g c =

@@ -10,7 +10,7 @@ use Rattle.minelib_reader.proofs.AnswerLemmas.{value_told, fault_told}
 use Rattle.minelib_reader.proofs.PrecGrammarLemmas.{reads, spelled}
 use Rattle.minelib_reader.proofs.PrecFaultLemmas.{fails_first}
 use Rattle.minelib_reader.proofs.PrecLimitLemmas.{lawful}
-use Rattle.minelib_reader.proofs.prec.parse_prec.Goals as goal
+use Rattle.minelib_reader.proofs.prec.parse_prec_rows.Goals as goal
 
 pub returns-clause-spelled : goal.returns-clause-spelled
 returns-clause-spelled c =
