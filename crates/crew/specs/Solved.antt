@@ -53,3 +53,7 @@ pub data LooksFor (mine : Instance) (arc : ℕ) (before after : Option (List ℕ
   seen : (old new : List ℕ) → before ≡ Some old → after ≡ Some new → IsPrefix old new → answer ≡ is_merger mine (version_tree mine new) arc
       → LooksFor mine arc before after answer
   unseen : after ≡ before → answer ≡ false → LooksFor mine arc before after answer
+
+-- the version that a seat saw last shows the arc as a merger arc
+abbrev pub HasSeen : Instance → ℕ → Option (List ℕ) → Type 0
+HasSeen mine arc looks = (list : List ℕ) × (looks ≡ Some list) × IsTrue (is_merger mine (version_tree mine list) arc)

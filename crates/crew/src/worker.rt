@@ -2,7 +2,7 @@
 //! it sees there, serves the board under the lock where nobody else did, and collects its reply.
 ghost use Rattle.std.specs.Prelude.{◌≡◌, ◌<◌, ◌≤◌, suc, None, IfSome, IsTrue};
 ghost use Rattle.pit_model.specs.Mine.{arcs};
-ghost use Rattle.crew.specs.Solved.{HasMet, LooksFor};
+ghost use Rattle.crew.specs.Solved.{HasMet, HasSeen, LooksFor};
 
 use crate::gate::Gate;
 use crate::route::Route;
@@ -90,6 +90,7 @@ impl<S: LockId> Worker<S> {
     /// an ask, so that whoever publishes waits for one test at most.
     fn sees_merger(&mut self, arc: u32) -> bool
         ensures shown { LooksFor S.mine arc self.old.looks self.new.looks result }
+        ensures seen { IsTrue result → HasSeen S.mine arc self.new.looks }
         ensures inside { IsTrue result → arc < arcs S.mine }
     {
         let Some(seat) = self.looks.take() else {
@@ -153,8 +154,9 @@ impl<S: LockId> Worker<S> {
         self.serve(rt, sweep, HeldLock::begin(sweep.shared.lock(rt)))
     }
 
-    /// Asks for the arc, serves where nobody answered yet, and collects. It answers whether the worker is to go on, and the lock
-    /// where it keeps it. It is not to go on where the budget is used up, or memory was refused.
+    /// Asks for an arc that the worker saw as a merger arc, serves where nobody answered yet, and collects. It answers whether
+    /// the worker is to go on, and the lock where it keeps it. It is not to go on where the budget is used up, or memory was
+    /// refused.
     fn propose<'a, G: Gate, L: CounterId, R: Wait>(
         &mut self,
         rt: &R,
@@ -162,7 +164,8 @@ impl<S: LockId> Worker<S> {
         held: Option<HeldLock<'a, S>>,
         arc: u32,
     ) -> (bool, Option<HeldLock<'a, S>>)
-        requires { arc < S.arcs }
+        requires inside { arc < S.arcs }
+        requires seen { HasSeen S.mine arc self.old.looks }
     {
         sweep.board.ask(&mut self.asks, arc);
         sweep.gate.asked(self.number);
