@@ -29,7 +29,14 @@ fn check_files<F: InputFiles, W: OutBytes>(
     let certificate = files.open_certificate(options.certificate)?;
     let mut mine = readers_of(mine, &files.counters());
     let mut certificate = FileReader::new(certificate);
-    run_check(alloc, &mut mine, &mut certificate, out)
+    run_check(
+        alloc,
+        &mut mine.model,
+        &mut mine.prec,
+        &mut mine.fixed,
+        &mut certificate,
+        out,
+    )
 }
 
 /// The whole call of `check`: opens the files of a mine and then the certificate, and writes whether that shows the pit. A fault

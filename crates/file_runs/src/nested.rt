@@ -43,7 +43,8 @@ fn shells_files<R: AllocGlobal + Threads + Wait + Sync, F: InputFiles, W: OutByt
         options.revenue,
         options.cost,
         &factors,
-        options.asked,
+        options.asked.mode,
+        options.asked.pit,
     )
 }
 

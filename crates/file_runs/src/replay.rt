@@ -29,7 +29,14 @@ fn replay_files<F: InputFiles, W: OutBytes>(
     let journal = files.open_journal(options.journal)?;
     let mut mine = readers_of(mine, &files.counters());
     let mut journal = FileReader::new(journal);
-    run_replay(alloc, &mut mine, &mut journal, out)
+    run_replay(
+        alloc,
+        &mut mine.model,
+        &mut mine.prec,
+        &mut mine.fixed,
+        &mut journal,
+        out,
+    )
 }
 
 /// The whole call of `replay`: opens the files of a mine and then the journal, and writes what that comes to. A fault

@@ -14,7 +14,7 @@ use crate::readers::readers_of;
 use crate::writers::{output_of, writer_of};
 use faults::Fault;
 use minelib_reader::OutBytes;
-use runs::{SolveOutputs, Status, run_solve};
+use runs::{Status, run_solve};
 use std::alloc::AllocGlobal;
 use std::sync::Wait;
 use std::thread::Threads;
@@ -39,17 +39,21 @@ fn solve_files<R: AllocGlobal + Threads + Wait + Sync, F: OutputFiles, W: OutByt
         Err(fault) => return (Err(fault), out),
     };
     let mut mine = readers_of(mine, &files.counters());
-    let mut outputs = SolveOutputs {
-        journal: writer_of(journal),
-        certificate: writer_of(certificate),
-        out,
-    };
-    let outcome = run_solve(rt, rt.alloc(), &mut mine, &mut outputs, options.asked);
-    let SolveOutputs {
-        journal,
-        certificate,
-        out,
-    } = outputs;
+    let mut journal = writer_of(journal);
+    let mut certificate = writer_of(certificate);
+    let mut out = out;
+    let outcome = run_solve(
+        rt,
+        rt.alloc(),
+        &mut mine.model,
+        &mut mine.prec,
+        &mut mine.fixed,
+        &mut journal,
+        &mut certificate,
+        &mut out,
+        options.asked.mode,
+        options.asked.pit,
+    );
     let made = (output_of(journal), output_of(certificate));
     (end_outputs(files, made, outcome), out)
 }

@@ -1,5 +1,5 @@
 -- How a run of `solve` ends, over the bytes that went through its readers and its writers.
-use Rattle.std.specs.Prelude.{◌≡◌, ◌⊎◌, None, Ok, Err}
+use Rattle.std.specs.Prelude.{◌≡◌, ◌⊎◌, Option, None, Ok, Err}
 use Rattle.minelib_reader.specs.Device.{Progress}
 use Rattle.faults.specs.Refused.{exhausted, no_seat, write_failed}
 use Rattle.faults.specs.declared.fault.Fault.{Fault}
@@ -16,27 +16,25 @@ use Rattle.solver.specs.declared.mode.Mode.{Mode}
 use Rattle.solver.specs.Modes.{EndsWithin, IsShared, LacksRoom, RunsOut}
 use Rattle.solver.specs.Searched.{OfSearched, RefusesSearch}
 use Rattle.runs.specs.declared.asked.Asked.{Asked}
-use Rattle.runs.specs.declared.solve.SolveOutputs.{SolveOutputs}
 use Rattle.runs.specs.Solve.{Files, FixedMine, HoldsMine, RefusesMine, IsCutShort, fixed_in}
-use Rattle.runs.specs.Chosen.{Chosen, IsCountable, IsLeft, OfWriter, OfWriterIfAny, Stays, progress_of}
+use Rattle.runs.specs.Chosen.{Chosen, IsCountable, IsLeft, OfWriter, OfWriterIfAny, progress_of}
 use Rattle.runs.specs.Certified.{PutsCertificate, IsCertified, IsCertificateCut}
 use Rattle.runs.specs.Journaled.{AtAnyEnd, AtBudget, EndOf, MayJournal, PutsJournal, IsJournaled, IsJournalCut}
+
+-- what the command line asks for
+abbrev pub asked_for : Mode → Direction → Asked
+asked_for mode pit = record { mode = mode; pit = pit }
 
 -- this holds of the instance that is searched for the pit of the mine that the readers gave
 abbrev pub HoldsOfSearched : Direction → Files → (Instance → Type 0) → Type 0
 HoldsOfSearched direction files Holds = (task : FixedMine) × HoldsMine files task × OfSearched direction task.mine (fixed_in task) Holds
 
 -- the writers of a solve may be called; mode shared alone has one of a journal, and the least pit alone one of either
-pub record MayWrite {J C W : Type 0} (journal : J → Progress) (certificate : C → Progress) (asked : Asked) (outputs : SolveOutputs J C W) : Type 0 where
-  pub journal_countable : IsCountable (progress_of journal outputs.journal)
-  pub certificate_countable : IsCountable (progress_of certificate outputs.certificate)
-  pub may_journal : MayJournal asked.mode (progress_of journal outputs.journal)
-  pub may_record : (asked.pit ≡ Least) ⊎ ((progress_of journal outputs.journal ≡ None) × (progress_of certificate outputs.certificate ≡ None))
-
--- the writers of choice are there after a run as before it
-pub record OutputsStay {J C W : Type 0} (before after : SolveOutputs J C W) : Type 0 where
-  pub journal_stays : Stays before.journal after.journal
-  pub certificate_stays : Stays before.certificate after.certificate
+pub record MayWrite {J C : Type 0} (journal : J → Progress) (certificate : C → Progress) (asked : Asked) (journal_writer : Option J) (certificate_writer : Option C) : Type 0 where
+  pub journal_countable : IsCountable (progress_of journal journal_writer)
+  pub certificate_countable : IsCountable (progress_of certificate certificate_writer)
+  pub may_journal : MayJournal asked.mode (progress_of journal journal_writer)
+  pub may_record : (asked.pit ≡ Least) ⊎ ((progress_of journal journal_writer ≡ None) × (progress_of certificate certificate_writer ≡ None))
 
 -- nothing was written
 pub record IsUnwritten (journal certificate : Chosen) (before after : Progress) : Type 0 where

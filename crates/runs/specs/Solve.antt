@@ -83,6 +83,10 @@ files_of model model_ends prec prec_ends fixed fixed_ends before after = record 
   fixed = choice fixed fixed_ends before.fixed after.fixed;
 }
 
+-- the readers of a mine, in their order
+abbrev pub mine_files : {M P F : Type 0} → M → P → Option F → MineFiles M P F
+mine_files model prec fixed = record { model = model; prec = prec; fixed = fixed }
+
 -- a reader may be called: it can count another failure, and gives no more than the limit
 pub record IsReadable (p : Progress) : Type 0 where
   pub countable : p.failures < 2 ^ 63

@@ -5,9 +5,9 @@ ghost use Rattle.pit_model.specs.Fixed.{graph_of_mine};
 ghost use Rattle.std.specs.Io.KnownBytes.{Keeps};
 ghost use Rattle.runs.specs.Kept.{KeepsTexts};
 ghost use Rattle.runs.specs.Check.{status_of_answer, IsAnswered, IsChecked, RefusesCertificate, RefusesCheck};
-ghost use Rattle.runs.specs.Solve.{files_of, reading, task_of, MayRead};
+ghost use Rattle.runs.specs.Solve.{files_of, mine_files, reading, task_of, MayRead};
 
-use crate::mine::{MineFiles, Task, read_mine};
+use crate::mine::{Task, read_mine};
 use crate::status::Status;
 use certificate::{check, read};
 use faults::Fault;
@@ -46,26 +46,28 @@ fn answer_of<C: InBytes>(alloc: Global, task: &Task, certificate: &mut C) -> Res
 #[tactic(auto, using(crate::proofs::Keeping::still_kept, crate::proofs::Keeping::still_kept_if_any))]
 pub fn run_check<M: InBytes, P: InBytes, F: InBytes, C: InBytes, W: OutBytes>(
     alloc: Global,
-    files: &mut MineFiles<M, P, F>,
+    model: &mut M,
+    prec: &mut P,
+    fixed: &mut Option<F>,
     certificate: &mut C,
     out: &mut W,
 ) -> Result<Status, Fault>
-    requires read { MayRead M.progress P.progress F.progress files.old }
+    requires read { MayRead M.progress P.progress F.progress (mine_files model.old prec.old fixed.old) }
     requires certificate_countable { (C.progress certificate.old).failures < 2 ^ 63 }
     requires certificate_bounded { (C.progress certificate.old).allowance ≤ 2 ^ 40 }
     requires out_countable { (W.progress out.old).failures < 2 ^ 63 }
     ensures checked { IfOk result (IsChecked
-        (files_of M.progress M.IsAtEnd P.progress P.IsAtEnd F.progress F.IsAtEnd files.old files.new)
+        (files_of M.progress M.IsAtEnd P.progress P.IsAtEnd F.progress F.IsAtEnd (mine_files model.old prec.old fixed.old) (mine_files model.new prec.new fixed.new))
         (reading (C.progress certificate.old) (C.progress certificate.new) (C.IsAtEnd certificate.new))
         (W.progress out.old) (W.progress out.new)) }
     ensures refused { IfErr result (λ e. RefusesCheck e.refusal e
-        (files_of M.progress M.IsAtEnd P.progress P.IsAtEnd F.progress F.IsAtEnd files.old files.new)
+        (files_of M.progress M.IsAtEnd P.progress P.IsAtEnd F.progress F.IsAtEnd (mine_files model.old prec.old fixed.old) (mine_files model.new prec.new fixed.new))
         (reading (C.progress certificate.old) (C.progress certificate.new) (C.IsAtEnd certificate.new))
         (W.progress out.old) (W.progress out.new)) }
-    ensures files_kept { KeepsTexts M.known_text P.known_text F.known_text files.old files.new }
+    ensures files_kept { KeepsTexts M.known_text P.known_text F.known_text (mine_files model.old prec.old fixed.old) (mine_files model.new prec.new fixed.new) }
     ensures certificate_kept { Keeps (C.known_text certificate.old) (C.known_text certificate.new) }
 {
-    let task = read_mine(alloc, files)?;
+    let task = read_mine(alloc, model, prec, fixed)?;
     task.mine.law();
     let answer = answer_of(alloc, &task, certificate)?;
     write_answer(out, answer)?;

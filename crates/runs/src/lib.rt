@@ -25,5 +25,5 @@ pub use mode_words::{mode_fault, mode_of};
 pub use nested::run_shells;
 pub use pit_words::{pit_fault, pit_of};
 pub use replay::run_replay;
-pub use solve::{SolveOutputs, run_solve};
+pub use solve::run_solve;
 pub use status::{Status, exit_code};

@@ -4,7 +4,7 @@ ghost use Rattle.pit_model.specs.Fixed.{AreFixable, graph_of_mine};
 ghost use Rattle.mine_graph.specs.FixedBlocks.{IsFixedOf, lists_of};
 ghost use Rattle.minelib_reader.specs.Fixed.{fixed_lists};
 ghost use Rattle.runs.specs.Kept.{KeepsIfAny, KeepsTexts};
-ghost use Rattle.runs.specs.Solve.{choice, files_of, task_of, GaveFixed, HoldsMine, MayRead, MayReadIfAny, RefusesFixedText, RefusesMine};
+ghost use Rattle.runs.specs.Solve.{choice, files_of, mine_files, task_of, GaveFixed, HoldsMine, MayRead, MayReadIfAny, RefusesFixedText, RefusesMine};
 
 use counters::Phase;
 use faults::Fault;
@@ -52,20 +52,22 @@ fn read_lists<F: InBytes>(
 #[tactic(auto, using(crate::proofs::Keeping::still_kept, crate::proofs::Keeping::still_kept_if_any))]
 pub fn read_mine<M: InBytes, P: InBytes, F: InBytes>(
     alloc: Global,
-    files: &mut MineFiles<M, P, F>,
+    model: &mut M,
+    prec: &mut P,
+    fixed: &mut Option<F>,
 ) -> Result<Task, Fault>
-    requires { MayRead M.progress P.progress F.progress files.old }
-    ensures mine { IfOk result (λ t. HoldsMine (files_of M.progress M.IsAtEnd P.progress P.IsAtEnd F.progress F.IsAtEnd files.old files.new) (task_of t)) }
+    requires { MayRead M.progress P.progress F.progress (mine_files model.old prec.old fixed.old) }
+    ensures mine { IfOk result (λ t. HoldsMine (files_of M.progress M.IsAtEnd P.progress P.IsAtEnd F.progress F.IsAtEnd (mine_files model.old prec.old fixed.old) (mine_files model.new prec.new fixed.new)) (task_of t)) }
     ensures fixed { IfOk result (λ t. IsFixedOf (graph_of_mine t.mine) t.fixed) }
-    ensures refused { IfErr result (λ e. RefusesMine e.refusal e (files_of M.progress M.IsAtEnd P.progress P.IsAtEnd F.progress F.IsAtEnd files.old files.new)) }
-    ensures kept { KeepsTexts M.known_text P.known_text F.known_text files.old files.new }
+    ensures refused { IfErr result (λ e. RefusesMine e.refusal e (files_of M.progress M.IsAtEnd P.progress P.IsAtEnd F.progress F.IsAtEnd (mine_files model.old prec.old fixed.old) (mine_files model.new prec.new fixed.new))) }
+    ensures kept { KeepsTexts M.known_text P.known_text F.known_text (mine_files model.old prec.old fixed.old) (mine_files model.new prec.new fixed.new) }
 {
-    files.model.counters().enter(Phase::Reading);
-    let model = read_upit(alloc, &mut files.model)?;
-    let needs = read_prec_rows(alloc, &mut files.prec, model.n)?;
-    let (forced, barred) = read_lists(alloc, &mut files.fixed, model.n)?;
+    let counters = model.counters();
+    counters.enter(Phase::Reading);
+    let model = read_upit(alloc, model)?;
+    let needs = read_prec_rows(alloc, prec, model.n)?;
+    let (forced, barred) = read_lists(alloc, fixed, model.n)?;
     let graph = Graph::of_rows(alloc, model.n, needs)?;
-    let counters = files.model.counters();
     counters.enter(Phase::Solving);
     let mine = Instance::watched(Arc::new(alloc, graph)?, model.values, counters);
     mine.law();

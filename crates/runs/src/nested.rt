@@ -5,15 +5,15 @@ ghost use Rattle.std.specs.Io.KnownBytes.{Keeps};
 ghost use Rattle.runs.specs.Solve.{reading};
 ghost use Rattle.runs.specs.ShellsRun.{HoldsOfDeposit, IsShellsDone, RefusesShellsRun};
 
-use crate::asked::Asked;
 use crate::deposit::read_deposit;
 use crate::status::Status;
 use counters::Phase;
 use faults::Fault;
 use minelib_reader::{InBytes, OutBytes};
+use pit_model::Direction;
 use report::write_shells;
 use shells::{Factors, shells};
-use solver::OpenGate;
+use solver::{Mode, OpenGate};
 use std::alloc::Global;
 use std::sync::Wait;
 use std::thread::Threads;
@@ -34,22 +34,23 @@ pub fn run_shells<R: Threads + Wait + Sync, B: InBytes, P: InBytes, W: OutBytes>
     revenue: u32,
     cost: u32,
     factors: &Factors,
-    asked: Asked,
+    mode: Mode,
+    pit: Direction,
 ) -> Result<Status, Fault>
     requires blocks_countable { (B.progress blocks.old).failures < 2 ^ 63 }
     requires blocks_bounded { (B.progress blocks.old).allowance ≤ 2 ^ 40 }
     requires prec_countable { (P.progress prec.old).failures < 2 ^ 63 }
     requires prec_bounded { (P.progress prec.old).allowance ≤ 2 ^ 40 }
     requires out_countable { (W.progress out.old).failures < 2 ^ 63 }
-    ensures done { IfOk result (IsShellsDone asked.pit
+    ensures done { IfOk result (IsShellsDone pit
         (reading (B.progress blocks.old) (B.progress blocks.new) (B.IsAtEnd blocks.new))
         (reading (P.progress prec.old) (P.progress prec.new) (P.IsAtEnd prec.new))
         revenue cost factors.now (W.progress out.old) (W.progress out.new)) }
     ensures within { IfOk result (λ _. HoldsOfDeposit
         (reading (B.progress blocks.old) (B.progress blocks.new) (B.IsAtEnd blocks.new))
         (reading (P.progress prec.old) (P.progress prec.new) (P.IsAtEnd prec.new))
-        revenue cost (λ deposit. EachEndsWithin asked.mode asked.pit deposit factors.now)) }
-    ensures refused { IfErr result (λ e. RefusesShellsRun asked.mode asked.pit e.refusal e
+        revenue cost (λ deposit. EachEndsWithin mode pit deposit factors.now)) }
+    ensures refused { IfErr result (λ e. RefusesShellsRun mode pit e.refusal e
         (reading (B.progress blocks.old) (B.progress blocks.new) (B.IsAtEnd blocks.new))
         (reading (P.progress prec.old) (P.progress prec.new) (P.IsAtEnd prec.new))
         revenue cost factors.now (W.progress out.old) (W.progress out.new)) }
@@ -63,9 +64,9 @@ pub fn run_shells<R: Threads + Wait + Sync, B: InBytes, P: InBytes, W: OutBytes>
         &deposit.columns,
         &deposit.graph,
         factors,
-        &asked.mode,
+        &mode,
         &OpenGate,
-        asked.pit,
+        pit,
     )?;
     blocks.counters().enter(Phase::Writing);
     write_shells(out, &list)?;

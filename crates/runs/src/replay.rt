@@ -9,9 +9,9 @@ ghost use Rattle.pit_model.specs.Mine.{members};
 ghost use Rattle.std.specs.Io.KnownBytes.{Keeps};
 ghost use Rattle.runs.specs.Kept.{KeepsTexts};
 ghost use Rattle.runs.specs.Replay.{IsReplayed, IsReplayedOn, IsTold, IsToldReplay, NotTold, RefusesJournal, RefusesJournalOn, RefusesReplay, ShowsEnd};
-ghost use Rattle.runs.specs.Solve.{files_of, reading, task_of, MayRead, WritesPit};
+ghost use Rattle.runs.specs.Solve.{files_of, mine_files, reading, task_of, MayRead, WritesPit};
 
-use crate::mine::{MineFiles, Task, read_mine};
+use crate::mine::{Task, read_mine};
 use crate::status::Status;
 use faults::Fault;
 use merging::{Replayed, Rest, join_pit, replay};
@@ -105,26 +105,28 @@ fn put_end<W: OutBytes>(out: &mut W, task: &Task, end: &Replayed) -> Result<Stat
 #[tactic(auto, using(crate::proofs::Keeping::still_kept, crate::proofs::Keeping::still_kept_if_any))]
 pub fn run_replay<M: InBytes, P: InBytes, F: InBytes, J: InBytes, W: OutBytes>(
     alloc: Global,
-    files: &mut MineFiles<M, P, F>,
+    model: &mut M,
+    prec: &mut P,
+    fixed: &mut Option<F>,
     journal: &mut J,
     out: &mut W,
 ) -> Result<Status, Fault>
-    requires read { MayRead M.progress P.progress F.progress files.old }
+    requires read { MayRead M.progress P.progress F.progress (mine_files model.old prec.old fixed.old) }
     requires journal_countable { (J.progress journal.old).failures < 2 ^ 63 }
     requires journal_bounded { (J.progress journal.old).allowance ≤ 2 ^ 40 }
     requires out_countable { (W.progress out.old).failures < 2 ^ 63 }
     ensures told { IfOk result (IsToldReplay
-        (files_of M.progress M.IsAtEnd P.progress P.IsAtEnd F.progress F.IsAtEnd files.old files.new)
+        (files_of M.progress M.IsAtEnd P.progress P.IsAtEnd F.progress F.IsAtEnd (mine_files model.old prec.old fixed.old) (mine_files model.new prec.new fixed.new))
         (reading (J.progress journal.old) (J.progress journal.new) (J.IsAtEnd journal.new))
         (W.progress out.old) (W.progress out.new)) }
     ensures refused { IfErr result (λ e. RefusesReplay e.refusal e
-        (files_of M.progress M.IsAtEnd P.progress P.IsAtEnd F.progress F.IsAtEnd files.old files.new)
+        (files_of M.progress M.IsAtEnd P.progress P.IsAtEnd F.progress F.IsAtEnd (mine_files model.old prec.old fixed.old) (mine_files model.new prec.new fixed.new))
         (reading (J.progress journal.old) (J.progress journal.new) (J.IsAtEnd journal.new))
         (W.progress out.old) (W.progress out.new)) }
-    ensures files_kept { KeepsTexts M.known_text P.known_text F.known_text files.old files.new }
+    ensures files_kept { KeepsTexts M.known_text P.known_text F.known_text (mine_files model.old prec.old fixed.old) (mine_files model.new prec.new fixed.new) }
     ensures journal_kept { Keeps (J.known_text journal.old) (J.known_text journal.new) }
 {
-    let task = read_mine(alloc, files)?;
+    let task = read_mine(alloc, model, prec, fixed)?;
     task.mine.law();
     let end = replay_of(alloc, &task, journal)?;
     put_end(out, &task, &end)

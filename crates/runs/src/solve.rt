@@ -10,33 +10,25 @@ ghost use Rattle.runs.specs.Kept.{KeepsTexts};
 ghost use Rattle.runs.specs.Certified.{IsCertified, PutsCertificate};
 ghost use Rattle.runs.specs.Chosen.{chosen, progress_of, IsCountable, OfWriterIfAny, Stays};
 ghost use Rattle.runs.specs.Journaled.{EndOf, IsJournaled, MayJournal, MayPutEntries, PutsEntries, PutsJournal, RefusesEntries};
-ghost use Rattle.runs.specs.Run.{EndsJournaled, HoldsOfSearched, MayWrite, OutputsStay, RefusesOutcome, RefusesPit, RefusesRun};
-ghost use Rattle.runs.specs.Solve.{files_of, task_of, IsDone, MayRead};
+ghost use Rattle.runs.specs.Run.{asked_for, EndsJournaled, HoldsOfSearched, MayWrite, RefusesOutcome, RefusesPit, RefusesRun};
+ghost use Rattle.runs.specs.Solve.{files_of, mine_files, task_of, IsDone, MayRead};
 ghost use Rattle.solver.specs.Modes.{EndsWithin};
 ghost use Rattle.solver.specs.Searched.{EndsFixed, IsFound, OfSearched};
 
 use crate::asked::Asked;
-use crate::mine::{MineFiles, Task, read_mine};
+use crate::mine::{Task, read_mine};
 use crate::status::Status;
 use certificate::{Certificate, write};
 use counters::Phase;
 use faults::Fault;
 use merging::Outcome;
 use minelib_reader::{InBytes, OutBytes};
+use pit_model::Direction;
 use report::{write_journal, write_pit};
 use solver::{Entry, FoundPit, Mode, OpenGate, Search};
 use std::alloc::Global;
 use std::sync::Wait;
 use std::thread::Threads;
-
-/// What takes the texts of a solve, in the order in which they are written; those of the journal and of the certificate where
-/// they are wanted.
-#[derive(Drop)]
-pub struct SolveOutputs<J, C, W> {
-    pub journal: Option<J>,
-    pub certificate: Option<C>,
-    pub out: W,
-}
 
 /// Writes a certificate of the mine to its writer, where there is one.
 fn put_certificate<C: OutBytes>(
@@ -123,27 +115,28 @@ fn solve_journaled<J: OutBytes, R: Threads + Wait + Sync>(
 
 /// The least pit of a mine. Where there is a writer for the journal, or for the certificate that shows the pit, these go there,
 /// in this order.
-fn recorded_pit<J: OutBytes, C: OutBytes, W: OutBytes, R: Threads + Wait + Sync>(
+fn recorded_pit<J: OutBytes, C: OutBytes, R: Threads + Wait + Sync>(
     search: &Search<'_, R, OpenGate>,
     task: &Task,
-    outputs: &mut SolveOutputs<J, C, W>,
+    journal: &mut Option<J>,
+    certificate: &mut Option<C>,
 ) -> Result<FoundPit, Fault>
-    requires journal_countable { IsCountable (progress_of J.progress outputs.old.journal) }
-    requires may { MayJournal search.now.mode (progress_of J.progress outputs.old.journal) }
-    requires countable { IsCountable (progress_of C.progress outputs.old.certificate) }
+    requires journal_countable { IsCountable (progress_of J.progress journal.old) }
+    requires may { MayJournal search.now.mode (progress_of J.progress journal.old) }
+    requires countable { IsCountable (progress_of C.progress certificate.old) }
     requires fixed { IsFixedOf (graph_of_mine task.now.mine) task.now.fixed }
     ensures found { IfOk result (IsFound Least task.now.mine (fixed_of task.now.fixed.lists)) }
-    ensures journaled { IfOk result (λ _. PutsJournal IsSettled search.now.mode (task_of task.now) (chosen J.progress outputs.old.journal outputs.new.journal) (Ok tt)) }
-    ensures certified { IfOk result (λ _. PutsCertificate (task_of task.now) (chosen C.progress outputs.old.certificate outputs.new.certificate) (Ok tt)) }
+    ensures journaled { IfOk result (λ _. PutsJournal IsSettled search.now.mode (task_of task.now) (chosen J.progress journal.old journal.new) (Ok tt)) }
+    ensures certified { IfOk result (λ _. PutsCertificate (task_of task.now) (chosen C.progress certificate.old certificate.new) (Ok tt)) }
     ensures within { IfOk result (λ _. OfSearched Least task.now.mine (fixed_of task.now.fixed.lists) (EndsWithin search.now.mode)) }
-    ensures refused { IfErr result (λ e. RefusesPit search.now.mode Least (task_of task.now) e.refusal e (chosen J.progress outputs.old.journal outputs.new.journal) (chosen C.progress outputs.old.certificate outputs.new.certificate)) }
-    ensures no_pit { outputs.new.out ≡ outputs.old.out }
-    ensures stay { OutputsStay outputs.old outputs.new }
+    ensures refused { IfErr result (λ e. RefusesPit search.now.mode Least (task_of task.now) e.refusal e (chosen J.progress journal.old journal.new) (chosen C.progress certificate.old certificate.new)) }
+    ensures journal_stays { Stays journal.old journal.new }
+    ensures certificate_stays { Stays certificate.old certificate.new }
 {
-    match solve_journaled(search, task, &mut outputs.journal)? {
+    match solve_journaled(search, task, journal)? {
         Outcome::Exhausted(count) => Err(Fault::exhausted(count)),
         Outcome::Pit(shown) => {
-            put_certificate(&mut outputs.certificate, task, &shown)?;
+            put_certificate(certificate, task, &shown)?;
             task.mine.law();
             let worth = task.mine.worth(&shown.pit);
             Ok(FoundPit {
@@ -156,22 +149,23 @@ fn recorded_pit<J: OutBytes, C: OutBytes, W: OutBytes, R: Threads + Wait + Sync>
 
 /// The pit that is asked for. Where neither a journal nor a certificate is wanted, the mine's graph is given up while the rest is
 /// solved; for the greatest pit neither is.
-fn solve_mine<J: OutBytes, C: OutBytes, W: OutBytes, R: Threads + Wait + Sync>(
+fn solve_mine<J: OutBytes, C: OutBytes, R: Threads + Wait + Sync>(
     rt: &R,
     alloc: Global,
     task: Task,
     asked: &Asked,
-    outputs: &mut SolveOutputs<J, C, W>,
+    journal: &mut Option<J>,
+    certificate: &mut Option<C>,
 ) -> Result<FoundPit, Fault>
-    requires may { MayWrite J.progress C.progress asked.now outputs.old }
+    requires may { MayWrite J.progress C.progress asked.now journal.old certificate.old }
     requires fixed { IsFixedOf (graph_of_mine task.mine) task.fixed }
     ensures found { IfOk result (IsFound asked.now.pit task.mine (fixed_of task.fixed.lists)) }
-    ensures journaled { IfOk result (λ _. PutsJournal IsSettled asked.now.mode (task_of task) (chosen J.progress outputs.old.journal outputs.new.journal) (Ok tt)) }
-    ensures certified { IfOk result (λ _. PutsCertificate (task_of task) (chosen C.progress outputs.old.certificate outputs.new.certificate) (Ok tt)) }
+    ensures journaled { IfOk result (λ _. PutsJournal IsSettled asked.now.mode (task_of task) (chosen J.progress journal.old journal.new) (Ok tt)) }
+    ensures certified { IfOk result (λ _. PutsCertificate (task_of task) (chosen C.progress certificate.old certificate.new) (Ok tt)) }
     ensures within { IfOk result (λ _. OfSearched asked.now.pit task.mine (fixed_of task.fixed.lists) (EndsWithin asked.now.mode)) }
-    ensures refused { IfErr result (λ e. RefusesPit asked.now.mode asked.now.pit (task_of task) e.refusal e (chosen J.progress outputs.old.journal outputs.new.journal) (chosen C.progress outputs.old.certificate outputs.new.certificate)) }
-    ensures no_pit { outputs.new.out ≡ outputs.old.out }
-    ensures stay { OutputsStay outputs.old outputs.new }
+    ensures refused { IfErr result (λ e. RefusesPit asked.now.mode asked.now.pit (task_of task) e.refusal e (chosen J.progress journal.old journal.new) (chosen C.progress certificate.old certificate.new)) }
+    ensures journal_stays { Stays journal.old journal.new }
+    ensures certificate_stays { Stays certificate.old certificate.new }
 {
     let search = Search {
         rt,
@@ -180,11 +174,11 @@ fn solve_mine<J: OutBytes, C: OutBytes, W: OutBytes, R: Threads + Wait + Sync>(
         direction: asked.pit,
         gate: &OpenGate,
     };
-    if outputs.journal.is_none() && outputs.certificate.is_none() {
+    if journal.is_none() && certificate.is_none() {
         let Task { mine, fixed } = task;
         return search.pit(mine, &fixed);
     }
-    recorded_pit(&search, &task, outputs)
+    recorded_pit(&search, &task, journal, certificate)
 }
 
 /// Reads a model, then a precedence file, then the file of fixed blocks, where there is one, and writes the text of the pit,
@@ -209,35 +203,42 @@ pub fn run_solve<
 >(
     rt: &R,
     alloc: Global,
-    files: &mut MineFiles<M, P, F>,
-    outputs: &mut SolveOutputs<J, C, W>,
-    asked: Asked,
+    model: &mut M,
+    prec: &mut P,
+    fixed: &mut Option<F>,
+    journal: &mut Option<J>,
+    certificate: &mut Option<C>,
+    out: &mut W,
+    mode: Mode,
+    pit: Direction,
 ) -> Result<Status, Fault>
-    requires read { MayRead M.progress P.progress F.progress files.old }
-    requires write { MayWrite J.progress C.progress asked outputs.old }
-    requires out_countable { (W.progress outputs.old.out).failures < 2 ^ 63 }
-    ensures done { IfOk result (IsDone asked.pit
-        (files_of M.progress M.IsAtEnd P.progress P.IsAtEnd F.progress F.IsAtEnd files.old files.new)
-        (W.progress outputs.old.out) (W.progress outputs.new.out)) }
-    ensures journaled { IfOk result (λ _. OfWriterIfAny (chosen J.progress outputs.old.journal outputs.new.journal) (IsJournaled IsSettled asked.mode
-        (files_of M.progress M.IsAtEnd P.progress P.IsAtEnd F.progress F.IsAtEnd files.old files.new))) }
-    ensures certified { IfOk result (λ _. OfWriterIfAny (chosen C.progress outputs.old.certificate outputs.new.certificate) (IsCertified
-        (files_of M.progress M.IsAtEnd P.progress P.IsAtEnd F.progress F.IsAtEnd files.old files.new))) }
-    ensures within { IfOk result (λ _. HoldsOfSearched asked.pit
-        (files_of M.progress M.IsAtEnd P.progress P.IsAtEnd F.progress F.IsAtEnd files.old files.new)
-        (EndsWithin asked.mode)) }
-    ensures refused { IfErr result (λ e. RefusesRun asked e.refusal e
-        (files_of M.progress M.IsAtEnd P.progress P.IsAtEnd F.progress F.IsAtEnd files.old files.new)
-        (chosen J.progress outputs.old.journal outputs.new.journal)
-        (chosen C.progress outputs.old.certificate outputs.new.certificate)
-        (W.progress outputs.old.out) (W.progress outputs.new.out)) }
-    ensures files_kept { KeepsTexts M.known_text P.known_text F.known_text files.old files.new }
-    ensures outputs_stay { OutputsStay outputs.old outputs.new }
+    requires read { MayRead M.progress P.progress F.progress (mine_files model.old prec.old fixed.old) }
+    requires write { MayWrite J.progress C.progress (asked_for mode pit) journal.old certificate.old }
+    requires out_countable { (W.progress out.old).failures < 2 ^ 63 }
+    ensures done { IfOk result (IsDone pit
+        (files_of M.progress M.IsAtEnd P.progress P.IsAtEnd F.progress F.IsAtEnd (mine_files model.old prec.old fixed.old) (mine_files model.new prec.new fixed.new))
+        (W.progress out.old) (W.progress out.new)) }
+    ensures journaled { IfOk result (λ _. OfWriterIfAny (chosen J.progress journal.old journal.new) (IsJournaled IsSettled mode
+        (files_of M.progress M.IsAtEnd P.progress P.IsAtEnd F.progress F.IsAtEnd (mine_files model.old prec.old fixed.old) (mine_files model.new prec.new fixed.new)))) }
+    ensures certified { IfOk result (λ _. OfWriterIfAny (chosen C.progress certificate.old certificate.new) (IsCertified
+        (files_of M.progress M.IsAtEnd P.progress P.IsAtEnd F.progress F.IsAtEnd (mine_files model.old prec.old fixed.old) (mine_files model.new prec.new fixed.new)))) }
+    ensures within { IfOk result (λ _. HoldsOfSearched pit
+        (files_of M.progress M.IsAtEnd P.progress P.IsAtEnd F.progress F.IsAtEnd (mine_files model.old prec.old fixed.old) (mine_files model.new prec.new fixed.new))
+        (EndsWithin mode)) }
+    ensures refused { IfErr result (λ e. RefusesRun (asked_for mode pit) e.refusal e
+        (files_of M.progress M.IsAtEnd P.progress P.IsAtEnd F.progress F.IsAtEnd (mine_files model.old prec.old fixed.old) (mine_files model.new prec.new fixed.new))
+        (chosen J.progress journal.old journal.new)
+        (chosen C.progress certificate.old certificate.new)
+        (W.progress out.old) (W.progress out.new)) }
+    ensures files_kept { KeepsTexts M.known_text P.known_text F.known_text (mine_files model.old prec.old fixed.old) (mine_files model.new prec.new fixed.new) }
+    ensures journal_stays { Stays journal.old journal.new }
+    ensures certificate_stays { Stays certificate.old certificate.new }
 {
-    let task = read_mine(alloc, files)?;
+    let task = read_mine(alloc, model, prec, fixed)?;
     let n = task.mine.graph().n();
-    let pit = solve_mine(rt, alloc, task, &asked, outputs)?;
-    files.model.counters().enter(Phase::Writing);
-    write_pit(&mut outputs.out, n, &pit.blocks, pit.worth)?;
+    let asked = Asked { mode, pit };
+    let pit = solve_mine(rt, alloc, task, &asked, journal, certificate)?;
+    model.counters().enter(Phase::Writing);
+    write_pit(out, n, &pit.blocks, pit.worth)?;
     Ok(Status::Done)
 }

@@ -1,6 +1,7 @@
 -- Each exit is a case of how the call ends.
 use Rattle.std.proofs.Common.{refl}
 use Rattle.std.proofs.lemmas.Result.{err_from_is_err_and}
+use Rattle.runs.specs.Solve.{mine_files}
 use Rattle.file_runs.specs.Over.{no_last, no_mine, ran}
 use Rattle.file_runs.proofs.Calling.{runs_replay}
 use Rattle.file_runs.proofs.Reading.{are_from_front}
@@ -19,7 +20,7 @@ returns-in_err-journal g c =
 
 pub returns : goal.returns
 returns g c =
-    ran c.open_mine.new.files _ _ c.readers_of-mine.result c.run_replay.new.files c.new-journal.result c.run_replay.new.journal
+    ran c.open_mine.new.files _ _ c.readers_of-mine.result (mine_files c.run_replay.new.model c.run_replay.new.prec c.run_replay.new.fixed) c.new-journal.result c.run_replay.new.journal
     c.in_ok-mine.ensures.opened c.in_ok-journal.ensures.opened
     (are_from_front _ _ _ c.in_ok-mine.mine.fixed c.readers_of-mine.result c.in_ok-mine.ensures.named c.readers_of-mine.ensures.named
     c.readers_of-mine.ensures.model c.readers_of-mine.ensures.prec c.readers_of-mine.ensures.fixed)
