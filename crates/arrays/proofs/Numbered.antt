@@ -67,7 +67,7 @@ are_fixable n numbers forced barred size f b =
 
 -- what is refused by the lists is refused by the numbers
 pub refuses_as : (graph : Graph) (numbers : List ℕ) (lists : FixedLists) (refusal : Refusal) (fault : Fault) (place : ℕ) → fixed_of lists ≡ fixed_by numbers
-    → RefusesFixed graph lists refusal fault → ((block : ℕ) → refusal ≡ FixedClash block → place ≡ block) → RefusesFixing graph.pairs numbers refusal place
-refuses_as graph numbers lists NoMemory fault place same h is = tt
-refuses_as graph numbers lists (FixedClash block) fault place same h is = (is block refl, subst (λ (f : Fixed). IsClash graph.pairs f block) same h.1)
-refuses_as graph numbers lists _ fault place same h is = h
+    → RefusesFixed graph lists refusal fault → ((block : ℕ) → refusal ≡ FixedClash block → place ≡ block) → (refusal ≡ NoMemory → place ≡ 0) → RefusesFixing graph.pairs numbers refusal place
+refuses_as graph numbers lists NoMemory fault place same h is none = none refl
+refuses_as graph numbers lists (FixedClash block) fault place same h is none = (is block refl, subst (λ (f : Fixed). IsClash graph.pairs f block) same h.1)
+refuses_as graph numbers lists _ fault place same h is none = h

@@ -29,9 +29,9 @@ pub record MarkCertified (values : List ℤ) (starts needs marks : List ℕ) (am
 
 -- why no flow by place is made or looked at: there is not a mark for each block; the rows are refused, or do not rise
 pub data RefusesCertified (blocks : ℕ) (starts needs marks : List ℕ) (refusal : Refusal) (place : ℕ) : Type 0 where
-  by_marks : refusal ≡ CountsDiffer → (length marks ≡ blocks → ⊥) → RefusesCertified blocks starts needs marks refusal place
+  by_marks : refusal ≡ CountsDiffer → place ≡ 0 → (length marks ≡ blocks → ⊥) → RefusesCertified blocks starts needs marks refusal place
   by_rows : RefusesRows blocks starts needs refusal place → RefusesCertified blocks starts needs marks refusal place
-  by_order : refusal ≡ IdOutOfPlace → (RowsRise starts needs → ⊥) → RefusesCertified blocks starts needs marks refusal place
+  by_order : refusal ≡ IdOutOfPlace → place ≡ 0 → (RowsRise starts needs → ⊥) → RefusesCertified blocks starts needs marks refusal place
 
 -- of an amount on a pair: it is negative, or above 10^30
 abbrev pub RefusesFlow : List ℤ → Refusal → ℕ → Type 0
@@ -42,16 +42,16 @@ RefusesFlow amounts _ place = ⊥
 -- why a flow is not looked at: or there is not an amount for each need; or a mark is neither 0 nor 1; or an amount is not as it must be
 pub data RefusesCheck (blocks : ℕ) (starts needs marks : List ℕ) (amounts : List ℤ) (refusal : Refusal) (place : ℕ) : Type 0 where
   by_arrays : RefusesCertified blocks starts needs marks refusal place → RefusesCheck blocks starts needs marks amounts refusal place
-  by_count : refusal ≡ CountsDiffer → (length amounts ≡ length needs → ⊥) → RefusesCheck blocks starts needs marks amounts refusal place
+  by_count : refusal ≡ CountsDiffer → place ≡ 0 → (length amounts ≡ length needs → ⊥) → RefusesCheck blocks starts needs marks amounts refusal place
   by_mark : refusal ≡ WrongHeader → place < length marks → 1 < get_or marks place 0 → RefusesCheck blocks starts needs marks amounts refusal place
   by_flow : RefusesFlow amounts refusal place → RefusesCheck blocks starts needs marks amounts refusal place
 
 -- the number of why no flow is made
 abbrev pub IsRefusedCertified : ℕ → List ℕ → List ℕ → List ℕ → List ℤ → List ℕ → ℕ → ℕ → Type 0
 IsRefusedCertified blocks starts needs marks high low number place =
-    (refusal : Refusal) × (number ≡ number_of refusal) × (RefusesCertified blocks starts needs marks refusal place ⊎ RefusesParts (length needs) high low refusal)
+    (refusal : Refusal) × (number ≡ number_of refusal) × (RefusesCertified blocks starts needs marks refusal place ⊎ RefusesParts (length needs) high low refusal place)
 
 -- and of why none is looked at
 abbrev pub IsRefusedCheck : ℕ → List ℕ → List ℕ → List ℕ → List ℤ → List ℕ → ℕ → ℕ → Type 0
 IsRefusedCheck blocks starts needs marks high low number place =
-    (refusal : Refusal) × (number ≡ number_of refusal) × (((amounts : List ℤ) × AreParts amounts high low × RefusesCheck blocks starts needs marks amounts refusal place) ⊎ RefusesParts (length needs) high low refusal)
+    (refusal : Refusal) × (number ≡ number_of refusal) × (((amounts : List ℤ) × AreParts amounts high low × RefusesCheck blocks starts needs marks amounts refusal place) ⊎ RefusesParts (length needs) high low refusal place)

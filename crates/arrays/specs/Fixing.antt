@@ -21,6 +21,6 @@ toward true = Greatest
 
 -- no memory; or the least barred block that must be dug
 abbrev pub RefusesFixing : List (ℕ × ℕ) → List ℕ → Refusal → ℕ → Type 0
-RefusesFixing pairs numbers NoMemory place = Unit {0}
+RefusesFixing pairs numbers NoMemory place = place ≡ 0
 RefusesFixing pairs numbers (FixedClash block) place = (place ≡ block) × IsClash pairs (fixed_by numbers) block
 RefusesFixing pairs numbers _ place = ⊥

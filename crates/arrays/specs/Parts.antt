@@ -9,8 +9,8 @@ pub record AreParts (amounts high : List ℤ) (low : List ℕ) : Type 0 where
   pub lows : length low ≡ length amounts
   pub each : (k : ℕ) → k < length amounts → get_or amounts k (pos 0) ≡ pos (2 ^ 64) *ℤ get_or high k (pos 0) +ℤ pos (get_or low k 0)
 
--- no memory; or there are not two parts for each of so many amounts
-abbrev pub RefusesParts : ℕ → List ℤ → List ℕ → Refusal → Type 0
-RefusesParts count high low NoMemory = Unit {0}
-RefusesParts count high low CountsDiffer = (length high ≡ count) × (length low ≡ count) → ⊥
-RefusesParts count high low _ = ⊥
+-- no memory; or there are not two parts for each of so many amounts; neither has a place
+abbrev pub RefusesParts : ℕ → List ℤ → List ℕ → Refusal → ℕ → Type 0
+RefusesParts count high low NoMemory place = place ≡ 0
+RefusesParts count high low CountsDiffer place = ((length high ≡ count) × (length low ≡ count) → ⊥) × (place ≡ 0)
+RefusesParts count high low _ place = ⊥

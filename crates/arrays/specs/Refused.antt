@@ -25,27 +25,27 @@ pub record IsNamedTwice (starts needs : List ℕ) (place : ℕ) : Type 0 where
   pub there : IsInRow starts block before
   pub same : get_or needs before 0 ≡ get_or needs place 0
 
--- no memory; or the cycle of the pairs
-abbrev pub RefusesPairs : List (ℕ × ℕ) → ℕ → Refusal → Type 0
-RefusesPairs pairs blocks NoMemory = Unit {0}
-RefusesPairs pairs blocks (Cycle list) = IsCycleList pairs blocks list.items
-RefusesPairs pairs blocks _ = ⊥
+-- no memory; or the cycle of the pairs; neither has a place
+abbrev pub RefusesPairs : List (ℕ × ℕ) → ℕ → Refusal → ℕ → Type 0
+RefusesPairs pairs blocks NoMemory place = place ≡ 0
+RefusesPairs pairs blocks (Cycle list) place = IsCycleList pairs blocks list.items × (place ≡ 0)
+RefusesPairs pairs blocks _ place = ⊥
 
--- no memory; or a fault of the arrays, with the place of `needs` where it lies
+-- no memory; or a fault of the arrays, with the place of `needs` where it lies, and 0 for one that lies at no place
 abbrev pub RefusesRows : ℕ → List ℕ → List ℕ → Refusal → ℕ → Type 0
-RefusesRows blocks starts needs NoMemory place = Unit {0}
-RefusesRows blocks starts needs OverLimit place = AreTooMany blocks needs
-RefusesRows blocks starts needs IdOutOfPlace place = AreRows blocks (length needs) starts → ⊥
+RefusesRows blocks starts needs NoMemory place = place ≡ 0
+RefusesRows blocks starts needs OverLimit place = AreTooMany blocks needs × (place ≡ 0)
+RefusesRows blocks starts needs IdOutOfPlace place = (AreRows blocks (length needs) starts → ⊥) × (place ≡ 0)
 RefusesRows blocks starts needs PredecessorOutOfRange place = (place < length needs) × (blocks ≤ get_or needs place 0)
 RefusesRows blocks starts needs NeedsItself place = IsInRow starts (get_or needs place 0) place
 RefusesRows blocks starts needs PredecessorTwice place = IsNamedTwice starts needs place
-RefusesRows blocks starts needs (Cycle list) place = (pairs : List (ℕ × ℕ)) × SpellPairs starts needs pairs × IsCycleList pairs blocks list.items
+RefusesRows blocks starts needs (Cycle list) place = (pairs : List (ℕ × ℕ)) × SpellPairs starts needs pairs × IsCycleList pairs blocks list.items × (place ≡ 0)
 RefusesRows blocks starts needs _ place = ⊥
 
 -- or there is not a mark for each block, or neither a number for each block nor none; or a number says nothing; or a barred
 -- block must be dug, by the pairs in whatever order
 abbrev pub RefusesSolve : ℕ → List ℕ → List ℕ → List ℕ → List ℕ → Refusal → ℕ → Type 0
-RefusesSolve blocks starts needs numbers marks CountsDiffer place = (length marks ≡ blocks) × AreForBlocks blocks numbers → ⊥
+RefusesSolve blocks starts needs numbers marks CountsDiffer place = ((length marks ≡ blocks) × AreForBlocks blocks numbers → ⊥) × (place ≡ 0)
 RefusesSolve blocks starts needs numbers marks WrongHeader place = (place < length numbers) × (2 < get_or numbers place 0)
 RefusesSolve blocks starts needs numbers marks (FixedClash block) place =
     (spelled pairs : List (ℕ × ℕ)) × SpellPairs starts needs spelled × AreSamePairs spelled pairs × RefusesFixing pairs numbers (FixedClash block) place
@@ -64,7 +64,7 @@ RefusesAmount block amount _ = ⊥
 
 -- no memory; or a block has such an amount
 abbrev pub RefusesAmounts : List ℤ → Refusal → ℕ → Type 0
-RefusesAmounts amounts NoMemory block = Unit {0}
+RefusesAmounts amounts NoMemory block = block ≡ 0
 RefusesAmounts amounts refusal block = (block < length amounts) × RefusesAmount block (get_or amounts block (pos 0)) refusal
 
 -- no memory; or the first factor of a list that breaks a check is refused by it
@@ -74,13 +74,13 @@ RefusesFactors factors refusal = (fault : Fault) × (fault.refusal ≡ refusal) 
 
 -- why nested pits are not marked: there is not a cost and a number for each revenue; or rows, amounts or factors are refused
 pub data RefusesShells (rows : PricedRows) (factors firsts : List ℕ) (refusal : Refusal) (place : ℕ) : Type 0 where
-  by_counts : refusal ≡ CountsDiffer → ((length firsts ≡ length rows.revenues) × (length rows.costs ≡ length rows.revenues) → ⊥) → RefusesShells rows factors firsts refusal place
+  by_counts : refusal ≡ CountsDiffer → place ≡ 0 → ((length firsts ≡ length rows.revenues) × (length rows.costs ≡ length rows.revenues) → ⊥) → RefusesShells rows factors firsts refusal place
   by_rows : RefusesRows (length rows.revenues) rows.starts rows.needs refusal place → RefusesShells rows factors firsts refusal place
   by_revenues : RefusesAmounts rows.revenues refusal place → RefusesShells rows factors firsts refusal place
   by_costs : RefusesAmounts rows.costs refusal place → RefusesShells rows factors firsts refusal place
-  by_factors : RefusesFactors factors refusal → RefusesShells rows factors firsts refusal place
+  by_factors : RefusesFactors factors refusal → place ≡ 0 → RefusesShells rows factors firsts refusal place
 
 -- the number of why nested pits are not marked
 abbrev pub IsRefusedShells : PricedRows → List ℕ → List ℕ → List ℤ → List ℕ → ℕ → ℕ → Type 0
 IsRefusedShells rows factors firsts high low number place =
-    (refusal : Refusal) × (number ≡ number_of refusal) × (RefusesShells rows factors firsts refusal place ⊎ RefusesParts (length factors) high low refusal)
+    (refusal : Refusal) × (number ≡ number_of refusal) × (RefusesShells rows factors firsts refusal place ⊎ RefusesParts (length factors) high low refusal place)

@@ -30,7 +30,7 @@ pub struct Certified {
 /// The certificate of a mine. Refused for want of memory alone.
 fn certificate_of(alloc: Global, mine: &Instance) -> Result<Certificate, Unsound>
     ensures certifies { IfOk result (IsCertificateOf mine.now) }
-    ensures refused { IfErr result (λ e. e.refusal ≡ Refusal.NoMemory) }
+    ensures refused { IfErr result (λ e. (e.refusal ≡ Refusal.NoMemory) × (e.place ≡ 0)) }
 {
     match solve_single(alloc, mine, None) {
         Ok(Outcome::Pit(certificate)) => Ok(certificate),

@@ -19,7 +19,8 @@ fn write_front(blocks: &[u32], room: &mut [u32])
 }
 
 /// Writes the blocks of the cycle that the rows of so many blocks have, each of which needs the next, and the last the first, as far as
-/// there is room, and answers how many they are; None where they have no cycle. Refused as `mine_of` is by its rows.
+/// there is room, and answers how many they are; None where they have no cycle. Refused as `mine_of` is by its rows; the room is then as
+/// it was.
 pub fn find_cycle(
     alloc: Global,
     blocks: usize,
@@ -29,6 +30,7 @@ pub fn find_cycle(
     ensures none { IfOk result (λ found. IfNone found (SpellNoCycle blocks rows.now.starts.now rows.now.seconds.now)) }
     ensures some { IfOk result (λ found. IfSome found (λ count. (0 < count) × WritesCycle blocks rows.now.starts.now rows.now.seconds.now room.new count)) }
     ensures refused { IfErr result (λ e. RefusesRows blocks rows.now.starts.now rows.now.seconds.now e.refusal e.place) }
+    ensures kept { IfErr result (λ _. room.new ≡ room.old) }
 {
     match graph_of(alloc, blocks, rows) {
         Ok(graph) => {

@@ -72,7 +72,8 @@ pub fn fixed_by(alloc: Global, graph: &Graph, numbers: &[u8]) -> Result<Fixed, U
 
 /// The block of a clash; of another refusal 0.
 fn clash_of(refusal: &Refusal) -> u32
-    ensures { (block : ℕ) → refusal.now ≡ Refusal.FixedClash block → result ≡ block }
+    ensures clash { (block : ℕ) → refusal.now ≡ Refusal.FixedClash block → result ≡ block }
+    ensures none { refusal.now ≡ Refusal.NoMemory → result ≡ 0 }
 {
     match refusal {
         Refusal::FixedClash(block) => *block,

@@ -59,7 +59,7 @@ fn graph_of_rows(alloc: Global, blocks: u32, needs: NeedRows) -> Result<Arc<Grap
     requires apart { AreApart needs.pairs }
     ensures blocks { IfOk result (λ g. g.value.blocks ≡ blocks) }
     ensures same { IfOk result (λ g. AreSamePairs needs.pairs g.value.pairs) }
-    ensures refused { IfErr result (λ e. RefusesPairs needs.pairs blocks e.refusal) }
+    ensures refused { IfErr result (λ e. RefusesPairs needs.pairs blocks e.refusal e.place) }
 {
     match Graph::of_rows(alloc, blocks, needs) {
         Ok(graph) => Ok(Arc::new(alloc, graph)?),

@@ -27,6 +27,7 @@ pub struct DepositArrays<'a> {
 fn factors_of(alloc: Global, list: &[u32]) -> Result<Factors, Unsound>
     ensures list { IfOk result (λ f. f ≡ list.now) }
     ensures refused { IfErr result (λ e. RefusesFactors list.now e.refusal) }
+    ensures no_place { IfErr result (λ e. e.place ≡ 0) }
 {
     let list = list.iter().copied().collect(alloc)?;
     match Factors::new(list) {

@@ -17,7 +17,7 @@ use std::alloc::Global;
 pub fn ordered_mine_of(alloc: Global, values: &[i64], rows: &Rows<'_>) -> Result<Instance, Unsound>
     ensures spelled { IfOk result (SpellMine values.now rows.now.starts.now rows.now.seconds.now) }
     ensures refused { IfErr result (λ e. RefusesRows (length values.now) rows.now.starts.now rows.now.seconds.now e.refusal e.place
-        ⊎ (e.refusal ≡ IdOutOfPlace) × (RowsRise rows.now.starts.now rows.now.seconds.now → ⊥)) }
+        ⊎ (e.refusal ≡ IdOutOfPlace) × (e.place ≡ 0) × (RowsRise rows.now.starts.now rows.now.seconds.now → ⊥)) }
 {
     let mine = mine_of(alloc, values, rows)?;
     mine.law();

@@ -14,7 +14,7 @@ impl From<AllocError> for Unsound {
     ghost use Rattle.std.specs.Prelude.{◌≡◌};
     ghost use Rattle.faults.specs.declared.refusal.Refusal.TheVariants.{NoMemory};
 
-    ghost from_gives = { λ _ e. e.refusal ≡ NoMemory };
+    ghost from_gives = { λ _ e. (e.refusal ≡ NoMemory) × (e.place ≡ 0) };
 
     fn from(_e: AllocError) -> Unsound {
         Unsound {
@@ -28,7 +28,7 @@ impl<T: Drop> From<AllocFailed<T>> for Unsound {
     ghost use Rattle.std.specs.Prelude.{◌≡◌};
     ghost use Rattle.faults.specs.declared.refusal.Refusal.TheVariants.{NoMemory};
 
-    ghost from_gives = { λ _ e. e.refusal ≡ NoMemory };
+    ghost from_gives = { λ _ e. (e.refusal ≡ NoMemory) × (e.place ≡ 0) };
 
     fn from(_e: AllocFailed<T>) -> Unsound {
         Unsound {

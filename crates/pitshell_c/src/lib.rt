@@ -253,6 +253,7 @@ pub extern "C" fn pitshell_cycle(
     ensures none { result ≡ 0 → count.new ≡ 0 → SpellNoCycle blocks starts.now needs.now }
     ensures some { result ≡ 0 → 0 < count.new → WritesCycle blocks starts.now needs.now cycle.new count.new }
     ensures refused { result ≢ 0 → (refusal : AnyRefusal) × (result ≡ number_of refusal) × RefusesRows blocks starts.now needs.now refusal place.new }
+    ensures kept { result ≢ 0 → cycle.new ≡ cycle.old }
     ensures no_blocks { result ≢ 0 → count.new ≡ 0 }
     ensures no_place { result ≡ 0 → place.new ≡ 0 }
 {

@@ -1,11 +1,11 @@
 -- Where there is not room for the parts, the lengths differ; and memory for the numbers may be refused.
-use Rattle.std.proofs.Common.{◌∙◌, sym, inr}
+use Rattle.std.proofs.Common.{◌∙◌, sym, inr, refl}
 use Rattle.std.proofs.lemmas.Bool.{false≢true}
 use Rattle.faults.specs.declared.refusal.Refusal.TheVariants.{CountsDiffer, NoMemory}
 use Rattle.pitshell_c.proofs.pitshell_check.Goals as goal
 
 pub returns-then-not-have_room-clause-refused : goal.returns-then-not-have_room-clause-refused
-returns-then-not-have_room-clause-refused c other = (CountsDiffer, c.number.ensures, inr (λ both. false≢true (sym c.if-not-have_room.true ∙ c.have_room.ensures.1 both)))
+returns-then-not-have_room-clause-refused c other = (CountsDiffer, c.number.ensures, inr ((λ both. false≢true (sym c.if-not-have_room.true ∙ c.have_room.ensures.1 both)), refl))
 
 pub returns-in_default-clause-refused : goal.returns-in_default-clause-refused
-returns-in_default-clause-refused c other = (NoMemory, c.number-in_default.ensures, inr tt)
+returns-in_default-clause-refused c other = (NoMemory, c.number-in_default.ensures, inr refl)

@@ -23,4 +23,4 @@ returns-in-Err-clause-refused c =
     let forced = c.in_ok-forced.forced.items in
     let barred = c.in_ok-barred.barred.items in
     refuses_as c.args.graph.now c.args.numbers.now (lists_of forced barred) c.in-Err.fault.refusal c.in-Err.fault c.clash_of.result
-    (lists_fix c.args.numbers.now forced barred c.in_ok-forced.ensures c.in_ok-barred.ensures) c.in-Err.ensures.refused c.clash_of.ensures
+    (lists_fix c.args.numbers.now forced barred c.in_ok-forced.ensures c.in_ok-barred.ensures) c.in-Err.ensures.refused c.clash_of.ensures.clash c.clash_of.ensures.none
