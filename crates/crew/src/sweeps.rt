@@ -103,11 +103,12 @@ impl<'a, S: LockId + Send + Sync, G: Gate + Sync> Crew<'a, S, G> {
             route: &self.route,
             gate: self.gate,
         };
-        run_workers(rt, &sweep, &mut self.workers, &mut draw_seats)?;
+        let swept = run_workers(rt, &sweep, &mut self.workers, &mut draw_seats);
+        draws.close(draw_seats);
+        swept?;
         for worker in self.workers.iter_mut() {
             worker.take_back(self.board);
         }
-        draws.close(draw_seats);
         Ok(())
     }
 

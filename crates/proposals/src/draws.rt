@@ -14,8 +14,8 @@ use std::marker::{Model, PhantomData};
 
 type Counter = Table<(), DrawLedger, Batch, Counts, Global>;
 
-/// A counter from which seats draw the numbers of chunks, from 0. To a contract it is the number of its seats.
-#[derive(Drop)]
+/// A counter from which seats draw the numbers of chunks, from 0. To a contract it is the number of its seats. It is not `Drop`, so
+/// that whoever has it must end it by `close`, with all its seats.
 pub struct Draws<L: CounterId> {
     counter: Counter,
     seats: u32,

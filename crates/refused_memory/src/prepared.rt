@@ -62,6 +62,18 @@ fn chunks_are_drawn<L: CounterId>(
     Some("no chunk is left")
 }
 
+/// The same by a counter and its seats, which end.
+fn all_are_drawn<L: CounterId>(draws: Draws<L>, mut seats: Vec<DrawSeat<L>>) -> Option<&'static str>
+    requires { length seats.items ≡ draws }
+{
+    let failed = match seats.as_mut_slice() {
+        [first, second] => chunks_are_drawn(&draws, first, second),
+        _ => Some("there are two seats"),
+    };
+    draws.close(seats);
+    failed
+}
+
 /// Takes the last memory, for the seats, and then runs all. The name of the first thing that was not as it must be.
 fn run<B: BoardId, L: CounterId>(
     alloc: Global,
@@ -79,16 +91,13 @@ fn run<B: BoardId, L: CounterId>(
         draws,
     } = prepared;
     let (board, mut workers, mut holder) = Board::<B>::new(alloc, board, u32::MAX)?;
-    let (draws, mut seats) = Draws::<L>::new(alloc, draws)?;
     let Some(mut worker) = workers.pop() else {
         return Ok(Some("there is a worker"));
     };
-    let (Some(mut second), Some(mut first)) = (seats.pop(), seats.pop()) else {
-        return Ok(Some("there are two seats"));
-    };
+    let (draws, seats) = Draws::<L>::new(alloc, draws)?;
     let merged = traces.into_iter().all(|trace| trace.runs_to_its_end());
     let failed = asks_go_back(&board, &mut worker, &mut holder);
-    let failed = failed.or(chunks_are_drawn(&draws, &mut first, &mut second));
+    let failed = failed.or(all_are_drawn(draws, seats));
     Ok(if merged {
         failed
     } else {
