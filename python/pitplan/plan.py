@@ -12,29 +12,20 @@ import numpy as np
 import pandas as pd
 from numpy.typing import NDArray
 
-from pitplan.blockmodel import (
-    depletion,
-    grid as grids,
-    missing_blocks,
-    plausibility,
-    reader,
-    reblock,
-    summary as summaries,
-    topography_cut,
-)
+from pitplan.blockmodel import depletion, missing_blocks, plausibility, reader
 from pitplan.blockmodel.grid import Grid
 from pitplan.config.project import Project, load, validated
 from pitplan.config.shells import IN_WORDS
 from pitplan.core.keyed_arrays import hash_of_all
 from pitplan.core.progress import Progress, silent
-from pitplan.crop import Model
 from pitplan.economics import block_values, haulage, period_costs
 from pitplan.economics.block_values import Values
 from pitplan.precedences import MOST_PAIRS, Needs, Pairs
-from pitplan.slopes import closure, domains
+from pitplan.preparation import Preparation
+from pitplan.slopes import closure
 from pitplan.slopes.domains import Walls
 
-from . import constraints, crop
+from . import constraints, preparation
 from .constraints import NOTHING, FixedBlocks, Settled
 from .errors import PlanError
 
@@ -257,47 +248,23 @@ def prepare(
 
 def prepared(project: Project, table: Optional[pd.DataFrame] = None, progress: Progress = silent) -> Plan:
     """The plan of a checked project; see `prepare`."""
-    source = str(project.table.file) if table is None else "table"
-    with progress.step(f"reading {source}"):
-        checked = reader.read(project) if table is None else reader.checked(table, project)
-    read = checked.frame
-    with progress.step("laying the grid"):
-        checked, laid = reblock.of_table(checked, project)
-        frame, source = checked.frame, checked.source
-        bare = grids.of_table(frame, laid, source, any_size=True)
-        summary = summaries.of_table(checked, bare, project)
-        frame, grid = missing_blocks.with_rows(frame, bare, project)
-    # Warnings come last, with the notes.
-    warnings = [
-        *(line for line in summary if line.startswith(plausibility.WARNING)),
-        *plausibility.of_tonnes(frame[project.table.tonnes].to_numpy(), grid),
-    ]
-    summary = [line for line in summary if not line.startswith(plausibility.WARNING)]
-    progress.lines(summary)
-    cut: list[str] = []
-    if project.table.topography:
-        with progress.step(f"cutting blocks by {project.table.topography.path}"):
-            frame, cut = topography_cut.cut(frame, grid, project, project.table.topography)
-    frame, mined = depletion.depleted(frame, grid, project)
-    cut += mined
-    with progress.step("laying the walls"):
-        region = domains.regions_of(frame, grid, project.table.region)
-        walls = domains.walls_of(region, grid, project.slopes)
-    whole = model = Model(frame, grid, region, source, len(checked.frame))
-    dropped: list[str] = []
-    if crop.is_too_large(model, project):
-        with progress.step("leaving out what no shell can reach"):
-            model, note = crop.left(whole, walls, project)
-            walls, dropped = domains.walls_of(model.region, model.grid, project.slopes), [note]
+    model = preparation.take(preparation.read_table(project, table, progress), preparation.OF_PLAN)
     with progress.step("weighing the blocks"):
-        plan = plan_of(project, model.frame, model.grid, walls, model.source)
-    plan.filled, plan.summary, plan.left_out, plan.read = checked.filled, summary, whole.known - model.known, read
-    plan.notes = [*checked.notes, *cut, *dropped, *notes_of(plan), *checked.warned, *warnings]
+        plan = plan_of(model)
+    plan.summary, plan.left_out, plan.read = model.summary, model.left_out, model.read.frame
+    return with_notes(plan, model)
+
+
+def with_notes(plan: Plan, model: Preparation) -> Plan:
+    """The plan with the notes of all steps; warnings come last."""
+    plan.filled = model.read.filled
+    plan.notes = [*model.notes, *notes_of(plan), *model.warnings]
     return plan
 
 
-def plan_of(project: Project, frame: pd.DataFrame, grid: Grid, walls: Walls, source: str) -> Plan:
-    """A plan of a checked table, without notes. Raises PlanError where its blocks cannot be weighed."""
+def plan_of(model: Preparation) -> Plan:
+    """The plan of a prepared block model, without notes. Raises PlanError where its blocks cannot be weighed."""
+    project, frame, grid, walls, source = model.project, model.frame, model.grid, model.walls, model.source
     values = block_values.values_of(
         frame, grid, project, source, lambda paying: closure.used_blocks(grid, walls, paying)
     )

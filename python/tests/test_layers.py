@@ -6,10 +6,22 @@ from pathlib import Path
 import pytest
 from conftest import ROOT
 
-# From the lowest to the highest. `errors`, `constraints`, `precedences`, `crop` and `plan` are modules beside the packages.
+# From the lowest to the highest. `errors`, `constraints`, `precedences`, `crop`, `preparation` and `plan` are modules beside the packages.
 LAYERS = (
     *("errors", "core", "config", "survey", "blockmodel", "economics", "slopes", "constraints", "precedences", "crop"),
-    *("plan", "solver", "pits", "pushbacks", "scheduling", "results", "verification", "studies", "export", "figures"),
+    *(
+        "preparation",
+        "plan",
+        "solver",
+        "pits",
+        "pushbacks",
+        "scheduling",
+        "results",
+        "verification",
+        "studies",
+        "export",
+        "figures",
+    ),
     *("report", "commands", "cli", "__main__"),
 )
 PACKAGE = ROOT / "python" / "pitplan"

@@ -10,6 +10,7 @@ from __future__ import annotations
 from collections.abc import Sequence
 from dataclasses import dataclass, replace
 from functools import cached_property
+from typing import Optional
 
 import numpy as np
 import pandas as pd
@@ -49,21 +50,36 @@ class Lattice:
         return [*self.frame.back(east, north), up]
 
 
-def of_table(table: Table, project: Project) -> tuple[Table, Project]:
-    """The table with a row a block, by level, row and column, and the project by which their grid is laid; both as they are where nothing
-    is asked for.
+@dataclass(frozen=True)
+class Reblocked:
+    """A table with one row for each block.
+
+    table    the rows of the blocks, by level, row and column
+    project  the project with the blocks' size and azimuth as its [grid]
+    parts    which rows of the table each block is made of; None if each row is a block
+    """
+
+    table: Table
+    project: Project
+    parts: Optional[Parts] = None
+
+
+def of_table(table: Table, project: Project) -> Reblocked:
+    """The blocks of a table's rows; the rows themselves if the project does not reblock them.
 
     Raises PlanError where a row lies between two blocks, or two rows in one place.
     """
     rules = project.table.reblock
     if rules is None:
-        return table, project
+        return Reblocked(table, project)
     lattice = of_counts(table, project, rules) if rules.counts else of_corner(table, project, rules)
-    frame, mixed = put_together(table.frame, lattice, project)
+    places, parts = parts_of(table.frame[project.table.tonnes].to_numpy(), lattice)
+    frame, mixed = put_together(table.frame, lattice.centres(places), places, parts, project)
     x, y, z = (grids.metres(side) for side in lattice.size)
     notes = [f"{len(table.frame):,} rows were put together to {len(frame):,} blocks of {x} x {y} x {z} m", *mixed]
     project = replace(project, grid=GridRules(lattice.size, project.grid.tolerance, lattice.frame.azimuth))
-    return replace(table, frame=frame, source=f"reblocked {table.source}", notes=(*table.notes, *notes)), project
+    blocks = replace(table, frame=frame, source=f"reblocked {table.source}", notes=(*table.notes, *notes))
+    return Reblocked(blocks, project, parts)
 
 
 def of_counts(table: Table, project: Project, rules: Reblock) -> Lattice:
@@ -115,18 +131,24 @@ def demand_apart(table: Table, project: Project) -> None:
         raise at_row(table.source, row, ", ".join(columns), "another row has this centre too")
 
 
-def put_together(frame: pd.DataFrame, lattice: Lattice, project: Project) -> tuple[pd.DataFrame, list[str]]:
-    """A row a block, and what is mixed in them."""
-    columns, fixed = project.table, project.fixed
+def parts_of(tonnes: np.ndarray, lattice: Lattice) -> tuple[np.ndarray, Parts]:
+    """Column, row and level of each block that holds rows, an array of blocks and these; and the rows as parts of the blocks."""
     column, row, level = lattice.places
     shape = [int(place.max()) + 1 for place in lattice.places]
     used, block = np.unique((level * shape[1] + row) * shape[0] + column, return_inverse=True)
     places = np.stack([used % shape[0], used // shape[0] % shape[1], used // (shape[0] * shape[1])], axis=1)
-    parts = Parts(block, len(used), frame[columns.tonnes].to_numpy())
-    result, mixed = pd.DataFrame(index=pd.RangeIndex(len(used))), []
+    return places, Parts(block, len(used), tonnes)
+
+
+def put_together(
+    frame: pd.DataFrame, centres: list[np.ndarray], places: np.ndarray, parts: Parts, project: Project
+) -> tuple[pd.DataFrame, list[str]]:
+    """A row a block, and what is mixed in them."""
+    columns, fixed = project.table, project.fixed
+    result, mixed = pd.DataFrame(index=pd.RangeIndex(parts.count)), []
     if columns.id:
         result[columns.id] = [f"{east + 1}-{north + 1}-{up + 1}" for east, north, up in places.tolist()]
-    for name, centre in zip((columns.x, columns.y, columns.z), lattice.centres(places)):
+    for name, centre in zip((columns.x, columns.y, columns.z), centres):
         result[name] = centre
     result = result.assign(
         **{columns.tonnes: parts.sums(parts.tonnes, TONNES_PLACES)}, **amounts(frame, parts, project)

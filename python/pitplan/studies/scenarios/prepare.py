@@ -50,8 +50,7 @@ def prepare(project: Project, folder: Path, progress: Progress, by: str = store.
     if of_blocks:
         of_blocks.demand_apt(project)
     solver = chosen(LIBRARY if of_blocks else project.solver)
-    with progress.step(f"reading {project.table.file}"):
-        base = read_base(project)
+    base = read_base(project, progress)
     demand_within(project, base.grid)
     progress.lines(summary.of_ground(base.table, base.grid, project))
     with progress.step("reading the models"):
@@ -173,7 +172,7 @@ def list_of(base: Base, read: Models) -> list[Scenario]:
 def common_parts(laid: Laid) -> dict[str, Any]:
     """What the answers of all scenarios depend on."""
     base, plan = laid.base, laid.plan
-    walls = {"code": base.walls.code, **{str(k): p.cone for k, p in enumerate(base.walls.patterns)}}
+    walls = {"code": plan.walls.code, **{str(k): p.cone for k, p in enumerate(plan.walls.patterns)}}
     return {
         "project": store.meaning(base.project, plan.reference),
         "grid": plan.grid.as_json(),

@@ -11,19 +11,20 @@ from typing import Iterator
 import numpy as np
 import pandas as pd
 
-from pitplan.blockmodel import grid as grids, missing_blocks, reader
+from pitplan import preparation
+from pitplan.blockmodel import reader
 from pitplan.blockmodel.grid import Grid
 from pitplan.blockmodel.reader import Table, format_of
 from pitplan.config.economics import Metal
 from pitplan.config.project import Project
 from pitplan.config.scenarios import Scenarios
 from pitplan.core.numeric_fields import HEADER_ROWS, at_row
+from pitplan.core.progress import Progress, silent
 from pitplan.core.text_format import demand_text
 from pitplan.core.text_tables import demand_columns, read_header
 from pitplan.errors import PlanError
-from pitplan.plan import Plan, notes_of, plan_of
-from pitplan.slopes import domains
-from pitplan.slopes.domains import Walls
+from pitplan.plan import Plan, plan_of, with_notes
+from pitplan.preparation import Preparation
 
 
 @dataclass(frozen=True)
@@ -36,22 +37,32 @@ class Model:
 
 @dataclass(frozen=True)
 class Base:
-    """What all models have in common.
+    """What all realisations have in common.
 
-    frame   the table's rows, and behind them those of cells without a row; where the models are columns of the table, these too
-    lists   for each metal the columns of its models, where they are columns of the table
-    table   the table as it was checked, without rows for cells that have none
+    prepared  the blocks without grades, or with the grades of each realisation if these are columns of the table
+    lists   for each metal the columns of its realisations, where they are columns of the table
     """
 
     project: Project
-    frame: pd.DataFrame
-    grid: Grid
-    walls: Walls
+    prepared: Preparation
     lists: dict[str, list[str]]
-    table: Table
+
+    @property
+    def frame(self) -> pd.DataFrame:
+        """The blocks of the table, and after them those that stand for missing blocks."""
+        return self.prepared.frame
+
+    @property
+    def grid(self) -> Grid:
+        return self.prepared.grid
+
+    @property
+    def table(self) -> Table:
+        """The blocks of the table as they were before any was missing or cut."""
+        return self.prepared.table
 
     def with_grades(self, grades: np.ndarray) -> pd.DataFrame:
-        """The table's rows with the grades of a model in the columns of the project's metals."""
+        """The blocks with the grades of a realisation in the columns of the project's metals."""
         columns = [metal.column for metal in self.project.metals]
         frame = self.frame.drop(columns=[name for names in self.lists.values() for name in names])
         return frame.assign(**{name: grades[:, number] for number, name in enumerate(columns)})
@@ -64,19 +75,15 @@ def scenarios_of(project: Project) -> Scenarios:
     return project.scenarios
 
 
-def read_base(project: Project) -> Base:
-    """The table, its grid and its walls. Raises PlanError with file, row and column where they cannot be used."""
+def read_base(project: Project, progress: Progress = silent) -> Base:
+    """The blocks that all realisations share. Raises PlanError as the steps of a plan do."""
     lists = column_lists(project)
     by_name = {metal.name: metal for metal in project.metals}
     simulated = [replace(by_name[name], column=column) for name, columns in lists.items() for column in columns]
     in_table = [metal for metal in project.metals if scenarios_of(project).columns and metal.name not in lists]
-    checked = reader.read(replace(project, metals=(*simulated, *in_table)))
-    frame, grid = missing_blocks.with_rows(
-        checked.frame, grids.of_table(checked.frame, project, checked.source), project
-    )
-    region = domains.regions_of(frame, grid, project.table.region)
-    walls = domains.walls_of(region, grid, project.slopes)
-    return Base(project, frame, grid, walls, lists, checked)
+    named = replace(project, metals=(*simulated, *in_table))
+    table = preparation.read_table(named, progress=progress, any_size=False)
+    return Base(project, preparation.take(table, preparation.OF_SCENARIOS), lists)
 
 
 def column_lists(project: Project) -> dict[str, list[str]]:
@@ -132,7 +139,7 @@ def name_of_model(path: Path) -> str:
 
 
 def read_model(path: Path, base: Base) -> np.ndarray:
-    """The grades of one table, whose rows may stand in any order, by the rows of the project's table."""
+    """The grades of one table, whose rows may be in any order, by those of the project's table."""
     columns, metals = base.project.table, base.project.metals
     source, grades = str(path), [metal.column for metal in metals]
     places = [columns.x, columns.y, columns.z]
@@ -157,15 +164,25 @@ def rows_by_id(frame: pd.DataFrame, base: Base, source: str) -> np.ndarray:
     at = pd.Index(base.frame[name]).get_indexer(ids)
     if (at < 0).any():
         row = int((at < 0).argmax())
-        raise at_row(source, row, str(name), f"{ids.iloc[row]} is no block of {base.table.source}")
+        raise at_row(source, row, str(name), f"{ids.iloc[row]} is no block of {base.prepared.read.source}")
     return at
 
 
 def rows_by_place(frame: pd.DataFrame, base: Base, source: str) -> np.ndarray:
     """For each row of a model the row of the table whose block has the same centre."""
-    grid, names = base.grid, base.project.table
-    steps, inside = [], np.ones(len(frame), dtype=bool)
-    x, y, z = (reader.filled_numbers(frame[name], source, name, False)[0] for name in (names.x, names.y, names.z))
+    names = base.project.table
+    axes = (names.x, names.y, names.z)
+    x, y, z = (reader.filled_numbers(frame[name], source, name, False)[0] for name in axes)
+    at = rows_on_grid(x, y, z, base)
+    if (at < 0).any():
+        why = f"no block of {base.prepared.read.source} lies there"
+        raise at_row(source, int((at < 0).argmax()), ", ".join(axes), why)
+    return at
+
+
+def rows_on_grid(x: np.ndarray, y: np.ndarray, z: np.ndarray, base: Base) -> np.ndarray:
+    """The row of the cell at each place; -1 where the place is off the grid by more than the tolerance, or the cell has no row."""
+    grid, steps, inside = base.grid, [], np.ones(len(x), dtype=bool)
     for axis, step in enumerate((*grid.steps(x, y), (z - grid.origin[2]) / grid.size[2])):
         place = np.rint(step)
         inside &= np.abs(step - place) * grid.size[axis] <= base.project.grid.tolerance
@@ -175,16 +192,12 @@ def rows_by_place(frame: pd.DataFrame, base: Base, source: str) -> np.ndarray:
     column, row, level = steps
     table_row = np.full(grid.count, -1, dtype=np.int64)
     table_row[grid.rows] = np.arange(len(grid.rows))
-    at = np.where(inside, table_row[np.where(inside, (level * grid.shape[1] + row) * grid.shape[2] + column, 0)], -1)
-    if (at < 0).any():
-        where = ", ".join((names.x, names.y, names.z))
-        raise at_row(source, int((at < 0).argmax()), where, f"no block of {base.table.source} lies there")
-    return at
+    return np.where(inside, table_row[np.where(inside, (level * grid.shape[1] + row) * grid.shape[2] + column, 0)], -1)
 
 
 def demand_every_block(at: np.ndarray, base: Base, source: str) -> None:
     """Refuses a model that has a block twice, or lacks one."""
-    known = len(base.table.frame)
+    known = len(base.prepared.read.frame)
     times = np.bincount(at, minlength=known)[:known]
     if times.max(initial=0) > 1:
         row = int(pd.Series(at).duplicated().to_numpy().argmax())
@@ -192,7 +205,7 @@ def demand_every_block(at: np.ndarray, base: Base, source: str) -> None:
     if times.min() == 0:
         row = int((times == 0).argmax()) + HEADER_ROWS
         raise PlanError(
-            f"{source}: {np.count_nonzero(times == 0):,} blocks are missing, first that of {base.table.source} row {row}"
+            f"{source}: {np.count_nonzero(times == 0):,} blocks are missing, first that of {base.prepared.read.source} row {row}"
         )
 
 
@@ -211,9 +224,6 @@ def envelope(base: Base, greatest: np.ndarray) -> Plan:
         return max(prices.get(metal.name, metal.price) for prices in scenarios_of(project).prices)
 
     metals = tuple(replace(metal, price=dearest(metal), selling_cost=Decimal(0)) for metal in project.metals)
-    plan = plan_of(
-        replace(project, metals=metals), base.with_grades(greatest), base.grid, base.walls, base.table.source
-    )
-    plan.filled = base.table.filled
-    plan.notes = notes_of(plan)
-    return plan
+    blocks = base.prepared.with_grades(base.with_grades(greatest), replace(project, metals=metals))
+    plan = plan_of(blocks)
+    return with_notes(plan, blocks)
