@@ -361,7 +361,7 @@ def test_what_is_refused(plan_folder, words, said):
         ([(COLUMNS, "")], "[scenarios] is missing: it names the models"),
         (
             [("years = 2\n", "years = 2\n" + MILL), ("processing_cost = 10\n", ""), *IN_MILL],
-            "[scenarios] are solved with one process",
+            "[[processes]]: a schedule over scenarios sends a block to one mill or leaves it as waste: leave it out",
         ),
     ],
 )

@@ -307,10 +307,6 @@ def test_phases_and_schedules_keep_to_the_capacities(plan_folder, without_figure
             [*WITH, ("[shells]", "[pushbacks]\ncount = 2\n[schedule]\nbins = 2\n[shells]")],
             r"\[schedule\] bins and ore_per_year are of one process",
         ),
-        (
-            [*WITH, ("[shells]", '[scenarios]\ncolumns = { copper = "cu*" }\n[shells]')],
-            r"\[scenarios\] are solved with one process",
-        ),
     ],
 )
 def test_what_is_wrong_is_named(plan_folder, changes, said):

@@ -135,8 +135,6 @@ def demand_processes_agree(project: Project) -> None:
                 raise PlanError(
                     f"{path}: [[processes]] {process.name} recovers {name}, which is none of the [[metals]] {', '.join(metals)}"
                 )
-    if names and project.scenarios:
-        raise PlanError(f"{path}: [scenarios] are solved with one process: leave out [[processes]]")
     rules = project.schedule_rules
     if names and rules and (rules.bins is not None or rules.ore_per_year is not None):
         raise PlanError(

@@ -27,7 +27,7 @@ from pitplan.core.decimals import Exact, Rounding, at_factor, product, total
 from pitplan.errors import PlanError
 
 from .haulage import Hauled
-from .process_routing import Steps, Way, best_way, steps_of, worth
+from .process_routing import Steps, Way, best_way, most_steps, steps_of, worth
 from .value_notes import notes_of
 from .weighing import Rows
 
@@ -47,6 +47,7 @@ class Values:
     feed, undiluted tonnes that come to the mill if it is processed, and these without the rock that dilutes them
     cutoff      "moving" or "fixed"
     first_level the level below which each costs more to mine, by `mining_cost_per_level`
+    shared      of scenarios the block of each shared node for processing; None: the nodes are those of the steps
     hauled      roads and what hauling costs, which the other amounts have in them; None where the project has no `[haulage]`
     """
 
@@ -85,13 +86,16 @@ class Values:
 
     @cached_property
     def steps(self) -> Steps:
-        """The nodes for processing. Scenarios share their blocks, since one file of needs serves all: in some they are worth nothing."""
+        """The nodes for processing. Scenarios share nodes, since one file of precedences serves all: a scenario may leave some without a
+        step."""
         if self.cutoff != "moving":
             return Steps(*[np.zeros(0, dtype=np.int64)] * 4)
         if len(self.ways) > 1:
-            return steps_of(self.ways)
-        block = self.ore if self.shared is None else self.shared
-        return Steps(block, np.zeros(len(block), dtype=np.int64), self.revenue[block], self.processing[block])
+            steps = steps_of(self.ways)
+        else:
+            block = self.ore
+            steps = Steps(block, np.zeros(len(block), dtype=np.int64), self.revenue[block], self.processing[block])
+        return steps if self.shared is None else steps.on(self.shared)
 
     @property
     def processed(self) -> np.ndarray:
@@ -114,9 +118,17 @@ class Values:
         """The most that each cell can be worth at a factor, in billionths: less than 0 where it cannot pay for itself."""
         if self.cutoff == "fixed":
             gain = np.where(self.pays, at_factor(factor, self.revenue, self.processing), 0)
-        else:
-            gain = np.maximum(np.max([worth(way, factor) for way in self.ways], axis=0), 0)
+            return total(gain, product(self.mining, -1000))
+        return self.value_bound(factor)
+
+    def value_bound(self, factor: int) -> np.ndarray:
+        """The same for either cut-off, if cells yield no more in any process than here and cost no less."""
+        gain = np.maximum(np.max([worth(way, factor) for way in self.ways], axis=0), 0)
         return total(gain, product(self.mining, -1000))
+
+    def with_shared_nodes(self) -> Values:
+        """The same with the nodes that serve every scenario whose blocks yield no more than here in any process."""
+        return replace(self, shared=most_steps(self.ways)) if self.cutoff == "moving" else self
 
 
 def values_of(

@@ -14,6 +14,7 @@ from dataclasses import dataclass
 import numpy as np
 
 from pitplan.core.decimals import at_factor
+from pitplan.errors import PlanError
 
 
 @dataclass(frozen=True)
@@ -34,7 +35,7 @@ class Steps:
     """The processing nodes, by block and there one after the other.
 
     block    the cell of each
-    way      the number of the process to which it leads
+    way      the number of the process to which it leads; -1 of a node without a step
     revenue, cost  what the step adds to that of the step before, in millionths
     """
 
@@ -42,6 +43,29 @@ class Steps:
     way: np.ndarray
     revenue: np.ndarray
     cost: np.ndarray
+
+    def on(self, block: np.ndarray) -> Steps:
+        """The same steps on given nodes, whose blocks rise and repeat as often as they have nodes.
+
+        The steps of a block take its first nodes. Its other nodes cost and yield nothing, and only such nodes depend on them. So at every
+        factor the smallest pit has the same blocks and the same steps as without these nodes.
+
+        Raises
+        ------
+        PlanError
+            If a block has more steps than nodes.
+        """
+        rank = np.arange(len(self.block)) - np.searchsorted(self.block, self.block)
+        at = np.searchsorted(block, self.block) + rank
+        lacking = at >= len(block)
+        lacking[~lacking] = block[at[~lacking]] != self.block[~lacking]
+        if lacking.any():
+            raise PlanError(
+                f"cell {self.block[lacking][0]} has more steps than nodes that scenarios share: please report this"
+            )
+        way, revenue, cost = (np.full(len(block), empty, dtype=np.int64) for empty in (-1, 0, 0))
+        way[at], revenue[at], cost[at] = self.way, self.revenue, self.cost
+        return Steps(block, way, revenue, cost)
 
 
 def best_way(ways: tuple[Way, ...], factor: int) -> np.ndarray:
@@ -61,6 +85,15 @@ def best_way(ways: tuple[Way, ...], factor: int) -> np.ndarray:
 def worth(way: Way, factor: int) -> np.ndarray:
     """What each cell is worth in a process at a factor, in billionths, without its mining."""
     return at_factor(factor, way.revenue, way.cost)
+
+
+def most_steps(ways: tuple[Way, ...]) -> np.ndarray:
+    """The block of each node that the steps may take if no cell yields more in any process: one node for each process with a revenue.
+
+    Each step has more revenue than the one before, so a block has no more steps than such processes.
+    """
+    counts = np.sum([way.revenue > 0 for way in ways], axis=0)
+    return np.repeat(np.arange(len(counts)), counts)
 
 
 def steps_of(ways: tuple[Way, ...]) -> Steps:

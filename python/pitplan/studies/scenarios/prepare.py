@@ -136,12 +136,9 @@ def write_shared(laid: Laid, stage: Path) -> list[str]:
     project_writer.write(base.project, stage / store.PROJECT, base.project.path.parent)
     frame = plan.blocks
     grades = [metal.column for metal in base.project.metals]
-    costs = [
-        "mining_cost",
-        "revenue",
-        "processing_cost",
-        *(["haulage_cost", "ore_haulage_cost"] if base.project.haulage else []),
-    ]
+    costs = ["mining_cost", "revenue", "processing_cost"]
+    costs += ["haulage_cost", "ore_haulage_cost"] if base.project.haulage else []
+    costs += [f"{name}_{it.name}" for it in base.project.processes for name in ("revenue", "processing_cost")]
     csv_writer.write(stage / BLOCKS, frame.drop(columns=[*grades, *costs]))
     return [store.BASE, store.PROJECT, BLOCKS]
 

@@ -22,9 +22,11 @@ from pitplan.core.numeric_fields import HEADER_ROWS, at_row
 from pitplan.core.progress import Progress, silent
 from pitplan.core.text_format import demand_text
 from pitplan.core.text_tables import demand_columns, read_header
+from pitplan.economics import block_values
 from pitplan.errors import PlanError
 from pitplan.plan import Plan, plan_of, with_notes
 from pitplan.preparation import Preparation
+from pitplan.slopes import closure
 
 
 @dataclass(frozen=True)
@@ -217,7 +219,7 @@ def priced(project: Project, prices: dict[str, Decimal]) -> Project:
 
 def envelope(base: Base, greatest: np.ndarray) -> Plan:
     """A plan whose blocks pay wherever they do in any scenario: the greatest grades, the greatest prices, and no
-    selling cost. Its needs and its processing nodes serve every scenario."""
+    selling cost. Its precedences and its processing nodes serve every scenario."""
     project = base.project
 
     def dearest(metal: Metal) -> Decimal:
@@ -226,4 +228,10 @@ def envelope(base: Base, greatest: np.ndarray) -> Plan:
     metals = tuple(replace(metal, price=dearest(metal), selling_cost=Decimal(0)) for metal in project.metals)
     blocks = base.prepared.with_grades(base.with_grades(greatest), replace(project, metals=metals))
     plan = plan_of(blocks)
+    plan.values = plan.values.with_shared_nodes()
+    block_values.demand_few_nodes(plan.values, plan.grid)
+    if plan.values.cutoff == "fixed" and len(plan.values.ways) > 1:
+        # At other grades a block may go to another process, whose value rises faster with the factor.
+        paying = np.array(plan.values.value_bound(project.schedule.factors[-1]) > 0, dtype=bool)
+        plan.used |= closure.used_blocks(plan.grid, plan.walls, paying)
     return with_notes(plan, blocks)

@@ -79,7 +79,7 @@ class Shared:
     """What every scenario of a folder is solved with.
 
     frame   tonnes and rock, a row a block of the table
-    ore     the blocks that have a node for processing in the shared needs
+    ore     the block of each node for processing that scenarios share
     solver  what finds all answers
     settled what is dug and what is left for the sake of fixed blocks; None where the project has none
     """
@@ -198,7 +198,10 @@ def meaning(project: Project, reference: float) -> dict[str, Any]:
     project = referred(project, reference)
     without_prices = [asdict(replace(metal, price=Decimal(0))) for metal in project.metals]
     parts = {"money": asdict(project.money), "metals": without_prices, "slopes": asdict(project.slopes)}
-    return parts | ({"haulage": asdict(project.haulage)} if project.haulage else {})
+    parts |= {"haulage": asdict(project.haulage)} if project.haulage else {}
+    # No pit depends on what a process takes in a year.
+    processes = [asdict(replace(process, per_year=0.0)) for process in project.processes]
+    return parts | ({"processes": processes} if processes else {})
 
 
 def meaning_of_years(project: Project, years: int) -> dict[str, Any]:

@@ -129,6 +129,9 @@ def demand_of_scenarios(project: Project) -> None:
         "[schedule] least: a schedule for all scenarios cannot keep it in each": bool(rules.least),
         "[[schedule.sums]]: are of a table's columns, and scenarios have grades of their own": bool(rules.sums),
         of_metals: any(metal.prices for metal in project.metals),
+        "[[processes]]: a schedule over scenarios sends a block to one mill or leaves it as waste": bool(
+            project.processes
+        ),
     }
     for why, is_asked in asked.items():
         if is_asked:
