@@ -110,10 +110,6 @@ def test_sub_blocks_by_hand(plan_folder):
             [("reblock = [2, 2, 1]", "reblock = { size = [20, 20, 10], corner = [5, 0, 0] }")],
             "row 2 column x: lies on the edge of two blocks of 20 m from 5 on",
         ),
-        (
-            [("[slopes]\n", '[scenarios]\ncolumns = { copper = "cu*" }\n[slopes]\n')],
-            r"\[table\] reblock: is not done of \[scenarios\]",
-        ),
     ],
 )
 def test_what_is_wrong_is_named(plan_folder, changes, said):

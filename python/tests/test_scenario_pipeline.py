@@ -1,7 +1,8 @@
-"""Scenarios of several processes: each is the plan of its own grades and prices, block for block."""
+"""Scenarios of reblocked models and of several processes: each is the plan of its own grades and prices, block for block."""
 
 from dataclasses import replace
 from decimal import Decimal
+from types import SimpleNamespace
 
 import numpy as np
 import pandas as pd
@@ -11,19 +12,26 @@ from hypothesis import HealthCheck, given, settings, strategies as st
 
 import pitplan
 from pitplan import PlanError, load
+from pitplan.blockmodel import reblock
 from pitplan.core.progress import silent
 from pitplan.economics import process_routing
 from pitplan.pits import shell_tables
 from pitplan.solver import problem
 from pitplan.solver.choice import LIBRARY, PROGRAM
 from pitplan.studies.scenarios import pit_probability, prepare, realisations, worker
+from pitplan.verification import verify_folder
+from pitplan.verification.put_together import mean_grades
 from pitplan.verification.scenarios import verify
 
 pytestmark = pytest.mark.usefixtures("without_figures")
 SOME = settings(max_examples=12, suppress_health_check=[HealthCheck.function_scoped_fixture])
 COLUMNS = '[scenarios]\ncolumns = { copper = "cu_*" }\n'
 SETS = COLUMNS + "[[scenarios.prices]]\ncopper = 4000\n[[scenarios.prices]]\ncopper = 11_000\ngold = 80\n"
+MODELS = '[scenarios]\nmodels = "models"\n'
 GOLD = '[[metals]]\nname = "gold"\ncolumn = "au"\nunit = "gram_per_tonne"\nprice = 40\nrecovery = 0.5\n[slopes]\n'
+REBLOCK = ('file = "blocks.csv"', 'file = "blocks.csv"\nreblock = [2, 2, 1]')
+CORNER = ('file = "blocks.csv"', 'file = "blocks.csv"\nreblock = { size = [20, 20, 20], corner = [-10, 0, 0] }')
+ANY_SIZE = ("size = [10, 10, 10]\n", "tolerance = 0.01\n")
 
 
 def mine(seed, shape=(6, 4, 3)):
@@ -133,6 +141,65 @@ def of_processes_text(seed, count, cutoff, more, *changes):
     return of_processes(text)
 
 
+@SOME
+@given(st.integers(0, 10**6), st.booleans(), st.booleans())
+def test_scenarios_of_reblocked_models_are_plans_of_their_own(plan_folder, seed, by_corner, has_processes):
+    table, changes = mine(seed), [CORNER, ANY_SIZE] if by_corner else [REBLOCK, ANY_SIZE]
+    if has_processes:
+        path = plan_folder(table, of_processes_text(seed, 2, "moving", SETS, *changes))
+    else:
+        path = plan_folder(table, PROJECT + COLUMNS, *changes)
+    demand_plans_of_their_own(path, table, grades_of(table))
+
+
+def write_models(path, table):
+    """Three tables of grades with rows in orders of their own: by id, by centre, and by both."""
+    (path.parent / "models").mkdir()
+    for number, name in enumerate(("cu_a", "cu_b", "cu_c")):
+        model = table[["name", "x", "y", "z"]].assign(cu=table[name], au=table["au"])
+        model = model.drop(columns=[["x", "y", "z"], ["name"], []][number]).sample(frac=1, random_state=number)
+        model.to_csv(path.parent / "models" / f"{name}.csv", index=False)
+
+
+@pytest.mark.parametrize("change", [REBLOCK, CORNER])
+def test_rows_of_models_are_those_of_the_table_before_reblocking(plan_folder, change):
+    table = mine(11)
+    path = plan_folder(table, of_processes_text(11, 2, "moving", MODELS, change, ANY_SIZE))
+    write_models(path, table)
+    shared = demand_plans_of_their_own(path, table, grades_of(table))
+    pitplan.gather(shared.folder)
+    assert not [rule.name for rule in verify(shared.folder) if rule.differences]
+
+
+@pytest.mark.parametrize(
+    ("bend", "said"),
+    [
+        (lambda it: it.assign(name=["1-1-1", *it["name"][1:]]), "cu_a.csv row 2 column name: 1-1-1 is no block of "),
+        (lambda it: it[1:], "cu_a.csv: 1 blocks are missing, first that of "),
+        (lambda it: it.drop(columns="name").assign(x=it["x"] + 0.02), "column x, y, z: no block of "),
+    ],
+)
+def test_a_model_that_does_not_fit_the_rows_before_reblocking_is_named(plan_folder, bend, said):
+    table = mine(11)
+    path = plan_folder(table, PROJECT + MODELS, REBLOCK, ANY_SIZE)
+    (path.parent / "models").mkdir()
+    model = table[["name", "x", "y", "z"]].assign(cu=1)
+    bend(model).to_csv(path.parent / "models" / "cu_a.csv", index=False)
+    with pytest.raises(PlanError) as error:
+        prepared(path)
+    assert said in str(error.value) and "reblocked" not in str(error.value)
+
+
+def test_reblocked_grades_by_hand(plan_folder):
+    """Four blocks of 100, 300, 200 and 400 t in one: 1, 0, 2 and 0.5 % are 0.7 %; 1 % in the third alone is 0.2 %."""
+    tonnes = [100, 300, 200, 400]
+    table = rows(2, 2, 1, tonnes=lambda i, j, k: tonnes[i + 2 * j]).drop(columns="cu")
+    table = table.assign(cu_a=[1, 0, 2, 0.5], cu_b=[0, 0, 1, 0])
+    shared = prepared(plan_folder(table, PROJECT + COLUMNS, REBLOCK))
+    assert [shared.grades(it).tolist() for it in shared.scenarios] == [[[0.7]], [[0.2]]]
+    assert shared.frame["tonnes"].tolist() == [1000]
+
+
 def test_shared_nodes_by_hand(plan_folder):
     """Two processes and a block that is rich in one realisation, poor in another and barren in the third."""
     table = rows(1, 1, 2).drop(columns="cu").assign(cu_a=[0.8, 0], cu_b=[0.06, 0], cu_c=[0.0, 0])
@@ -156,9 +223,9 @@ def test_a_block_with_more_steps_than_shared_nodes_is_named():
     assert steps.on(np.array([1, 3, 3, 3, 5])).revenue.tolist() == [0, 3, 3, 0, 0]
 
 
-def test_each_process_is_part_of_the_key(plan_folder):
-    """With another cost, recovery or name no answer is taken for that of before."""
-    table, text = mine(3), of_processes_text(3, 2, "moving", COLUMNS)
+def test_processes_and_reblocking_are_part_of_the_key(plan_folder):
+    """With another of any of these no answer is taken for that of before."""
+    table, text = mine(3), of_processes_text(3, 2, "moving", COLUMNS, REBLOCK, ANY_SIZE)
 
     def keys(old="", new=""):
         assert not old or text.count(old) >= 1
@@ -171,6 +238,8 @@ def test_each_process_is_part_of_the_key(plan_folder):
     cost = next(line for line in text.split("\n") if line.startswith("cost = "))
     recovery = next(line for line in text.split("\n") if line.startswith("recovery = { copper"))
     changed = [
+        keys("reblock = [2, 2, 1]", "reblock = [2, 1, 1]"),
+        keys("reblock = [2, 2, 1]", "reblock = { size = [20, 20, 10], corner = [0, 0, 0] }"),
         keys(cost, cost + ".5"),
         keys(recovery, "recovery = { copper = 0.31 }"),
         keys('name = "p0"', 'name = "q0"'),
@@ -182,8 +251,12 @@ def test_each_process_is_part_of_the_key(plan_folder):
 
 @pytest.mark.parametrize("solver", [LIBRARY, PROGRAM])
 def test_either_solver_takes_shared_nodes(plan_folder, solver):
+    """In three processes, reblocked, with rock where rows are missing."""
+    rock = 'absent = { tonnes = 300, rock = "R", region = "1" }\n'
+    change = ('file = "blocks.csv"\n', f'file = "blocks.csv"\nreblock = [2, 2, 1]\n{rock}')
     table = mine(5)
-    path = plan_folder(table, of_processes_text(5, 3, "moving", SETS))
+    table = table[~((table["x"] < 20) & (table["y"] > 20) & (table["z"] < 20))].reset_index(drop=True)
+    path = plan_folder(table, of_processes_text(5, 3, "moving", SETS, change, ANY_SIZE))
     shared = demand_plans_of_their_own(path, table, grades_of(table), solver)
     pitplan.gather(shared.folder)
     assert not [rule.name for rule in verify(shared.folder) if rule.differences]
@@ -223,6 +296,30 @@ def test_schedules_by_block_refuse_processes_before_anything_is_read(plan_folder
         prepare.prepare(load(path), path.parent / "by_block", silent, "block")
 
 
+@pytest.mark.parametrize("change", [REBLOCK, CORNER])
+def test_schedules_by_block_of_reblocked_models_are_right(plan_folder, tmp_path, change):
+    """What a block holds and earns in each scenario is that of the plan of its own grades, and all that is written is verified."""
+    # It imports the library.
+    from pitplan.studies.scenarios.blocks.problem import weights_of
+
+    table = mine(4)
+    years = ("ore_per_year = 100", "ore_per_year = 2000\nrock_per_year = 4000")
+    path = plan_folder(table, PROJECT + COLUMNS, change, ANY_SIZE, years)
+    project = load(path)
+    shared = prepare.prepare(project, tmp_path / "by_block", silent, "block")
+    cells = shared.grid.rows
+    for scenario in shared.scenarios:
+        found = weights_of(worker.plan_of(shared, scenario), cells)
+        own = weights_of(alone(path, scenario, table, grades_of(table)), cells)
+        assert (found.mining == own.mining).all()
+        assert all((found.flows[name] == own.flows[name]).all() for name in (*found.flows, *own.flows))
+    for job in shared.jobs:
+        assert worker.solve(str(shared.folder), job.number).why == ""
+    pitplan.gather(shared.folder)
+    said = {rule.name: rule.differences for rule in verify_folder(shared.folder)}
+    assert {"reblocked", "block value", "one schedule"} <= set(said) and not any(said.values())
+
+
 def one_step_a_block(steps, block):
     first = np.flatnonzero(np.diff(steps.block, prepend=-1))
     at = np.searchsorted(block, steps.block[first])
@@ -232,13 +329,65 @@ def one_step_a_block(steps, block):
     return process_routing.Steps(block, *columns)
 
 
-def test_steps_that_are_left_out_are_found(plan_folder, monkeypatch):
+@pytest.mark.parametrize(
+    ("place", "name", "wrong", "found"),
+    [
+        # Means that are not weighted by tonnes.
+        (
+            reblock.Parts,
+            "grades",
+            lambda parts, grades: pd.DataFrame(grades).groupby(parts.block).mean().round(9).to_numpy(),
+            {"reblocked", "shells", "worth"},
+        ),
+        (process_routing.Steps, "on", one_step_a_block, {"worth"}),
+    ],
+)
+def test_what_is_prepared_wrongly_is_found(plan_folder, monkeypatch, place, name, wrong, found):
     table = mine(8)
-    path = plan_folder(table, of_processes_text(8, 3, "moving", COLUMNS))
-    monkeypatch.setattr(process_routing.Steps, "on", one_step_a_block)
+    path = plan_folder(table, of_processes_text(8, 3, "moving", MODELS, REBLOCK, ANY_SIZE))
+    write_models(path, table)
+    monkeypatch.setattr(place, name, wrong)
     shared = prepared(path)
     for scenario in shared.scenarios:
         assert worker.solve(str(shared.folder), scenario.number).status == 0
     monkeypatch.undo()
     pitplan.gather(shared.folder, writing=pitplan.Writing(verifies=False, figures=False))
-    assert {rule.name for rule in verify(shared.folder) if rule.differences} == {"worth"}
+    assert {rule.name for rule in verify(shared.folder) if rule.differences} == found
+
+
+def test_grades_that_are_kept_of_other_blocks_are_found(plan_folder):
+    table = mine(8)
+    path = plan_folder(table, PROJECT + COLUMNS, REBLOCK, ANY_SIZE)
+    shared = prepared(path)
+    for scenario in shared.scenarios:
+        assert worker.solve(str(shared.folder), scenario.number).status == 0
+    pitplan.gather(shared.folder)
+    file = shared.folder / "models" / f"{shared.scenarios[1].grades}.npy"
+    grades = np.load(file)
+    row = int(np.flatnonzero(grades[:, 0] == 0)[0]) if (grades[:, 0] == 0).any() else 0
+    np.save(file, grades + 2e-9 * (np.arange(len(grades)) == row)[:, None])
+    (rule,) = [rule for rule in verify(shared.folder) if rule.differences]
+    assert rule.name == "reblocked" and rule.count == 1 and "scenario 2, cu_b: block " in rule.differences[0]
+    np.save(file, grades[1:])
+    with pytest.raises(PlanError, match="has grades of 17 blocks, and the table 18"):
+        verify(shared.folder)
+    file.write_bytes(b"no grades")
+    with pytest.raises(PlanError, match="cannot be read as grades"):
+        verify(shared.folder)
+
+
+@given(st.integers(0, 10**6))
+def test_means_of_grades_are_exact_where_two_are_as_near(seed):
+    """Of two rows of the same tonnes half of the sums of grades in units of the ninth decimal are odd."""
+    random = np.random.default_rng(seed)
+    table = rows(6, 4, 2, tonnes=lambda i, j, k: 0.1 + 0.2 * k)
+    grades = random.integers(0, 10**4, (len(table), 2)) / 10**9 + random.integers(0, 100, (len(table), 1))
+    place = np.ravel_multi_index(
+        [table[axis].to_numpy().astype(int) // side for axis, side in zip("zyx", (10, 20, 20))], (2, 2, 3)
+    )
+    blocks, block = np.unique(place, return_inverse=True)
+    expected = reblock.Parts(block, len(blocks), table["tonnes"].to_numpy()).grades(grades)
+    centres = table.assign(block=block).groupby("block")[["x", "y", "z"]].mean()
+    grid = {"shape": (2, 2, 3), "origin": (10.0, 10.0, 15.0), "size": (20.0, 20.0, 10.0)}
+    columns = SimpleNamespace(x="x", y="y", z="z", tonnes="tonnes")
+    assert (mean_grades(table, centres, grades, columns, grid) == expected).all()

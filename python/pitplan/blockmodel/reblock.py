@@ -207,6 +207,10 @@ class Parts:
         means = nearest(product(content.whole, 10**places), unit)
         return Exact(np.where(some, means, 0), places).floats()
 
+    def grades(self, values: np.ndarray) -> np.ndarray:
+        """The grades of blocks, from an array of rows and metals to one of blocks and metals: means as those of the table's own."""
+        return np.column_stack([self.means(column, GRADE_PLACES) for column in values.T])
+
     def most(self, codes: np.ndarray) -> tuple[np.ndarray, float]:
         """The code of most tonnes of each block, of several the first by name, and how many tonnes are of another. In a block that weighs
         nothing all rows count alike."""

@@ -23,7 +23,7 @@ from pitplan.verification.answer import Answer
 from pitplan.verification.rules import TOLD, Rule, rule
 
 from ..errors import PlanError
-from . import absent, fixed, walls
+from . import fixed, walls
 from .best_ore import most_earned
 from .block_schedule import limits_of
 from .scenarios import SHARES, Verification, between, named
@@ -90,8 +90,7 @@ class Schedules:
         return list(limits_of(self.ground))
 
     def rules(self) -> list[Rule]:
-        of_ground = [check(self.ground) for check in (fixed.verify_places, absent.verify, walls.verify_steepness)]
-        return [*of_ground, self.whole.listed(), self.order(), *self.values()]
+        return [*self.whole.of_ground(), self.whole.listed(), self.order(), *self.values()]
 
     def order(self) -> Rule:
         """Cones, what is fixed, and years and shares, of the one schedule and of those of a sample."""

@@ -2,6 +2,7 @@
 
 from __future__ import annotations
 
+from fractions import Fraction
 from typing import Any, Optional
 
 import numpy as np
@@ -12,6 +13,9 @@ from pitplan.config.table import TableColumns
 
 from ..errors import PlanError
 from .turned import places_of, steps_of
+
+# What is kept of grades; and the distance in units of these from the middle of two within which a mean is taken exactly.
+GRADE_PLACES, NEAR = 9, 1e-3
 
 
 def together(parts: pd.DataFrame, project: Project, grid: dict[str, Any]) -> pd.DataFrame:
@@ -54,8 +58,49 @@ def of_most(frame: pd.DataFrame, name: str, columns: TableColumns) -> pd.Series:
     return sums.drop_duplicates(cell).set_index(cell)[name]
 
 
-def written_rows(expected: pd.DataFrame, written: pd.DataFrame, project: Project, grid: dict[str, Any]) -> pd.DataFrame:
-    """The answer's own rows of the cells that hold rows of the table, as `together` gives them. Raises PlanError where one is missing."""
+def mean_grades(
+    parts: pd.DataFrame, blocks: pd.DataFrame, grades: np.ndarray, columns: TableColumns, grid: dict[str, Any]
+) -> np.ndarray:
+    """The grades of blocks from those of the rows that lie in them: means by tonnes, to nine decimals.
+
+    By floats, and exactly where two numbers of nine decimals are as near. `grades` has a row for each of `parts` and a column for each metal.
+    """
+    row_of = np.full(int(np.prod(grid["shape"])), -1)
+    row_of[cells_of(blocks, columns, grid)] = np.arange(len(blocks))
+    block, tonnes = row_of[cells_of(parts, columns, grid)], parts[columns.tonnes].to_numpy()
+    order = np.argsort(block, kind="stable")
+    starts = np.searchsorted(block[order], np.arange(len(blocks) + 1))
+    whole, found = np.bincount(block, tonnes, minlength=len(blocks)), np.zeros((len(blocks), grades.shape[1]))
+    for number, column in enumerate(grades.T):
+        content = np.bincount(block, column * tonnes, minlength=len(blocks))
+        units = 10**GRADE_PLACES * np.divide(content, whole, out=np.zeros(len(blocks)), where=whole > 0)
+        found[:, number] = np.rint(units)
+        close = np.abs(units - np.floor(units) - 0.5) < NEAR + 4e-16 * np.diff(starts) * units
+        for row in np.flatnonzero(close).tolist():
+            of_row = order[starts[row] : starts[row + 1]]
+            found[row, number] = round(10**GRADE_PLACES * mean_of(column[of_row], tonnes[of_row]))
+    return found / 10**GRADE_PLACES
+
+
+def cells_of(frame: pd.DataFrame, columns: TableColumns, grid: dict[str, Any]) -> np.ndarray:
+    """The numbers of the cells in which the centres of rows lie, from the top down and there from the south-west."""
+    steps = steps_of(frame[[columns.x, columns.y, columns.z]].to_numpy(), grid)
+    east, north, up = np.floor(steps + 0.5).astype(np.int64).T
+    return np.ravel_multi_index((-up, north, east), grid["shape"])
+
+
+def mean_of(grades: np.ndarray, tonnes: np.ndarray) -> Fraction:
+    """The exact mean by tonnes of decimals."""
+    weights = [Fraction(repr(float(weight))) for weight in tonnes]
+    contents = (Fraction(repr(float(grade))) * weight for grade, weight in zip(grades, weights))
+    return sum(contents, Fraction(0)) / sum(weights, Fraction(0))
+
+
+def written_rows(
+    expected: pd.DataFrame, written: pd.DataFrame, project: Project, grid: dict[str, Any], source: str = "blocks.csv"
+) -> pd.DataFrame:
+    """The answer's own rows of the cells that hold rows of the table, as `together` gives them. Raises PlanError where one is missing from
+    `source`, the answer's file."""
     axes = [project.table.x, project.table.y, project.table.z]
 
     def places(frame: pd.DataFrame) -> pd.MultiIndex:
@@ -65,7 +110,7 @@ def written_rows(expected: pd.DataFrame, written: pd.DataFrame, project: Project
     at = places(written).get_indexer(places(expected))
     if (at < 0).any():
         raise PlanError(
-            f"blocks.csv: {np.count_nonzero(at < 0):,} blocks of the table's rows are not in it: has the table changed since?"
+            f"{source}: {np.count_nonzero(at < 0):,} blocks of the table's rows are not in it: has the table changed since?"
         )
     return written.iloc[at][list(expected.columns)].reset_index(drop=True)
 

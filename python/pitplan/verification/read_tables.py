@@ -51,7 +51,11 @@ def said_of(project: Project) -> tuple[str, ...]:
 
 
 def rows_of(
-    project: Project, written: pd.DataFrame, grid: dict[str, Any], table: Optional[pd.DataFrame] = None
+    project: Project,
+    written: pd.DataFrame,
+    grid: dict[str, Any],
+    table: Optional[pd.DataFrame] = None,
+    source: str = "blocks.csv",
 ) -> TableRows:
     """A row a block of the table, which is read unless it is given, that lies in the answer's grid; where its rows are put together to blocks
     these rows; and where some were left out the blocks beyond the grid. Raises PlanError as `beside` does."""
@@ -61,7 +65,7 @@ def rows_of(
         return inside, None, beyond
     inside, beyond = divided(together(frame, project, grid), project, grid)
     own = written.rename(columns={own_name(name): name for name in frame.columns})
-    found = written_rows(inside, own.loc[:, ~own.columns.duplicated(keep="last")], project, grid)
+    found = written_rows(inside, own.loc[:, ~own.columns.duplicated(keep="last")], project, grid, source)
     # What is cut is what was put together.
     tonnes = project.table.tonnes
     return (

@@ -44,7 +44,8 @@ def verify(answer: Answer) -> Rule:
         off = np.flatnonzero(other)
         differences += [f"{answer.called(row)}: {name} {column[row]} for {expected[name][row]}" for row in off[:TOLD]]
         count += len(off)
-    holds = f"each of {len(expected):,} blocks holds the {len(parts):,} rows that lie in it: tonnes, grades, codes, and what is fixed"
+    grades = "grades, " if answer.project.metals else ""
+    holds = f"each of {len(expected):,} blocks holds the {len(parts):,} rows that lie in it: tonnes, {grades}codes, and what is fixed"
     return rule("reblocked", holds, differences, count)
 
 

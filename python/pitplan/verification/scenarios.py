@@ -22,7 +22,7 @@ from pitplan.verification.read_tables import own_columns
 from pitplan.verification.rules import TOLD, Rule, rule
 
 from ..errors import PlanError
-from . import absent, fixed, money, sums, walls
+from . import absent, fixed, money, reblocked, sums, walls
 from .simulated import QUANTILES, SCENARIOS, Scenario, Simulated, Told, prices_of, read
 from .weighing import gains, weighed
 
@@ -69,27 +69,49 @@ class Verification:
     folder: Simulated
 
     def rules(self) -> list[Rule]:
-        of_ground = [check(self.ground) for check in (fixed.verify_places, absent.verify, walls.verify_steepness)]
-        return [*of_ground, self.listed(), *self.sampled(), *self.counted()]
+        return [*self.of_ground(), self.listed(), *self.sampled(), *self.counted()]
+
+    def of_ground(self) -> list[Rule]:
+        """What all scenarios share: blocks, missing blocks, walls, and what was reblocked."""
+        found = [check(self.ground) for check in (fixed.verify_places, absent.verify, walls.verify_steepness)]
+        if self.ground.parts is not None:
+            found.append(self.reblocked())
+        return found
+
+    def reblocked(self) -> Rule:
+        """Blocks hold the rows that lie in them, and in the sampled scenarios have the means of their grades."""
+        of_rows = reblocked.verify(replace(self.ground, project=replace(self.ground.project, metals=())))
+        differences, count = list(of_rows.differences), of_rows.count
+        for scenario in self.sample:
+            said, expected = self.folder.solved_grades(scenario), self.folder.grades(scenario.model)
+            off = np.argwhere(np.abs(said - expected) > reblocked.GRADE + 1e-12 * np.abs(expected))
+            for row, number in off[:TOLD].tolist():
+                metal = self.folder.project.metals[number].name
+                amounts = f"{metal} {said[row, number]:.10g} for {expected[row, number]:.10g}"
+                differences.append(f"{scenario.label}: {self.ground.called(row)}: {amounts}")
+            count += len(off)
+        holds = f"{of_rows.holds}; in {len(self.sample):,} scenarios all blocks have the means of their rows' grades"
+        return rule("reblocked", holds, differences, count)
 
     @cached_property
     def ground(self) -> Answer:
         """The blocks as if a plan had told of them in which none is dug."""
         folder = self.folder
         said = pd.DataFrame({"id": folder.told["id"].to_numpy(), "factor": 0})
-        rows, known = folder.rows, len(folder.table)
+        rows = folder.rows
         own = own_columns(folder.told, rows, np.arange(len(rows)))
         return Answer(
             folder.folder,
             folder.project,
             rows,
-            known,
+            folder.known,
             said,
             pd.DataFrame(),
             None,
             folder.record,
             folder.factors,
             own=own,
+            parts=folder.parts,
         )
 
     def listed(self) -> Rule:

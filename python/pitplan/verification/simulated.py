@@ -13,6 +13,7 @@ from typing import Any, Iterator, Optional
 
 import numpy as np
 import pandas as pd
+from scipy.spatial import KDTree
 
 from pitplan.blockmodel import reader as tables
 from pitplan.blockmodel.reader import format_of
@@ -20,9 +21,10 @@ from pitplan.config.project import Project, load
 from pitplan.config.scenarios import Scenarios
 from pitplan.core import keyed_arrays
 from pitplan.core.text_tables import read_header
-from pitplan.verification.read_tables import beside, nearest_cells, read_blocks
+from pitplan.verification.read_tables import beside, nearest_cells, read_blocks, rows_of
 
 from ..errors import PlanError
+from .put_together import mean_grades
 
 PROBABILITY, SCENARIOS, QUANTILES = "probability.csv", "scenarios.csv", "quantiles.csv"
 # In place of probability.csv, where blocks are scheduled.
@@ -74,7 +76,9 @@ class Simulated:
     record  scenarios.json
     table   the table as it is now, with the columns of the models, where they are columns
     rows    one row a block without grades: those of the table, and behind them those of cells that it has no row of
+    known   how many of these are of the table
     told    the same rows of probability.csv, or of schedules of one_schedule.csv
+    parts   with reblocking the table's rows without grades, which lie in the blocks; otherwise None
     """
 
     folder: Path
@@ -83,7 +87,9 @@ class Simulated:
     record: dict[str, Any]
     table: pd.DataFrame
     rows: pd.DataFrame
+    known: int
     told: pd.DataFrame
+    parts: Optional[pd.DataFrame] = None
 
     @property
     def factors(self) -> tuple[int, ...]:
@@ -106,17 +112,41 @@ class Simulated:
 
         Raises PlanError where the model's blocks are not those of the table.
         """
-        metals, found = self.project.metals, np.zeros((len(self.rows), len(self.project.metals)))
+        read, found = self.grades_of_rows(model), np.zeros((len(self.rows), len(self.project.metals)))
+        if self.parts is None:
+            found[: len(read)] = read
+        else:
+            blocks, grid = self.rows.iloc[: self.known], self.record["grid"]
+            found[: self.known] = mean_grades(self.parts, blocks, read, self.project.table, grid)
+        return found
+
+    def solved_grades(self, scenario: Scenario) -> np.ndarray:
+        """The grades with which a scenario was solved, as its folder keeps them. Raises PlanError where these are of other blocks."""
+        file = self.folder / "models" / f"{self.record['scenarios'][scenario.number - 1]['grades']}.npy"
+        try:
+            found: np.ndarray = np.load(file, allow_pickle=False)
+        except ValueError as error:
+            raise PlanError(f"{file}: cannot be read as grades: run pitplan scenarios again: {error}") from error
+        if found.shape != (len(self.rows), len(self.project.metals)):
+            raise PlanError(f"{file}: has grades of {len(found):,} blocks, and the table {len(self.rows):,}")
+        return found
+
+    def grades_of_rows(self, model: Model) -> np.ndarray:
+        """Grades of a model, a row for each that the model may name and a column a metal."""
+        metals = self.project.metals
         if model.file is None:
-            columns = [model.columns.get(metal.name, metal.column) for metal in metals]
-            found[: len(self.table)] = self.table[columns].to_numpy()
-            return found
-        frame = self.read_model(model.file)
+            return self.table[[model.columns.get(metal.name, metal.column) for metal in metals]].to_numpy()
+        frame, found = self.read_model(model.file), np.zeros((len(self.named), len(metals)))
         at = self.places_of(frame, model.file)
         for number, metal in enumerate(metals):
             zero = self.project.table.empty == "zero"
             found[at, number] = tables.filled_numbers(frame[metal.column], str(model.file), metal.column, zero)[0]
         return found
+
+    @property
+    def named(self) -> pd.DataFrame:
+        """The rows that a model may name: with reblocking those of the table, before they are put together."""
+        return self.rows if self.parts is None else self.parts
 
     def read_model(self, file: Path) -> pd.DataFrame:
         columns = self.project.table
@@ -126,21 +156,29 @@ class Simulated:
         return frame
 
     def places_of(self, frame: pd.DataFrame, file: Path) -> np.ndarray:
-        """The rows of the blocks of a model's table, told by their ids where it has these, else by their centres."""
-        columns, grid = self.project.table, self.record["grid"]
+        """The rows of the blocks of a model's table, found by their ids where it has these, else by their centres."""
+        columns = self.project.table
         if columns.id and columns.id in frame:
-            numbers = {name: row for row, name in enumerate(self.rows[columns.id])}
+            numbers = {name: row for row, name in enumerate(self.named[columns.id])}
             at = frame[columns.id].str.strip().map(numbers).fillna(-1).to_numpy(dtype=np.int64)
         else:
-            axes = [columns.x, columns.y, columns.z]
-            row_of = np.full(int(np.prod(grid["shape"])), -1, dtype=np.int64)
-            row_of[nearest_cells(self.rows[axes].to_numpy(), grid)] = np.arange(len(self.rows))
-            at = row_of[nearest_cells(frame[axes].to_numpy(dtype=np.float64), grid)]
+            at = self.at_centres(frame[[columns.x, columns.y, columns.z]].to_numpy(dtype=np.float64))
         if (at < 0).any():
             raise PlanError(
                 f"{file}: {np.count_nonzero(at < 0):,} of its blocks are not in the table: has it changed since?"
             )
         return at
+
+    def at_centres(self, centres: np.ndarray) -> np.ndarray:
+        """The rows with these centres; -1 where there is no such row."""
+        columns, grid = self.project.table, self.record["grid"]
+        own = self.named[[columns.x, columns.y, columns.z]].to_numpy()
+        if self.parts is None:
+            row_of = np.full(int(np.prod(grid["shape"])), -1, dtype=np.int64)
+            row_of[nearest_cells(own, grid)] = np.arange(len(own))
+            return row_of[nearest_cells(centres, grid)]
+        distance, at = KDTree(own).query(centres)
+        return np.where(distance <= 2 * self.project.grid.tolerance, at, -1)
 
     def answers(self) -> Iterator[tuple[Scenario, Told]]:
         """What the answers say that there are, one after the other. Raises PlanError where one cannot be read."""
@@ -176,9 +214,14 @@ def read(folder: Path, written: Path) -> Simulated:
     except ValueError as error:
         raise PlanError(f"{folder}: is no folder that pitplan scenarios has written: {error}") from error
     table = read_table(project)
-    named = [name for name in (*tables.names_of(replace(project, metals=())), project.table.tonnes) if name in table]
-    rows, _, order = beside(table[list(dict.fromkeys(named))], told, project, record["grid"], source)
-    return Simulated(folder, written, project, record, table, rows, told.iloc[order].reset_index(drop=True))
+    bare = replace(project, metals=())
+    named = [name for name in (*tables.names_of(bare), project.table.tonnes) if name in table]
+    frame, parts = table[list(dict.fromkeys(named))], None
+    if project.table.reblock:
+        frame, parts, _ = rows_of(bare, told, record["grid"], frame, source)
+    rows, known, order = beside(frame, told, project, record["grid"], source)
+    told = told.iloc[order].reset_index(drop=True)
+    return Simulated(folder, written, project, record, table, rows, known, told, parts)
 
 
 def asked(project: Project) -> Scenarios:

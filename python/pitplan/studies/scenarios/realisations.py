@@ -10,6 +10,7 @@ from typing import Iterator
 
 import numpy as np
 import pandas as pd
+from scipy.spatial import cKDTree
 
 from pitplan import preparation
 from pitplan.blockmodel import reader
@@ -62,6 +63,19 @@ class Base:
     def table(self) -> Table:
         """The blocks of the table as they were before any was missing or cut."""
         return self.prepared.table
+
+    @property
+    def rows(self) -> pd.DataFrame:
+        """The rows that a realisation's own table may name: with reblocking those of the table as it was read."""
+        return self.frame if self.prepared.parts is None else self.prepared.read.frame
+
+    def of_blocks(self, grades: np.ndarray) -> np.ndarray:
+        """The grades of the blocks, from those of the rows: with reblocking the means by tonnes, and 0 in missing blocks."""
+        if self.prepared.parts is None:
+            return grades
+        found = np.zeros((len(self.frame), grades.shape[1]))
+        found[: self.prepared.parts.count] = self.prepared.parts.grades(grades)
+        return found
 
     def with_grades(self, grades: np.ndarray) -> pd.DataFrame:
         """The blocks with the grades of a realisation in the columns of the project's metals."""
@@ -118,7 +132,7 @@ def models(base: Base) -> Iterator[Model]:
             yield Model(next(iter(columns.values())), base.frame[picked].to_numpy())
         return
     for path in model_files(base.project):
-        yield Model(name_of_model(path), read_model(path, base))
+        yield Model(name_of_model(path), base.of_blocks(read_model(path, base)))
 
 
 def model_files(project: Project) -> list[Path]:
@@ -141,7 +155,7 @@ def name_of_model(path: Path) -> str:
 
 
 def read_model(path: Path, base: Base) -> np.ndarray:
-    """The grades of one table, whose rows may be in any order, by those of the project's table."""
+    """The grades of one table, whose rows may be in any order, by the rows that it names."""
     columns, metals = base.project.table, base.project.metals
     source, grades = str(path), [metal.column for metal in metals]
     places = [columns.x, columns.y, columns.z]
@@ -151,7 +165,7 @@ def read_model(path: Path, base: Base) -> np.ndarray:
     demand_columns(frame, [*(codes if by_id else places), *grades], source)
     at = rows_by_id(frame, base, source) if by_id else rows_by_place(frame, base, source)
     demand_every_block(at, base, source)
-    result = np.zeros((len(base.frame), len(metals)))
+    result = np.zeros((len(base.rows), len(metals)))
     for number, name in enumerate(grades):
         values, _ = reader.filled_numbers(frame[name], source, name, columns.empty == "zero")
         reader.demand_none_below_0(values, source, name)
@@ -163,7 +177,7 @@ def rows_by_id(frame: pd.DataFrame, base: Base, source: str) -> np.ndarray:
     """For each row of a model the row of the table with the same id."""
     name = base.project.table.id
     ids = frame[name].str.strip()
-    at = pd.Index(base.frame[name]).get_indexer(ids)
+    at = pd.Index(base.rows[name]).get_indexer(ids)
     if (at < 0).any():
         row = int((at < 0).argmax())
         raise at_row(source, row, str(name), f"{ids.iloc[row]} is no block of {base.prepared.read.source}")
@@ -175,7 +189,7 @@ def rows_by_place(frame: pd.DataFrame, base: Base, source: str) -> np.ndarray:
     names = base.project.table
     axes = (names.x, names.y, names.z)
     x, y, z = (reader.filled_numbers(frame[name], source, name, False)[0] for name in axes)
-    at = rows_on_grid(x, y, z, base)
+    at = rows_on_grid(x, y, z, base) if base.prepared.parts is None else nearest_rows(np.stack([x, y, z], axis=1), base)
     if (at < 0).any():
         why = f"no block of {base.prepared.read.source} lies there"
         raise at_row(source, int((at < 0).argmax()), ", ".join(axes), why)
@@ -195,6 +209,13 @@ def rows_on_grid(x: np.ndarray, y: np.ndarray, z: np.ndarray, base: Base) -> np.
     table_row = np.full(grid.count, -1, dtype=np.int64)
     table_row[grid.rows] = np.arange(len(grid.rows))
     return np.where(inside, table_row[np.where(inside, (level * grid.shape[1] + row) * grid.shape[2] + column, 0)], -1)
+
+
+def nearest_rows(places: np.ndarray, base: Base) -> np.ndarray:
+    """The row with its centre nearest to each place; -1 where that is off by more than the tolerance along some axis."""
+    names = base.project.table
+    distance, at = cKDTree(base.rows[[names.x, names.y, names.z]].to_numpy()).query(places, p=np.inf)
+    return np.where(distance <= base.project.grid.tolerance, at, -1)
 
 
 def demand_every_block(at: np.ndarray, base: Base, source: str) -> None:

@@ -201,7 +201,8 @@ def meaning(project: Project, reference: float) -> dict[str, Any]:
     parts |= {"haulage": asdict(project.haulage)} if project.haulage else {}
     # No pit depends on what a process takes in a year.
     processes = [asdict(replace(process, per_year=0.0)) for process in project.processes]
-    return parts | ({"processes": processes} if processes else {})
+    parts |= {"processes": processes} if processes else {}
+    return parts | ({"reblock": asdict(project.table.reblock)} if project.table.reblock else {})
 
 
 def meaning_of_years(project: Project, years: int) -> dict[str, Any]:
