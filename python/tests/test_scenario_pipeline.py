@@ -1,4 +1,4 @@
-"""Scenarios of reblocked models and of several processes: each is the plan of its own grades and prices, block for block."""
+"""Scenarios of reblocked and cut models and of several processes: each is the plan of its own grades and prices, block for block."""
 
 from dataclasses import replace
 from decimal import Decimal
@@ -12,7 +12,7 @@ from hypothesis import HealthCheck, given, settings, strategies as st
 
 import pitplan
 from pitplan import PlanError, load
-from pitplan.blockmodel import reblock
+from pitplan.blockmodel import depletion, reblock, topography_cut
 from pitplan.core.progress import silent
 from pitplan.economics import process_routing
 from pitplan.pits import shell_tables
@@ -31,7 +31,10 @@ MODELS = '[scenarios]\nmodels = "models"\n'
 GOLD = '[[metals]]\nname = "gold"\ncolumn = "au"\nunit = "gram_per_tonne"\nprice = 40\nrecovery = 0.5\n[slopes]\n'
 REBLOCK = ('file = "blocks.csv"', 'file = "blocks.csv"\nreblock = [2, 2, 1]')
 CORNER = ('file = "blocks.csv"', 'file = "blocks.csv"\nreblock = { size = [20, 20, 20], corner = [-10, 0, 0] }')
+TOPOGRAPHY = ('file = "blocks.csv"', 'file = "blocks.csv"\ntopography = "ground.csv"')
 ANY_SIZE = ("size = [10, 10, 10]\n", "tolerance = 0.01\n")
+MINED = '[fixed]\nforced = "must"\nbarred = "never"\nsurface = "mined.csv"\n'
+WHOLE = MINED + 'topography = "blocks"\n'
 
 
 def mine(seed, shape=(6, 4, 3)):
@@ -70,6 +73,21 @@ def with_processes(seed, count, cutoff="moving"):
 def of_processes(text):
     """The text without the recoveries and the cost of a single process."""
     return text.replace("recovery = 0.5\n", "")
+
+
+def write_surface(path, height):
+    x, y = (axis.ravel() for axis in np.meshgrid(np.arange(-20, 101, 5.0), np.arange(-20, 81, 5.0)))
+    pd.DataFrame({"x": x, "y": y, "z": [height(*place) for place in zip(x, y)]}).to_csv(path, index=False)
+
+
+def ground(x, y):
+    """A slope within the upper level of three."""
+    return 30 - 0.12 * x - 0.03 * y
+
+
+def write_surfaces(place, depth=7.0):
+    write_surface(place / "ground.csv", ground)
+    write_surface(place / "mined.csv", lambda x, y: ground(x, y) - (depth if 10 <= x <= 30 and 10 <= y <= 30 else 0))
 
 
 def prepared(path, solver=None):
@@ -152,6 +170,40 @@ def test_scenarios_of_reblocked_models_are_plans_of_their_own(plan_folder, seed,
     demand_plans_of_their_own(path, table, grades_of(table))
 
 
+@SOME
+@given(st.integers(0, 10**6), st.booleans())
+def test_scenarios_of_models_that_a_topography_cuts_are_plans_of_their_own(plan_folder, tmp_path, seed, has_processes):
+    write_surfaces(tmp_path)
+    table = mine(seed)
+    text = of_processes_text(seed, 3, "moving", SETS) if has_processes else PROJECT + COLUMNS
+    demand_plans_of_their_own(plan_folder(table, text, TOPOGRAPHY), table, grades_of(table))
+
+
+@SOME
+@given(st.integers(0, 10**6), st.sampled_from([3.0, 7.0, 14.0]), st.booleans())
+def test_scenarios_of_mines_with_an_as_mined_surface_are_plans_of_their_own(plan_folder, tmp_path, seed, depth, cut):
+    write_surfaces(tmp_path, depth)
+    table, changes = mine(seed), [TOPOGRAPHY] if cut else []
+    text = of_processes_text(seed, 2, "moving", SETS + (MINED if cut else WHOLE))
+    demand_plans_of_their_own(plan_folder(table, text, *changes), table, grades_of(table))
+
+
+@pytest.mark.parametrize("solver", [LIBRARY, PROGRAM])
+def test_all_together_with_missing_blocks(plan_folder, tmp_path, solver):
+    """Reblocked, cut by the ground and by an as-mined surface, in three processes, with rock where rows are missing."""
+    write_surfaces(tmp_path)
+    rock = 'absent = { tonnes = 300, rock = "R", region = "1" }\n'
+    both = ('file = "blocks.csv"\n', f'file = "blocks.csv"\nreblock = [2, 2, 1]\ntopography = "ground.csv"\n{rock}')
+    table = mine(5)
+    table = table[~((table["x"] < 20) & (table["y"] > 20) & (table["z"] < 20))].reset_index(drop=True)
+    text = of_processes_text(5, 3, "moving", SETS + MINED, both, ANY_SIZE)
+    shared = demand_plans_of_their_own(plan_folder(table, text), table, grades_of(table), solver)
+    pitplan.gather(shared.folder)
+    assert len(shared.frame) == 18
+    said = {rule.name: rule.differences for rule in verify(shared.folder)}
+    assert {"reblocked", "as mined", "worth", "fixed", "absent"} <= set(said) and not any(said.values())
+
+
 def write_models(path, table):
     """Three tables of grades with rows in orders of their own: by id, by centre, and by both."""
     (path.parent / "models").mkdir()
@@ -223,18 +275,21 @@ def test_a_block_with_more_steps_than_shared_nodes_is_named():
     assert steps.on(np.array([1, 3, 3, 3, 5])).revenue.tolist() == [0, 3, 3, 0, 0]
 
 
-def test_processes_and_reblocking_are_part_of_the_key(plan_folder):
-    """With another of any of these no answer is taken for that of before."""
-    table, text = mine(3), of_processes_text(3, 2, "moving", COLUMNS, REBLOCK, ANY_SIZE)
+def test_each_input_is_part_of_the_key(plan_folder, tmp_path):
+    """The ground, the surface, reblocking and processes: with another of any of these no answer is taken for that of before."""
+    write_surfaces(tmp_path)
+    table = mine(3)
+    both = ('file = "blocks.csv"\n', 'file = "blocks.csv"\nreblock = [2, 2, 1]\ntopography = "ground.csv"\n')
 
     def keys(old="", new=""):
+        text = of_processes_text(3, 2, "moving", COLUMNS + MINED, both, ANY_SIZE)
         assert not old or text.count(old) >= 1
-        return tuple(
-            it.key for it in prepared(plan_folder(table, text.replace(old, new, 1) if old else text)).scenarios
-        )
+        path = plan_folder(table, text.replace(old, new, 1) if old else text)
+        return tuple(it.key for it in prepared(path).scenarios)
 
     first = keys()
     assert keys() == first and keys("per_year = 1000", "per_year = 2000") == first
+    text = of_processes_text(3, 2, "moving", COLUMNS + MINED, both, ANY_SIZE)
     cost = next(line for line in text.split("\n") if line.startswith("cost = "))
     recovery = next(line for line in text.split("\n") if line.startswith("recovery = { copper"))
     changed = [
@@ -242,24 +297,21 @@ def test_processes_and_reblocking_are_part_of_the_key(plan_folder):
         keys("reblock = [2, 2, 1]", "reblock = { size = [20, 20, 10], corner = [0, 0, 0] }"),
         keys(cost, cost + ".5"),
         keys(recovery, "recovery = { copper = 0.31 }"),
+        keys('surface = "mined.csv"\n', ""),
         keys('name = "p0"', 'name = "q0"'),
     ]
+    write_surface(tmp_path / "ground.csv", lambda x, y: ground(x, y) - 1)
+    changed.append(keys())
+    write_surfaces(tmp_path, 8.0)
+    changed.append(keys())
+    write_surfaces(tmp_path)
+    assert keys() == first
+    # A file that says the same in other words may be another survey.
+    (tmp_path / "mined.csv").write_text((tmp_path / "mined.csv").read_text() + "\n")
+    changed.append(keys())
     for number in range(len(first)):
         found = [keys_of[number] for keys_of in (first, *changed)]
         assert len(set(found)) == len(found)
-
-
-@pytest.mark.parametrize("solver", [LIBRARY, PROGRAM])
-def test_either_solver_takes_shared_nodes(plan_folder, solver):
-    """In three processes, reblocked, with rock where rows are missing."""
-    rock = 'absent = { tonnes = 300, rock = "R", region = "1" }\n'
-    change = ('file = "blocks.csv"\n', f'file = "blocks.csv"\nreblock = [2, 2, 1]\n{rock}')
-    table = mine(5)
-    table = table[~((table["x"] < 20) & (table["y"] > 20) & (table["z"] < 20))].reset_index(drop=True)
-    path = plan_folder(table, of_processes_text(5, 3, "moving", SETS, change, ANY_SIZE))
-    shared = demand_plans_of_their_own(path, table, grades_of(table), solver)
-    pitplan.gather(shared.folder)
-    assert not [rule.name for rule in verify(shared.folder) if rule.differences]
 
 
 def test_a_fixed_cutoff_keeps_the_precedences_of_blocks_that_pay_in_another_process(plan_folder):
@@ -297,14 +349,16 @@ def test_schedules_by_block_refuse_processes_before_anything_is_read(plan_folder
 
 
 @pytest.mark.parametrize("change", [REBLOCK, CORNER])
-def test_schedules_by_block_of_reblocked_models_are_right(plan_folder, tmp_path, change):
+def test_schedules_by_block_of_reblocked_and_mined_models_are_right(plan_folder, tmp_path, change):
     """What a block holds and earns in each scenario is that of the plan of its own grades, and all that is written is verified."""
     # It imports the library.
     from pitplan.studies.scenarios.blocks.problem import weights_of
 
-    table = mine(4)
+    write_surfaces(tmp_path)
+    table, (file, reblocked) = mine(4), change
+    changes = [(file + "\n", reblocked + '\ntopography = "ground.csv"\n'), ANY_SIZE]
     years = ("ore_per_year = 100", "ore_per_year = 2000\nrock_per_year = 4000")
-    path = plan_folder(table, PROJECT + COLUMNS, change, ANY_SIZE, years)
+    path = plan_folder(table, PROJECT + COLUMNS + MINED, *changes, years)
     project = load(path)
     shared = prepare.prepare(project, tmp_path / "by_block", silent, "block")
     cells = shared.grid.rows
@@ -317,7 +371,7 @@ def test_schedules_by_block_of_reblocked_models_are_right(plan_folder, tmp_path,
         assert worker.solve(str(shared.folder), job.number).why == ""
     pitplan.gather(shared.folder)
     said = {rule.name: rule.differences for rule in verify_folder(shared.folder)}
-    assert {"reblocked", "block value", "one schedule"} <= set(said) and not any(said.values())
+    assert {"reblocked", "as mined", "block value", "one schedule"} <= set(said) and not any(said.values())
 
 
 def one_step_a_block(steps, block):
@@ -339,12 +393,17 @@ def one_step_a_block(steps, block):
             lambda parts, grades: pd.DataFrame(grades).groupby(parts.block).mean().round(9).to_numpy(),
             {"reblocked", "shells", "worth"},
         ),
+        # Rows that are cut by nothing.
+        (topography_cut, "cut", lambda frame, grid, project, file: (frame, []), {"topography"}),
+        # Steps without the last one of each block.
         (process_routing.Steps, "on", one_step_a_block, {"worth"}),
     ],
 )
-def test_what_is_prepared_wrongly_is_found(plan_folder, monkeypatch, place, name, wrong, found):
+def test_what_is_prepared_wrongly_is_found(plan_folder, tmp_path, monkeypatch, place, name, wrong, found):
+    write_surfaces(tmp_path)
+    both = ('file = "blocks.csv"\n', 'file = "blocks.csv"\nreblock = [2, 2, 1]\ntopography = "ground.csv"\n')
     table = mine(8)
-    path = plan_folder(table, of_processes_text(8, 3, "moving", MODELS, REBLOCK, ANY_SIZE))
+    path = plan_folder(table, of_processes_text(8, 3, "moving", MODELS, both, ANY_SIZE))
     write_models(path, table)
     monkeypatch.setattr(place, name, wrong)
     shared = prepared(path)
@@ -391,3 +450,16 @@ def test_means_of_grades_are_exact_where_two_are_as_near(seed):
     grid = {"shape": (2, 2, 3), "origin": (10.0, 10.0, 15.0), "size": (20.0, 20.0, 10.0)}
     columns = SimpleNamespace(x="x", y="y", z="z", tonnes="tonnes")
     assert (mean_grades(table, centres, grades, columns, grid) == expected).all()
+
+
+def test_blocks_that_are_left_as_mined_wrongly_are_found(plan_folder, tmp_path, monkeypatch):
+    write_surfaces(tmp_path, 14.0)
+    table = mine(8).assign(cu_a=0, cu_b=0, cu_c=0.01)
+    path = plan_folder(table, PROJECT + COLUMNS + MINED, TOPOGRAPHY)
+    monkeypatch.setattr(depletion, "MINED", 2.0)
+    shared = prepared(path)
+    for scenario in shared.scenarios:
+        assert worker.solve(str(shared.folder), scenario.number).status == 0
+    monkeypatch.undo()
+    pitplan.gather(shared.folder, writing=pitplan.Writing(verifies=False, figures=False))
+    assert "fixed" in {rule.name for rule in verify(shared.folder) if rule.differences}

@@ -303,19 +303,10 @@ def test_two_surfaces_are_refused(plan_folder, tmp_path):
         pitplan.prepare(path)
 
 
-@pytest.mark.parametrize(
-    ("more", "said"),
-    [
-        ('[scenarios]\ncolumns = { copper = "cu*" }\n', r"\[table\] topography: is not taken by \[scenarios\]"),
-        (
-            '[[schedule.sums]]\ncolumn = "cu"\nmost = 1\n',
-            r"\[schedule.sums\] cu: is of whole blocks, and \[table\] topography cuts some: give it a_tonne",
-        ),
-    ],
-)
-def test_what_it_does_not_go_with(plan_folder, more, said):
+def test_sums_of_whole_blocks_do_not_go_with_it(plan_folder):
+    said = r"\[schedule.sums\] cu: is of whole blocks, and \[table\] topography cuts some: give it a_tonne"
     with pytest.raises(PlanError, match=said):
-        pitplan.load(plan_folder(rows(3, 1, 3), PROJECT + more, CUT))
+        pitplan.load(plan_folder(rows(3, 1, 3), PROJECT + '[[schedule.sums]]\ncolumn = "cu"\nmost = 1\n', CUT))
 
 
 def hill():

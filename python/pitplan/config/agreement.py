@@ -31,12 +31,6 @@ def demand_agreement(project: Project) -> None:
         raise PlanError(
             f"{path}: [grid] size: is missing, by which a density gives tonnes, unless [table] names a volume"
         )
-    if project.table.topography and project.scenarios:
-        raise PlanError(f"{path}: [table] topography: is not taken by [scenarios]: give a table of blocks that are cut")
-    if project.fixed and project.fixed.surface and project.scenarios:
-        raise PlanError(
-            f"{path}: [fixed] surface: is not taken by [scenarios]: give a table of what remains, and forced"
-        )
     demand_ground(project)
     demand_processes_agree(project)
     names = [metal.name for metal in project.metals]

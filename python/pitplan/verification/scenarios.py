@@ -22,7 +22,7 @@ from pitplan.verification.read_tables import own_columns
 from pitplan.verification.rules import TOLD, Rule, rule
 
 from ..errors import PlanError
-from . import absent, fixed, money, reblocked, sums, walls
+from . import absent, depletion, fixed, money, reblocked, sums, walls
 from .simulated import QUANTILES, SCENARIOS, Scenario, Simulated, Told, prices_of, read
 from .weighing import gains, weighed
 
@@ -72,11 +72,11 @@ class Verification:
         return [*self.of_ground(), self.listed(), *self.sampled(), *self.counted()]
 
     def of_ground(self) -> list[Rule]:
-        """What all scenarios share: blocks, missing blocks, walls, and what was reblocked."""
+        """What all scenarios share: blocks, missing blocks, walls, and what was reblocked or cut by a surface."""
         found = [check(self.ground) for check in (fixed.verify_places, absent.verify, walls.verify_steepness)]
         if self.ground.parts is not None:
             found.append(self.reblocked())
-        return found
+        return [*found, *depletion.verify_cuts(self.ground)]
 
     def reblocked(self) -> Rule:
         """Blocks hold the rows that lie in them, and in the sampled scenarios have the means of their grades."""

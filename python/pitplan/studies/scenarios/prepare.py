@@ -170,7 +170,9 @@ def common_parts(laid: Laid) -> dict[str, Any]:
     """What the answers of all scenarios depend on."""
     base, plan = laid.base, laid.plan
     walls = {"code": plan.walls.code, **{str(k): p.cone for k, p in enumerate(plan.walls.patterns)}}
+    surfaces = store.surfaces_of(base.project)
     return {
+        **({"surfaces": surfaces} if surfaces else {}),
         "project": store.meaning(base.project, plan.reference),
         "grid": plan.grid.as_json(),
         "blocks": store.hash_of_arrays({**arrays_of(base), **walls, **arrays_of_settled(plan)}),

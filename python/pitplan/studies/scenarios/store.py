@@ -194,7 +194,7 @@ def referred(project: Project, reference: float) -> Project:
 
 
 def meaning(project: Project, reference: float) -> dict[str, Any]:
-    """What of a project changes what blocks earn and need; prices stand beside it, and the table has a hash of its own."""
+    """What of a project changes what blocks earn and need; prices, and hashes of the blocks and of survey files, are parts of their own."""
     project = referred(project, reference)
     without_prices = [asdict(replace(metal, price=Decimal(0))) for metal in project.metals]
     parts = {"money": asdict(project.money), "metals": without_prices, "slopes": asdict(project.slopes)}
@@ -203,6 +203,18 @@ def meaning(project: Project, reference: float) -> dict[str, Any]:
     processes = [asdict(replace(process, per_year=0.0)) for process in project.processes]
     parts |= {"processes": processes} if processes else {}
     return parts | ({"reblock": asdict(project.table.reblock)} if project.table.reblock else {})
+
+
+def surfaces_of(project: Project) -> dict[str, Any]:
+    """The topography, the original ground and the as-mined surface: what of each file is taken, and hashes of its parts."""
+    rules = project.fixed
+    named = {"topography": project.table.topography}
+    named |= {"original": rules.topography, "as mined": rules.surface} if rules and rules.surface else {}
+    return {
+        name: {"layers": file.layers, "height": file.height, "files": [hash_of(path) for path in file.parts]}
+        for name, file in named.items()
+        if file is not None
+    }
 
 
 def meaning_of_years(project: Project, years: int) -> dict[str, Any]:
