@@ -14,7 +14,7 @@ use Rattle.proposals.specs.declared.knows.WorkerLedger.{WorkerLedger}
 use Rattle.proposals.specs.declared.knows.Served.{Served}
 use Rattle.proposals.specs.declared.knows.HolderLedger.{HolderLedger}
 use Rattle.proposals.specs.declared.knows.Knows.{Knows}
-use Rattle.proposals.specs.Ledger.{code, reply, arcs, Phase, idle, asks, claims, gave, took, Row, row, SmallAt, fresh, served_of, word_of, asked_at, collected_at, word_at, WorkerFits, HolderFits, Boarded, knows, nothing, served, answered_to, claimed_from, claiming, answering, unclaiming, serving, looking, Looked, Claimed, Reads, Answered, Unclaimed, Meets, Agreed}
+use Rattle.proposals.specs.Ledger.{code, reply, arcs, Phase, idle, asks, claims, gave, took, Row, row, SmallAt, fresh, served_of, word_of, asked_at, collected_at, word_at, WorkerFits, HolderFits, Boarded, knows, nothing, served, answered_to, claimed_from, claiming, answering, unclaiming, serving, looking, Looked, Claimed, Answered, Unclaimed, Meets, Agreed}
 use Rattle.proposals.proofs.Turns.{KeepsWorkerLedger, worker_ledger_kept, arcs_snoc, turn, word_is, retold, still, holder_ledgers_set, St}
 use Rattle.proposals.proofs.Workers.{low}
 
@@ -134,17 +134,6 @@ module _ (n slots id i : ℕ) (me : Sat) (q : HolderLedger) (is : me.0.holder �
             let k : claimed_from q.served i ≡ Some b = ap (λ (z : Served). z.claimed) knew in
             let same : b ≡ a = cc in
             (done, subst (λ (x : ℕ). get_elem? h.rows i ≡ some (row done (claims x))) same at, subst (λ (x : ℕ). x < 4294967296) same (h.small i (row done (claims b)) at), ap (λ (z : Served). z.answered) knew)
-
-    pub may_read : Allows (Boarded n) slots id me i (λ x. x) (Reads (step slots i 0 0 none) me)
-    may_read s h _ seat _ =
-        let r = row_claimed s h seat in
-        let w = word_is n s h i (row r.0 (claims a)) r.1 in (
-          me.0,
-          keeps,
-          tt,
-          still n s h id i me.1 me.0 seat,
-          (refl, λ y b e f. let g : q ≡ y = cc in let k : a ≡ b = let m : Some a ≡ Some b = sym has ∙ (ap (λ (z : HolderLedger). claimed_from z.served i) g ∙ f) in cc in (w ∙ ap (λ (z : ℕ). 8589934592 + z) k, subst (λ (z : ℕ). z < 4294967296) k r.2)),
-        )
 
     pub may_answer : (v : Verdict) → Allows (Boarded n) slots id me i (λ _. code v) (λ _. Answered (step slots i (code v) 0 none) me (code v))
     may_answer v s h _ seat _ =

@@ -1,19 +1,22 @@
 -- The steps, as the seats of a board take them.
-use Rattle.std.proofs.Common.{◌≡◌, ◌≢◌, ℕ, ◌+◌, ◌-◌, ◌<◌, ◌≤◌, List, [], ◌∷◌, ◌++◌, length, get_or, Option, Some, None, eqb, sym, refl, ap, ◌∙◌, subst, arith, length-set}
+use Rattle.std.proofs.Common.{◌≡◌, ◌≢◌, ℕ, ◌+◌, ◌-◌, ◌<◌, ◌≤◌, List, [], ◌∷◌, ◌++◌, length, get_or, set, Option, Some, None, eqb, sym, refl, ap, ◌∙◌, subst, arith, length-set, get_or-set_same, get_or-set_other}
+use mathlib.Core.Logic.{dite}
 use mathlib.Core.Option.{none}
+use native.Mathlib.Decide.{ℕ_discrete}
 use prog.Atomic.{either}
 use Rattle.atomic_table.specs.Table.{step, Allows}
 use Rattle.atomic_table.specs.Seated.{TableId}
 use Rattle.atomic_table.specs.declared.shared.Seat.{Seat}
 use Rattle.pit_model.specs.declared.journal.Verdict.{Verdict}
 use Rattle.proposals.specs.declared.knows.WorkerLedger.{WorkerLedger}
+use Rattle.proposals.specs.declared.knows.Served.{Served}
 use Rattle.proposals.specs.declared.knows.HolderLedger.{HolderLedger}
 use Rattle.proposals.specs.declared.knows.Knows.{Knows}
-use Rattle.proposals.specs.Ledger.{code, reply, Boarded, knows, nothing, OpenIs, asking, withdrawn, collecting, worker_ledger_or, holder_ledger_or, claiming, answering, unclaiming, claimed_from, HolderView, serving, looking, Asked, Withdrew, Collected, Looked, Claimed, Reads, Answered, Unclaimed, Meets, Agreed, meeting, worker_part, holder_part}
-use Rattle.proposals.specs.Seats.{worker_ledger_in, holder_ledger_in, IsWorker, IsHolder}
+use Rattle.proposals.specs.Ledger.{code, reply, Boarded, knows, nothing, served, answered_to, OpenIs, asking, withdrawn, collecting, worker_ledger_or, holder_ledger_or, claiming, answering, unclaiming, claimed_from, HolderView, serving, looking, Asked, Withdrew, Collected, Looked, Claimed, Answered, Unclaimed, Meets, Agreed, meeting, worker_part, holder_part}
+use Rattle.proposals.specs.Seats.{worker_ledger_in, holder_ledger_in, IsWorker, IsHolder, IsHolding}
 use Rattle.proposals.proofs.Turns.{arcs_snoc}
 use Rattle.proposals.proofs.Workers.{may_ask, may_collect, may_withdraw}
-use Rattle.proposals.proofs.Holders.{may_look, may_claim, may_read, may_answer, may_unclaim, may_agree}
+use Rattle.proposals.proofs.Holders.{may_look, may_claim, may_answer, may_unclaim, may_agree}
 
 abbrev S : Type 0
 S = Seat (Unit {0}) Knows
@@ -119,9 +122,6 @@ module _ (z : TableId) (n slots cell : ℕ) (s : S) (h : IsHolder z s) where
       (same_holder z s t h same me, ap (λ m. holder_ledger_or m.0.holder) me)
 
   module _ (a : ℕ) (has : claimed_from (holder_ledger_in s).served cell ≡ Some a) where
-    pub read_as : cell < n → Allows (Boarded n) slots s.id s.me cell (λ x. x) (Reads (step slots cell 0 0 none) s.me)
-    read_as inside = may_read n slots s.id cell s.me (holder_ledger_in s) h.is inside a has
-
     pub answer_as : (v : Verdict) (k : ℕ) → cell < n → k ≡ code v → Allows (Boarded n) slots s.id s.me cell (λ _. k) (λ _. Answered (step slots cell k 0 none) s.me k)
     answer_as v k inside e = subst (λ (x : ℕ). Allows (Boarded n) slots s.id s.me cell (λ _. x) (λ _. Answered (step slots cell x 0 none) s.me x)) (sym e) (may_answer n slots s.id cell s.me (holder_ledger_in s) h.is inside a has v)
 
@@ -137,6 +137,31 @@ module _ (z : TableId) (n slots cell : ℕ) (s : S) (h : IsHolder z s) where
     unclaimed_as k t same told =
         let me = told (holder_ledger_in s) h.is in
         (now_holder z s t (serving (holder_ledger_in s) (unclaiming (holder_ledger_in s).served cell)) h same me (length-set (holder_ledger_in s).served cell _ ∙ h.wide), ap (λ m. holder_ledger_or m.0.holder) me)
+
+-- a holder's seat of which each arc that is claimed stands at its cell, after a step that claimed nothing
+pub holds_same : (z : TableId) (arcs : List ℕ) (s t : S) → IsHolding z arcs s → IsHolder z t → (holder_ledger_in t).served ≡ (holder_ledger_in s).served → IsHolding z arcs t
+holds_same z arcs s t h g e = record { seat = g; each_worker = h.each_worker; kept = λ j a is. h.kept j a (subst (λ xs. claimed_from xs j ≡ Some a) e is) }
+
+-- after a step that ended the claim in the cell i
+pub holds_less : (z : TableId) (arcs : List ℕ) (s t : S) (i : ℕ) (x : Served) → IsHolding z arcs s → IsHolder z t → x.claimed ≡ None → i < z.words → (holder_ledger_in t).served ≡ set (holder_ledger_in s).served i x → IsHolding z arcs t
+holds_less z arcs s t i x h g ended inside e = record { seat = g; each_worker = h.each_worker; kept = λ j a is. h.kept j a (before j a (subst (λ xs. claimed_from xs j ≡ Some a) e is)) }
+  where
+    before : (j a : ℕ) → claimed_from (set (holder_ledger_in s).served i x) j ≡ Some a → claimed_from (holder_ledger_in s).served j ≡ Some a
+    before j a is = dite (ℕ_discrete j i)
+        (λ (same : j ≡ i). absurd (let w = h.seat.wide in let k : Some a ≡ None = sym is ∙ (ap (λ k. claimed_from (set (holder_ledger_in s).served i x) k) same ∙ (ap (λ (y : Served). y.claimed) (get_or-set_same (holder_ledger_in s).served i x nothing (omega (arith, w))) ∙ ended)) in cc))
+        (λ other. ap (λ (y : Served). y.claimed) (sym (get_or-set_other (holder_ledger_in s).served i j x nothing other)) ∙ is)
+
+-- after a step that claimed the arc a from the cell i
+pub holds_more : (z : TableId) (arcs : List ℕ) (s t : S) (i a : ℕ) → IsHolding z arcs s → IsHolder z t → i < z.words → (holder_ledger_in t).served ≡ claiming (holder_ledger_in s).served i a → IsHolding z (set arcs i a) t
+holds_more z arcs s t i a h g inside e = record { seat = g; each_worker = length-set arcs i a ∙ h.each_worker; kept = λ j b is. now j b (subst (λ xs. claimed_from xs j ≡ Some b) e is) }
+  where
+    now : (j b : ℕ) → claimed_from (claiming (holder_ledger_in s).served i a) j ≡ Some b → get_or (set arcs i a) j 0 ≡ b
+    now j b is = dite (ℕ_discrete j i)
+        (λ (same : j ≡ i). let w = h.seat.wide in let c = h.each_worker in
+        let k : Some b ≡ Some a = sym is ∙ (ap (λ k. claimed_from (claiming (holder_ledger_in s).served i a) k) same ∙ ap (λ (y : Served). y.claimed) (get_or-set_same (holder_ledger_in s).served i (served (answered_to (holder_ledger_in s).served i) (Some a)) nothing (omega (arith, w)))) in
+        let f : b ≡ a = cc in
+        ap (λ k. get_or (set arcs i a) k 0) same ∙ (get_or-set_same arcs i a 0 (omega (arith, c)) ∙ sym f))
+        (λ other. get_or-set_other arcs i j a 0 other ∙ h.kept j b (ap (λ (y : Served). y.claimed) (sym (get_or-set_other (holder_ledger_in s).served i j (served (answered_to (holder_ledger_in s).served i) (Some a)) nothing other)) ∙ is))
 
 -- the worker w has a cell
 pub cell_in : (z t : TableId) (xs ys : HolderView) (w : ℕ) → t ≡ z → length xs.served ≡ z.words → xs ≡ ys → 0 < w → w ≤ length ys.served → w - 1 < t.words

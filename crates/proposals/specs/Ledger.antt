@@ -210,9 +210,6 @@ abbrev pub Claimed : At → Sat → ℕ → Sat → Type 0
 Claimed st m n m' = (q : HolderLedger) (a : ℕ) → m.0.holder ≡ Some q → st.first ≡ 4294967296 + a
     → (n ≡ st.first → (claimed_from q.served st.word ≡ None) × (m' ≡ (knows m.0.worker (Some (serving q (claiming q.served st.word a))), m.1))) × (n ≢ st.first → m' ≡ m)
 
-abbrev pub Reads : At → Sat → ℕ → Sat → Type 0
-Reads st m n m' = (m' ≡ m) × ((q : HolderLedger) (a : ℕ) → m.0.holder ≡ Some q → claimed_from q.served st.word ≡ Some a → (n ≡ 8589934592 + a) × (a < 4294967296))
-
 abbrev pub Answered : At → Sat → ℕ → Sat → Type 0
 Answered st m n m' = (q : HolderLedger) (a : ℕ) (v : Verdict) → m.0.holder ≡ Some q → claimed_from q.served st.word ≡ Some a → n ≡ code v → m' ≡ (knows m.0.worker (Some (serving q (answering q.served st.word (reply a v)))), m.1)
 

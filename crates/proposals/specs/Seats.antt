@@ -1,11 +1,11 @@
 -- What the seats of one board have in common.
-use Rattle.std.specs.Prelude.{◌≡◌, ℕ, ◌<◌, [], length, Option, Some}
+use Rattle.std.specs.Prelude.{◌≡◌, ℕ, ◌<◌, List, [], length, slice_index_or, Option, Some}
 use Rattle.atomic_table.specs.Seated.{TableId}
 use Rattle.atomic_table.specs.declared.shared.Seat.{Seat}
 use Rattle.proposals.specs.declared.knows.WorkerLedger.{WorkerLedger}
 use Rattle.proposals.specs.declared.knows.HolderLedger.{HolderLedger}
 use Rattle.proposals.specs.declared.knows.Knows.{Knows}
-use Rattle.proposals.specs.Ledger.{worker_ledger_or, holder_ledger_or, OpenIs}
+use Rattle.proposals.specs.Ledger.{worker_ledger_or, holder_ledger_or, claimed_from, OpenIs}
 
 abbrev pub worker_ledger_in : Seat (Unit {0}) Knows → WorkerLedger
 worker_ledger_in s = worker_ledger_or s.me.0.worker
@@ -26,3 +26,9 @@ pub record IsHolder (z : TableId) (s : Seat (Unit {0}) Knows) : Type 0 where
   pub empty : s.me.1 ≡ []
   pub is : s.me.0.holder ≡ Some (holder_ledger_in s)
   pub wide : length (holder_ledger_in s).served ≡ z.words
+
+-- the holder's seat beside a list of arcs, in which each arc that is claimed stands at its worker's cell
+pub record IsHolding (z : TableId) (claimed : List ℕ) (s : Seat (Unit {0}) Knows) : Type 0 where
+  pub seat : IsHolder z s
+  pub each_worker : length claimed ≡ z.words
+  pub kept : (i a : ℕ) → claimed_from (holder_ledger_in s).served i ≡ Some a → slice_index_or claimed i 0 ≡ a

@@ -93,6 +93,7 @@ impl<B: BoardId> Board<B> {
             mut seat,
             workers,
         } = unnamed;
+        let claimed = vec![in alloc; 0u32; workers as usize]?;
         let mut seats = Vec::new(alloc);
         let mut cell = 0;
         while cell < workers {
@@ -111,6 +112,7 @@ impl<B: BoardId> Board<B> {
             id: PhantomData,
         };
         let holder = HolderSeat {
+            claimed,
             seat,
             id: PhantomData,
         };

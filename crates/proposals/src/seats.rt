@@ -27,9 +27,10 @@ impl<B: BoardId> Model for WorkerSeat<B> {
 }
 
 /// The holder's seat. To a contract it is, for each worker, what was answered to it and what is claimed from it, and the cells in
-/// which the holder looked for an ask, in order.
+/// which the holder looked for an ask, in order. It keeps the arc that it claimed last from each worker.
 #[derive(Drop)]
 pub struct HolderSeat<B: BoardId> {
+    pub(crate) claimed: Vec<u32>,
     pub(crate) seat: Seat<(), Knows>,
     pub(crate) id: PhantomData<B>,
 }
@@ -39,9 +40,9 @@ impl<B: BoardId> Model for HolderSeat<B> {
 
     ghost Value = { HolderView };
 
-    ghost use Rattle.proposals.specs.Seats.{holder_ledger_in, IsHolder};
+    ghost use Rattle.proposals.specs.Seats.{holder_ledger_in, IsHolding};
 
     ghost view = { λ s. holder_view (holder_ledger_in s.seat) };
 
-    ghost invariant = { λ s. IsHolder B.board s.seat };
+    ghost invariant = { λ s. IsHolding B.board s.claimed.items s.seat };
 }

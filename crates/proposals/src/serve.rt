@@ -6,7 +6,7 @@ ghost use Rattle.proposals.specs.Ledger.{reply, claimed_from, claiming, answerin
 use crate::board::{ASKED, Board};
 use crate::board_id::BoardId;
 use crate::seats::HolderSeat;
-use crate::steps::{Answer, Claim, Look, Read, Unclaim};
+use crate::steps::{Answer, Claim, Look, Unclaim};
 use crate::verdict::word_of;
 use pit_model::Verdict;
 
@@ -41,7 +41,9 @@ impl<B: BoardId> Board<B> {
         if found != word {
             return None;
         }
-        Some((word - ASKED) as u32)
+        let arc = (word - ASKED) as u32;
+        holder.claimed[cell] = arc;
+        Some(arc)
     }
 
     /// Answers the ask that is claimed from a worker.
@@ -65,9 +67,9 @@ impl<B: BoardId> Board<B> {
         ensures looks { holder.new.looks ≡ holder.old.looks }
     {
         let cell = worker as usize - 1;
-        let found = self.cells.shared.load::<Read>(&mut holder.seat, cell);
+        let arc = holder.claimed[cell];
         self.cells
             .shared
-            .store::<Unclaim>(&mut holder.seat, cell, found - ASKED);
+            .store::<Unclaim>(&mut holder.seat, cell, ASKED + u64::from(arc));
     }
 }

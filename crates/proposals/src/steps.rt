@@ -55,14 +55,6 @@ impl Play<(), Knows> for Claim {
     ghost then = { Claimed };
 }
 
-pub(crate) struct Read;
-
-impl Play<(), Knows> for Read {
-    ghost use Rattle.proposals.specs.Ledger.{Reads};
-
-    ghost then = { Reads };
-}
-
 pub(crate) struct Answer;
 
 impl Play<(), Knows> for Answer {

@@ -14,7 +14,7 @@ load_new_seat-idle-requires g c =
 pub join_seat-requires : goal.join_seat-requires
 join_seat-requires g c =
     let i = c.worker.invariant in
-    let h = c.holder.invariant in
+    let h = c.holder.invariant.seat in
     let same = c.replace-theirs.ensures.value in
     let e = ap (λ t. t.words) c.args.self.now.named in
     (i.table ∙ sym c.args.self.now.named, ap (λ s. s.table_id) same ∙ (h.table ∙ sym c.args.self.now.named), ap (λ s. s.me.1) same ∙ h.empty, omega (arith, e, i.inside), may_meet c.args.self.now.cells.shared.key _ _ _ _)
@@ -22,7 +22,7 @@ join_seat-requires g c =
 pub load-requires : goal.load-requires
 load-requires g c =
     let i = c.worker.invariant in
-    let h = c.holder.invariant in
+    let h = c.holder.invariant.seat in
     let same = c.replace-theirs.ensures.value in
     let t = subst (λ s. IsHolder g.B.BoardId.board s) (sym same) h in
     let e = ap (λ t. t.words) c.args.self.now.named in
