@@ -1,6 +1,6 @@
 //! The text of a certificate: its head (`head`), the blocks of the pit, how many arcs carry something, and these.
 //! Each line is the one that is `CertificateLine`, checked by a function of `lines`; the first fault ends the reading.
-ghost use Rattle.std.specs.Prelude.{◌≡◌, ◌↔◌, ℕ, ℤ, List, Ok, Err, ◌≤◌, ◌<◌, ◌^◌, length, IfOk, IfErr};
+ghost use Rattle.std.specs.Prelude.{◌≡◌, ◌↔◌, ℕ, ℤ, List, Ok, Err, ◌<◌, ◌^◌, length, IfOk, IfErr};
 ghost use Rattle.std.specs.Io.KnownBytes.{Keeps};
 ghost use Rattle.faults.specs.declared.fault.Fault.{Fault as AnyFault};
 ghost use Rattle.faults.specs.declared.source.Source.TheVariants as sources;
@@ -114,7 +114,6 @@ fn parse_lines(
     graph: &Graph,
     fixed: &Fixed,
 ) -> Result<Certificate, Fault>
-    requires { length text.now ≤ 2 ^ 40 }
     ensures exact { Gives (λ c. pit_and_flow c.pit.items c.flow.items) result (certificate_of graph.now fixed.now.lists text.now) }
 {
     let mut rows = TextRows::new(text);
@@ -143,7 +142,6 @@ pub fn parse_certificate(
     graph: &Graph,
     fixed: &Fixed,
 ) -> Result<Certificate, Fault>
-    requires { length text.now ≤ 2 ^ 40 }
     // Which certificate or which fault it is.
     ensures exact { Gives (λ c. pit_and_flow c.pit.items c.flow.items) result (certificate_of graph.now fixed.now.lists text.now) }
     // What is read is spelled so, and what is spelled so is read, unless memory runs out.
@@ -165,7 +163,6 @@ pub fn read<R: InBytes>(
     fixed: &Fixed,
 ) -> Result<Certificate, Fault>
     requires countable { (R.progress reader.old).failures < 2 ^ 63 }
-    requires bounded { (R.progress reader.old).allowance ≤ 2 ^ 40 }
     ensures answers { AnswersBy (λ c. pit_and_flow c.pit.items c.flow.items) (SpellsCertificate graph.now fixed.now.lists) (IsFirstCertificateFault graph.now fixed.now.lists) sources.Certificate (R.progress reader.old) (R.progress reader.new) (R.IsAtEnd reader.new) result }
     ensures candidate { IfOk result (λ c. IsCandidate graph.now.blocks (length graph.now.pairs) c.pit.items c.flow.items) }
     ensures known { Keeps (R.known_text reader.old) (R.known_text reader.new) }

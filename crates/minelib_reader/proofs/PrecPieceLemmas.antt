@@ -1,5 +1,5 @@
 -- Reading a precedence file piece by piece: what was read so far, and what comes of whatever is read behind it.
-use Rattle.std.proofs.Common.{◌≡◌, ℕ, ◌+◌, ◌≤◌, Bool, true, false, List, [], ◌++◌, length, Ok, Err, refl, sym, ap, ◌∙◌, append_assoc, arith, length-append, subst}
+use Rattle.std.proofs.Common.{◌≡◌, ℕ, Bool, true, false, List, [], ◌++◌, Ok, Err, refl, sym, ap, ◌∙◌, append_assoc, subst}
 use Rattle.std.proofs.lemmas.List.{append-nil}
 use Rattle.faults.specs.declared.fault.Fault.{Fault}
 use Rattle.faults.specs.declared.refusal.Refusal.TheVariants.{NoMemory}
@@ -18,8 +18,6 @@ pub record HasRead (n : ℕ) (old now : Progress) (from total line : ℕ) (kept 
   pub text : List ℕ
   pub bytes : now.bytes ≡ old.bytes ++ text
   pub failures : now.failures ≡ old.failures
-  pub allowance : now.allowance + length text ≡ old.allowance
-  pub short : line + length kept ≤ length text
   pub read : (more : List ℕ) → with_pairs pairs (pairs_from n from total (rows_at line (kept ++ more))) ≡ prec_of n (text ++ more)
 
 module _ (n : ℕ) (old now next : Progress) (AtEnd : Type 0) (from total line : ℕ) (before piece kept : List ℕ) (pairs : List (ℕ × ℕ)) (r : HasRead n old now from total line before pairs) where
@@ -43,13 +41,11 @@ module _ (n : ℕ) (old now next : Progress) (AtEnd : Type 0) (from total line :
       ∙ r.read (p.text ++ more) ∙ ap (prec_of n) (sym (append_assoc r.text p.text more))
 
   pub goes_on : (p : IsPiece now next AtEnd before piece kept false) (from' total' line' : ℕ) (pairs' : List (ℕ × ℕ)) → AddsRows n from total (rows_at line piece) pairs pairs' from' total'
-      → line' ≡ lines_at line piece → line' ≤ line + length piece → HasRead n old next from' total' line' kept pairs'
-  goes_on p from' total' line' pairs' added counted short = record {
+      → line' ≡ lines_at line piece → HasRead n old next from' total' line' kept pairs'
+  goes_on p from' total' line' pairs' added counted = record {
     text = r.text ++ p.text;
     bytes = bytes_with false p;
     failures = p.failures ∙ r.failures;
-    allowance = omega (arith, p.allowance, r.allowance, length-append r.text p.text);
-    short = omega (arith, short, r.short, length-append r.text p.text, length-append before p.text, length-append piece kept, ap length p.parts);
     read = λ more. added (rows_at line' (kept ++ more)) ∙ ap (λ (k : ℕ). with_pairs pairs (pairs_from n from total (rows_at line piece ++ rows_at k (kept ++ more)))) counted ∙ rows_with p more;
   }
 

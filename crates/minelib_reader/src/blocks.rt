@@ -59,7 +59,6 @@ fn count_attributes(r: Row) -> Result<u32, Fault>
 }
 
 fn read_width(text: &[u8]) -> Result<u32, Fault>
-    requires { length text.now ≤ 2 ^ 40 }
     ensures gives { Gives (λ w. w) result (width_of (rows_of text.now)) }
     ensures narrow { IfOk result (λ w. w ≤ 64) }
 {
@@ -166,7 +165,6 @@ fn read_lines(
     text: &[u8],
     counters: &Counters,
 ) -> Result<BlockTable, Fault>
-    requires bounded { length text.now ≤ 2 ^ 40 }
     requires narrow { width ≤ 64 }
     ensures { Gives (λ t. t) result (as_table width (blocks_from width 0 (rows_of text.now))) }
 {
@@ -183,7 +181,6 @@ fn read_lines(
 
 #[tactic(auto, unfolding(crate::specs::Blocks::table_of_rows))]
 fn parse_lines(alloc: Global, text: &[u8], counters: &Counters) -> Result<BlockTable, Fault>
-    requires { length text.now ≤ 2 ^ 40 }
     ensures { Gives (λ t. t) result (table_of text.now) }
 {
     let width = read_width(text)?;
@@ -198,7 +195,6 @@ pub fn blocks_law()
 
 /// The table that a text spells, else the first fault of the text, or `NoMemory`.
 pub fn parse_blocks(alloc: Global, text: &[u8]) -> Result<BlockTable, Fault>
-    requires { length text.now ≤ 2 ^ 40 }
     // Which table or which fault it is.
     ensures exact { Gives (λ t. t) result (table_of text.now) }
     // What is read is spelled so, and what is spelled so is read, unless memory runs out.
@@ -211,7 +207,6 @@ pub fn parse_blocks(alloc: Global, text: &[u8]) -> Result<BlockTable, Fault>
 
 /// The same as `parse_blocks` gives. Counters are told of each block.
 fn parse_watched(alloc: Global, text: &[u8], counters: &Counters) -> Result<BlockTable, Fault>
-    requires { length text.now ≤ 2 ^ 40 }
     ensures exact { Gives (λ t. t) result (table_of text.now) }
     ensures spelled { IfOk result (λ t. SpellsTable text.now t) }
     ensures read { (t : Table) → SpellsTable text.now t → Gives (λ t. t) result (Ok t) }
@@ -224,7 +219,6 @@ fn parse_watched(alloc: Global, text: &[u8], counters: &Counters) -> Result<Bloc
 /// where the reader counted a failure in this call, and by `NoMemory`.
 pub fn read_blocks<R: InBytes>(alloc: Global, reader: &mut R) -> Result<BlockTable, Fault>
     requires countable { (R.progress reader.old).failures < 2 ^ 63 }
-    requires bounded { (R.progress reader.old).allowance ≤ 2 ^ 40 }
     ensures answers { AnswersBy (λ t. t) SpellsTable IsFirstTableFault sources.Blocks (R.progress reader.old) (R.progress reader.new) (R.IsAtEnd reader.new) result }
     ensures known { Keeps (R.known_text reader.old) (R.known_text reader.new) }
 

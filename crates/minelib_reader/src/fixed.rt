@@ -1,6 +1,6 @@
 //! The text of a file of fixed blocks: for each of them a line with the word `in` or `out` and its id; ids rise from line to
 //! line, whichever the word. Each line is checked in the order of `specs/Fixed.antt`; the first fault ends the reading.
-ghost use Rattle.std.specs.Prelude.{◌≡◌, ◌↔◌, ℕ, List, Ok, Err, ◌≤◌, ◌<◌, ◌^◌, length, IfOk, IfErr};
+ghost use Rattle.std.specs.Prelude.{◌≡◌, ◌↔◌, ℕ, List, Ok, Err, ◌<◌, ◌^◌, IfOk, IfErr};
 ghost use Rattle.std.specs.Io.KnownBytes.{Keeps};
 ghost use Rattle.faults.specs.declared.fault.Fault.{Fault as AnyFault};
 ghost use Rattle.faults.specs.declared.source.Source.TheVariants as sources;
@@ -62,7 +62,6 @@ fn read_line(n: u32, from: u32, r: Row) -> Result<(bool, u32), Fault>
 
 /// The blocks forced in by all lines, and those barred.
 fn parse_lines(alloc: Global, text: &[u8], n: u32) -> Result<(Vec<u32>, Vec<u32>), Fault>
-    requires { length text.now ≤ 2 ^ 40 }
     ensures { Gives (λ v. fixed_lists v.0.items v.1.items) result (fixed_blocks_of n text.now) }
 {
     let mut rows = TextRows::new(text);
@@ -90,7 +89,6 @@ pub fn fixed_law()
 /// The blocks of n that a text forces in, and those that it bars, each list rising; else the first fault of the text, or
 /// `NoMemory`.
 pub fn parse_fixed(alloc: Global, text: &[u8], n: u32) -> Result<(Vec<u32>, Vec<u32>), Fault>
-    requires { length text.now ≤ 2 ^ 40 }
     // Which blocks or which fault it is.
     ensures exact { Gives (λ v. fixed_lists v.0.items v.1.items) result (fixed_blocks_of n text.now) }
     // What is read is spelled so, and what is spelled so is read, unless memory runs out.
@@ -111,7 +109,6 @@ pub fn read_fixed<R: InBytes>(
     n: u32,
 ) -> Result<(Vec<u32>, Vec<u32>), Fault>
     requires countable { (R.progress reader.old).failures < 2 ^ 63 }
-    requires bounded { (R.progress reader.old).allowance ≤ 2 ^ 40 }
     ensures answers { AnswersBy (λ v. fixed_lists v.0.items v.1.items) (SpellsFixed n) (IsFirstFixedFault n) sources.Fixed (R.progress reader.old) (R.progress reader.new) (R.IsAtEnd reader.new) result }
     ensures fixable { IfOk result (λ v. AreFixable n (fixed_lists v.0.items v.1.items)) }
     ensures known { Keeps (R.known_text reader.old) (R.known_text reader.new) }

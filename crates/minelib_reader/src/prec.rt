@@ -26,7 +26,10 @@ use crate::pieces::{read_past, read_piece};
 use crate::rows::{Row, TextRows};
 use faults::{Fault, Refusal, Source};
 use need_rows::NeedRows;
-use std::alloc::Global;
+use std::alloc::{AllocError, Global};
+
+/// So many lines are numbered at most, which is more than any file has.
+const MOST_LINES: u64 = (1 << 63) - 1;
 
 /// What the lines before tell a line: how many they are, the least id that it may have, and how many pairs they have.
 #[derive(Clone, Copy)]
@@ -275,7 +278,8 @@ fn read_line(
     }
 }
 
-/// Adds the pairs of some lines, and answers what they and the lines before tell the next.
+/// Adds the pairs of some lines, and answers what they and the lines before tell the next. `NoMemory` too where more bytes came than
+/// lines can be numbered.
 fn read_lines(
     n: u32,
     before: Before,
@@ -283,7 +287,7 @@ fn read_lines(
     text: &[u8],
     needs: &mut NeedRows,
 ) -> Result<Before, Fault>
-    requires countable { before.line + length text.now < 2 ^ 63 }
+    requires countable { before.line < 2 ^ 63 }
     requires sizes { length marks.old.items ≡ n }
     requires few { before.total ≤ most_pairs }
     requires so_far { AreRowsSoFar n before.from before.total needs.old }
@@ -291,12 +295,15 @@ fn read_lines(
     ensures ok { IfOk result (λ after. AddsRows n before.from before.total (rows_at before.line text.now) needs.old.pairs needs.new.pairs after.from after.total) }
     ensures err { IfErr result (λ e. (behind : List AnyRow) → FailsBy e.refusal e (with_pairs needs.old.pairs (pairs_from n before.from before.total (rows_at before.line text.now ++ behind)))) }
     ensures counted { IfOk result (λ after. after.line ≡ lines_at before.line text.now) }
-    ensures short { IfOk result (λ after. after.line ≤ before.line + length text.now) }
+    ensures countable { IfOk result (λ after. after.line < 2 ^ 63) }
     ensures few { IfOk result (λ after. after.total ≤ most_pairs) }
     ensures so_far { IfOk result (λ after. AreRowsSoFar n after.from after.total needs.new) }
     ensures sizes { length marks.new.items ≡ n }
     ensures new_marks { IfOk result (λ after. All (λ m. m ≤ after.from) marks.new.items) }
 {
+    if text.len() as u64 > MOST_LINES - before.line {
+        return Err(Fault::from(AllocError));
+    }
     let mut rows = TextRows {
         rest: text,
         number: before.line,
@@ -311,7 +318,6 @@ fn read_lines(
 
 /// The pairs of all lines of a text.
 fn parse_lines(alloc: Global, text: &[u8], n: u32) -> Result<NeedRows, Fault>
-    requires { length text.now ≤ 2 ^ 40 }
     ensures pairs { Gives (λ v. v.pairs) result (prec_of n text.now) }
     ensures blocks { IfOk result (λ v. v.blocks ≡ n) }
 {
@@ -326,7 +332,6 @@ fn parse_lines(alloc: Global, text: &[u8], n: u32) -> Result<NeedRows, Fault>
 /// the text is told when the text is known whole, so the rest of it is read.
 fn read_pieces<R: InBytes>(alloc: Global, reader: &mut R, n: u32) -> Result<NeedRows, Fault>
     requires countable { (R.progress reader.old).failures < 2 ^ 63 }
-    requires bounded { (R.progress reader.old).allowance ≤ 2 ^ 40 }
     ensures exact { Answers (λ v. v.pairs) (prec_of n) sources.Precedence (R.progress reader.old) (R.progress reader.new) (R.IsAtEnd reader.new) result }
     ensures blocks { IfOk result (λ v. v.blocks ≡ n) }
     ensures known { Keeps (R.known_text reader.old) (R.known_text reader.new) }
@@ -365,7 +370,6 @@ pub fn prec_law()
 /// The pairs (u, p) of "u needs p" that a text spells for n blocks, by rows, in order of line and place, else the first fault of
 /// the text, or `NoMemory`.
 pub fn parse_prec_rows(alloc: Global, text: &[u8], n: u32) -> Result<NeedRows, Fault>
-    requires { length text.now ≤ 2 ^ 40 }
     // Which pairs or which fault it is.
     ensures exact { Gives (λ v. v.pairs) result (prec_of n text.now) }
     // What is read is spelled so, and what is spelled so is read, unless memory runs out.
@@ -384,7 +388,6 @@ pub fn parse_prec_rows(alloc: Global, text: &[u8], n: u32) -> Result<NeedRows, F
 /// The first fault of that text; `ReadFailed` exactly where the reader counted a failure in this call; `NoMemory`.
 pub fn read_prec_rows<R: InBytes>(alloc: Global, reader: &mut R, n: u32) -> Result<NeedRows, Fault>
     requires countable { (R.progress reader.old).failures < 2 ^ 63 }
-    requires bounded { (R.progress reader.old).allowance ≤ 2 ^ 40 }
     ensures answers { AnswersBy (λ v. v.pairs) (SpellsPrec n) (IsFirstPrecFault n) sources.Precedence (R.progress reader.old) (R.progress reader.new) (R.IsAtEnd reader.new) result }
     ensures blocks { IfOk result (λ v. v.blocks ≡ n) }
     ensures lawful { IfOk result (λ v. ArePrecedences n v.pairs) }
@@ -406,7 +409,6 @@ pub fn read_prec<R: InBytes>(
     n: u32,
 ) -> Result<Vec<(u32, u32)>, Fault>
     requires countable { (R.progress reader.old).failures < 2 ^ 63 }
-    requires bounded { (R.progress reader.old).allowance ≤ 2 ^ 40 }
     ensures answers { AnswersBy (λ v. v.items) (SpellsPrec n) (IsFirstPrecFault n) sources.Precedence (R.progress reader.old) (R.progress reader.new) (R.IsAtEnd reader.new) result }
     ensures lawful { IfOk result (λ v. ArePrecedences n v.items) }
     ensures known { Keeps (R.known_text reader.old) (R.known_text reader.new) }

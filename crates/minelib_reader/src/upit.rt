@@ -171,7 +171,6 @@ fn check_ended(rows: &mut TextRows) -> Result<(), Fault>
 
 #[tactic(auto, unfolding(crate::specs::Upit::upit_of_rows))]
 fn parse_lines(alloc: Global, text: &[u8], counters: &Counters) -> Result<Model, Fault>
-    requires { length text.now ≤ 2 ^ 40 }
     ensures exact { Gives (λ m. upit m.n m.values.items) result (upit_of text.now) }
     ensures small { IfOk result (λ m. IsSmallModel m.n m.values.items) }
 {
@@ -184,7 +183,6 @@ fn parse_lines(alloc: Global, text: &[u8], counters: &Counters) -> Result<Model,
 
 /// The model that a text spells, else the first fault of the text, or `NoMemory`.
 pub fn parse_upit(alloc: Global, text: &[u8]) -> Result<Model, Fault>
-    requires { length text.now ≤ 2 ^ 40 }
     // Which model or which fault it is.
     ensures exact { Gives (λ m. upit m.n m.values.items) result (upit_of text.now) }
     // What is read is spelled so, and what is spelled so is read, unless memory runs out.
@@ -198,7 +196,6 @@ pub fn parse_upit(alloc: Global, text: &[u8]) -> Result<Model, Fault>
 
 /// The same as `parse_upit` gives. Counters are told of each block.
 fn parse_watched(alloc: Global, text: &[u8], counters: &Counters) -> Result<Model, Fault>
-    requires { length text.now ≤ 2 ^ 40 }
     ensures exact { Gives (λ m. upit m.n m.values.items) result (upit_of text.now) }
     ensures spelled { IfOk result (λ m. SpellsUpit text.now (upit m.n m.values.items)) }
     ensures read { (m : Upit) → SpellsUpit text.now m → Gives (λ m. upit m.n m.values.items) result (Ok m) }
@@ -218,7 +215,6 @@ pub fn upit_law()
 /// where the reader counted a failure in this call, and by `NoMemory`.
 pub fn read_upit<R: InBytes>(alloc: Global, reader: &mut R) -> Result<Model, Fault>
     requires countable { (R.progress reader.old).failures < 2 ^ 63 }
-    requires bounded { (R.progress reader.old).allowance ≤ 2 ^ 40 }
     ensures answers { AnswersBy (λ m. upit m.n m.values.items) SpellsUpit IsFirstUpitFault sources.Model (R.progress reader.old) (R.progress reader.new) (R.IsAtEnd reader.new) result }
     ensures small { IfOk result (λ m. IsSmallModel m.n m.values.items) }
     ensures known { Keeps (R.known_text reader.old) (R.known_text reader.new) }

@@ -1,7 +1,7 @@
 //! The text of a journal: a head of five lines, and a line for each entry.
 //! Each line is the one that is `JournalLine`, checked by a function of `head` or `journal_lines`; the first fault ends the reading.
 //! Room is made entry by entry, and never for the count that a text names.
-ghost use Rattle.std.specs.Prelude.{◌≡◌, ◌↔◌, ℕ, List, Ok, Err, ◌≤◌, ◌<◌, ◌^◌, length, IfOk, IfErr};
+ghost use Rattle.std.specs.Prelude.{◌≡◌, ◌↔◌, ℕ, List, Ok, Err, ◌<◌, ◌^◌, length, IfOk, IfErr};
 ghost use Rattle.std.specs.Io.KnownBytes.{Keeps};
 ghost use Rattle.faults.specs.declared.fault.Fault.{Fault as AnyFault};
 ghost use Rattle.faults.specs.declared.source.Source.TheVariants as sources;
@@ -95,7 +95,6 @@ fn check_end(due: JournalLine, count: u64) -> Result<Option<u64>, Fault>
 
 /// All lines, one after the other.
 fn parse_lines(alloc: Global, text: &[u8], graph: &Graph) -> Result<JournalText, Fault>
-    requires { length text.now ≤ 2 ^ 40 }
     ensures exact { Gives (λ j. budget_and_entries j.budget j.entries.items) result (journal_of graph.now text.now) }
 {
     let mut rows = TextRows::new(text);
@@ -121,7 +120,6 @@ pub fn journal_reads_back()
 
 /// The budget and entries that a text spells for the graph, else the first fault of the text, or `NoMemory`.
 pub fn parse_journal(alloc: Global, text: &[u8], graph: &Graph) -> Result<JournalText, Fault>
-    requires { length text.now ≤ 2 ^ 40 }
     // Which journal or which fault it is.
     ensures exact { Gives (λ j. budget_and_entries j.budget j.entries.items) result (journal_of graph.now text.now) }
     // What is read is spelled so, and what is spelled so is read, unless memory runs out.
@@ -142,7 +140,6 @@ pub fn read_journal<R: InBytes>(
     graph: &Graph,
 ) -> Result<JournalText, Fault>
     requires countable { (R.progress reader.old).failures < 2 ^ 63 }
-    requires bounded { (R.progress reader.old).allowance ≤ 2 ^ 40 }
     ensures answers { AnswersBy (λ j. budget_and_entries j.budget j.entries.items) (SpellsJournal graph.now) (IsFirstJournalFault graph.now) sources.Journal (R.progress reader.old) (R.progress reader.new) (R.IsAtEnd reader.new) result }
     ensures seated { IfOk result (λ j. AreSeatedBelow (length graph.now.pairs) j.entries.items) }
     ensures known { Keeps (R.known_text reader.old) (R.known_text reader.new) }

@@ -87,10 +87,9 @@ files_of model model_ends prec prec_ends fixed fixed_ends before after = record 
 abbrev pub mine_files : {M P F : Type 0} → M → P → Option F → MineFiles M P F
 mine_files model prec fixed = record { model = model; prec = prec; fixed = fixed }
 
--- a reader may be called: it can count another failure, and gives no more than the limit
-pub record IsReadable (p : Progress) : Type 0 where
-  pub countable : p.failures < 2 ^ 63
-  pub bounded : p.allowance ≤ 2 ^ 40
+-- a reader may be called: it can count another failure
+abbrev pub IsReadable : Progress → Type 0
+IsReadable p = p.failures < 2 ^ 63
 
 abbrev pub MayReadIfAny : {F : Type 0} → (F → Progress) → Option F → Type 0
 MayReadIfAny progress None = Unit {0}

@@ -1,5 +1,5 @@
 //! `check`: from the bytes of the files of a mine and of a certificate to the bytes of a yes or a no.
-ghost use Rattle.std.specs.Prelude.{◌≡◌, ◌<◌, ◌≤◌, ◌^◌, IfOk, IfErr};
+ghost use Rattle.std.specs.Prelude.{◌≡◌, ◌<◌, ◌^◌, IfOk, IfErr};
 ghost use Rattle.mine_graph.specs.FixedBlocks.{IsFixedOf};
 ghost use Rattle.pit_model.specs.Fixed.{graph_of_mine};
 ghost use Rattle.std.specs.Io.KnownBytes.{Keeps};
@@ -26,7 +26,6 @@ fn status_of(answer: bool) -> Status
 #[tactic(auto, using(crate::proofs::Keeping::still_kept, crate::proofs::Keeping::still_kept_if_any))]
 fn answer_of<C: InBytes>(alloc: Global, task: &Task, certificate: &mut C) -> Result<bool, Fault>
     requires countable { (C.progress certificate.old).failures < 2 ^ 63 }
-    requires bounded { (C.progress certificate.old).allowance ≤ 2 ^ 40 }
     requires fixed { IsFixedOf (graph_of_mine task.now.mine) task.now.fixed }
     ensures answered { IfOk result (IsAnswered (task_of task.now) (reading (C.progress certificate.old) (C.progress certificate.new) (C.IsAtEnd certificate.new))) }
     ensures refused { IfErr result (λ e. RefusesCertificate e.refusal e (task_of task.now) (reading (C.progress certificate.old) (C.progress certificate.new) (C.IsAtEnd certificate.new))) }
@@ -54,7 +53,6 @@ pub fn run_check<M: InBytes, P: InBytes, F: InBytes, C: InBytes, W: OutBytes>(
 ) -> Result<Status, Fault>
     requires read { MayRead M.progress P.progress F.progress (mine_files model.old prec.old fixed.old) }
     requires certificate_countable { (C.progress certificate.old).failures < 2 ^ 63 }
-    requires certificate_bounded { (C.progress certificate.old).allowance ≤ 2 ^ 40 }
     requires out_countable { (W.progress out.old).failures < 2 ^ 63 }
     ensures checked { IfOk result (IsChecked
         (files_of M.progress M.IsAtEnd P.progress P.IsAtEnd F.progress F.IsAtEnd (mine_files model.old prec.old fixed.old) (mine_files model.new prec.new fixed.new))

@@ -1,5 +1,5 @@
 //! The deposit of a run: a table of blocks and the precedence pairs, read in their order, and two of the table's columns.
-ghost use Rattle.std.specs.Prelude.{◌≡◌, ◌<◌, ◌≤◌, ◌^◌, length, IfOk, IfErr};
+ghost use Rattle.std.specs.Prelude.{◌≡◌, ◌<◌, ◌^◌, length, IfOk, IfErr};
 ghost use Rattle.std.specs.Io.KnownBytes.{Keeps};
 ghost use Rattle.runs.specs.Solve.{reading};
 ghost use Rattle.runs.specs.Deposit.{HoldsDeposit, RefusesDeposit};
@@ -30,9 +30,7 @@ pub fn read_deposit<B: InBytes, P: InBytes>(
     cost: u32,
 ) -> Result<Deposit, Fault>
     requires blocks_countable { (B.progress blocks.old).failures < 2 ^ 63 }
-    requires blocks_bounded { (B.progress blocks.old).allowance ≤ 2 ^ 40 }
     requires prec_countable { (P.progress prec.old).failures < 2 ^ 63 }
-    requires prec_bounded { (P.progress prec.old).allowance ≤ 2 ^ 40 }
     ensures deposit { IfOk result (λ d. HoldsDeposit
         (reading (B.progress blocks.old) (B.progress blocks.new) (B.IsAtEnd blocks.new))
         (reading (P.progress prec.old) (P.progress prec.new) (P.IsAtEnd prec.new))

@@ -1,5 +1,5 @@
 //! `shells`: from the bytes of a block model and a precedence file to the bytes of the nested pits.
-ghost use Rattle.std.specs.Prelude.{◌<◌, ◌≤◌, ◌^◌, IfOk, IfErr};
+ghost use Rattle.std.specs.Prelude.{◌<◌, ◌^◌, IfOk, IfErr};
 ghost use Rattle.shells.specs.Grown.{EachEndsWithin};
 ghost use Rattle.std.specs.Io.KnownBytes.{Keeps};
 ghost use Rattle.runs.specs.Solve.{reading};
@@ -38,9 +38,7 @@ pub fn run_shells<R: Threads + Wait + Sync, B: InBytes, P: InBytes, W: OutBytes>
     pit: Direction,
 ) -> Result<Status, Fault>
     requires blocks_countable { (B.progress blocks.old).failures < 2 ^ 63 }
-    requires blocks_bounded { (B.progress blocks.old).allowance ≤ 2 ^ 40 }
     requires prec_countable { (P.progress prec.old).failures < 2 ^ 63 }
-    requires prec_bounded { (P.progress prec.old).allowance ≤ 2 ^ 40 }
     requires out_countable { (W.progress out.old).failures < 2 ^ 63 }
     ensures done { IfOk result (IsShellsDone pit
         (reading (B.progress blocks.old) (B.progress blocks.new) (B.IsAtEnd blocks.new))

@@ -1,5 +1,5 @@
 //! `replay`: from the bytes of the files of a mine and of a journal to the bytes of the pit, or of what is wrong with the journal.
-ghost use Rattle.std.specs.Prelude.{◌≡◌, ◌<◌, ◌≤◌, ◌^◌, ℕ, Bool, IfOk, IfErr};
+ghost use Rattle.std.specs.Prelude.{◌≡◌, ◌<◌, ◌^◌, ℕ, Bool, IfOk, IfErr};
 ghost use Rattle.faults.specs.Refused.{write_failed};
 ghost use Rattle.mine_graph.specs.FixedBlocks.{IsFixedOf};
 ghost use Rattle.pit_model.specs.declared.direction.Direction.{Direction as AnyDirection};
@@ -24,7 +24,6 @@ use std::alloc::Global;
 #[tactic(auto, using(crate::proofs::Keeping::still_kept, crate::proofs::Keeping::still_kept_if_any))]
 fn replay_on<J: InBytes>(alloc: Global, rest: &Instance, journal: &mut J) -> Result<Replayed, Fault>
     requires countable { (J.progress journal.old).failures < 2 ^ 63 }
-    requires bounded { (J.progress journal.old).allowance ≤ 2 ^ 40 }
     ensures replayed { IfOk result (IsReplayedOn rest.now (reading (J.progress journal.old) (J.progress journal.new) (J.IsAtEnd journal.new))) }
     ensures refused { IfErr result (λ e. RefusesJournalOn e.refusal e rest.now (reading (J.progress journal.old) (J.progress journal.new) (J.IsAtEnd journal.new))) }
     ensures kept { Keeps (J.known_text journal.old) (J.known_text journal.new) }
@@ -38,7 +37,6 @@ fn replay_on<J: InBytes>(alloc: Global, rest: &Instance, journal: &mut J) -> Res
 #[tactic(auto, using(crate::proofs::Keeping::still_kept, crate::proofs::Keeping::still_kept_if_any))]
 fn replay_of<J: InBytes>(alloc: Global, task: &Task, journal: &mut J) -> Result<Replayed, Fault>
     requires countable { (J.progress journal.old).failures < 2 ^ 63 }
-    requires bounded { (J.progress journal.old).allowance ≤ 2 ^ 40 }
     requires fixed { IsFixedOf (graph_of_mine task.now.mine) task.now.fixed }
     ensures replayed { IfOk result (IsReplayed (task_of task.now) (reading (J.progress journal.old) (J.progress journal.new) (J.IsAtEnd journal.new))) }
     ensures refused { IfErr result (λ e. RefusesJournal e.refusal e (task_of task.now) (reading (J.progress journal.old) (J.progress journal.new) (J.IsAtEnd journal.new))) }
@@ -113,7 +111,6 @@ pub fn run_replay<M: InBytes, P: InBytes, F: InBytes, J: InBytes, W: OutBytes>(
 ) -> Result<Status, Fault>
     requires read { MayRead M.progress P.progress F.progress (mine_files model.old prec.old fixed.old) }
     requires journal_countable { (J.progress journal.old).failures < 2 ^ 63 }
-    requires journal_bounded { (J.progress journal.old).allowance ≤ 2 ^ 40 }
     requires out_countable { (W.progress out.old).failures < 2 ^ 63 }
     ensures told { IfOk result (IsToldReplay
         (files_of M.progress M.IsAtEnd P.progress P.IsAtEnd F.progress F.IsAtEnd (mine_files model.old prec.old fixed.old) (mine_files model.new prec.new fixed.new))

@@ -1,5 +1,5 @@
 -- Each piece is read behind those before it.
-use Rattle.std.proofs.Common.{◌∙◌, ◌++◌, ℕ, List, Ok, ap, arith, length, length-append, subst, sym, rules}
+use Rattle.std.proofs.Common.{◌∙◌, ◌++◌, ℕ, List, Ok, ap, subst, sym, rules}
 use Rattle.minelib_reader.specs.Answer.{FailsBy}
 use Rattle.minelib_reader.specs.Marks.{AddsRows, with_pairs}
 use Rattle.minelib_reader.specs.Prec.{pairs_from}
@@ -72,20 +72,11 @@ loop-kept-preserved g c =
     let p = subst (IsPiece mid new AtEnd kept piece kept') c.if-ended.false c.in_ok-ended.ensures.piece in
     let added = subst (λ (t : List ℕ). AddsRows c.args.n b.from b.total (rows_at b.line t) pairs pairs' after.from after.total) c.deref.ensures.value c.in-Ok.ensures.ok in
     record {
-      read = goes_on c.args.n old mid new AtEnd b.from b.total b.line kept piece kept' pairs c.loop-kept.invariant.read p after.from after.total after.line pairs' added (c.in-Ok.ensures.counted ∙ ap (λ (t : List ℕ). lines_at b.line t) c.deref.ensures.value) (let short = c.in-Ok.ensures.short in let same = ap length c.deref.ensures.value in omega arith);
+      countable = c.in-Ok.ensures.countable;
+      read = goes_on c.args.n old mid new AtEnd b.from b.total b.line kept piece kept' pairs c.loop-kept.invariant.read p after.from after.total after.line pairs' added (c.in-Ok.ensures.counted ∙ ap (λ (t : List ℕ). lines_at b.line t) c.deref.ensures.value);
       known = search rules;
       so_far = c.in-Ok.ensures.so_far;
       few = c.in-Ok.ensures.few;
       sizes = c.in-Ok.ensures.sizes;
       marks = c.in-Ok.ensures.new_marks;
     }
-
-pub read_lines-requires-clause-countable : goal.read_lines-requires-clause-countable
-read_lines-requires-clause-countable g c =
-    let kept = c.loop-kept.kept.items in
-    let piece = c.read_piece.new.piece.items in
-    let r = c.loop-kept.invariant.read in
-    let p = c.in_ok-ended.ensures.piece in
-    let parts = ap length p.parts in
-    let same = ap length c.deref.ensures.value in
-    omega (arith, c.requires.bounded, r.allowance, r.short, p.allowance, length-append piece c.read_piece.new.kept.items, length-append kept p.text)
