@@ -36,7 +36,7 @@ recovery = 0.9
 [[slopes.walls]]
 azimuths = {[list(pair) for pair in WALLS]}
 [shells]
-factors = [1000]
+revenue_factors = [1]
 rate = 0.1
 ore_per_year = 1000
 """

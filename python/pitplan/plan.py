@@ -18,6 +18,8 @@ from pitplan.config.project import Project, load, validated
 from pitplan.config.shells import IN_WORDS
 from pitplan.core.keyed_arrays import hash_of_all
 from pitplan.core.progress import Progress, silent
+from pitplan.core.revenue_factors import factor_text
+from pitplan.crop import Model
 from pitplan.economics import block_values, haulage, period_costs
 from pitplan.economics.block_values import Values
 from pitplan.precedences import MOST_PAIRS, Needs, Pairs
@@ -37,10 +39,10 @@ OWN_COLUMNS = (
         "mining_cost",
         "revenue",
         "processing_cost",
-        "factor",
-        "process_factor",
-        "free_factor",
-        "free_process_factor",
+        "revenue_factor",
+        "process_revenue_factor",
+        "free_revenue_factor",
+        "free_process_revenue_factor",
     ),
     "phase",
     "year",
@@ -91,7 +93,7 @@ class Plan:
         return (
             f"Plan of {self.project.title}\n"
             f"  {len(self.table):,} blocks of {x} x {y} x {z} m on a grid of {columns} x {rows} x {levels}, from {self.source}\n"
-            f"  {len(self.values.ore):,} with {metals}, {len(self.project.schedule.factors)} factors, "
+            f"  {len(self.values.ore):,} with {metals}, {len(self.project.schedule.revenue_factors)} revenue factors, "
             f"{len(self.notes)} notes (plan.notes)"
         )
 
@@ -107,7 +109,7 @@ class Plan:
         record = {
             "grid": grid.as_json(),
             "walls": [it.as_json() for it in walls.patterns],
-            "factors": list(self.project.schedule.factors),
+            "revenue_factors": list(self.project.schedule.revenue_factors),
         }
         return hash_of_all(json.dumps(record, default=repr), arrays)
 
@@ -176,8 +178,8 @@ class Plan:
             "walls": [pattern.as_json() for pattern in self.walls.patterns],
             "needs": self.record_of_needs(pairs),
             "fixed": {"forced": len(self.fixed.forced), "barred": len(self.fixed.barred)},
-            "factors": list(project.schedule.factors),
-            "factor_1000_added": project.schedule.reference_added,
+            "revenue_factors": list(project.schedule.revenue_factors),
+            "base_price_added": project.schedule.base_price_added,
             "summary": self.summary,
             "notes": [*self.notes, *self.notes_of_needs(pairs)],
             "codes": codes_of(project),
@@ -198,7 +200,7 @@ class Plan:
 
     def notes_of_needs(self, pairs: Pairs) -> list[str]:
         """What became of needs that lead off the model, and of those that nothing uses."""
-        left, last = self.grid.count - int(self.used.sum()), self.project.schedule.factors[-1]
+        left, last = self.grid.count - int(self.used.sum()), self.project.schedule.revenue_factors[-1]
         notes = [f"{pairs.written:,} needs of {self.grid.count - left:,} blocks were written"]
         if pairs.clipped:
             notes.append(
@@ -207,11 +209,11 @@ class Plan:
         if left:
             notes.append(
                 f"the needs of {left:,} blocks were left out, since no block that pays uses them; "
-                f"this holds for factors up to {last}"
+                f"this holds for revenue factors up to {factor_text(last)}"
             )
         return notes
 
-    def record_of_needs(self, pairs: Pairs) -> dict[str, int]:
+    def record_of_needs(self, pairs: Pairs) -> dict[str, Any]:
         used = int(self.used.sum())
         return {
             "written": pairs.written,
@@ -219,7 +221,7 @@ class Plan:
             "clipped_at_the_sides": pairs.clipped,
             "blocks_whose_needs_are_written": used,
             "blocks_whose_needs_are_trimmed": self.grid.count - used,
-            "trimmed_for_factors_up_to": self.project.schedule.factors[-1],
+            "trimmed_for_revenue_factors_up_to": self.project.schedule.revenue_factors[-1],
         }
 
 
@@ -290,7 +292,7 @@ def demand_no_clash(plan: Plan, settled: Settled) -> None:
 
 def wanted(values: Values, project: Project, fixed: FixedBlocks) -> NDArray[Any]:
     """The cells for which a pit digs others: those that can pay for themselves, and those that must be dug."""
-    found = np.array(values.greatest_value(project.schedule.factors[-1]) > 0, dtype=bool)
+    found = np.array(values.greatest_value(project.schedule.revenue_factors[-1]) > 0, dtype=bool)
     found[fixed.forced] = True
     return found
 
@@ -329,8 +331,8 @@ def notes_of(plan: Plan) -> list[str]:
         rock = plan.values.tonnes > 0
         dug, left = (int(np.count_nonzero(cells & rock)) for cells in (plan.settled.dug, plan.settled.left))
         notes.append(f"for their sake {dug:,} blocks are dug in every pit and {left:,} in none")
-    if plan.project.schedule.reference_added:
-        notes.append("factor 1000, the price as given, was added to the factors")
+    if plan.project.schedule.base_price_added:
+        notes.append("revenue factor 1.0, the base price, was added to the revenue factors")
     notes += period_costs.notes(plan.project)
     settings = plan.project.schedule
     notes.append(

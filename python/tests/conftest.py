@@ -43,7 +43,7 @@ levels = 3
 [[slopes.walls]]
 pattern = "1:5"
 [shells]
-factors = [500, 1000, 1500]
+revenue_factors = [0.5, 1.0, 1.5]
 rate = 0.1
 ore_per_year = 100
 """

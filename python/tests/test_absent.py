@@ -47,7 +47,7 @@ def test_shells_that_reach_a_hole_are_refused(plan_folder, capsys):
     assert main(["shells", str(path), "--quiet"]) == 1
     said = capsys.readouterr().err
     assert (
-        "blocks.csv: the shells reach 1 cells that have no row and are not above the highest of their column, the first at 25, 5, 15 from factor 500 on"
+        "blocks.csv: the shells reach 1 cells that have no row and are not above the highest of their column, the first at 25, 5, 15 from revenue factor 0.50 on"
         in said
     )
     assert 'absent = "air"' in said
@@ -57,7 +57,9 @@ def test_shells_that_reach_a_hole_are_refused(plan_folder, capsys):
 def test_shells_that_reach_a_column_without_rows_are_refused(plan_folder):
     table = deposit()
     path = plan_folder(table[table["x"] != 15])
-    with pytest.raises(PlanError, match="the shells reach 1 cells .* the first at 15, 5, 25 from factor 500 on"):
+    with pytest.raises(
+        PlanError, match="the shells reach 1 cells .* the first at 15, 5, 25 from revenue factor 0.50 on"
+    ):
         shells_of(path)
 
 
@@ -69,8 +71,10 @@ def test_what_is_not_known_and_not_reached_changes_nothing(plan_folder):
 
 def test_air_on_request_costs_nothing(plan_folder):
     table = deposit()
-    whole = shells_of(plan_folder(table)).set_index("factor")
-    holed = shells_of(plan_folder(table[~((table["x"] == 25) & (table["z"] == 15))], PROJECT, AIR)).set_index("factor")
+    whole = shells_of(plan_folder(table)).set_index("revenue_factor")
+    holed = shells_of(plan_folder(table[~((table["x"] == 25) & (table["z"] == 15))], PROJECT, AIR)).set_index(
+        "revenue_factor"
+    )
     # A block of 100 t at 2 a tonne less is dug.
     assert (holed["worth"] - whole["worth"]).tolist() == [200] * 3
     assert (whole["tonnes"] - holed["tonnes"]).tolist() == [100] * 3

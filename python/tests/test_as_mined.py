@@ -103,7 +103,7 @@ def test_what_a_run_writes_of_it_is_verified(plan_folder, tmp_path, without_figu
     (rule,) = [rule for rule in verify(tmp_path / "plan") if rule.name == "as mined"]
     assert not rule.differences
     table = pd.read_csv(tmp_path / "plan" / "blocks.csv")
-    assert (table.loc[(table["x"].between(30, 60)) & (table["z"] == 25), "factor"] > 0).all()
+    assert (table.loc[(table["x"].between(30, 60)) & (table["z"] == 25), "revenue_factor"] > 0).all()
     # A block that keeps the tonnes that it had before is seen.
     row = table.index[table["x"].eq(45) & table["z"].eq(25)][0]
     table.loc[row, "tonnes"] = 54.0

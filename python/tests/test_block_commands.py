@@ -49,7 +49,7 @@ def test_three_pillars_by_hand(plan_folder):
     assert row["value"] == pytest.approx(value) == row["bound"] and row["below_bound"] == pytest.approx(0, abs=1e-9)
     assert row[["years", "blocks", "tonnes", "ore_tonnes"]].tolist() == [3, 6, 600, 300]
     years = years_of(folder)
-    assert years["year"].tolist() == [1, 2, 3] and years["factor"].tolist() == [1000] * 3
+    assert years["year"].tolist() == [1, 2, 3] and years["revenue_factor"].tolist() == [1.0] * 3
     assert years["rock_tonnes"].tolist() == [200] * 3 and years["ore_tonnes"].tolist() == [100] * 3
     assert years["metal_copper"].tolist() == pytest.approx([0.5, 0.35, 0.25]) and years["cash"].tolist() == [
         2600,
@@ -180,7 +180,9 @@ def test_the_command_line_tells_value_bound_and_gap(plan_folder, capsys):
     )
     assert "round 1: bound " in said.err and "relaxation 3,971 over" in said.err
     page = (path.parent / "plan" / "block_schedule" / "report.html").read_text()
-    assert "in the ore of the pit of factor 1000</span>" in page and 'title="ways.csv row 2 column value"' in page
+    assert (
+        "in the ore of the pit of revenue factor 1.00</span>" in page and 'title="ways.csv row 2 column value"' in page
+    )
     assert "ways.csv" in page and "the schedule and its bound, the other numbers" in page
 
 

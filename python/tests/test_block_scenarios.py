@@ -135,7 +135,7 @@ def test_quantiles_by_hand(plan_folder):
     table = pd.read_csv(folder / "quantiles.csv").set_index("price_copper")
     values = [2600 / 1.1 + 600 / 1.21, 1600 / 1.1 + 600 / 1.21]
     assert table.index.tolist() == [8000, 12000] and table["models"].tolist() == [2, 2]
-    told = table.loc[8000, ["value_least", "value_greatest", "value_mean"]].tolist()
+    told = table.loc[8.0, ["value_least", "value_greatest", "value_mean"]].tolist()
     assert told == pytest.approx([values[1], values[0], sum(values) / 2])
     assert table.loc[8000, "bound_quantile_0.1"] == pytest.approx(values[1] + 0.1 * (values[0] - values[1]))
     # The one schedule digs the first pillar and then the second, as each scenario's own does.
@@ -325,9 +325,7 @@ def test_a_schedule_that_is_searched_for_by_other_code_has_another_name(plan_fol
 def test_factors_are_no_part_of_a_schedule(plan_folder):
     table = pillars([1, 0.5, 0])
     keys = [job.key for job in prepared(plan_folder(table, TWO_YEARS)).jobs]
-    assert keys == [
-        job.key for job in prepared(plan_folder(table, TWO_YEARS, ("[500, 1000, 1500]", "[700, 1000]"))).jobs
-    ]
+    assert keys == [job.key for job in prepared(plan_folder(table, TWO_YEARS, ("[0.5, 1.0, 1.5]", "[0.7, 1.0]"))).jobs]
 
 
 @pytest.mark.parametrize(
@@ -382,7 +380,7 @@ def test_limits_under_which_a_pit_would_take_too_long_are_refused(plan_folder):
 def test_a_factor_another_kind_of_folder_and_the_program_are_refused(plan_folder, capsys):
     path = plan_folder(pillars([1, 0.5, 0]), TWO_YEARS)
     words = ["scenarios", str(path), "--by", "block", "--quiet"]
-    assert main([*words, "--factor", "1000"]) == 1
+    assert main([*words, "--revenue-factor", "1.00"]) == 1
     assert (
         "pitplan: --factor: schedules by block are made at the price as given: leave it out" in capsys.readouterr().err
     )
@@ -394,7 +392,7 @@ def test_a_factor_another_kind_of_folder_and_the_program_are_refused(plan_folder
     with pytest.raises(PlanError, match="2 of 2 schedules have no answer, first sim_1: was not solved"):
         gather(folder)
     with pytest.raises(PlanError, match="--factor: schedules by block"):
-        gather(folder, Request(factor=500))
+        gather(folder, Request(revenue_factor=0.5))
 
 
 def test_without_the_library_it_is_told_what_is_missing(plan_folder):

@@ -245,7 +245,7 @@ def test_a_solve_that_takes_long_is_ended_at_once(plan_folder, asked, status, sa
     """A single column of blocks, the deeper half ore, takes the library many seconds, and time that grows with the square of its depth."""
     deep = 40_000
     table = rows(1, 1, deep, cu=lambda i, j, k: 2 if k < deep // 2 else 0)
-    path = plan_folder(table, PROJECT, UPRIGHT, ("levels = 3", "levels = 1"), ("[500, 1000, 1500]", "[1000]"))
+    path = plan_folder(table, PROJECT, UPRIGHT, ("levels = 3", "levels = 1"), ("[0.5, 1.0, 1.5]", "[1.0]"))
     words = [sys.executable, str(ROOT / "tools" / "pitplan"), "shells", str(path), "--solver", "library"]
     ran = subprocess.Popen(
         words, stderr=subprocess.PIPE, text=True, preexec_fn=lambda: signal.signal(signal.SIGINT, signal.SIG_DFL)
@@ -316,7 +316,7 @@ def test_both_packages_are_of_one_release():
 def test_an_audit_of_what_the_library_solved_writes_the_mine_itself(tmp_path):
     """Blocks, needs and fixed blocks are those that the program would have read."""
     arrays, texts = by_both(tmp_path, "shells", EXAMPLES / "fixed" / "project.toml", "--no-verify")
-    first, second = (pitplan.audit(place, 800) for place in (arrays, texts))
+    first, second = (pitplan.audit(place, 0.8) for place in (arrays, texts))
     for name in ("shell.upit", "shell.prec", "shell.fixed", "pit.txt", "shell.cert"):
         assert (first / name).read_bytes() == (second / name).read_bytes(), name
     environment = {**os.environ, "PITSHELL": str(program.program()), "PYTHON": sys.executable}
@@ -339,9 +339,9 @@ def test_an_audit_is_refused_where_what_the_mine_was_made_of_has_changed(solved_
     with open(solved_by_library / name, "a") as file:
         file.write("\n")
     with pytest.raises(PlanError, match=f"{name}: has changed since .* was written: run pitplan again"):
-        pitplan.audit(solved_by_library / "plan", 1000)
-    assert not (solved_by_library / "plan" / "audit-1000").exists() or not list(
-        (solved_by_library / "plan" / "audit-1000").iterdir()
+        pitplan.audit(solved_by_library / "plan", 1.0)
+    assert not (solved_by_library / "plan" / "audit-1.00").exists() or not list(
+        (solved_by_library / "plan" / "audit-1.00").iterdir()
     )
 
 

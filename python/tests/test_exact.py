@@ -75,7 +75,7 @@ def test_nothing_may_have_any_number_of_places(places):
 )
 def test_values_at_a_factor_are_exact(amounts, factor):
     revenue, cost = np.array(amounts, dtype=np.int64).T
-    assert at_factor(factor, revenue, cost).tolist() == [factor * a - 1000 * b for a, b in amounts]
+    assert at_factor(factor / 1000, revenue, cost).tolist() == [factor * a - 1000 * b for a, b in amounts]
 
 
 @given(st.lists(short, min_size=1, max_size=20), st.integers(0, 6))

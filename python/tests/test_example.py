@@ -35,7 +35,7 @@ def test_the_program_s_own_text_is_the_expected_one():
 
 def test_the_table_of_shells_is_the_expected_one(solved_example):
     _, _, table = solved_example
-    expected = pd.read_csv(EXAMPLE / "expected" / "shells.csv", dtype={"worth_at_factor": str})
+    expected = pd.read_csv(EXAMPLE / "expected" / "shells.csv", dtype={"value_at_revenue_factor": str})
     written = with_discounting(shown(table), pitplan.load(EXAMPLE / "project.toml"))
     pd.testing.assert_frame_equal(written, expected, check_dtype=False, rtol=1e-9)
 
@@ -53,12 +53,12 @@ def amounts_of(row, project, top):
     return tonnes, gain, cost
 
 
-@pytest.mark.parametrize("factor", [500, 850, 1000])
+@pytest.mark.parametrize("factor", [0.5, 0.85, 1.0])
 def test_tonnes_and_worth_are_the_sums_over_the_rows(solved_example, factor):
     plan, solution, table = solved_example
     project = tomllib.loads((EXAMPLE / "project.toml").read_text())
     blocks = shell_tables.blocks(plan, solution)
-    inside = set(blocks["planner_id"][(blocks["factor"] > 0) & (blocks["factor"] <= factor)])
+    inside = set(blocks["planner_id"][(blocks["revenue_factor"] > 0.0) & (blocks["revenue_factor"] <= factor)])
     totals = Counter()
     with open(EXAMPLE / "blocks.csv", newline="") as file:
         rows = list(csv.DictReader(file))
@@ -69,7 +69,7 @@ def test_tonnes_and_worth_are_the_sums_over_the_rows(solved_example, factor):
             totals["tonnes"] += tonnes
             totals["ore_tonnes"] += tonnes if gain > 0 else 0
             totals["worth"] += max(gain, 0) - cost
-    shell = table.set_index("factor").loc[factor]
+    shell = table.set_index("revenue_factor").loc[factor]
     assert shell["blocks"] == len(inside)
     for name, total in totals.items():
         # Each amount is kept to the cent.
@@ -81,9 +81,9 @@ def test_a_fixed_cutoff_digs_no_more_and_earns_no_more(solved_example):
     plan, solution, _ = solved_example
     fixed = replace(plan.project, money=replace(plan.project.money, cutoff="fixed"))
     other = pitplan.solve(pitplan.prepare(fixed))
-    lost = [factor for factor in plan.project.schedule.factors if other.worth[factor] < solution.worth[factor]]
-    assert all(other.worth[factor] <= solution.worth[factor] for factor in plan.project.schedule.factors)
-    assert 500 in lost and 1000 not in lost and 1200 in lost
+    lost = [factor for factor in plan.project.schedule.revenue_factors if other.worth[factor] < solution.worth[factor]]
+    assert all(other.worth[factor] <= solution.worth[factor] for factor in plan.project.schedule.revenue_factors)
+    assert 0.5 in lost and 1.0 not in lost and 1.2 in lost
 
 
 def test_the_large_example_prepares_a_table_of_its_own_command(tmp_path):
@@ -100,4 +100,4 @@ def test_the_large_example_prepares_a_table_of_its_own_command(tmp_path):
     (tmp_path / "examples" / "large" / "project.toml").write_text(text)
     plan = pitplan.prepare(tmp_path / "examples" / "large" / "project.toml")
     made = (tmp_path / "build" / "large" / "blocks.csv").read_text().splitlines()
-    assert len(plan.blocks) == len(made) - 1 > 900 and len(plan.project.schedule.factors) == 21
+    assert len(plan.blocks) == len(made) - 1 > 900 and len(plan.project.schedule.revenue_factors) == 21

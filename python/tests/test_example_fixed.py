@@ -25,10 +25,10 @@ PLACES = (("x", 5010, 20), ("y", 2010, 20), ("z", 2707.5, 15))
 
 @pytest.fixture(scope="module")
 def folder(tmp_path_factory):
-    """The shells of the example and, in pit, its pit of factor 1000."""
+    """The shells of the example and, in pit, its pit of revenue factor 1.00."""
     place = tmp_path_factory.mktemp("fixed")
     pitplan.write_shells(EXAMPLE / "project.toml", place)
-    pitplan.write_pit(EXAMPLE / "project.toml", 1000, place / "pit")
+    pitplan.write_pit(EXAMPLE / "project.toml", 1.0, place / "pit")
     return place
 
 
@@ -50,7 +50,9 @@ def by_hand(rows):
 
 def test_the_tables_are_the_expected_ones(folder):
     for name, written in (("shells.csv", folder / "shells.csv"), ("pits.csv", folder / "pit" / "pits.csv")):
-        tables = [pd.read_csv(path, dtype={"worth_at_factor": str}) for path in (EXAMPLE / "expected" / name, written)]
+        tables = [
+            pd.read_csv(path, dtype={"value_at_revenue_factor": str}) for path in (EXAMPLE / "expected" / name, written)
+        ]
         pd.testing.assert_frame_equal(*tables, rtol=1e-9)
 
 
@@ -69,7 +71,7 @@ def test_the_fixed_blocks_are_those_of_the_map():
 def test_without_fixed_blocks_the_pit_is_that_of_the_plain_example_less_the_cut(folder):
     """The cut lies within the plain pit; what was mined of it neither costs nor yields anything now."""
     pits = pd.read_csv(folder / "pit" / "pits.csv").set_index("fixed_blocks")
-    plain = pd.read_csv(ROOT / "examples" / "plan" / "expected" / "shells.csv").set_index("factor").loc[1000]
+    plain = pd.read_csv(ROOT / "examples" / "plan" / "expected" / "shells.csv").set_index("revenue_factor").loc[1.0]
     rows = table_of_rows()
     called = {rows[place]["id"] for place in by_hand(rows)[0]}
     plan = prepare(ROOT / "examples" / "plan" / "project.toml")
@@ -86,12 +88,12 @@ def test_without_fixed_blocks_the_pit_is_that_of_the_plain_example_less_the_cut(
     )
 
 
-@pytest.mark.parametrize("factor", [400, 600, 800, 1000])
+@pytest.mark.parametrize("factor", [0.4, 0.6, 0.8, 1.0])
 def test_each_shell_keeps_to_walls_cut_and_plant(folder, factor):
     """By the whole cone above each block that is dug, as the walls are asked for."""
     rows = table_of_rows()
     forced, barred = by_hand(rows)
-    blocks = pd.read_csv(folder / "blocks.csv").set_index("planner_id")["factor"]
+    blocks = pd.read_csv(folder / "blocks.csv").set_index("planner_id")["revenue_factor"]
     pit = {place for place, row in rows.items() if 0 < blocks[row["id"]] <= factor}
     assert forced <= pit and not barred & pit
     cones = {region: cone(wall) for region, wall in WALLS.items()}
@@ -113,6 +115,6 @@ def cone(wall):
 def test_others_can_check_the_pit(folder):
     """By the program and by the short checker, which shares nothing with it."""
     environment = {**os.environ, "PITSHELL": str(program.program()), "PYTHON": sys.executable}
-    words = ["sh", str(pitplan.audit(folder, 1000) / "check.sh")]
+    words = ["sh", str(pitplan.audit(folder, 1.0) / "check.sh")]
     ran = subprocess.run(words, env=environment, capture_output=True, text=True)
     assert ran.stdout == "hashes: yes\npitshell check: yes\ncheck_certificate.py: yes\n", ran.stderr

@@ -18,7 +18,7 @@ from test_oracle import least_best_pit, whole
 EXAMPLE = ROOT / "examples" / "scenarios"
 SHAPE = (10, 9, 7)  # columns, rows, levels of blocks of 20 x 20 x 15 m
 PLACES = (("x", 5010, 20), ("y", 2010, 20), ("z", 2707.5, 15))
-PRICES, FACTORS = (7400, 9000), (700, 1000)
+PRICES, FACTORS = (7.4, 9.0), (0.7, 1.0)
 COPPER = {"OX": Decimal("0.62"), "POR": Decimal("0.88"), "AND": Decimal("0.86")}
 GOLD = {"OX": Decimal("0.55"), "POR": Decimal("0.7"), "AND": Decimal("0.7")}
 PROCESSING = {"OX": Decimal("9.8"), "POR": Decimal("8.6"), "AND": Decimal("8.6")}
@@ -75,7 +75,7 @@ def value_at(row, grades, price, factor):
     gold = tonnes * Decimal(grades["au_gpt"]) * GOLD[rock]
     revenue = whole(copper * price + gold * Decimal("58.5"))
     processing = whole(tonnes * PROCESSING[rock] + copper * 420 + gold * Decimal("1.2")) if revenue else 0
-    return max(factor * revenue - 1000 * processing, 0) - 1000 * whole(tonnes * Decimal("2.4"))
+    return max(round(1000 * factor) * revenue - 1000 * processing, 0) - 1000 * whole(tonnes * Decimal("2.4"))
 
 
 @pytest.fixture(scope="module")
@@ -100,15 +100,15 @@ def test_each_scenario_is_that_of_the_oracle(folder, pits):
     table = rows_of(folder / "scenarios.csv")
     assert len(table) == len(pits) == 16
     for row in table:
-        inside, worth = pits[row["model"], int(row["price_copper"]), int(row["factor"])]
-        assert (int(row["blocks"]), Decimal(row["worth_at_factor"])) == (len(inside), worth)
-    counts = [len(pits["model_003", price, 1000][0]) for price in PRICES]
+        inside, worth = pits[row["model"], int(row["price_copper"]), float(row["revenue_factor"])]
+        assert (int(row["blocks"]), Decimal(row["value_at_revenue_factor"])) == (len(inside), worth)
+    counts = [len(pits["model_003", price, 1.0][0]) for price in PRICES]
     assert counts[0] == 0 < counts[1]
 
 
-@pytest.mark.parametrize("factor", FACTORS)
+@pytest.mark.parametrize("revenue_factor", FACTORS)
 def test_probabilities_are_shares_of_the_oracle(folder, pits, factor):
-    likely = pd.read_csv(folder / "probability.csv").set_index("planner_id")[f"probability_{factor}"]
+    likely = pd.read_csv(folder / "probability.csv").set_index("planner_id")[f"probability_{factor:.2f}"]
     asked = [inside for (_, _, at), (inside, _) in pits.items() if at == factor]
     assert likely.to_dict() == {name: sum(name in inside for inside in asked) / 8 for name in likely.index}
     assert likely.max() >= 0.75 and len(likely) == 523
@@ -116,7 +116,7 @@ def test_probabilities_are_shares_of_the_oracle(folder, pits, factor):
 
 def test_quantiles_by_hand_from_the_oracle(folder, pits):
     """Of four models, the median lies half way between the second and the third, and a tenth at 0.3 of the way from the first."""
-    table = pd.read_csv(folder / "quantiles.csv").set_index(["price_copper", "factor"])
+    table = pd.read_csv(folder / "quantiles.csv").set_index(["price_copper", "revenue_factor"])
     for price, factor in table.index:
         counts = sorted(len(inside) for (_, at, of), (inside, _) in pits.items() if (at, of) == (price, factor))
         row = table.loc[(price, factor)]
@@ -160,7 +160,7 @@ def worths(path, price):
     for row, grades in zip(rows_of(EXAMPLE / "blocks.csv"), rows_of(path)):
         assert row["id"] == grades["id"]
         mining = whole(Decimal(row["tonnes"]) * MINING)
-        gain = value_at(row, grades, price, 1000) // 1000 + mining
+        gain = value_at(row, grades, price, 1.0) // 1000 + mining
         found[row["id"]] = mining, gain, float(row["tonnes"]) if gain > 0 else 0.0
     return found
 

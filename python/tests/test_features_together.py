@@ -125,7 +125,7 @@ def test_what_is_written_is_right(plan_folder, without_figures, monkeypatch, see
     text = (
         PROJECT
         + haulage(rng)
-        + f'[pushbacks]\nfactors = [500, 1000]\n{rules}[fixed]\nforced = "must"\nbarred = "never"\n'
+        + f'[pushbacks]\nrevenue_factors = [0.5, 1.0]\n{rules}[fixed]\nforced = "must"\nbarred = "never"\n'
     )
     path = plan_folder(table_of(rng), text, *changes)
     ways = [

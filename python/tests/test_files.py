@@ -61,7 +61,7 @@ def test_shells_write_tables_pictures_and_a_page_that_needs_no_other_file(solved
 
 
 def test_a_mine_without_ore_has_a_report_and_a_page_too(plan_folder):
-    project = load(plan_folder(rows(4, 4, 3), PROJECT, ("[500, 1000, 1500]", "[1000]")))
+    project = load(plan_folder(rows(4, 4, 3), PROJECT, ("[0.5, 1.0, 1.5]", "[1.0]")))
     table = pitplan.write_shells(project, project.folder)
     assert table["blocks"].tolist() == [0] and table["worth"].tolist() == [0]
     pitplan.view(project.folder, silent)
@@ -112,7 +112,7 @@ def test_a_prepared_folder_has_no_shells_yet(plan_folder):
         read_folder(project.folder / "nowhere")
 
 
-@pytest.mark.parametrize("factor", [500, 1000, 1500])
+@pytest.mark.parametrize("revenue_factor", [0.5, 1.0, 1.5])
 def test_an_audit_is_confirmed_by_the_program_and_by_the_short_checker(solved, factor):
     _, folder = solved
     target = pitplan.audit(folder, factor, silent)
@@ -122,14 +122,14 @@ def test_an_audit_is_confirmed_by_the_program_and_by_the_short_checker(solved, f
     ran = subprocess.run(["sh", str(target / "check.sh")], capture_output=True, text=True, env=environment, check=True)
     assert ran.stdout.split("\n") == ["hashes: yes", "pitshell check: yes", "check_certificate.py: yes", ""]
     record = json.loads((target / "audit.json").read_text())
-    table = pd.read_csv(folder / "shells.csv", dtype={"worth_at_factor": str}).set_index("factor")
-    assert Decimal(record["worth_at_factor"]) == Decimal(table["worth_at_factor"][factor])
+    table = pd.read_csv(folder / "shells.csv", dtype={"value_at_revenue_factor": str}).set_index("revenue_factor")
+    assert Decimal(record["value_at_revenue_factor"]) == Decimal(table["value_at_revenue_factor"][factor])
     assert record["program"] == program.identity() and record["plan"]["blocks.csv"] == hash_of(folder / "blocks.csv")
 
 
 def test_a_bent_audit_is_not_confirmed(solved):
     _, folder = solved
-    target = pitplan.audit(folder, 1000, silent)
+    target = pitplan.audit(folder, 1.0, silent)
     model = target / "shell.upit"
     model.write_text(model.read_text().replace("\n0 -", "\n0 "))
     environment = {**os.environ, "PITSHELL": str(program.program()), "PYTHON": sys.executable}
@@ -138,19 +138,22 @@ def test_a_bent_audit_is_not_confirmed(solved):
 
 def test_an_audit_of_other_blocks_or_of_another_worth_is_refused(solved):
     folder = read_folder(solved[1])
-    stage = pitplan.audit(solved[1], 1000, silent)
-    worth = audit.demand_same(stage, folder, 1000)
-    shells = pd.read_csv(solved[1] / "shells.csv", dtype={"worth_at_factor": str})
-    assert [worth] == shells.loc[shells["factor"] == 1000, "worth_at_factor"].map(Decimal).tolist()
-    dug = folder.blocks["factor"] == 500
+    stage = pitplan.audit(solved[1], 1.0, silent)
+    worth = audit.demand_same(stage, folder, 1.0)
+    shells = pd.read_csv(solved[1] / "shells.csv", dtype={"value_at_revenue_factor": str})
+    assert [worth] == shells.loc[shells["revenue_factor"] == 1.0, "value_at_revenue_factor"].map(Decimal).tolist()
+    dug = folder.blocks["revenue_factor"] == 0.5
     other = replace(
-        folder, blocks=folder.blocks.assign(factor=folder.blocks["factor"].where(~dug | (dug.cumsum() > 1), 0))
+        folder,
+        blocks=folder.blocks.assign(revenue_factor=folder.blocks["revenue_factor"].where(~dug | (dug.cumsum() > 1), 0)),
     )
-    with pytest.raises(PlanError, match="the audited pit is not the shell of factor 1000"):
-        audit.demand_same(stage, other, 1000)
-    shells.assign(worth_at_factor=shells["worth_at_factor"] + "1").to_csv(solved[1] / "shells.csv", index=False)
-    with pytest.raises(PlanError, match="the audited pit is not the shell of factor 1000"):
-        audit.demand_same(stage, folder, 1000)
+    with pytest.raises(PlanError, match="the audited pit is not the shell of revenue factor 1.00"):
+        audit.demand_same(stage, other, 1.0)
+    shells.assign(value_at_revenue_factor=shells["value_at_revenue_factor"] + "1").to_csv(
+        solved[1] / "shells.csv", index=False
+    )
+    with pytest.raises(PlanError, match="the audited pit is not the shell of revenue factor 1.00"):
+        audit.demand_same(stage, folder, 1.0)
 
 
 def test_values_of_an_audit_are_exact(tmp_path):
@@ -163,16 +166,16 @@ def test_values_of_an_audit_are_exact(tmp_path):
     ]
     (tmp_path / "mine.blocks").write_text("0 0 0 0 999999999999 0\n")
     with pytest.raises(PlanError, match="does not fit a model: give prices and costs in a greater unit of money"):
-        problem.values_at(read_nodes(tmp_path / "mine.blocks"), 1000)
+        problem.values_at(read_nodes(tmp_path / "mine.blocks"), 1.0)
     # Products that 64 bits would not hold, and the greatest and least value that a model takes.
     most = np.array([10**18 - 1]), np.array([0])
     assert problem.values_at(most, 1).tolist() == [10**18 - 1] and problem.values_at(
-        (np.array([10**17 - 1]), np.array([10**17 - 10**12])), 1000
+        (np.array([10**17 - 1]), np.array([10**17 - 10**12])), 1.0
     ).tolist() == [10**15 - 1000]
     for amounts, factor in (
         ((np.array([10**17]), np.array([0])), 100_000),
         ((np.array([0]), np.array([10**15])), 1),
-        ((np.array([10**15]), np.array([0])), 1000),
+        ((np.array([10**15]), np.array([0])), 1.0),
     ):
         with pytest.raises(PlanError, match=f"a value at factor {factor}, a thousandfold, is 10.12 or more"):
             problem.values_at(amounts, factor)
@@ -180,17 +183,17 @@ def test_values_of_an_audit_are_exact(tmp_path):
 
 def test_a_factor_that_is_not_solved_is_refused(solved):
     _, folder = solved
-    for call in (lambda: pitplan.audit(folder, 900, silent), lambda: pitplan.write_export(folder, "dxf", 900, silent)):
-        with pytest.raises(PlanError, match="factor 900 is not among the factors 500, 1000, 1500"):
+    for call in (lambda: pitplan.audit(folder, 0.9, silent), lambda: pitplan.write_export(folder, "dxf", 0.9, silent)):
+        with pytest.raises(PlanError, match="revenue factor 0.90 is not among the revenue factors 0.50, 1.00, 1.50"):
             call()
 
 
 def test_csv_has_the_blocks_of_all_pits(solved):
     _, folder = solved
-    table = pd.read_csv(pitplan.write_export(folder, "csv", 1000, silent))
+    table = pd.read_csv(pitplan.write_export(folder, "csv", 1.0, silent))
     blocks = pd.read_csv(folder / "blocks.csv")
-    assert len(table) == (blocks["factor"] > 0).sum() > 0 and set(table["name"]) == set(
-        blocks["name"][blocks["factor"] > 0]
+    assert len(table) == (blocks["revenue_factor"] > 0.0).sum() > 0 and set(table["name"]) == set(
+        blocks["name"][blocks["revenue_factor"] > 0.0]
     )
 
 
@@ -200,11 +203,11 @@ def test_vti_is_read_back_by_vtk_cell_by_cell(solved):
 
     _, folder = solved
     reader = vtk.vtkXMLImageDataReader()
-    reader.SetFileName(str(pitplan.write_export(folder, "vti", 1000, silent)))
+    reader.SetFileName(str(pitplan.write_export(folder, "vti", 1.0, silent)))
     reader.Update()
     image = reader.GetOutput()
     assert image.GetDimensions() == (11, 10, 6) and image.GetBounds() == (0, 100, 0, 90, 0, 50)
-    factor = vtk_to_numpy(image.GetCellData().GetArray("factor"))
+    factor = vtk_to_numpy(image.GetCellData().GetArray("revenue_factor"))
     for _, block in pd.read_csv(folder / "blocks.csv").iterrows():
         place = int(block.z // 10) * 90 + int(block.y // 10) * 10 + int(block.x // 10)
         assert factor[place] == block.factor
@@ -231,7 +234,7 @@ def test_vtu_has_a_cell_a_block_of_rock_where_the_block_lies(plan_folder):
     quality.SetInputData(mesh)
     quality.Update()
     assert np.allclose(vtk_to_numpy(quality.GetOutput().GetCellData().GetArray("Volume")), 1000)
-    for name in ("factor", "tonnes", "mining_cost"):
+    for name in ("revenue_factor", "tonnes", "mining_cost"):
         assert vtk_to_numpy(mesh.GetCellData().GetArray(name)).tolist() == blocks[name].tolist()
 
 
@@ -250,9 +253,9 @@ def test_a_workbook_has_all_tables_of_the_folder(solved):
 def test_dxf_has_the_area_of_the_pit_on_each_level(solved):
     ezdxf = pytest.importorskip("ezdxf")
     _, folder = solved
-    drawing = ezdxf.readfile(pitplan.write_export(folder, "dxf", 1000, silent))
+    drawing = ezdxf.readfile(pitplan.write_export(folder, "dxf", 1.0, silent))
     blocks = pd.read_csv(folder / "blocks.csv")
-    dug = blocks[(blocks["factor"] > 0) & (blocks["factor"] <= 1000)]
+    dug = blocks[(blocks["revenue_factor"] > 0.0) & (blocks["revenue_factor"] <= 1.0)]
     areas = {}
     for line in drawing.modelspace().query("POLYLINE"):
         points = np.array([vertex.dxf.location for vertex in line.vertices])
@@ -364,7 +367,7 @@ def test_a_refusal_of_the_program_is_passed_on(tmp_path):
     (tmp_path / "mine.blocks").write_text("0 0 0 0 1 x\n")
     (tmp_path / "mine.prec").write_text("")
     with pytest.raises(PlanError, match="pitshell shells ended with status 1: error 6: not a decimal in blocks line 1"):
-        program.solve_files(tmp_path / "mine.blocks", tmp_path / "mine.prec", (1000,))
+        program.solve_files(tmp_path / "mine.blocks", tmp_path / "mine.prec", (1.0,))
 
 
 def ending_program(tmp_path, monkeypatch, how):
@@ -402,7 +405,9 @@ def test_amounts_are_written_to_a_thousandth_and_nothing_has_no_minus():
     table = pd.DataFrame(
         {"cash": [-0.0004, -0.0006, 1234.5678], "grade_copper": [0.1234567, 1e-7, -1e-9], "year": [1, 2, 3]}
     )
-    written = shown(table.assign(worth_at_factor=[Decimal("1E+3"), Decimal("-0.5"), Decimal(7)])).to_csv(index=False)
+    written = shown(table.assign(value_at_revenue_factor=[Decimal("1E+3"), Decimal("-0.5"), Decimal(7)])).to_csv(
+        index=False
+    )
     assert written.splitlines()[1:] == ["0.0,0.123457,1,1000", "-0.001,0.0,2,-0.5", "1234.568,0.0,3,7"]
 
 
@@ -418,17 +423,22 @@ def test_the_share_below_a_bound_is_that_of_the_value_and_the_bound_that_are_tol
 
 def test_the_command_line_tells_table_steps_and_warnings(solved_once):
     lines = solved_once.out.splitlines()
-    assert lines[0].split()[:3] == ["factor", "blocks", "rock"] and lines[1].split()[:3] == ["per", "mille", "t"]
-    assert [line.split()[0] for line in lines[2:5]] == ["500", "1000", "1500"]
+    assert lines[0].split()[:3] == ["revenue_factor", "blocks", "rock"] and lines[1].split()[:3] == [
+        "per",
+        "mille",
+        "t",
+    ]
+    assert [line.split()[0] for line in lines[2:5]] == ["0.50", "1.00", "1.50"]
     assert lines[-1] == str(solved_once.place / "plan" / "report.html")
     by = read_record(solved_once.place / "plan")["shells"]["solver"]["by"]
     needs = {"library": "listing the needs", "program": "writing blocks and needs"}[by]
-    steps = ["reading", "laying the walls", needs, f"solving 3 factors by the {by}", "drawing"]
+    steps = ["reading", "laying the walls", needs, f"solving 3 revenue factors by the {by}", "drawing"]
     assert all(f"{step}" in solved_once.err for step in steps)
     assert "WARNING: the greatest pit touches the north side of the model" in solved_once.err
     assert "3 blocks have a node for processing: the cut-off moves with the price" in solved_once.err
     assert (
-        "blocks were left out, since no block that pays uses them; this holds for factors up to 1500" in solved_once.err
+        "blocks were left out, since no block that pays uses them; this holds for revenue factors up to 1.50"
+        in solved_once.err
     )
 
 
@@ -442,12 +452,12 @@ def test_the_command_line_exports_in_silence(solved, capsys):
 def test_the_command_line_writes_a_page_and_an_audit(solved, capsys):
     project, folder = solved
     assert main(["view", str(project.path), "--quiet"]) == 0
-    assert main(["audit", str(project.path), "--factor", "500", "--quiet"]) == 0
+    assert main(["audit", str(project.path), "--revenue-factor", "0.50", "--quiet"]) == 0
     said = capsys.readouterr()
-    assert (said.out, said.err) == (f"{folder / 'view.html'}\n{folder / 'audit-500'}\n", "")
-    assert (folder / "view.html").is_file() and json.loads((folder / "audit-500" / "audit.json").read_text())[
-        "factor"
-    ] == 500
+    assert (said.out, said.err) == (f"{folder / 'view.html'}\n{folder / 'audit-0.50'}\n", "")
+    assert (folder / "view.html").is_file() and json.loads((folder / "audit-0.50" / "audit.json").read_text())[
+        "revenue_factor"
+    ] == 0.5
 
 
 def test_an_audit_by_another_release_is_warned_of_with_quiet_and_in_python(solved, capsys):
@@ -455,12 +465,12 @@ def test_an_audit_by_another_release_is_warned_of_with_quiet_and_in_python(solve
     record = json.loads((folder / "prepare.json").read_text())
     record["shells"]["solver"]["version"] = "libpitshell 0.0.7"
     write_json(folder / "prepare.json", record)
-    path = pitplan.audit(folder, 500)
-    assert path == folder / "audit-500"
+    path = pitplan.audit(folder, 0.5)
+    assert path == folder / "audit-0.50"
     assert [*path.notes] == [
         f"WARNING: libpitshell 0.0.7 found the shells, and {program.identity()['version']} has audited them"
     ]
-    assert main(["audit", str(project.path), "--factor", "500", "--quiet"]) == 0
+    assert main(["audit", str(project.path), "--revenue-factor", "0.50", "--quiet"]) == 0
     assert capsys.readouterr().err.splitlines() == [*path.notes]
 
 
@@ -540,6 +550,6 @@ def test_a_plan_is_shown_in_a_few_lines(plan_folder):
 def test_image_data_is_xml_with_raw_arrays(solved):
     pytest.importorskip("vtk")
     _, folder = solved
-    text = pitplan.write_export(folder, "vti", 1000, silent).read_bytes()
+    text = pitplan.write_export(folder, "vti", 1.0, silent).read_bytes()
     assert text.startswith(b"<?xml") or text.startswith(b"<VTKFile")
     assert xml.fromstring(text.split(b"<AppendedData")[0] + b"</VTKFile>").attrib["type"] == "ImageData"

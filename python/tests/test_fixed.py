@@ -218,13 +218,13 @@ def test_a_pit_that_keeps_to_fixed_blocks(plan_folder, capsys):
     table = pd.read_csv(folder / "pits.csv")
     assert table["fixed_blocks"].tolist() == ["kept", "free"]
     assert table["blocks"].tolist() == [0, 4]
-    assert table["factor"].tolist() == [1000, 1000]
+    assert table["revenue_factor"].tolist() == [1.0, 1.0]
     assert "kept" in capsys.readouterr().out
 
 
 def test_a_pit_with_forced_blocks(plan_folder):
     project = load(plan_folder(ore_below_waste(), with_section('[fixed]\nforced = "must"\n')))
-    table = pitplan.write_pit(project, 1000)
+    table = pitplan.write_pit(project, 1.0)
     assert table["blocks"].tolist() == [6, 4]
     assert read_record(project.folder / "pit")["fixed"] == {"forced": 1, "barred": 0}
     # the block at the floor and the one above it, at 2 a tonne and 100 t a block
@@ -257,12 +257,12 @@ def test_shells_with_fixed_blocks_are_the_best_of_all_closed_sets_that_keep_to_t
             prepare(project, table=table)
         return
     solution = pitplan.solve(prepare(project, table=table))
-    for factor in project.schedule.factors:
+    for factor in project.schedule.revenue_factors:
         yields = [Decimal(str(grade)) * 4000 for grade in by_id]
         if cutoff == "moving":
-            values = [max(factor * y / 1000 - 1000, Decimal(0)) - 200 for y in yields]
+            values = [max(Decimal(str(factor)) * y - 1000, Decimal(0)) - 200 for y in yields]
         else:
-            values = [factor * y / 1000 - 1200 if y > 1000 else Decimal(-200) for y in yields]
+            values = [Decimal(str(factor)) * y - 1200 if y > 1000 else Decimal(-200) for y in yields]
         worth, pit = best_by_trying(allowed, values)
         assert solution.worth[factor] == worth
         inside = (solution.entry > 0) & (solution.entry <= factor)
@@ -288,8 +288,8 @@ def test_shells_keep_to_fixed_blocks_and_are_compared_with_the_pit_of_the_progra
     path = plan_folder(ores_and_fixed(), with_section(FIXED_SECTION))
     assert main(["shells", str(path), "--quiet"]) == 0
     blocks = pd.read_csv(path.parent / "plan" / "blocks.csv", dtype={"planner_id": str})
-    assert (blocks.loc[blocks["must"] == 1, "factor"] == 500).all()
-    assert (blocks.loc[blocks["never"] == 1, "factor"] == 0).all()
+    assert (blocks.loc[blocks["must"] == 1, "revenue_factor"] == 0.5).all()
+    assert (blocks.loc[blocks["never"] == 1, "revenue_factor"] == 0).all()
     # For their sake: the forced block at the floor needs the one beside its upper neighbour, and the floor's second needs the barred.
     assert "for their sake 3 blocks are dug in every pit and 3 in none" in capsys.readouterr().err
 
@@ -314,16 +314,16 @@ def test_a_shell_that_is_not_the_pit_of_the_solver_is_refused(plan_folder, monke
 
 def test_the_best_case_of_a_pit_digs_its_inner_shells_first(plan_folder):
     project = load(plan_folder(ores_and_fixed(), with_section(FIXED_SECTION)))
-    pits = pitplan.write_pit(project, 1500)
+    pits = pitplan.write_pit(project, 1.5)
     shells = pitplan.write_shells(project, project.folder)
-    kept, last = pits.iloc[0], shells.set_index("factor").loc[1500]
+    kept, last = pits.iloc[0], shells.set_index("revenue_factor").loc[1.5]
     assert kept["npv_best"] == last["npv_best"] > kept["npv_worst"] == last["npv_worst"]
 
 
 def test_an_audit_of_a_shell_with_fixed_blocks_is_confirmed_from_any_folder(plan_folder, tmp_path):
     project = load(plan_folder(ores_and_fixed(), with_section(FIXED_SECTION)))
     pitplan.write_shells(project, project.folder)
-    target = pitplan.audit(project.folder, 1000, silent)
+    target = pitplan.audit(project.folder, 1.0, silent)
     (tmp_path / "bin").mkdir()
     (tmp_path / "bin" / "program").symlink_to(program.program().resolve())
     words = ["sh", str(target.relative_to(tmp_path) / "check.sh")]
@@ -346,14 +346,14 @@ def test_scenarios_keep_to_fixed_blocks(plan_folder, tmp_path):
     pitplan.write_scenarios(project, folder, pitplan.Request(workers=1), pitplan.Writing(Progress(told)))
     assert "solving 2 scenarios .. 1 2 " in told.getvalue()
     likely = pd.read_csv(folder / "probability.csv")
-    assert (likely.loc[likely["must"] == 1, "probability_500"] == 1).all()
-    assert (likely.loc[likely["never"] == 1, "probability_1500"] == 0).all()
+    assert (likely.loc[likely["must"] == 1, "probability_0.50"] == 1).all()
+    assert (likely.loc[likely["never"] == 1, "probability_1.50"] == 0).all()
     inside = np.zeros(len(likely))
     for model in ("first", "second"):
         alone = replace(project, metals=(replace(project.metals[0], column=model),))
         blocks = pitplan.blocks(plan := prepare(alone, table=table), pitplan.solve(plan))
-        inside += ((blocks["factor"] > 0) & (blocks["factor"] <= 1000)).to_numpy() / 2
-    assert likely["probability_1000"].tolist() == inside.tolist()
+        inside += ((blocks["revenue_factor"] > 0.0) & (blocks["revenue_factor"] <= 1.0)).to_numpy() / 2
+    assert likely["probability_1.00"].tolist() == inside.tolist()
 
 
 def test_a_project_without_fixed_blocks_has_no_pit(plan_folder, capsys):
@@ -370,10 +370,12 @@ def solution_of(entry, worth):
     ("entry", "worth", "count"), [([1, 1, 0], 5, None), ([1, 0, 0], 5, 1), ([0, 1, 1], 5, 2), ([1, 1, 0], 6, 0)]
 )
 def test_a_shell_is_compared_with_its_pit_by_blocks_and_worth(entry, worth, count):
-    """The shells of factors 1 and 2 against the pit of factor 1, which is the first two nodes, worth 5."""
+    """The shells of revenue factors 1 and 2 against the pit of revenue factor 1, which is the first two nodes, worth 5."""
     shells = solution_of([1, 1, 2], 5)
     if count is None:
-        assert problem.demand_same(shells, solution_of(entry, worth), 1) is None
+        assert problem.demand_same(shells, solution_of(entry, worth), 1.0) is None
         return
-    with pytest.raises(PlanError, match=f"the shell of factor 1 .*: {count} nodes differ, worth 5 for {worth}; please"):
-        problem.demand_same(shells, solution_of(entry, worth), 1)
+    with pytest.raises(
+        PlanError, match=f"the shell of revenue factor 1.00 .*: {count} nodes differ, worth 5 for {worth}; please"
+    ):
+        problem.demand_same(shells, solution_of(entry, worth), 1.0)

@@ -48,7 +48,7 @@ def test_a_hole_of_one_block_by_hand():
     rock, dug = np.ones((2, 3, 3), dtype=bool), np.zeros((2, 3, 3), dtype=bool)
     dug[0, 1, 1] = True
     grid = grid_of((2, 3, 3))
-    surface, said = pit_topography.of_stage(rock, Stage("factor", 1000, dug), grid, False)
+    surface, said = pit_topography.of_stage(rock, Stage("revenue_factor", 1.0, dug), grid, False)
     assert len(surface.faces) == 26 and Counter(surface.bench.tolist()) == {pit_topography.NONE: 16, 1: 10}
     uses = Counter(edges_of(surface.faces).values())
     assert uses == {1: 12, 2: (26 * 3 - 12) // 2}
@@ -123,7 +123,7 @@ def test_rock_over_what_is_dug_is_refused():
     with pytest.raises(
         PlanError, match="the block at 5, 15, 12.5 stays over one that is dug: the ground is no surface"
     ):
-        pit_topography.heights_of(rock, Stage("factor", 1000, dug), grid_of((3, 2, 2)))
+        pit_topography.heights_of(rock, Stage("revenue_factor", 1.0, dug), grid_of((3, 2, 2)))
 
 
 def test_faces_that_hold_something_else_are_not_kept(monkeypatch):
@@ -261,5 +261,5 @@ def test_by_how_much_smoothing_changes_the_volume_is_told_with_quiet_and_to_pyth
     aloud = capsys.readouterr()
     assert aloud.err.count("smoothed within half a block") == 1 and aloud.out == quiet.out
     path = pitplan.write_export(folder, "stl", shape=Shape(surface="ground", smooth=True))
-    assert path == folder / "ground-1000.stl" and [*path.notes] == quiet.err.splitlines()
+    assert path == folder / "ground-1.00.stl" and [*path.notes] == quiet.err.splitlines()
     assert pitplan.write_export(folder, "csv").notes == ()

@@ -82,7 +82,7 @@ def test_the_report_has_the_hashes_of_inputs_and_outputs_apart(two_grounds):
 def test_an_audit_has_the_hashes_of_inputs_and_outputs_apart(two_grounds):
     place = two_grounds.parent
     pitplan.write_shells(two_grounds, writing=pitplan.Writing(verifies=False))
-    record = json.loads((pitplan.audit(place / "plan", 1000) / "audit.json").read_text())
+    record = json.loads((pitplan.audit(place / "plan", 1.0) / "audit.json").read_text())
     assert record["inputs"]["blocks.csv"] == sha256(place / "blocks.csv")
     assert record["plan"]["blocks.csv"] == sha256(place / "plan" / "blocks.csv")
 

@@ -120,20 +120,20 @@ def test_the_exit_of_a_turned_model_is_the_planners(plan_folder):
         path = hauled(plan_folder, table, section, ("size = [10, 10, 10]", "tolerance = 0.001"))
         pitplan.write_shells(path)
         found.append(pd.read_csv(path.parent / "plan" / "blocks.csv").set_index("name"))
-    assert found[0]["factor"].nunique() > 2
+    assert found[0]["revenue_factor"].nunique() > 2
     assert np.abs(found[1]["road"] - found[0]["road"]).max() <= 0.0011
-    assert (found[1]["factor"] == found[0]["factor"]).all()
+    assert (found[1]["revenue_factor"] == found[0]["revenue_factor"]).all()
 
 
 @pytest.mark.usefixtures("without_figures")
 def test_sensitivity_to_haulage(plan_folder):
     """A tenth more a kilometre is a tenth more of all haulage, of what is dug and what is milled in the kept pit."""
     section = SECTION + '[sensitivity]\nby = [0.1]\nvary = ["haulage"]\n'
-    path = hauled(plan_folder, ore_hill(), section, ("rate = 0.1", "rate = 0.1\nchosen = 1000"))
+    path = hauled(plan_folder, ore_hill(), section, ("rate = 0.1", "rate = 0.1\nselected = 1.0"))
     table = pitplan.write_sensitivity(path, path.parent / "hang").set_index("number")
     plan = pitplan.prepare(path)
     entry = pitplan.solve(plan).entry[: plan.grid.count]
-    dug = (entry > 0) & (entry <= 1000)
+    dug = (entry > 0) & (entry <= 1.0)
     cost = plan.values.hauled.waste[dug].sum() + plan.values.hauled.ore_more[dug & plan.values.pays].sum()
     lost = table["kept_worth"].iloc[0] - table.loc["haulage", "kept_worth"]
     assert cost > 0 and lost == pytest.approx(0.1 * cost / MILLION, rel=1e-6)
@@ -149,8 +149,8 @@ def test_scenarios_haul_too(plan_folder, tmp_path):
     assert main(["scenarios", str(path), "--out", str(tmp_path / "many"), "--workers", "1", "--quiet"]) == 0
     likely, plan = pd.read_csv(tmp_path / "many" / "probability.csv"), pitplan.prepare(path)
     assert likely[["x", "y", "z"]].to_numpy().tolist() == plan.blocks[["x", "y", "z"]].to_numpy().tolist()
-    told = pd.read_csv(tmp_path / "many" / "scenarios.csv").set_index("factor")["worth"]
-    shells = pitplan.shells(plan, pitplan.solve(plan)).set_index("factor")["worth"]
+    told = pd.read_csv(tmp_path / "many" / "scenarios.csv").set_index("revenue_factor")["worth"]
+    shells = pitplan.shells(plan, pitplan.solve(plan)).set_index("revenue_factor")["worth"]
     assert told.tolist() == pytest.approx(shells.tolist()) and json.loads(
         (tmp_path / "many" / "scenarios.json").read_text()
     )

@@ -103,7 +103,7 @@ def test_by_region_needs_a_column_of_regions(plan_folder):
 def test_a_shell_by_hand(plan_folder):
     """Both blocks are dug: 200 t, of which one of 100 t is ore in situ, and 99 come to the mill, in 99 / 33 years; 90 t of 0.8 % in these."""
     path = plan_folder(one_block(), PROJECT, ("mining_cost = 2\n", TEXT), ("ore_per_year = 100", "ore_per_year = 33"))
-    table = pitplan.write_shells(path).set_index("factor").loc[1000]
+    table = pitplan.write_shells(path).set_index("revenue_factor").loc[1.0]
     expected = {
         "tonnes": 200,
         "ore_tonnes": 99,
@@ -122,7 +122,7 @@ def test_waste_is_never_negative(plan_folder, without_figures):
     path = plan_folder(
         rows(2, 2, 1, cu=lambda i, j, k: 3), PROJECT, ("mining_cost = 2\n", "mining_cost = 2\ndilution = 0.1\n")
     )
-    table = pitplan.write_shells(path).set_index("factor").loc[1000]
+    table = pitplan.write_shells(path).set_index("revenue_factor").loc[1.0]
     assert (table["ore_tonnes"], table["in_situ_ore_tonnes"], table["waste_tonnes"], table["strip_ratio"]) == (
         pytest.approx(440),
         400,
@@ -134,7 +134,7 @@ def test_waste_is_never_negative(plan_folder, without_figures):
 SCHEDULED = (
     ("mining_cost = 2\n", TEXT),
     ("ore_per_year = 100", "ore_per_year = 150\nrock_per_year = 900"),
-    ("[shells]", "[pushbacks]\nfactors = [500, 1000]\n[schedule]\nyears = 20\nbins = 2\n[shells]"),
+    ("[shells]", "[pushbacks]\nrevenue_factors = [0.5, 1.0]\n[schedule]\nyears = 20\nbins = 2\n[shells]"),
 )
 
 
@@ -187,4 +187,4 @@ def test_scenarios_count_what_comes_to_the_mill_by_region(plan_folder):
     text = "mining_cost = 2\ndilution = { region = { 1 = 0, 2 = 0.2 } }\n"
     path = plan_folder(table, PROJECT + '[scenarios]\ncolumns = { copper = "cu_*" }\n', ("mining_cost = 2\n", text))
     found = pitplan.write_scenarios(path, request=pitplan.Request(workers=1)).table
-    assert found[found["factor"] == 1000]["ore_tonnes"].tolist() == [100, 240]
+    assert found[found["revenue_factor"] == 1.0]["ore_tonnes"].tolist() == [100, 240]

@@ -38,15 +38,15 @@ def test_phases_and_years_by_hand(pushed):
     table = pd.read_csv(pushed / "phases.csv")
     assert table["worth"].tolist() == [2600, 1400, 600] and table["mining_cost_added"].tolist() == [0, 300, 500]
     assert (table["cost_of_width"] == 0).all()
-    years = pd.read_csv(pushed / "years.csv").set_index(["case", "factor"])
+    years = pd.read_csv(pushed / "years.csv").set_index(["case", "revenue_factor"])
     assert years.loc[("best", 1000), "cash"].tolist() == pytest.approx([2800 - 200 - 350, 1450 - 450, 550])
     assert years.loc[("worst", 1000), "cash"].tolist() == pytest.approx([600, 1600, 1600])
-    shells = pd.read_csv(pushed / "shells.csv").set_index("factor")
+    shells = pd.read_csv(pushed / "shells.csv").set_index("revenue_factor")
     assert shells["worth"].tolist() == [2600, 4000, 4600]
     assert shells["npv_best"].tolist() == pytest.approx(
         [present(2600), present(2250, 1450), present(2250, 1000, 550)], abs=1e-3
     )
-    assert shells["npv_worst"][1000] == pytest.approx(present(600, 1600, 1600), abs=1e-3)
+    assert shells["npv_worst"][1.0] == pytest.approx(present(600, 1600, 1600), abs=1e-3)
 
 
 def test_shells_and_costs_of_blocks_are_those_without_it(pushed, plan_folder):
@@ -88,14 +88,14 @@ def test_blocks_that_come_in_another_phase_for_its_width_pay_there(plan_folder):
     """A notch between two phases, with the block above it, goes from the second to the first: 3,000 and 1,600 t, and 2,800 and 1,800 t by
     their shells."""
     grades = dict.fromkeys(square(3, 2, 3), RICH) | dict.fromkeys({(5, 3)} | square(10, 2, 2), 0.6)
-    words = "factors = [400, 1500]\nwidth = 20\nmining_cost_added = [1, 2]"
+    words = "revenue_factors = [0.4, 1.5]\nwidth = 20\nmining_cost_added = [1, 2]"
     path = plan_folder(floor(grades, columns=15), with_phases(words, PROJECT))
     table = pitplan.write_pushbacks(path)
     assert table["tonnes"].tolist() == [3000, 1600] and table["mining_cost_added"].tolist() == [3000, 3200]
     folder = path.parent / "plan" / "pushbacks"
     cash, shells = (pd.read_csv(folder / name) for name in ("years.csv", "shells.csv"))
-    whole = cash.groupby(["case", "factor"])["cash"].sum()
-    assert whole[("best", 1500)] == pytest.approx(shells.set_index("factor")["worth"][1500] - 6200)
+    whole = cash.groupby(["case", "revenue_factor"])["cash"].sum()
+    assert whole[("best", 1.5)] == pytest.approx(shells.set_index("revenue_factor")["worth"][1.5] - 6200)
 
 
 @pytest.mark.parametrize(
@@ -154,7 +154,7 @@ def test_the_second_look_agrees(pushed):
     ],
 )
 def test_numbers_that_are_bent_are_found(pushed, name, column, rule):
-    table = pd.read_csv(pushed / name, dtype={"worth_at_factor": str})
+    table = pd.read_csv(pushed / name, dtype={"value_at_revenue_factor": str})
     table.loc[1, column] += 0.05
     table.to_csv(pushed / name, index=False)
     assert wrong(pushed) == {rule}

@@ -35,12 +35,12 @@ def mean(start, end):
 
 
 def solved(path):
-    """The table of shells at factor 1000, and its years of the best case."""
+    """The table of shells at revenue factor 1.00, and its years of the best case."""
     shells = pitplan.write_shells(path)
     years = pd.read_csv(path.parent / "plan" / "years.csv")
-    return shells.set_index("factor").loc[1000], years[(years["case"] == "best") & (years["factor"] == 1000)].set_index(
-        "year"
-    )
+    return shells.set_index("revenue_factor").loc[1.0], years[
+        (years["case"] == "best") & (years["revenue_factor"] == 1.0)
+    ].set_index("year")
 
 
 @pytest.fixture
@@ -165,7 +165,7 @@ def test_bins_end_before_capital_that_does_not_pay(plan_folder, without_figures)
         ("ore_per_year = 100", "ore_per_year = 900\nrock_per_year = 1200"),
         ("mining_cost = 2\n", "mining_cost = 2\ncapital = [[4, 200_000]]\n"),
     ]
-    text = "[pushbacks]\nfactors = [600, 1000]\n[schedule]\nyears = {}\nbins = 3\nstockpile = {{ rehandling_cost = 1 }}\n[shells]"
+    text = "[pushbacks]\nrevenue_factors = [0.6, 1.0]\n[schedule]\nyears = {}\nbins = 3\nstockpile = {{ rehandling_cost = 1 }}\n[shells]"
     ended, short = (
         write_schedule(plan_folder(table, PROJECT, *changes, ("[shells]", text.format(years)))) for years in (7, 3)
     )
@@ -226,7 +226,7 @@ SCHEDULED = (
 
 
 def scheduled(plan_folder, way):
-    text = f"[pushbacks]\nfactors = [500, 1000]\n[schedule]\nyears = 7\n{way}\n[shells]"
+    text = f"[pushbacks]\nrevenue_factors = [0.5, 1.0]\n[schedule]\nyears = 7\n{way}\n[shells]"
     table = rows(
         9, 9, 4, cu=lambda i, j, k: {(4, 4, 0): 9, (4, 4, 1): 3, (3, 4, 1): 1.6, (5, 5, 1): 1.2}.get((i, j, k), 0)
     )
@@ -265,5 +265,5 @@ def test_costs_of_a_year_that_are_bent_are_found(mine):
     (rule,) = [rule for rule in verify(path.parent / "plan") if rule.differences]
     assert rule.name == "years"
     assert rule.differences == tuple(
-        f"worst case of factor 1500, year 2: {said}" for said in ("cash 849 for 850", "fixed_cost 101 for 100")
+        f"worst case of revenue factor 1.50, year 2: {said}" for said in ("cash 849 for 850", "fixed_cost 101 for 100")
     )

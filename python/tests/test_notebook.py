@@ -46,8 +46,8 @@ def plan(plan_folder):
 def test_shells_are_written_and_given_as_a_frame(plan):
     table = pitplan.write_shells(plan)
     # The ore of 6 % is dug from 500 on, with three blocks above it; the block at the floor that must be dug needs the two above it.
-    assert table["factor"].tolist() == [500, 1000, 1500]
-    assert table["worth_at_factor"].tolist() == [
+    assert table["revenue_factor"].tolist() == [0.5, 1.0, 1.5]
+    assert table["value_at_revenue_factor"].tolist() == [
         Decimal(12_000 - 1000 - 800 - 600),
         Decimal(24_000 + 2000 - 2000 - 1600 - 200),
         Decimal(36_000 + 3000 - 3800),
@@ -63,9 +63,9 @@ def test_a_page_exports_and_a_folder_for_auditors_are_told_by_their_paths(solved
     assert pitplan.view(str(folder)) == folder / "view.html"
     assert pitplan.write_export(folder, "csv") == folder / "pit.csv"
     blocks = pd.read_csv(folder / "blocks.csv")
-    assert len(pd.read_csv(folder / "pit.csv")) == (blocks["factor"] > 0).sum()
-    assert pitplan.write_export(folder, "dxf", 500) == folder / "pit-500.dxf"
-    assert (pitplan.audit(folder, 500) / "check.sh").exists()
+    assert len(pd.read_csv(folder / "pit.csv")) == (blocks["revenue_factor"] > 0.0).sum()
+    assert pitplan.write_export(folder, "dxf", 0.5) == folder / "pit-0.50.dxf"
+    assert (pitplan.audit(folder, 0.5) / "check.sh").exists()
 
 
 @pytest.mark.parametrize(
@@ -76,10 +76,13 @@ def test_a_page_exports_and_a_folder_for_auditors_are_told_by_their_paths(solved
             "dwg is none of table, csv, xlsx, vti, vtu, dxf, stl, obj, gpkg, str, lines",
         ),
         (
-            lambda folder: pitplan.write_export(folder, "dxf", 900),
-            "factor 900 is not among the factors 500, 1000, 1500",
+            lambda folder: pitplan.write_export(folder, "dxf", 0.9),
+            "revenue factor 0.90 is not among the revenue factors 0.50, 1.00, 1.50",
         ),
-        (lambda folder: pitplan.audit(folder, 900), "factor 900 is not among the factors 500, 1000, 1500"),
+        (
+            lambda folder: pitplan.audit(folder, 0.9),
+            "revenue factor 0.90 is not among the revenue factors 0.50, 1.00, 1.50",
+        ),
         (
             lambda folder: pitplan.view(folder / "nowhere"),
             "nowhere/prepare.json: cannot be read: run pitplan shells first",
@@ -108,13 +111,13 @@ def test_a_verified_folder_is_told_rule_by_rule(solved):
     right = float(table["waste_tonnes"][0])
     table.assign(waste_tonnes=[right + 1, *table["waste_tonnes"][1:]]).to_csv(path, index=False)
     found = {rule.name: rule.differences for rule in pitplan.verify(solved[1]) if rule.count}
-    assert found == {"shells": (f"factor 500: waste_tonnes {right + 1:g} for {right:g}",)}
+    assert found == {"shells": (f"revenue factor 0.50: waste_tonnes {right + 1:g} for {right:g}",)}
 
 
 def test_a_pit_with_fixed_blocks_and_without_them(plan):
-    table = pitplan.write_pit(plan, 500)
-    assert table["fixed_blocks"].tolist() == ["kept", "free"] and table["factor"].tolist() == [500, 500]
-    assert (table["worth_at_factor"][1] - table["worth_at_factor"][0]) == 600
+    table = pitplan.write_pit(plan, 0.5)
+    assert table["fixed_blocks"].tolist() == ["kept", "free"] and table["revenue_factor"].tolist() == [0.5, 0.5]
+    assert (table["value_at_revenue_factor"][1] - table["value_at_revenue_factor"][0]) == 600
     assert (plan.parent / "plan" / "pit" / "pits.csv").exists()
 
 
@@ -125,9 +128,9 @@ def test_scenarios_are_given_as_frames(plan_folder):
     found = pitplan.write_scenarios(path, request=Request(workers=1))
     assert found.folder == path.parent / "plan" / "scenarios" and found.start is None
     assert "6 solved (status 0)" in found.notes
-    assert found.probability["probability_1000"].tolist() == [0.5] * 3
-    assert found.table["worth_at_factor"].tolist()[:3] == [Decimal(1400), Decimal(4400), Decimal(7400)]
-    assert found.quantiles.set_index(["price_copper", "factor"])["tonnes_greatest"][8000, 500] == 300
+    assert found.probability["probability_1.00"].tolist() == [0.5] * 3
+    assert found.table["value_at_revenue_factor"].tolist()[:3] == [Decimal(1400), Decimal(4400), Decimal(7400)]
+    assert found.quantiles.set_index(["price_copper", "revenue_factor"])["tonnes_greatest"][8000, 500] == 300
     assert [rule.count for rule in pitplan.verify(found.folder)] == [0] * 10
     likely = found.likely(500)
     assert (likely.factor, likely.count, likely.shown.ravel().tolist()) == (
@@ -137,12 +140,12 @@ def test_scenarios_are_given_as_frames(plan_folder):
     )
     axes = Figure().subplots(2)
     left, right = pitplan.figures.scenarios.plot_spread(found.table, "USD", axes)
-    # At 8000 and at factor 500 one of three models is worth 1400, so that the median is 0; at 12,000 it is worth 2900.
+    # At 8000 and at revenue factor 0.50 one of three models is worth 1400, so that the median is 0; at 12,000 it is worth 2900.
     assert [line.get_ydata()[0] for line in right.lines] == [0, 0] and [line.get_ydata()[2] for line in left.lines] == [
         300,
         300,
     ]
-    with pytest.raises(PlanError, match="probability.csv: has no factor 900"):
+    with pytest.raises(PlanError, match="probability.csv: has no revenue factor 0.90"):
         found.likely(900)
 
 
@@ -187,14 +190,16 @@ def test_the_lines_of_the_help_run(plan_folder, monkeypatch):
     """In a folder whose project has fixed blocks, phases, scenarios and the help's factor."""
     pytest.importorskip("distributed", reason="needs the Debian package python3-distributed")
     table = ores_and_fixed().assign(sim_1=lambda it: it["cu"], sim_2=lambda it: it["cu"] / 2)
-    more = '[pushbacks]\nfactors = [500, 1000]\n[scenarios]\ncolumns = { copper = "sim_*" }\n'
-    text = with_section(FIXED_SECTION + more).replace("[500, 1000, 1500]", "[500, 800, 1000]")
+    more = '[pushbacks]\nrevenue_factors = [0.5, 1.0]\n[scenarios]\ncolumns = { copper = "sim_*" }\n'
+    text = with_section(FIXED_SECTION + more).replace("[0.5, 1.0, 1.5]", "[0.5, 0.8, 1.0]")
     path = plan_folder(table, text)
     monkeypatch.chdir(path.parent)
     names = {}
     exec(LINES, names)
-    assert names["table"]["factor"].tolist() == [500, 800, 1000] and all(rule.count == 0 for rule in names["rules"])
-    assert (path.parent / "out" / "audit-800" / "check.sh").exists()
-    assert names["found"].quantiles["factor"].tolist() == [500, 800, 1000]
+    assert names["table"]["revenue_factor"].tolist() == [0.5, 0.8, 1.0] and all(
+        rule.count == 0 for rule in names["rules"]
+    )
+    assert (path.parent / "out" / "audit-0.80" / "check.sh").exists()
+    assert names["found"].quantiles["revenue_factor"].tolist() == [0.5, 0.8, 1.0]
     assert names["each"].schedules["model"].tolist() == ["sim_1", "sim_2"]
-    assert names["phases"]["factor"].tolist() == [500, 1000]
+    assert names["phases"]["revenue_factor"].tolist() == [0.5, 1.0]

@@ -20,7 +20,7 @@ import pitplan
 
 SIZE = (10, 12, 8)
 SHAPE = (7, 6, 6)  # columns, rows, levels
-FACTORS = (600, 1000, 1400)
+FACTORS = (0.6, 1.0, 1.4)
 PROJECT = """
 [table]
 file = "blocks.csv"
@@ -47,7 +47,7 @@ recovery = {{ R = 0.8, S = 0.5 }}
 levels = {levels}
 {walls}
 [shells]
-factors = [600, 1000, 1400]
+revenue_factors = [0.6, 1.0, 1.4]
 rate = 0.1
 ore_per_year = 100
 [fixed]
@@ -128,7 +128,7 @@ def amounts_of(row, k):
 def value_at(row, k, factor, cutoff):
     """What a block is worth once it is dug, in thousandths."""
     revenue, processing, mining = amounts_of(row, k)
-    gain = factor * revenue - 1000 * processing
+    gain = round(1000 * factor) * revenue - 1000 * processing
     pays = gain > 0 if cutoff == "moving" else revenue > processing
     return (gain if pays else 0) - 1000 * mining
 
@@ -226,5 +226,5 @@ def test_plans_are_those_of_the_oracle(tmp_path, seed, three, levels, cutoff, is
     plan = pitplan.prepare(tmp_path / "project.toml")
     blocks = pitplan.blocks(plan, pitplan.solve(plan))
     for factor, pit in zip(FACTORS, pits):
-        inside = (blocks["factor"] > 0) & (blocks["factor"] <= factor)
+        inside = (blocks["revenue_factor"] > 0.0) & (blocks["revenue_factor"] <= factor)
         assert set(blocks["name"][inside]) == {f"b{i}-{j}-{k}" for i, j, k in pit if (i, j, k) in read}, factor

@@ -25,7 +25,7 @@ def path(plan_folder):
         ("metals.copper.price=9000", ("price = 8000", "price = 9000")),
         ("metals.1.recovery={ R = 0.75 }", ("recovery = 0.5", "recovery = { R = 0.75 }")),
         ("slopes.walls.2.angle=45", ("angle = 60", "angle = 45")),
-        ("shells.factors=[700, 900]", ("[500, 1000, 1500]", "[700, 900]")),
+        ("shells.revenue_factors=[0.7, 0.9]", ("[0.5, 1.0, 1.5]", "[0.7, 0.9]")),
         ("schedule.rock_per_year=2000", ("[shells]", "[schedule]\nrock_per_year = 2000\n[shells]")),
     ],
 )

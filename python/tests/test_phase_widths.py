@@ -33,8 +33,8 @@ def square(west, south, side):
 
 
 def pushed(plan_folder, table, words, text=PROJECT):
-    """The phases, of the pit of factor 1000 unless the words name another, with each block's phase and the notes of widths."""
-    words += "" if "last" in words or "factors" in words else "\nlast = 1000"
+    """The phases, of the pit of revenue factor 1.00 unless the words name another, with each block's phase and the notes of widths."""
+    words += "" if "ultimate_pit" in words or "factors" in words else "\nultimate_pit = 1.0"
     project = load(plan_folder(table, with_phases(words, text)))
     found = pitplan.write_pushbacks(project).set_index("phase")
     notes = [
@@ -89,9 +89,9 @@ def test_a_notch_between_two_phases_goes_to_the_first_with_its_cone(plan_folder)
     poor = {(5, 3)} | square(10, 2, 2)
     grades = dict.fromkeys(square(3, 2, 3), RICH) | dict.fromkeys(poor, 0.6)
     table = floor(grades, columns=15)
-    narrow, phase, _ = pushed(plan_folder, table, "factors = [400, 1500]")
+    narrow, phase, _ = pushed(plan_folder, table, "revenue_factors = [0.4, 1.5]")
     assert narrow["blocks"].tolist() == [28, 2 + 4 + 12] and phase["b5-3-0"] == phase["b6-3-1"] == 2
-    found, phase, notes = pushed(plan_folder, table, "factors = [400, 1500]\nwidth = 20")
+    found, phase, notes = pushed(plan_folder, table, "revenue_factors = [0.4, 1.5]\nwidth = 20")
     assert found["blocks"].tolist() == [30, 16] and phase["b5-3-0"] == phase["b6-3-1"] == 1
     # The ore of 0.6 % yields 2400 - 1000 - 200, and the block above it costs 200.
     assert found["deferred_value"].tolist() == [-(1200 - 200), 0] and found["cost_of_width"].tolist() == [0, 0]
@@ -102,7 +102,7 @@ def test_the_pit_before_shrinks_where_a_phase_is_too_thin(plan_folder):
     """One level: a square of four in a square of six, with one block between them all round. Two are left for phase 1."""
     rich = square(2, 2, 4)
     table = rows(10, 10, 1, cu=lambda i, j, k: RICH if (i, j) in rich else 0.6 if (i, j) in square(1, 1, 6) else 0)
-    found, phase, notes = pushed(plan_folder, table, "factors = [400, 1000]\nwidth = 20")
+    found, phase, notes = pushed(plan_folder, table, "revenue_factors = [0.4, 1.0]\nwidth = 20")
     # Nothing is lost: the 12 blocks of 6800 come in phase 2.
     assert found["cost_of_width"].tolist() == [0, 0]
     assert found["blocks"].tolist() == [4, 32] and found["least_width"].tolist() == [20, 20]
@@ -113,7 +113,7 @@ def test_the_pit_before_shrinks_where_a_phase_is_too_thin(plan_folder):
 def test_a_phase_that_hardly_keeps_anything_is_told(plan_folder):
     rich = square(2, 2, 4)
     table = rows(10, 10, 1, cu=lambda i, j, k: RICH if (i, j) in rich else 0.6 if (i, j) in square(1, 1, 6) else 0)
-    project = load(plan_folder(table, with_phases("factors = [400, 1000]\nwidth = 30", PROJECT)))
+    project = load(plan_folder(table, with_phases("revenue_factors = [0.4, 1.0]\nwidth = 30", PROJECT)))
     assert pitplan.write_pushbacks(project)["blocks"].tolist() == [0, 36]
     told = "WARNING: for its width phase 1 has 0 t of 1,600 t in its shell: the pit holds fewer phases so wide"
     assert told in read_record(project.folder / "pushbacks")["notes"]
@@ -124,8 +124,8 @@ def test_a_narrow_bottom_is_widened_or_left(plan_folder):
     then there is no pit."""
     found, _, _ = pushed(plan_folder, floor((4, 3)), "count = 1\nbottom = 20")
     assert (found["blocks"][1], found["cost_of_width"][1]) == (4 + 12, 3 * 200 + 7 * 200)
-    with pytest.raises(PlanError, match="width, bottom: no part of the pit of factor 1500 is so wide"):
-        pushed(plan_folder, floor({(4, 3): 0.7}), "count = 1\nbottom = 20\nlast = 1500")
+    with pytest.raises(PlanError, match="width, bottom: no part of the pit of revenue factor 1.50 is so wide"):
+        pushed(plan_folder, floor({(4, 3): 0.7}), "count = 1\nbottom = 20\nultimate_pit = 1.5")
 
 
 def test_what_must_be_dug_stays_in_phase_1_however_narrow(plan_folder):
@@ -195,7 +195,7 @@ def test_random_phases_are_wide_closed_and_nested(tmp_path_factory, seed, asked)
     place = tmp_path_factory.mktemp("random")
 
     def write(table):
-        text = PROJECT.replace("[500, 1000, 1500]", "[500, 800, 1000]") + '[fixed]\nforced = "must"\nbarred = "never"\n'
+        text = PROJECT.replace("[0.5, 1.0, 1.5]", "[0.5, 0.8, 1.0]") + '[fixed]\nforced = "must"\nbarred = "never"\n'
         (place / "project.toml").write_text(text)
         table.to_csv(place / "blocks.csv", index=False)
         return place / "project.toml"
@@ -237,7 +237,7 @@ def divided(without_figures, tmp_path_factory):
     place = tmp_path_factory.mktemp("wide")
     grades = dict.fromkeys(square(3, 2, 3) - {(5, 3)}, RICH) | dict.fromkeys(square(10, 2, 2), 0.6)
     floor(grades, columns=15).to_csv(place / "blocks.csv", index=False)
-    (place / "project.toml").write_text(with_phases("factors = [400, 1500]\nwidth = 20\nbottom = 20", PROJECT))
+    (place / "project.toml").write_text(with_phases("revenue_factors = [0.4, 1.5]\nwidth = 20\nbottom = 20", PROJECT))
     pitplan.write_pushbacks(place / "project.toml")
     return place
 
@@ -267,7 +267,7 @@ def test_each_shape_that_is_bent_is_found(copied, column, rule, more):
 
 def test_a_block_of_a_later_factor_than_the_last_phase_is_found(copied):
     table = pd.read_csv(copied / "blocks.csv")
-    table.loc[table["factor"] > 0, "factor"] += 1000
+    table.loc[table["revenue_factor"] > 0.0, "revenue_factor"] += 1.0
     table.to_csv(copied / "blocks.csv", index=False)
     assert "blocks" in wrong(copied)
 
@@ -285,7 +285,7 @@ def test_a_block_that_makes_a_phase_too_narrow_is_found(copied, name, number):
 def test_a_bottom_that_is_wide_by_a_later_phase_alone_is_found(plan_folder):
     """Two squares of two side by side, one a phase; then the first has but three of its cells."""
     grades = dict.fromkeys(square(3, 2, 2), RICH) | dict.fromkeys(square(5, 2, 2), 0.6)
-    project = load(plan_folder(floor(grades), with_phases("factors = [400, 1500]\nbottom = 20", PROJECT)))
+    project = load(plan_folder(floor(grades), with_phases("revenue_factors = [0.4, 1.5]\nbottom = 20", PROJECT)))
     # Above the second square a block of phase 2 lies between one of phase 1 and the ground.
     assert pitplan.write_pushbacks(project)["least_width"].tolist() == [20, 10]
     folder = project.folder / "pushbacks"

@@ -18,14 +18,14 @@ from pitplan.figures.pit_by_pit import plot_pit_by_pit
 
 YEARS = pd.DataFrame(
     [
-        ("best", 1000, 1, 9e6, 0, -2.5e6, -2e6),
-        ("best", 1000, 2, 4e6, 3e6, 40e6, 30e6),
-        ("worst", 1000, 1, 8e6, 1e6, 5e6, 4e6),
-        ("worst", 1000, 2, 5e6, 2e6, 32e6, 20e6),
-        ("worst", 1000, 3, 1e6, 0, -1e6, -0.5e6),
-        ("best", 500, 1, 1e6, 1e6, 3e6, 2e6),
+        ("best", 1.0, 1, 9e6, 0, -2.5e6, -2e6),
+        ("best", 1.0, 2, 4e6, 3e6, 40e6, 30e6),
+        ("worst", 1.0, 1, 8e6, 1e6, 5e6, 4e6),
+        ("worst", 1.0, 2, 5e6, 2e6, 32e6, 20e6),
+        ("worst", 1.0, 3, 1e6, 0, -1e6, -0.5e6),
+        ("best", 0.5, 1, 1e6, 1e6, 3e6, 2e6),
     ],
-    columns=["case", "factor", "year", "rock_tonnes", "ore_tonnes", "cash", "discounted"],
+    columns=["case", "revenue_factor", "year", "rock_tonnes", "ore_tonnes", "cash", "discounted"],
 )
 CAPACITIES = ("ore_per_year = 100", "ore_per_year = 3_000_000\nrock_per_year = 10_000_000")
 
@@ -41,7 +41,7 @@ def test_years_are_drawn_as_bars_capacities_and_cash(plan_folder, panels):
     """In millions of tonnes and of dollars, of which the axes have ten or more."""
     figure, axes = panels
     project = pitplan.load(plan_folder(rows(2, 2, 2), PROJECT, CAPACITIES))
-    annual.plot_years(YEARS, project, 1000, axes)
+    annual.plot_years(YEARS, project, 1.0, axes)
     expected = {
         0: ("Best case: NPV 28.0 M USD", [0, 3], [9, 1], [-2.5, 40]),
         1: ("Worst case: NPV 23.5 M USD", [1, 2, 0], [7, 3, 1], [5, 32, -1]),
@@ -62,7 +62,7 @@ def test_years_are_drawn_as_bars_capacities_and_cash(plan_folder, panels):
 def test_the_axes_of_years_hold_all_and_have_nothing_at_one_height(plan_folder, panels):
     figure, axes = panels
     project = pitplan.load(plan_folder(rows(2, 2, 2), PROJECT, CAPACITIES))
-    annual.plot_years(YEARS, project, 1000, axes)
+    annual.plot_years(YEARS, project, 1.0, axes)
     limits = [axis.get_ylim() for axis in figure.axes]
     assert limits[0] == limits[1] and limits[2] == limits[3]
     heights = [-low / (high - low) for low, high in limits]
@@ -74,7 +74,7 @@ def test_the_axes_of_years_hold_all_and_have_nothing_at_one_height(plan_folder, 
 def test_a_capacity_far_above_all_years_is_told_and_not_drawn_to(plan_folder, panels):
     figure, axes = panels
     far = (CAPACITIES[0], CAPACITIES[1].replace("10_000_000", "1_000_000_000"))
-    annual.plot_years(YEARS, pitplan.load(plan_folder(rows(2, 2, 2), PROJECT, far)), 1000, axes)
+    annual.plot_years(YEARS, pitplan.load(plan_folder(rows(2, 2, 2), PROJECT, far)), 1.0, axes)
     assert "shovels: 1,000,000 kt a year" in [text.get_text() for text in figure.legends[0].get_texts()]
     assert 9000 < axes[0].get_ylim()[1] < 20_000
 
@@ -83,8 +83,8 @@ def test_a_capacity_far_above_all_years_is_told_and_not_drawn_to(plan_folder, pa
 def test_years_that_earn_nothing_are_drawn_too(plan_folder, panels, cash):
     figure, axes = panels
     project = pitplan.load(plan_folder(rows(2, 2, 2), PROJECT, CAPACITIES))
-    years = YEARS[(YEARS["factor"] == 1000) & (YEARS["case"] == "best")].assign(cash=cash)
-    annual.plot_years(pd.concat([years, years.assign(case="worst")]), project, 1000, axes)
+    years = YEARS[(YEARS["revenue_factor"] == 1.0) & (YEARS["case"] == "best")].assign(cash=cash)
+    annual.plot_years(pd.concat([years, years.assign(case="worst")]), project, 1.0, axes)
     low, high = figure.axes[2].get_ylim()
     assert np.isfinite([low, high]).all() and high > 0
     size = 1 if min(cash) == 0 else 1e6 if min(cash) <= -10e6 else 1e3
@@ -92,24 +92,24 @@ def test_years_that_earn_nothing_are_drawn_too(plan_folder, panels, cash):
 
 
 def scenarios_at(*prices):
-    """Eleven models at each price: at the price 100 they have 0 to 10 kt at factor 500 and 10 kt more at 1000; each further
+    """Eleven models at each price: at the price 100 they have 0 to 10 kt at revenue factor 0.50 and 10 kt more at 1000; each further
     100 adds 100 kt. They are worth ten times as much in dollars."""
     records = []
     for number, price in enumerate(prices):
         for model in range(11):
-            for factor, more in ((500, 0), (1000, 10_000)):
+            for factor, more in ((0.5, 0), (1.0, 10_000)):
                 tonnes = float(1000 * model + more + 100_000 * (price / 100 - 1))
                 records.append(
                     (11 * number + model + 1, f"m{model}", float(price), factor, tonnes, f"{10 * tonnes:.9f}")
                 )
-    names = ["scenario", "model", "price_copper", "factor", "tonnes", "worth_at_factor"]
+    names = ["scenario", "model", "price_copper", "revenue_factor", "tonnes", "value_at_revenue_factor"]
     return pd.DataFrame(records, columns=names)
 
 
 def corners(collection):
     """The least and the greatest height of a band at each factor."""
     path = collection.get_paths()[0].vertices
-    return {x: (min(path[path[:, 0] == x, 1]), max(path[path[:, 0] == x, 1])) for x in (500, 1000)}
+    return {x: (min(path[path[:, 0] == x, 1]), max(path[path[:, 0] == x, 1])) for x in (0.5, 1.0)}
 
 
 def test_each_set_of_prices_has_a_band_and_a_median_of_its_own(panels):
@@ -122,8 +122,8 @@ def test_each_set_of_prices_has_a_band_and_a_median_of_its_own(panels):
             # A tenth of eleven models from 0 to 10 lie below 1, and a tenth above 9.
             low, high, middle = (size * (start + 1000 * k) for k in (1, 9, 5))
             more = 10_000 * size
-            np.testing.assert_allclose(corners(shown)[500], (low, high))
-            np.testing.assert_allclose(corners(shown)[1000], (low + more, high + more))
+            np.testing.assert_allclose(corners(shown)[0.5], (low, high))
+            np.testing.assert_allclose(corners(shown)[1.0], (low + more, high + more))
             np.testing.assert_allclose(line.get_ydata(), [middle, middle + more])
         assert len({line.get_color() for line in axis.lines}) == 3
     names = [text.get_text() for text in figure.legends[0].get_texts()]
@@ -151,7 +151,7 @@ def test_six_sets_have_bands_and_seven_have_none(panels):
 def test_the_projects_own_prices_have_the_band_of_all_models_too(panels):
     figure, axes = panels
     scenarios.plot_spread(scenarios_at(100).drop(columns="price_copper"), "USD", axes)
-    assert [corners(shown)[1000] for shown in axes[0].collections] == [(10_000, 20_000), (11_000, 19_000)]
+    assert [corners(shown)[1.0] for shown in axes[0].collections] == [(10_000, 20_000), (11_000, 19_000)]
     assert [text.get_text() for text in figure.legends[0].get_texts()] == ["all", "eight in ten", "median"]
 
 
@@ -166,7 +166,7 @@ def at_a_zone(origin=(430010.0, 6512012.5, 806.25)):
     grid = Grid((12, 20, 24), origin, (20.0, 25.0, 12.5), np.arange(12 * 20 * 24))
     level, row, column = np.indices(grid.shape)
     inside = abs(row - 10) + abs(column - 12) + 2 * level < 12
-    return grid, np.where(inside, 1000, 0)
+    return grid, np.where(inside, 1.0, 0.0)
 
 
 def drawn_of(monkeypatch, module, draw):
@@ -196,7 +196,7 @@ def demand_plain_coordinates(figure):
 def test_plans_and_sections_have_coordinates_in_full(monkeypatch):
     grid, factor = at_a_zone()
     metal = pitplan.config.project.Metal("copper", "cu", "percent", 0, 0, 1)
-    scene = plans_sections.Scene(grid, factor, np.ones(grid.shape, dtype=bool), np.ones(grid.shape), metal, 1000)
+    scene = plans_sections.Scene(grid, factor, np.ones(grid.shape, dtype=bool), np.ones(grid.shape), metal, 1.0)
     for draw in (plans_sections.write_plans, plans_sections.write_sections):
         figure = drawn_of(monkeypatch, plans_sections, lambda draw=draw: draw(scene, None))
         demand_plain_coordinates(figure)
@@ -253,7 +253,7 @@ def test_what_plans_and_sections_show_of_phases(panels):
 
 def test_probabilities_have_coordinates_in_full(monkeypatch):
     grid, factor = at_a_zone()
-    likely = scenarios.Likely(grid, factor / 1000, np.ones(grid.shape, dtype=bool), 1000, 3)
+    likely = scenarios.Likely(grid, factor, np.ones(grid.shape, dtype=bool), 1.0, 3)
     for draw in (scenarios.write_plans, scenarios.write_sections):
         figure = drawn_of(monkeypatch, scenarios, lambda draw=draw: draw(likely, None))
         demand_plain_coordinates(figure)
@@ -263,7 +263,7 @@ def test_probabilities_have_coordinates_in_full(monkeypatch):
 
 SHELLS = pd.DataFrame(
     {
-        "factor": [500, 1000, 1500],
+        "revenue_factor": [0.5, 1.0, 1.5],
         "tonnes": [20e6, 40e6, 60e6],
         "in_situ_ore_tonnes": [12e6, 15e6, 20e6],
         "waste_tonnes": [8e6, 25e6, 40e6],
@@ -277,7 +277,7 @@ SHELLS = pd.DataFrame(
 def scene():
     grid, factor = at_a_zone()
     metal = pitplan.config.project.Metal("copper", "cu", "percent", 0, 0, 1)
-    return plans_sections.Scene(grid, factor, np.ones(grid.shape, dtype=bool), np.ones(grid.shape), metal, 1000)
+    return plans_sections.Scene(grid, factor, np.ones(grid.shape, dtype=bool), np.ones(grid.shape), metal, 1.0)
 
 
 def phase_scene():
@@ -290,11 +290,11 @@ def phase_scene():
 
 def likely():
     grid, factor = at_a_zone()
-    return scenarios.Likely(grid, factor / 1000, np.ones(grid.shape, dtype=bool), 1000, 3)
+    return scenarios.Likely(grid, factor, np.ones(grid.shape, dtype=bool), 1.0, 3)
 
 
 EACH = {
-    "pit by pit": (1, lambda axes, project: [plot_pit_by_pit(SHELLS, "USD", 1000, axes[0])]),
+    "pit by pit": (1, lambda axes, project: [plot_pit_by_pit(SHELLS, "USD", 1.0, axes[0])]),
     "floor": (1, lambda axes, project: [plans_sections.plot_floor(scene(), axes[0])]),
     "level": (1, lambda axes, project: [plans_sections.plot_level(scene(), 2, axes[0])]),
     "shells": (1, lambda axes, project: [plans_sections.plot_shells(scene(), scene().from_west_to_east(10), axes[0])]),
@@ -316,7 +316,7 @@ EACH = {
     "sections of phases": (2, lambda axes, project: pushbacks.plot_sections(phase_scene(), axes)),
     "plans": (4, lambda axes, project: plans_sections.plot_plans(scene(), axes)),
     "sections": (4, lambda axes, project: plans_sections.plot_sections(scene(), axes)),
-    "years": (2, lambda axes, project: annual.plot_years(YEARS, project, 1000, axes)),
+    "years": (2, lambda axes, project: annual.plot_years(YEARS, project, 1.0, axes)),
     "plans of scenarios": (4, lambda axes, project: scenarios.plot_plans(likely(), axes)),
     "sections of scenarios": (2, lambda axes, project: scenarios.plot_sections(likely(), axes)),
     "spread": (2, lambda axes, project: scenarios.plot_spread(scenarios_at(100, 200), "USD", axes)),
@@ -351,7 +351,7 @@ def test_too_few_axes_are_refused(plan_folder, panels, name):
 
 def test_shells_are_drawn_as_bars_and_curves(panels):
     """In millions of tonnes, of which the axis has 60, and in dollars."""
-    ax = plot_pit_by_pit(SHELLS, "USD", 1000, panels[1][0])
+    ax = plot_pit_by_pit(SHELLS, "USD", 1.0, panels[1][0])
     (right,) = [other for other in panels[0].axes if other not in panels[1]]
     ore, waste = ax.containers
     assert [bar.get_height() for bar in ore] == [12, 15, 20] and [bar.get_height() for bar in waste] == [8, 25, 40]
@@ -360,12 +360,12 @@ def test_shells_are_drawn_as_bars_and_curves(panels):
     assert len({line.get_marker() for line in right.lines[::2]}) == 3
     # Each curve's greatest has a ring.
     assert [(line.get_xdata()[0], line.get_ydata()[0]) for line in right.lines[1::2]] == [
-        (1000, 300),
-        (1000, 250),
-        (1000, 150),
+        (1.0, 300),
+        (1.0, 250),
+        (1.0, 150),
     ]
     names = [text.get_text() for text in ax.get_legend().get_texts()]
-    assert names == ["chosen: 1000", "ore", "waste", "undiscounted", "NPV, best case", "NPV, worst case"]
+    assert names == ["selected: 1.00", "ore", "waste", "undiscounted", "NPV, best case", "NPV, worst case"]
 
 
 def test_sections_show_a_grade_in_one_colour():
@@ -380,15 +380,15 @@ def test_sections_show_a_grade_in_one_colour():
 def test_what_plans_show_of_a_solved_plan(solved):
     """The pit of a hill of ten by nine columns; its scene is what blocks.csv says."""
     plan = pitplan.prepare(solved[0])
-    scene = plans_sections.scene_of(plan, pitplan.solve(plan), 1500)
+    scene = plans_sections.scene_of(plan, pitplan.solve(plan), 1.5)
     blocks = pd.read_csv(solved[1] / "blocks.csv")
-    assert scene.dug.sum() == (blocks["factor"] > 0).sum() and scene.solid.sum() == len(blocks)
+    assert scene.dug.sum() == (blocks["revenue_factor"] > 0.0).sum() and scene.solid.sum() == len(blocks)
     places = [((45 - blocks["z"]) // 10).astype(int), (blocks["y"] // 10).astype(int), (blocks["x"] // 10).astype(int)]
     assert scene.grade[tuple(places)].tolist() == blocks["cu"].tolist()
     figure, axes = plt.subplots()
     (image,) = plans_sections.plot_floor(scene, axes).images
     deepest = (
-        blocks[blocks["factor"] > 0]
+        blocks[blocks["revenue_factor"] > 0.0]
         .assign(column=lambda it: it["x"] // 10, row=lambda it: it["y"] // 10)
         .groupby(["row", "column"])["z"]
         .min()
@@ -398,4 +398,4 @@ def test_what_plans_show_of_a_solved_plan(solved):
     assert np.ma.count(np.ma.masked_invalid(drawn)) == len(deepest)
     plt.close(figure)
     chosen = plans_sections.scene_of(plan, pitplan.solve(plan)).chosen
-    assert chosen == json.loads((solved[1] / "prepare.json").read_text())["shells"]["chosen"]
+    assert chosen == json.loads((solved[1] / "prepare.json").read_text())["shells"]["selected"]

@@ -113,15 +113,15 @@ def test_a_pit_of_one_factor_by_hand(plan_folder, capsys):
     """One block of ore under one of waste: four corners on two levels, each with a toe and a crest."""
     path = plan_folder(rows(1, 1, 2, cu=lambda i, j, k: 6 if k == 0 else 0))
     pitplan.write_shells(path, writing=pitplan.Writing(verifies=False))
-    assert main(["export", str(path), "--to", "str", "--factor", "1000"]) == 0
-    found = path.parent / "plan" / "lines-1000.str"
+    assert main(["export", str(path), "--to", "str", "--revenue-factor", "1.00"]) == 0
+    found = path.parent / "plan" / "lines-1.00.str"
     assert capsys.readouterr().out.strip() == str(found)
     strings = strings_of(found)
     assert [(string[0][0], *string[0][3:]) for string in strings] == [
-        ("1", "10.0000", "toe", "10", "factor 1000"),
-        ("2", "20.0000", "crest", "10", "factor 1000"),
-        ("1", "0.0000", "toe", "0", "factor 1000"),
-        ("2", "10.0000", "crest", "0", "factor 1000"),
+        ("1", "10.0000", "toe", "10", "revenue factor 1.00"),
+        ("2", "20.0000", "crest", "10", "revenue factor 1.00"),
+        ("1", "0.0000", "toe", "0", "revenue factor 1.00"),
+        ("2", "10.0000", "crest", "0", "revenue factor 1.00"),
     ]
     square = {(north, east) for north in ("0.0000", "10.0000") for east in ("0.0000", "10.0000")}
     assert all(len(string) == 5 and {(point[1], point[2]) for point in string} == square for string in strings)
@@ -131,7 +131,7 @@ def test_an_empty_pit_has_no_lines(plan_folder):
     path = plan_folder(rows(2, 2, 2))
     pitplan.write_shells(path, writing=pitplan.Writing(verifies=False))
     for kind in ("str", "lines"):
-        with pytest.raises(PlanError, match="the pit of factor 1000 is empty"):
+        with pytest.raises(PlanError, match="the pit of revenue factor 1.00 is empty"):
             pitplan.write_export(path.parent / "plan", kind)
     assert not list((path.parent / "plan").glob("lines-*"))
 

@@ -16,7 +16,7 @@ from pitplan.cli import main
 from pitplan.export import registry
 from pitplan.verification import answer as answers, planned_table, verify
 
-FOUND = ["factor", "process_factor"]
+FOUND = ["revenue_factor", "process_revenue_factor"]
 
 
 def lines(path, separator=",", encoding="utf-8"):
@@ -34,7 +34,7 @@ def scheduled(tmp_path_factory, without_figures):
     place = tmp_path_factory.mktemp("scheduled")
     table = rows(9, 5, 3, cu=lambda i, j, k: {(2, 2, 1): 6, (6, 2, 1): 0.8}.get((i, j, k), 0))
     table.iloc[::-1].to_csv(place / "blocks.csv", index=False)
-    words = "\n[pushbacks]\nfactors = [500, 1000]\n[schedule]\nlag = 1\n"
+    words = "\n[pushbacks]\nrevenue_factors = [0.5, 1.0]\n[schedule]\nlag = 1\n"
     (place / "project.toml").write_text(PROJECT + words)
     pitplan.write_schedule(place / "project.toml")
     return place
@@ -98,7 +98,10 @@ def test_a_column_of_the_planners_with_such_a_name_is_kept_beside(plan_folder):
     pitplan.write_shells(path, writing=pitplan.Writing(verifies=False))
     after = pd.read_csv(pitplan.write_export(path.parent / "plan", "table"))
     assert list(after.columns) == [*table.columns[:-1], "planner_factor", *FOUND]
-    assert after["planner_factor"].tolist() == table["factor"].tolist() and set(after["factor"]) == {0, 500}
+    assert after["planner_factor"].tolist() == table["revenue_factor"].tolist() and set(after["revenue_factor"]) == {
+        0,
+        500,
+    }
 
 
 def test_rock_of_cells_without_rows_has_none(plan_folder):
@@ -120,8 +123,8 @@ def test_rows_that_are_put_together_have_the_numbers_of_their_block(plan_folder)
     after = pd.read_csv(pitplan.write_export(path.parent / "plan", "table"))
     assert after["name"].tolist() == table["name"].tolist()
     # The ore, and above it the block itself and those beside it, each of four rows.
-    assert (after["factor"] == 500).sum() == 4 * 6 and (after["process_factor"] == 500).sum() == 4
-    assert after[after["process_factor"] > 0]["name"].tolist() == ["b5-5-1", "b4-5-1", "b5-4-1", "b4-4-1"]
+    assert (after["revenue_factor"] == 0.5).sum() == 4 * 6 and (after["process_revenue_factor"] == 500).sum() == 4
+    assert after[after["process_revenue_factor"] > 0]["name"].tolist() == ["b5-5-1", "b4-5-1", "b5-4-1", "b4-4-1"]
 
 
 def bent(path, bend):
@@ -158,7 +161,7 @@ def test_a_table_that_is_bent_is_found(solved, bend, said):
 def test_rows_of_no_block_of_the_answer_are_due_0(solved):
     """Without the blocks of the last column from the west, of which the grid knows nothing, and without one that is dug."""
     answer = answers.read(solved[1])
-    dug = (answer.said["factor"] > 0).to_numpy()
+    dug = (answer.said["revenue_factor"] > 0.0).to_numpy()
     kept = (answer.rows["x"] < 90).to_numpy() & (np.arange(len(dug)) != dug.argmax())
     box = answer.record["grid"]
     record = answer.record | {"grid": box | {"shape": [*box["shape"][:2], box["shape"][2] - 1]}}

@@ -24,12 +24,12 @@ def test_the_lines_for_a_notebook_run(tmp_path, monkeypatch):
     """In a folder of the example's files, since the last line writes there; its project has no phases as it stands."""
     monkeypatch.chdir(shutil.copytree(EXAMPLE.parent, tmp_path / "plan"))
     with open("project.toml", "a", encoding="utf-8") as project:
-        project.write("\n[pushbacks]\nfactors = [500, 1000]\n")
+        project.write("\n[pushbacks]\nrevenue_factors = [0.5, 1.0]\n")
     names = {}
     exec(re.search(r"```python\n(.*?)```", PAGE, re.DOTALL)[1], names)
     assert len(names["plan"].blocks) == 7119 and names["solution"].worth.index.tolist()[-1] == 1200
-    assert names["table"]["factor"].tolist() == names["solution"].worth.index.tolist() and names["phases"][
-        "factor"
+    assert names["table"]["revenue_factor"].tolist() == names["solution"].worth.index.tolist() and names["phases"][
+        "revenue_factor"
     ].tolist() == [500, 1000]
 
 
@@ -37,10 +37,12 @@ def test_the_table_of_cutoffs_is_that_of_the_example():
     plan = pitplan.prepare(EXAMPLE)
     fixed = pitplan.prepare(replace(plan.project, money=replace(plan.project.money, cutoff="fixed")))
     solutions = [pitplan.solve(plan), pitplan.solve(fixed)]
-    tables = [pitplan.shells(it, solution).set_index("factor") for it, solution in zip((plan, fixed), solutions)]
+    tables = [
+        pitplan.shells(it, solution).set_index("revenue_factor") for it, solution in zip((plan, fixed), solutions)
+    ]
     section = PAGE.partition("\n## The cut-off moves with the price\n")[2].partition("\n## ")[0]
     told = {row[0]: row[1:] for row in (re.split(r" *\| *", line)[1:-1] for line in section.splitlines()) if row}
-    factors = [int(factor) for factor in told["factor"]]
+    factors = [int(factor) for factor in told["revenue_factor"]]
     assert len(factors) == 6
     for name, table in zip(("moving", "fixed"), tables):
         assert table["blocks"][factors].tolist() == [int(blocks) for blocks in told[f"blocks, {name}"]]
@@ -77,7 +79,7 @@ def test_the_pairs_of_the_page_are_those_of_the_example(tmp_path):
 
 def test_the_net_present_values_of_the_page_are_those_of_the_example():
     plan = pitplan.prepare(EXAMPLE)
-    table = pitplan.shells(plan, pitplan.solve(plan)).set_index("factor")
+    table = pitplan.shells(plan, pitplan.solve(plan)).set_index("revenue_factor")
     best, worst = table["npv_best"], table["npv_worst"]
     mean = (best + worst)[:1000].sort_values()
     assert f"that of factor {table['worth'].idxmax()} with {table['blocks'][1000]} blocks" in PAGE
@@ -100,7 +102,7 @@ def test_the_phases_of_the_page_are_those_of_the_example():
     assert [int(row[0]) for row in rows] == table.index.tolist()
     for number, factor, blocks, rock, ore, strip, copper, worth in rows:
         phase = table.loc[int(number)]
-        assert (phase["factor"], phase["blocks"]) == (int(factor), int(blocks))
+        assert (phase["revenue_factor"], phase["blocks"]) == (int(factor), int(blocks))
         assert [f"{phase[name] / 1000:,.1f}" for name in ("tonnes", "ore_tonnes")] == [rock, ore]
         assert [f"{phase['strip_ratio']:.2f}", f"{phase['grade_copper']:.3f}", f"{phase['worth'] / 1e6:.1f}"] == [
             strip,

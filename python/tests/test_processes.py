@@ -75,7 +75,7 @@ def test_steps_by_hand(lines, steps):
     ],
 )
 def test_of_equals_the_least_revenue_and_then_the_first_is_best(lines, best):
-    assert best_way(ways_of(*lines), 1000).tolist() == [best]
+    assert best_way(ways_of(*lines), 1.0).tolist() == [best]
 
 
 lines = st.lists(
@@ -95,14 +95,16 @@ def test_steps_that_pay_add_up_to_the_best_process(lines, factor):
     if pays.any():
         revenue, cost = lines[steps.way[pays][-1]]
         assert (
-            (steps.revenue[pays].sum(), steps.cost[pays].sum()) == (revenue, cost) == lines[best_way(ways, factor)[0]]
+            (steps.revenue[pays].sum(), steps.cost[pays].sum())
+            == (revenue, cost)
+            == lines[best_way(ways, factor / 1000)[0]]
         )
 
 
 @pytest.mark.parametrize(("lines", "best"), [([(10, 5), (20, 15)], 0), ([(20, 15), (10, 5)], 1)])
 def test_of_processes_that_are_worth_as_much_it_is_the_one_of_least_revenue(lines, best):
     """At the price as given both gain 5, and the step from one to the other nothing."""
-    assert best_way(ways_of(*lines), 1000).tolist() == [best]
+    assert best_way(ways_of(*lines), 1.0).tolist() == [best]
 
 
 def one_column():
@@ -148,7 +150,7 @@ def test_the_process_of_a_block_by_hand(plan_folder, without_figures, grade, pro
     """Of 0.2 % leach gains 640 - 300, the mill 1440 - 1300; 0.05 % pay nowhere. Digging is demanded."""
     table = rows(1, 1, 2, cu=lambda i, j, k: 0 if k else grade, must=lambda i, j, k: 1 - k)
     path = plan_folder(table, PROJECT + '[fixed]\nforced = "must"\n', *WITH)
-    shell = pitplan.write_shells(path).set_index("factor").loc[1000]
+    shell = pitplan.write_shells(path).set_index("revenue_factor").loc[1.0]
     blocks = pd.read_csv(path.parent / "plan" / "blocks.csv", keep_default_na=False).set_index("name")
     assert blocks["process"].tolist() == ["", process] and shell["ore_tonnes"] == ore
     assert {name: shell[f"ore_tonnes_{name}"] for name in ("leach", "mill")} == {
@@ -158,9 +160,9 @@ def test_the_process_of_a_block_by_hand(plan_folder, without_figures, grade, pro
 
 def test_worth_by_hand_at_each_factor(plan_folder, without_figures):
     """Two blocks are dug for 400. At 0.3 leaching 768 - 300 is worth more than milling 1728 - 1300, at 0.5 milling 2880 - 1300."""
-    path = plan_folder(one_column(), PROJECT, *WITH, ("[500, 1000, 1500]", "[270, 300, 500, 1000]"))
-    shells = pitplan.write_shells(path).set_index("factor")
-    assert [float(worth) for worth in shells["worth_at_factor"]] == [0, 768 - 700, 2880 - 1700, 5760 - 1700]
+    path = plan_folder(one_column(), PROJECT, *WITH, ("[0.5, 1.0, 1.5]", "[0.27, 0.3, 0.5, 1.0]"))
+    shells = pitplan.write_shells(path).set_index("revenue_factor")
+    assert [float(worth) for worth in shells["value_at_revenue_factor"]] == [0, 768 - 700, 2880 - 1700, 5760 - 1700]
     assert shells["worth"].tolist() == [0, 4060, 4060, 4060] and shells["processed_tonnes"].tolist() == [
         0,
         100,
@@ -181,7 +183,7 @@ def deposit():
 MORE = [
     *WITH,
     ("mining_cost = 2\n", "mining_cost = 0.3\nmining_recovery = 0.97\ndilution = 0.05\ndecimals = 2\n"),
-    ("[500, 1000, 1500]", "[200, 300, 500, 1000, 1500]"),
+    ("[0.5, 1.0, 1.5]", "[0.2, 0.3, 0.5, 1.0, 1.5]"),
 ]
 
 
@@ -198,8 +200,8 @@ def wrong(folder):
 def test_the_second_look_agrees_and_each_process_has_ore(plan_folder, without_figures):
     folder = solved(plan_folder)
     assert wrong(folder) == set()
-    shells = pd.read_csv(folder / "shells.csv").set_index("factor")
-    assert (shells.loc[1000, ["ore_tonnes_leach", "ore_tonnes_mill"]] > 100).all()
+    shells = pd.read_csv(folder / "shells.csv").set_index("revenue_factor")
+    assert (shells.loc[1.0, ["ore_tonnes_leach", "ore_tonnes_mill"]] > 100).all()
     assert shells["ore_tonnes"].tolist() == pytest.approx(
         (shells["ore_tonnes_leach"] + shells["ore_tonnes_mill"]).tolist()
     )
@@ -220,8 +222,8 @@ def test_shells_are_those_of_the_best_process_at_each_factor(plan_folder, cutoff
     path = plan_folder(deposit(), PROJECT, *MORE, ("decimals = 2\n", f'decimals = 2\ncutoff = "{cutoff}"\n'))
     plan = pitplan.prepare(path)
     entry = shell_tables.cells_of(plan, pitplan.solve(plan)).factor
-    for factor in plan.project.schedule.factors:
-        best = best_way(plan.values.ways, factor if cutoff == "moving" else 1000)
+    for factor in plan.project.schedule.revenue_factors:
+        best = best_way(plan.values.ways, factor if cutoff == "moving" else 1.0)
         alone = tuple(
             replace(
                 way,
@@ -233,7 +235,7 @@ def test_shells_are_those_of_the_best_process_at_each_factor(plan_folder, cutoff
             for way in plan.values.ways[:1]
         )
         one = replace(plan, values=replace(plan.values, ways=alone, best=np.zeros_like(best)))
-        one.project = replace(plan.project, schedule=replace(plan.project.schedule, factors=(factor,)))
+        one.project = replace(plan.project, schedule=replace(plan.project.schedule, revenue_factors=(factor,)))
         inside = pitplan.solve(one).entry[: plan.grid.count] > 0
         assert ((entry > 0) & (entry <= factor)).tolist() == inside.tolist()
 
@@ -249,7 +251,7 @@ def test_what_is_bent_in_blocks_is_found(plan_folder, without_figures, column):
 
 
 def worst_way(ways, factor):
-    return 1 - best_way(ways, factor)
+    return 1 - best_way(ways, factor / 1000)
 
 
 def both(ways):

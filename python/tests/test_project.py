@@ -115,32 +115,35 @@ def test_a_byte_order_mark_is_passed_over_and_another_encoding_is_refused(plan_f
             "[slopes.walls 1] azimuths: must be a list of pairs [azimuth, angle]",
         ),
         (
-            "[500, 1000, 1500]",
-            "[500.5]",
-            "[shells] factors: 500.5 is not a whole number of per mille from 0 to 100,000",
+            "[0.5, 1.0, 1.5]",
+            "[0.5005]",
+            "[shells] revenue_factors: found 0.5005, expected at most three decimals",
         ),
         (
-            "[500, 1000, 1500]",
-            "[0.3, 1]",
-            "[shells] factors: 0.3 is not a whole number of per mille from 0 to 100,000: 1000 is the price as given, and "
-            "300 is 0.3 of it",
+            "[0.5, 1.0, 1.5]",
+            "[800, 1000]",
+            "[shells] revenue_factors: found 800, expected a revenue factor from 0 to 100; 1.0 is the base price (did you mean 0.80?)",
         ),
-        ("[500, 1000, 1500]", "[1000, true]", "[shells] factors: True is not a whole number of per mille"),
-        ("[500, 1000, 1500]", "[1000, -5]", "[shells] factors: -5 is not a whole number of per mille"),
+        ("[0.5, 1.0, 1.5]", "[1.0, true]", "[shells] revenue_factors: True is not a number"),
         (
-            "[500, 1000, 1500]",
-            "{ from = 1300, to = 300, step = 50 }",
-            "[shells] factors: from 1300 to 300 there is no factor: from may not be above to",
+            "[0.5, 1.0, 1.5]",
+            "[1.0, -5]",
+            "[shells] revenue_factors: found -5, expected a revenue factor from 0 to 100; 1.0 is the base price",
         ),
-        ("[500, 1000, 1500]", "{ from = 300, step = 50 }", "[shells.factors] to: is missing"),
         (
-            "[500, 1000, 1500]",
-            "{ from = 300, to = 500 }",
-            "[shells.factors] step: must be a whole number from 1 to 100,000",
+            "[0.5, 1.0, 1.5]",
+            "{ from = 1.3, to = 0.3, step = 0.05 }",
+            "[shells] revenue_factors: found none from 1.30 to 0.30: from may not be above to",
+        ),
+        ("[0.5, 1.0, 1.5]", "{ from = 0.3, step = 0.05 }", "[shells.revenue_factors] to: is missing"),
+        (
+            "[0.5, 1.0, 1.5]",
+            "{ from = 0.3, to = 0.5, step = 0 }",
+            "[shells.revenue_factors] step: found 0, expected 0.001 or more",
         ),
         ("rate = 0.1", "rate = 8", "[shells] rate: 8 is above 1: it is a yearly rate, such as 0.08 for 8 % a year"),
-        ("[500, 1000, 1500]", "[]", "[shells] factors: must be a list of factors, or { from, to, step }"),
-        ("rate = 0.1", "rate = 0.1\nchosen = 900", "[shells] chosen: 900 is not among the factors"),
+        ("[0.5, 1.0, 1.5]", "[]", "[shells] revenue_factors: must be a list of revenue factors, or { from, to, step }"),
+        ("rate = 0.1", "rate = 0.1\nselected = 0.9", "[shells] selected: 0.90 is not among the revenue_factors"),
         ("ore_per_year = 100", "", "[shells] ore_per_year: is missing"),
         ("[money]", "[[money]]", "[money] must be a section of its own"),
         ("[[metals]]", "[metals]", "metals: write at least one [[metals]]"),
@@ -159,10 +162,10 @@ def test_a_mistake_is_named_by_section_and_key(plan_folder, old, new, words):
     assert str(said.value).startswith(f"{path}: {words}")
 
 
-@pytest.mark.parametrize("item", ["500.5", "1e9", "inf", "nan", "200_000", "true", "'high'", "[]"])
-def test_a_number_that_is_no_share_of_the_price_is_not_turned_into_one(plan_folder, item):
-    with pytest.raises(PlanError, match="is not a whole number of per mille from 0 to 100,000$"):
-        pitplan.load(plan_folder(rows(2, 2, 2), PROJECT, ("[500, 1000, 1500]", f"[{item}]")))
+@pytest.mark.parametrize("item", ["0.5005", "1e9", "inf", "nan", "200_000", "100.001", "true", "'high'", "[]"])
+def test_a_number_that_is_no_revenue_factor_is_refused(plan_folder, item):
+    with pytest.raises(PlanError, match=r"\[shells\] revenue_factors: "):
+        pitplan.load(plan_folder(rows(2, 2, 2), PROJECT, ("[0.5, 1.0, 1.5]", f"[{item}]")))
 
 
 def test_broken_toml_is_named_by_its_line(plan_folder):
@@ -177,9 +180,9 @@ def test_a_missing_project_is_named(tmp_path):
 
 
 def test_factors_by_steps(plan_folder):
-    path = plan_folder(rows(2, 2, 2), PROJECT, ("[500, 1000, 1500]", "{ from = 800, to = 1250, step = 150 }"))
+    path = plan_folder(rows(2, 2, 2), PROJECT, ("[0.5, 1.0, 1.5]", "{ from = 0.8, to = 1.25, step = 0.15 }"))
     schedule = pitplan.load(path).schedule
-    assert schedule.factors == (800, 950, 1000, 1100, 1250) and schedule.reference_added
+    assert schedule.revenue_factors == (0.8, 0.95, 1.0, 1.1, 1.25) and schedule.base_price_added
 
 
 def test_regions_are_codes_and_named_once(plan_folder):
@@ -223,11 +226,11 @@ LEVEL = "mining_cost_per_level = 0.5\n"
         ("rate = 0.1", "rate = {}", ("0", "1"), ("-0.1", "1.5")),
         ("ore_per_year = 100", "ore_per_year = {}", ("1", "1.5"), ("0", "0.5")),
         ("ore_per_year = 100", "ore_per_year = 100\nrock_per_year = {}", ("1", "1.5"), ("0", "0.5")),
-        ("[500, 1000, 1500]", "[{}, 1000]", ("0", "1", "100_000"), ("-1", "100_001")),
-        ("[500, 1000, 1500]", "{{ from = 500, to = 1500, step = {} }}", ("2", "1000"), ("0", "-1", "0.5")),
-        ("[500, 1000, 1500]", "{{ from = {}, to = 1500, step = 500 }}", ("0", "1500"), ("1501", "-1")),
-        ("[500, 1000, 1500]", "{{ from = 1, to = {}, step = 1 }}", ("999", "1000"), ("1001",)),
-        ("rate = 0.1", "rate = 0.1\nchosen = {}", ("500", "1500"), ("501", "-1")),
+        ("[0.5, 1.0, 1.5]", "[{}, 1.0]", ("0", "0.001", "1", "100"), ("-0.1", "100.001", "0.0001")),
+        ("[0.5, 1.0, 1.5]", "{{ from = 0.5, to = 1.5, step = {} }}", ("0.002", "1"), ("0", "-1", "0.0005")),
+        ("[0.5, 1.0, 1.5]", "{{ from = {}, to = 1.5, step = 0.5 }}", ("0", "1.5"), ("1.501", "-1")),
+        ("[0.5, 1.0, 1.5]", "{{ from = 0.001, to = {}, step = 0.001 }}", ("0.999", "1"), ("1.001",)),
+        ("rate = 0.1", "rate = 0.1\nselected = {}", ("0.5", "1.5"), ("0.501", "-1")),
         ("[shells]", "[scenarios]\nmodels = 'm'\n[[scenarios.prices]]\ncopper = {}\n[shells]", ("0", "0.5"), ("-0.5",)),
     ],
 )
@@ -246,7 +249,7 @@ def test_what_is_left_out(tmp_path):
     path = folder / "project.toml"
     path.write_text(
         '[table]\nfile = "blocks.csv"\n[money]\nmining_cost = 2\nprocessing_cost = 10\n[[metals]]\nname = "copper"\ncolumn = "cu"\n'
-        'unit = "percent"\nprice = 8000\nrecovery = 1\n[slopes]\n[[slopes.walls]]\nangle = 45\n[shells]\nfactors = [1000]\nrate = 0\n'
+        'unit = "percent"\nprice = 8000\nrecovery = 1\n[slopes]\n[[slopes.walls]]\nangle = 45\n[shells]\nrevenue_factors = [1]\nrate = 0\n'
         "ore_per_year = 100\n"
     )
     project = pitplan.load(path)
@@ -278,8 +281,8 @@ def test_what_is_left_out(tmp_path):
         None,
         ((0, 45),),
     )
-    assert (schedule.chosen, schedule.rock_per_year, schedule.discounting) == (None, None, "end_of_year")
-    assert (schedule.factors, schedule.reference_added) == ((1000,), False)
+    assert (schedule.selected, schedule.rock_per_year, schedule.discounting) == (None, None, "end_of_year")
+    assert (schedule.revenue_factors, schedule.base_price_added) == ((1.0,), False)
 
 
 def test_two_entries_for_all_other_regions_are_refused(plan_folder):
@@ -294,10 +297,10 @@ def test_two_metals_of_one_name_are_refused(plan_folder):
         pitplan.load(plan_folder(rows(2, 2, 2), PROJECT, ("[slopes]", second)))
 
 
-@pytest.mark.parametrize(("item", "share"), [("0.001", "1"), ("0.3", "300"), ("99.999", "99999")])
-def test_a_share_of_the_price_is_told_in_per_mille(plan_folder, item, share):
-    with pytest.raises(PlanError, match=f"1000 is the price as given, and {share} is {item} of it"):
-        pitplan.load(plan_folder(rows(2, 2, 2), PROJECT, ("[500, 1000, 1500]", f"[{item}]")))
+@pytest.mark.parametrize(("item", "meant"), [("101", "0.101"), ("300", "0.30"), ("99_999", "99.999")])
+def test_a_factor_in_per_mille_is_refused_with_the_one_that_is_meant(plan_folder, item, meant):
+    with pytest.raises(PlanError, match=rf"did you mean {meant}\?"):
+        pitplan.load(plan_folder(rows(2, 2, 2), PROJECT, ("[0.5, 1.0, 1.5]", f"[{item}]")))
 
 
 def test_the_example_names_each_key_of_its_sections_and_no_other(monkeypatch):

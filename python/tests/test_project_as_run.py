@@ -20,7 +20,7 @@ MORE = '[pushbacks]\ncount = 2\n[schedule]\nrock_per_year = 2000\n[sensitivity]\
 FIXED = '[fixed]\nforced = "due"\n'
 RUNS = {
     "shells": pitplan.write_shells,
-    "pit": lambda project, folder: pitplan.write_pit(project, 500, folder),
+    "pit": lambda project, folder: pitplan.write_pit(project, 0.5, folder),
     "pushbacks": pitplan.write_pushbacks,
     "schedule": pitplan.write_schedule,
     "sensitivity": pitplan.write_sensitivity,

@@ -63,10 +63,10 @@ def sections_of(rng):
         "pushbacks": pick(
             rng,
             "",
-            "[pushbacks]\ncount = 3\nlast = 1000\n",
+            "[pushbacks]\ncount = 3\nultimate_pit = 1.0\n",
             "[pushbacks]\ntonnes = 1234.5\nwidth = 30\nmining_cost_added = [0, 0.15]\n",
         )
-        or pick(rng, "", "[pushbacks]\nfactors = { from = 100, to = 500, step = 100 }\nbottom = 17.25\n"),
+        or pick(rng, "", "[pushbacks]\nrevenue_factors = { from = 0.1, to = 0.5, step = 0.1 }\nbottom = 17.25\n"),
         "sensitivity": pick(
             rng, "", "[sensitivity]\n", '[sensitivity]\nby = [-0.15, 0.3]\nvary = ["price copper", "slopes"]\n'
         )
@@ -130,7 +130,7 @@ def test_random_projects_read_back_as_themselves(plan_folder, tmp_path, seed):
             )
         ]
         changes += [
-            ("[500, 1000, 1500]", pick(rng, "[500, 1500]", "{ to = 2000, step = 250 }", "[1000]")),
+            ("[0.5, 1.0, 1.5]", pick(rng, "[0.5, 1.5]", "{ from = 0, to = 2, step = 0.25 }", "[1]")),
             ('title = "Test hill"', f"title = {project_writer.shown('Zinc é 矿')}"),
         ]
         path = plan_folder("", PROJECT + haulage(rng) + sections_of(rng), *changes)

@@ -23,7 +23,7 @@ GRADES = [1, 0.7, 0.5]
 
 def pillars(**more):
     """Three pillars of waste over ore. At a factor f the ore of grade g pays for itself and the waste, 1000 + 2 x 200, where f x 4 g is
-    more: from 351, 501 and 701 per mille on."""
+    more: from 0.351, 0.501 and 0.701 on."""
     return rows(3, 1, 2, cu=lambda i, j, k: 0 if k else GRADES[i], **more)
 
 
@@ -36,10 +36,10 @@ def blocks_of(folder):
 
 
 def test_three_shells_of_like_tonnage_are_three_phases(plan_folder):
-    """The greatest factors whose shells have 200 and 400 of 600 t are 500 and 700."""
+    """The greatest factors whose shells have 200 and 400 of 600 t are 0.5 and 0.7."""
     project = load(plan_folder(pillars(), with_phases("count = 3")))
     table = pitplan.write_pushbacks(project).set_index("phase")
-    assert table.index.tolist() == [1, 2, 3] and table["factor"].tolist() == [500, 700, 1000]
+    assert table.index.tolist() == [1, 2, 3] and table["revenue_factor"].tolist() == [0.5, 0.7, 1.0]
     assert table["blocks"].tolist() == [2, 2, 2] and table["tonnes"].tolist() == [200, 200, 200]
     assert table["ore_tonnes"].tolist() == [100, 100, 100] and table["strip_ratio"].tolist() == [1, 1, 1]
     assert table["grade_copper"].tolist() == pytest.approx(GRADES) and table["metal_copper"].tolist() == pytest.approx(
@@ -57,44 +57,53 @@ def test_three_shells_of_like_tonnage_are_three_phases(plan_folder):
     [
         (
             "tonnes = 300",
-            [500, 1000],
-            "between the factors 500 and 501 the shells grow by 200 t at once, from 200 to 400",
+            [0.5, 1.0],
+            "between the revenue factors 0.50 and 0.501 the shells grow by 200 t at once, from 200 to 400",
         ),
-        ("tonnes = 200", [500, 700, 1000], None),
-        ("tonnes = 1e6", [1000], None),
-        ("count = 5", [351, 501, 1000], "5 phases are asked for, and the shells make 3"),
-        ("count = 7", [351, 501, 1000], "7 phases are asked for, and the shells make 3"),
-        ("count = 1", [1000], None),
-        ("count = 2\nlast = 600", [500, 600], None),
-        ("factors = [1500, 351, 900]", [351, 900], "the shell of factor 1500 has no rock that the one before has not"),
-        ("factors = { from = 600, to = 800, step = 100 }", [600, 800], "the shell of factor 700 has no rock"),
+        ("tonnes = 200", [0.5, 0.7, 1.0], None),
+        ("tonnes = 1e6", [1.0], None),
+        ("count = 5", [0.351, 0.501, 1.0], "5 phases are asked for, and the shells make 3"),
+        ("count = 7", [0.351, 0.501, 1.0], "7 phases are asked for, and the shells make 3"),
+        ("count = 1", [1.0], None),
+        ("count = 2\nultimate_pit = 0.6", [0.5, 0.6], None),
+        (
+            "revenue_factors = [1.5, 0.351, 0.9]",
+            [0.351, 0.9],
+            "the shell of revenue factor 1.50 has no rock that the one before has not",
+        ),
+        (
+            "revenue_factors = { from = 0.6, to = 0.8, step = 0.1 }",
+            [0.6, 0.8],
+            "the shell of revenue factor 0.70 has no rock",
+        ),
     ],
 )
 def test_what_is_asked_for_by_count_tonnes_and_factors(plan_folder, words, factors, told):
     project = load(plan_folder(pillars(), with_phases(words)))
-    assert pitplan.write_pushbacks(project)["factor"].tolist() == factors
+    assert pitplan.write_pushbacks(project)["revenue_factor"].tolist() == factors
     notes = read_record(project.folder / "pushbacks")["notes"]
     found = [
         note
         for note in notes
-        if note.startswith(("between the factors", "the shell of factor")) or "phases are asked for" in note
+        if note.startswith(("between the revenue factors", "the shell of revenue factor"))
+        or "phases are asked for" in note
     ]
     assert [told] == [note[: len(told)] for note in found if told in note] if told else found == []
 
 
 def test_a_jump_is_named_with_its_tonnes(plan_folder):
-    """Shells that begin with 900 t at a factor of 613, and have 1000 from 800 on."""
+    """Shells that begin with 900 t at a factor of 0.613, and have 1000 from 0.8 on."""
     asked = []
 
     def tonnes_at(factors):
         asked.extend(factors)
-        return {factor: 0.0 if factor < 613 else 900.0 if factor < 800 else 1000.0 for factor in factors}
+        return {factor: 0.0 if factor < 0.613 else 900.0 if factor < 0.8 else 1000.0 for factor in factors}
 
     project = load(plan_folder(pillars(), with_phases("count = 2")))
-    found, notes = nested.even_shells(PhaseRules(2, None, None, None), 1000, tonnes_at, project)
-    assert found == {613: 900, 1000: 1000} and len(set(asked)) == len(asked) < 40
+    found, notes = nested.even_shells(PhaseRules(2, None, None, None), 1.0, tonnes_at, project)
+    assert found == {0.613: 900, 1.0: 1000} and len(set(asked)) == len(asked) < 40
     assert notes == [
-        "between the factors 612 and 613 the shells grow by 900 t at once, from 0 to 900: no factor divides this rock"
+        "between the revenue factors 0.612 and 0.613 the shells grow by 900 t at once, from 0 to 900: no factor divides this rock"
     ]
 
 
@@ -102,9 +111,10 @@ def test_a_jump_is_named_with_its_tonnes(plan_folder):
 def test_even_shells_are_the_nearest_of_all_factors(steps, count, last):
     """Of shells that grow by steps at factors spread from 1 on: those of every factor are looked at."""
     grown = {
-        factor: float(sum(step for place, step in enumerate(steps) if factor > 83 * place))
+        factor / 1000: float(sum(step for place, step in enumerate(steps) if factor > 83 * place))
         for factor in range(1, last + 1)
     }
+    last /= 1000
     found, notes = nested.even_shells(
         PhaseRules(count, None, None, None), last, lambda factors: {factor: grown[factor] for factor in factors}, None
     )
@@ -132,67 +142,75 @@ def test_fixed_blocks_are_in_the_first_phase_and_in_none(plan_folder):
 def test_rows_without_rock_join_no_pieces(plan_folder):
     """Two blocks of ore whose cones meet where the table has rows of no tonnes."""
     table = rows(7, 1, 2, cu=lambda i, j, k: 6 * ((i, k) in ((1, 0), (4, 0))), tonnes=lambda i, j, k: 100 * (k == 0))
-    project = load(plan_folder(table, with_phases("factors = [1000]", PROJECT)))
+    project = load(plan_folder(table, with_phases("revenue_factors = [1.0]", PROJECT)))
     found = pitplan.write_pushbacks(project)
     assert found[["blocks", "pieces"]].values.tolist() == [[2, 2]]
     assert wrong(project.folder / "pushbacks") == {}
 
 
 def test_the_last_phase_ends_with_the_shell_that_is_selected(plan_folder):
-    """At factor 1000 the third pillar yields 1420 - 1000 - 2 x 200 = 20: 220 a year after its waste costs 200 at a rate of 10 %. So the mean
+    """At revenue factor 1.00 the third pillar yields 1420 - 1000 - 2 x 200 = 20: 220 a year after its waste costs 200 at a rate of 10 %. So the mean
     of best and worst case falls, and shells selects the two pillars of a lesser factor."""
     table = rows(3, 1, 2, cu=lambda i, j, k: 0 if k else [1, 0.7, 0.355][i])
-    path = plan_folder(table, with_phases("count = 2", UPRIGHT.replace("[500, 1000, 1500]", "[500, 800, 1000, 1500]")))
+    path = plan_folder(table, with_phases("count = 2", UPRIGHT.replace("[0.5, 1.0, 1.5]", "[0.5, 0.8, 1.0, 1.5]")))
     pitplan.write_shells(path)
-    selected = read_record(path.parent / "plan")["shells"]["chosen"]
-    assert selected == 800
-    assert pitplan.write_pushbacks(path)["factor"].tolist() == [500, 800]
+    selected = read_record(path.parent / "plan")["shells"]["selected"]
+    assert selected == 0.8
+    assert pitplan.write_pushbacks(path)["revenue_factor"].tolist() == [0.5, 0.8]
     record = read_record(path.parent / "plan" / "pushbacks")
-    assert record["shells"]["chosen"] == 800
+    assert record["shells"]["selected"] == 0.8
     assert (
-        "the last phase ends with the shell of factor 800, which shells selects: [pushbacks] last names another"
+        "the last phase ends with the shell of revenue factor 0.80, which shells selects: [pushbacks] ultimate_pit names another"
         in record["notes"]
     )
     # The project may name another, by the phases' key or the shells'.
     for change in (
-        with_phases("count = 3\nlast = 1000"),
-        with_phases("count = 3").replace("rate = 0.1", "rate = 0.1\nchosen = 1000"),
+        with_phases("count = 3\nultimate_pit = 1.0"),
+        with_phases("count = 3").replace("rate = 0.1", "rate = 0.1\nselected = 1.0"),
     ):
-        assert pitplan.write_pushbacks(plan_folder(table, change))["factor"].iloc[-1] == 1000
+        assert pitplan.write_pushbacks(plan_folder(table, change))["revenue_factor"].iloc[-1] == 1.0
 
 
 def test_where_no_shell_pays_the_last_phase_is_that_of_the_price_as_given(plan_folder):
     """Each year costs more than all ore earns. A schedule that mines nothing is then the best, and an answer."""
     costs = UPRIGHT.replace("mining_cost = 2\n", "mining_cost = 2\nfixed_cost_per_year = 100_000\n").replace(
-        "[500, 1000, 1500]", "[100, 500, 1000, 1500]"
+        "[0.5, 1.0, 1.5]", "[0.1, 0.5, 1.0, 1.5]"
     )
     path = plan_folder(pillars(), with_phases("count = 2", costs))
-    assert pitplan.write_pushbacks(path)["factor"].iloc[-1] == 1000
-    told = "WARNING: no shell has a net present value above 0: the last phase ends with the shell of factor 1000"
+    assert pitplan.write_pushbacks(path)["revenue_factor"].iloc[-1] == 1.0
+    told = (
+        "WARNING: no shell has a net present value above 0: the last phase ends with the shell of revenue factor 1.00"
+    )
     assert told in read_record(path.parent / "plan" / "pushbacks")["notes"]
     ways = pitplan.write_schedule(path).set_index("way")
     assert ways.loc["lp", ["value", "tonnes", "years"]].tolist() == [0, 0, 0]
 
 
 def test_an_empty_pit_is_refused(plan_folder, capsys):
-    path = plan_folder(pillars(), with_phases("count = 2\nlast = 300"))
+    path = plan_folder(pillars(), with_phases("count = 2\nultimate_pit = 0.3"))
     assert main(["pushbacks", str(path), "--quiet"]) == 1
-    assert "[pushbacks] the pit of factor 300 is empty: there is nothing to divide" in capsys.readouterr().err
+    assert "[pushbacks] the pit of revenue factor 0.30 is empty: there is nothing to divide" in capsys.readouterr().err
     assert not (path.parent / "plan" / "pushbacks" / "phases.csv").exists()
 
 
 @pytest.mark.parametrize(
     ("words", "said"),
     [
-        ("", "[pushbacks] count: give exactly one of count, tonnes, factors"),
-        ("count = 2\ntonnes = 3", "[pushbacks] tonnes: give exactly one of count, tonnes, factors"),
+        ("", "[pushbacks] count: give exactly one of count, tonnes, revenue_factors"),
+        ("count = 2\ntonnes = 3", "[pushbacks] tonnes: give exactly one of count, tonnes, revenue_factors"),
         ("count = 0", "[pushbacks] count: must be a whole number from 1 to 100"),
         ("tonnes = 0", "[pushbacks] tonnes: a phase has more than 0 tonnes"),
         ("tonnes = 1", "[pushbacks] tonnes: the pit of 600 t would have 600 phases of 1 t, and there are at most 100"),
-        ("factors = [0, 500]", "[pushbacks] factors: a phase's factor is 1 or more"),
-        ("factors = [0.5]", "1000 is the price as given, and 500 is 0.5 of it"),
-        ("factors = [500]\nlast = 900", "[pushbacks] last: the last of the factors is that of the last phase"),
-        ("count = 2\nlast = 0", "[pushbacks] last: must be a whole number from 1 to 100,000"),
+        (
+            "revenue_factors = [0.0, 0.5]",
+            "[pushbacks] revenue_factors: found 0, expected 0.001 or more for each pushback",
+        ),
+        ("revenue_factors = [500]", "did you mean 0.50?"),
+        (
+            "revenue_factors = [0.5]\nultimate_pit = 0.9",
+            "[pushbacks] ultimate_pit: is the last of the revenue_factors: leave it out",
+        ),
+        ("count = 2\nultimate_pit = 0.0", "[pushbacks] ultimate_pit: found 0, expected 0.001 or more"),
         ("number = 2\ncount = 2", "[pushbacks] number: is no key here"),
     ],
 )
@@ -219,7 +237,7 @@ def random_table(seed):
 def test_phases_of_random_mines_are_closed_nested_and_even(tmp_path_factory, seed):
     place = tmp_path_factory.mktemp("random")
     random_table(seed).to_csv(place / "blocks.csv", index=False)
-    (place / "project.toml").write_text(with_phases("count = 3\nlast = 1500", PROJECT))
+    (place / "project.toml").write_text(with_phases("count = 3\nultimate_pit = 1.5", PROJECT))
     project = load(place / "project.toml")
     try:
         table = pitplan.write_pushbacks(project)
@@ -283,12 +301,12 @@ NUMBERS = "blocks tonnes ore_tonnes waste_tonnes strip_ratio grade_copper metal_
 
 
 @pytest.mark.parametrize(
-    ("column", "rule"), [*((name, "phases") for name in NUMBERS.split()), ("factor", "phase of blocks")]
+    ("column", "rule"), [*((name, "phases") for name in NUMBERS.split()), ("revenue_factor", "phase of blocks")]
 )
 def test_each_number_of_a_phase_that_is_bent_is_found(copied, column, rule):
     table = pd.read_csv(copied / "phases.csv")
     table[column] = table[column].astype(float)
-    table.loc[table.index[-1], column] += 1 if column in ("blocks", "factor") else 0.02
+    table.loc[table.index[-1], column] += 1 if column in ("blocks", "revenue_factor") else 0.02
     table.to_csv(copied / "phases.csv", index=False)
     assert set(wrong(copied)) == {rule}
 
@@ -316,7 +334,7 @@ def test_a_block_in_another_phase_is_found(copied, where, number, rules):
 
 def test_a_phase_of_a_factor_that_was_not_asked_for_is_found(divided, copied):
     path = copied.parent.parent / "project.toml"
-    path.write_text(path.read_text().replace("count = 3", "factors = [400, 1000]"))
+    path.write_text(path.read_text().replace("count = 3", "revenue_factors = [0.4, 1.0]"))
     (rule,) = wrong(copied).values()
     assert rule.name == "phase of blocks" and "was not asked for" in rule.differences[0]
 
@@ -324,16 +342,16 @@ def test_a_phase_of_a_factor_that_was_not_asked_for_is_found(divided, copied):
 @pytest.mark.parametrize(
     ("asked", "said"),
     [
-        ("count = 3\nlast = 400", "the last phase is of factor {last} for 400"),
+        ("count = 3\nultimate_pit = 0.4", "the last phase is of revenue factor {last:.2f} for 0.40"),
         ("count = 2", "3 phases for 2"),
-        ("factors = [1, 400]", "the last phase is of factor {last} for 400"),
+        ("revenue_factors = [0.001, 0.4]", "the last phase is of revenue factor {last:.2f} for 0.40"),
     ],
 )
 def test_phases_that_the_project_does_not_ask_for_are_found(copied, asked, said):
     path = copied.parent.parent / "project.toml"
     path.write_text(path.read_text().replace("count = 3", asked))
     (rule,) = wrong(copied).values()
-    last = pd.read_csv(copied / "phases.csv")["factor"].max()
+    last = pd.read_csv(copied / "phases.csv")["revenue_factor"].max()
     assert rule.name == "phase of blocks" and said.format(last=last) in rule.differences
 
 

@@ -30,7 +30,7 @@ WRONG = {
     "negative price": (lambda it: with_metal(it, price=Decimal(-9000)), r"\[metals 1\] price: "),
     "unknown unit": (lambda it: with_metal(it, unit="pct"), r"\[metals 1\] unit: "),
     "rate of 800 %": (lambda it: with_shells(it, rate=8.0), r"\[shells\] rate: "),
-    "a factor beyond all": (lambda it: with_shells(it, factors=(1000, 200_000)), r"\[shells\] factors: "),
+    "a factor beyond all": (lambda it: with_shells(it, revenue_factors=(1.0, 200.0)), r"\[shells\] revenue_factors: "),
     "cost that is a text": (lambda it: with_money(it, mining_cost="2"), r"\[money\] mining_cost: "),
     "levels beyond all": (lambda it: replace(it, slopes=replace(it.slopes, levels=0)), r"\[slopes\] levels: "),
 }
@@ -64,6 +64,6 @@ def test_a_float_is_the_decimal_that_it_shows(project):
 def test_a_project_from_a_file_stays_as_it_is(path):
     project = replace(load(path), solver="program")
     assert validated(project) == project
-    fewer = with_shells(project, factors=(300, 700), chosen=None, reference_added=False)
+    fewer = with_shells(project, revenue_factors=(0.3, 0.7), selected=None, base_price_added=False)
     assert validated(fewer).schedule == fewer.schedule
-    assert validated(with_shells(fewer, factors=(700, 300))).schedule == fewer.schedule
+    assert validated(with_shells(fewer, revenue_factors=(0.7, 0.3))).schedule == fewer.schedule

@@ -40,7 +40,7 @@ def solved(path):
     """By the blocks' names the factor at which each comes in, of those that do."""
     plan = pitplan.prepare(path)
     blocks = shell_tables.blocks(plan, pitplan.solve(plan)).set_index("name")
-    return plan, blocks["factor"][blocks["factor"] > 0].sort_index()
+    return plan, blocks["revenue_factor"][blocks["revenue_factor"] > 0.0].sort_index()
 
 
 def test_shells_are_the_same(plan_folder, monkeypatch):
@@ -107,7 +107,7 @@ def test_what_must_be_dug_is_kept(plan_folder, few):
     table = deposit(must=lambda i, j, k: int((i, j, k) == (16, 8, 6)))
     path = plan_folder(table, PROJECT + '[fixed]\nforced = "must"\n', ANGLES)
     plan, factors = solved(path)
-    assert factors["b16-8-6"] == 500
+    assert factors["b16-8-6"] == 0.5
 
 
 def test_what_is_too_large_all_the_same_is_refused(plan_folder, monkeypatch):
@@ -144,7 +144,7 @@ def test_a_table_written_back_has_no_factor_where_it_was_left_out(plan_folder, f
     blocks = pd.read_csv(path.parent / "plan" / "blocks.csv").set_index("name")
     after = pd.read_csv(pitplan.write_export(path.parent / "plan", "table")).set_index("name")
     assert after.index.tolist() == deposit()["name"].tolist()
-    pd.testing.assert_series_equal(after["factor"], blocks["factor"].reindex(after.index, fill_value=0))
+    pd.testing.assert_series_equal(after["revenue_factor"], blocks["revenue_factor"].reindex(after.index, fill_value=0))
 
 
 def narrower(used, grid):
@@ -167,7 +167,7 @@ def test_ore_that_is_left_out_is_found(plan_folder, few, monkeypatch, without_fi
     can_pay = crop.can_pay
     monkeypatch.setattr(crop, "can_pay", lambda model, project: can_pay(model, project)[:2])
     pitplan.write_shells(path, writing=pitplan.Writing(verifies=False))
-    assert wrong(path)["reach"] == ("block b20-15-7 was left out, and pays at factor 1500",)
+    assert wrong(path)["reach"] == ("block b20-15-7 was left out, and pays at revenue factor 1.50",)
 
 
 def test_a_table_that_has_changed_where_it_was_left_out_is_found(plan_folder, few, without_figures):

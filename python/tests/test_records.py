@@ -43,7 +43,7 @@ READ = {
     "title",
     "grid",
     "walls",
-    "factors",
+    "revenue_factors",
     "summary",
     "notes",
     "codes",
@@ -84,7 +84,7 @@ def test_each_part_of_a_record_is_of_its_kind_or_named(solved):
                 count += 1
                 said = str(error)
                 # Of factors the whole list is named, or that the chosen one is not among them.
-                named = place[0] if "factors" in place else called(place)
+                named = place[0] if "revenue_factors" in place else called(place)
                 assert (
                     said.startswith(f"{file}: {named}")
                     and said.endswith(": run pitplan shells again")
@@ -106,11 +106,11 @@ def test_each_part_of_a_record_is_of_its_kind_or_named(solved):
         ),
         (("grid", "size", 2), -10, "grid.size[2]: found -10, expected a length in metres above 0"),
         (("grid", "origin", 1), float("nan"), "grid.origin[1]: found NaN, expected a number"),
-        (("shells", "chosen"), 501, "shells.chosen: found 501, expected one of the factors"),
+        (("shells", "selected"), 0.501, "shells.selected: found 0.501, expected one of the revenue factors"),
         (
-            ("shells", "factors"),
-            [1000, 500],
-            "shells.factors: found [1000, 500], expected factors, each greater than the one before",
+            ("shells", "revenue_factors"),
+            [1.0, 0.5],
+            "shells.revenue_factors: found [1.0, 0.5], expected revenue factors, each greater than the one before",
         ),
         (("shells", "solver", "by"), "hand", 'shells.solver.by: found "hand", expected library or program'),
         (("metals", 0, "column"), 3, "metals[0].column: found 3, expected a text"),
@@ -160,8 +160,8 @@ def bends():
     yield ("metals", 0, "column"), "rock"
     yield ("metals", 0, "name"), "gold"
     yield ("walls",), []
-    yield ("factors",), [500]
-    yield ("shells", "factors"), [500]
+    yield ("revenue_factors",), [500]
+    yield ("shells", "revenue_factors"), [500]
     yield ("shells", "solver", "version"), ""
     yield ("project",), "nowhere.toml"
     yield ("project",), "."

@@ -241,17 +241,18 @@ def test_a_report_of_a_project_that_has_changed_is_refused(copied):
 @pytest.mark.parametrize("count", [12, 13, 25, 40])
 def test_a_table_that_is_too_wide_stands_in_parts(count):
     """Each with the first column, and of at most 13; none is lost, and the grade of a metal is beside what is recovered of it."""
-    names = ["factor", *(f"{kind}_{k}" for k in range(count) for kind in ("grade", "metal"))][:count]
+    names = ["revenue_factor", *(f"{kind}_{k}" for k in range(count) for kind in ("grade", "metal"))][:count]
     table = html.Written("shells.csv", pd.DataFrame({name: [1.0, 2.0] for name in names}))
     parts = html.parts_of(table, lambda frame, project: [(name, name, 1.0, 0) for name in names], None)
     assert all(
-        part["headings"][0] == "factor" and len(part["headings"]) <= 13 and len(part["rows"]) == 2 for part in parts
+        part["headings"][0] == "revenue_factor" and len(part["headings"]) <= 13 and len(part["rows"]) == 2
+        for part in parts
     )
     assert [name for part in parts for name in part["headings"][1:]] == names[1:] and len(parts) == -(
         -(count - 1) // 12
     )
     assert not any(part["headings"][1].startswith("metal") for part in parts)
-    assert parts[-1]["rows"][1]["cells"][0]["source"] == "shells.csv row 3 column factor"
+    assert parts[-1]["rows"][1]["cells"][0]["source"] == "shells.csv row 3 column revenue_factor"
 
 
 def test_a_bound_that_was_not_found_is_a_dash_without_a_unit():

@@ -50,41 +50,41 @@ def solved_in_turn(shared):
 
 def test_probabilities_by_hand(plan_folder):
     gathered = solved_in_turn(prepared(plan_folder(pillar(), COLUMNS, UPRIGHT)))
-    # Mining costs 200 a block, processing 1000. At factor 500 the first model's metal yields 3000, and the pit 1400; at
-    # 1000 the second yields 1600, and the pit nothing; at 1500 2400, and the pit 800.
+    # Mining costs 200 a block, processing 1000. At revenue factor 0.50 the first model's metal yields 3000, and the pit 1400; at
+    # 1.0 the second yields 1600, and the pit nothing; at 1.5 2400, and the pit 800.
     assert gathered.share.tolist() == [[1 / 3, 1 / 3, 2 / 3]] * 3
-    table = gathered.table.set_index(["model", "factor"])
-    assert table["worth_at_factor"]["sim_1"].map(Decimal).tolist() == [1400, 4400, 7400]
-    assert table["worth_at_factor"]["sim_2"].map(Decimal).tolist() == [0, 0, 800]
+    table = gathered.table.set_index(["model", "revenue_factor"])
+    assert table["value_at_revenue_factor"]["sim_1"].map(Decimal).tolist() == [1400, 4400, 7400]
+    assert table["value_at_revenue_factor"]["sim_2"].map(Decimal).tolist() == [0, 0, 800]
     assert table["tonnes"]["sim_2"].tolist() == [0, 0, 300] and table["blocks"]["sim_3"].tolist() == [0, 0, 0]
 
 
 def test_the_least_factor_of_all_is_a_factor(plan_folder):
     """At a thousandth of eight millions the metal of the first model yields 6000, and that of the second 1600, which is what its pit costs."""
-    changes = [UPRIGHT, ("price = 8000", "price = 8_000_000"), ("[500, 1000, 1500]", "[1, 2, 1000]")]
+    changes = [UPRIGHT, ("price = 8000", "price = 8_000_000"), ("[0.5, 1.0, 1.5]", "[0.001, 0.002, 1.0]")]
     gathered = solved_in_turn(prepared(plan_folder(pillar(), COLUMNS, *changes)))
     assert gathered.share.tolist() == [[1 / 3, 2 / 3, 2 / 3]] * 3
-    assert gathered.table.set_index(["model", "factor"])["blocks"]["sim_1"].tolist() == [3, 3, 3]
+    assert gathered.table.set_index(["model", "revenue_factor"])["blocks"]["sim_1"].tolist() == [3, 3, 3]
 
 
 def test_prices_make_scenarios_and_quantiles_by_hand(plan_folder):
     gathered = solved_in_turn(prepared(plan_folder(pillar(), PRICES, UPRIGHT)))
-    # At 12,000 a tonne the second model's metal yields 2400 at factor 1000.
+    # At 12,000 a tonne the second model's metal yields 2400 at revenue factor 1.00.
     assert gathered.share[:, 1].tolist() == [3 / 6] * 3
-    table = pit_probability.quantiles(gathered.table).set_index(["price_copper", "factor"])
-    tonnes = table.loc[(12000, 1000)]
+    table = pit_probability.quantiles(gathered.table).set_index(["price_copper", "revenue_factor"])
+    tonnes = table.loc[(12000, 1.0)]
     assert tonnes["models"] == 3 and tonnes["tonnes_mean"] == 200 and tonnes["tonnes_quantile_0.5"] == 300
     # Tonnes 0, 300, 300: a tenth lies a fifth of the way from the first to the second.
     assert tonnes["tonnes_quantile_0.1"] == pytest.approx(60) and tonnes["tonnes_greatest"] == 300
-    assert table.loc[(8000, 1000), "worth_at_factor_greatest"] == 4400
+    assert table.loc[(8000, 1.0), "value_at_revenue_factor_greatest"] == 4400
 
 
 def test_a_block_that_pays_at_the_greatest_price_alone_keeps_its_needs(plan_folder):
     poor = pillar().assign(sim_1=[0.15, 0, 0], sim_2=[0.15, 0, 0], sim_3=[0.15, 0, 0])
     gathered = solved_in_turn(prepared(plan_folder(poor, PRICES.replace("12_000", "20_000"), UPRIGHT)))
-    # 0.075 t of metal: at 20,000 and factor 1500 it yields 2250, of which 1000 go to processing and 600 to mining three.
-    dear = gathered.table[(gathered.table["price_copper"] == 20000) & (gathered.table["factor"] == 1500)]
-    assert dear["blocks"].tolist() == [3, 3, 3] and dear["worth_at_factor"].map(Decimal).tolist() == [650] * 3
+    # 0.075 t of metal: at 20,000 and revenue factor 1.50 it yields 2250, of which 1000 go to processing and 600 to mining three.
+    dear = gathered.table[(gathered.table["price_copper"] == 20000) & (gathered.table["revenue_factor"] == 1.5)]
+    assert dear["blocks"].tolist() == [3, 3, 3] and dear["value_at_revenue_factor"].map(Decimal).tolist() == [650] * 3
     assert gathered.share.tolist() == [[0, 0, 0.5]] * 3
 
 
@@ -96,7 +96,7 @@ moneys = st.tuples(st.sampled_from([4000, 8000, 20000]), st.sampled_from([0, 300
 def values_by_hand(grades, price, selling, factor, fixed):
     """100 t a block: mining 200, processing 1000, and half a tonne of metal for each per cent."""
     metal = [Decimal(str(grade)) / 2 for grade in grades]
-    gains = [tonnes * (price * factor / 1000 - selling) - 1000 for tonnes in metal]
+    gains = [tonnes * (price * Decimal(str(factor)) - selling) - 1000 for tonnes in metal]
     is_ore = [tonnes * (price - selling) > 1000 if fixed else gain > 0 for tonnes, gain in zip(metal, gains)]
     return [(gain if ore else Decimal(0)) - 200 for gain, ore in zip(gains, is_ore)]
 
@@ -121,11 +121,11 @@ def test_every_scenario_is_the_best_of_all_closed_sets(tmp_path_factory, one, ot
         entry = np.zeros(9, int)
         entry[shared.grid.rows] = places
         grades = {"sim_a": one, "sim_b": other}[scenario.model]
-        for number, factor in enumerate((500, 1000, 1500), 1):
+        for number, factor in enumerate((0.5, 1.0, 1.5), 1):
             values = values_by_hand(grades, Decimal(scenario.prices["copper"]), selling, factor, fixed)
             worth, pit = best_by_trying(CLOSED, values)
             assert set(np.flatnonzero((entry > 0) & (entry <= number))) == pit
-            assert Decimal(answer["worth_at_factor"][number - 1]) == worth
+            assert Decimal(answer["value_at_revenue_factor"][number - 1]) == worth
 
 
 def write_models(path, **models):
@@ -237,7 +237,7 @@ def test_finished_scenarios_are_not_solved_again_and_new_models_are(plan_folder)
         ('pattern = "1:5"', "angle = 60"),
         ("mining_cost = 2", "mining_cost = 3"),
     ]
-    for change in [*changes, ("[500, 1000, 1500]", "[500, 1000]")]:
+    for change in [*changes, ("[0.5, 1.0, 1.5]", "[0.5, 1.0]")]:
         text = path.read_text()
         path.write_text(text.replace(*change))
         assert len(prepared(path).missing()) == 3
@@ -316,16 +316,16 @@ def test_some_answers_are_gathered_on_request_alone(plan_folder):
     assert [worker.solve(str(shared.folder), number).status for number in (1, 3)] == [0, 0]
     with pytest.raises(PlanError, match="1 of 3 scenarios have no answer, first sim_2: was not solved"):
         pitplan.gather(shared.folder)
-    notes = pitplan.gather(shared.folder, Request(partial=True, factor=1500)).notes
+    notes = pitplan.gather(shared.folder, Request(partial=True, revenue_factor=1.5)).notes
     assert "WARNING: 1 scenarios have no answer and are left out of everything" in notes
     blocks = pd.read_csv(shared.folder / "probability.csv")
     assert (
-        blocks["name"].tolist() == ["b0-0-2", "b0-0-1", "b0-0-0"] and blocks["probability_1500"].tolist() == [0.5] * 3
+        blocks["name"].tolist() == ["b0-0-2", "b0-0-1", "b0-0-0"] and blocks["probability_1.50"].tolist() == [0.5] * 3
     )
     for name in scenario_files.PICTURES.values():
         assert (shared.folder / name).read_bytes().startswith(b"\x89PNG")
-    with pytest.raises(PlanError, match="factor 700 is not among the factors 500, 1000, 1500"):
-        pitplan.gather(shared.folder, Request(factor=700))
+    with pytest.raises(PlanError, match="revenue factor 0.70 is not among the revenue factors 0.50, 1.00, 1.50"):
+        pitplan.gather(shared.folder, Request(revenue_factor=0.7))
 
 
 def test_pictures_of_scenarios_are_those_that_the_project_asks_for(plan_folder, monkeypatch):
@@ -354,7 +354,7 @@ def test_the_image_has_the_probabilities_of_all_cells(plan_folder):
     reader = vtk.vtkXMLImageDataReader()
     reader.SetFileName(str(shared.folder / "probability.vti"))
     reader.Update()
-    found = reader.GetOutput().GetCellData().GetArray("probability_1500")
+    found = reader.GetOutput().GetCellData().GetArray("probability_1.50")
     assert [found.GetValue(k) for k in range(3)] == pytest.approx([2 / 3] * 3)
 
 
@@ -449,8 +449,8 @@ def test_a_missing_dask_is_named_by_its_package(plan_folder, monkeypatch):
     monkeypatch.setitem(sys.modules, "distributed", None)
     with pytest.raises(MissingPackage, match="needs the Debian package python3-distributed: apt-get install"):
         pitplan.write_scenarios(project, project.folder)
-    with pytest.raises(PlanError, match="factor 700 is not among the factors 500, 1000, 1500"):
-        pitplan.write_scenarios(project, project.folder, Request(factor=700))
+    with pytest.raises(PlanError, match="revenue factor 0.70 is not among the revenue factors 0.50, 1.00, 1.50"):
+        pitplan.write_scenarios(project, project.folder, Request(revenue_factor=0.7))
 
 
 def test_a_scheduler_that_is_not_there_is_named(plan_folder):
@@ -462,7 +462,7 @@ def test_a_scheduler_that_is_not_there_is_named(plan_folder):
 
 def likely(folder):
     return (
-        pd.read_csv(folder / "probability.csv")[["probability_500", "probability_1000", "probability_1500"]]
+        pd.read_csv(folder / "probability.csv")[["probability_0.50", "probability_1.00", "probability_1.50"]]
         .to_numpy()
         .tolist()
     )
@@ -482,7 +482,7 @@ def test_answers_are_gathered_from_the_command_line(plan_folder, capsys):
     assert "WARNING: 1 scenarios have no answer and are left out of everything" in said.err
     assert likely(shared.folder) == [[0.5, 0.5, 0.5]] * 3
     assert worker.solve(str(shared.folder), 2).status == 0
-    assert main([*words, "--factor", "500"]) == 0
+    assert main([*words, "--revenue-factor", "0.50"]) == 0
     assert likely(shared.folder) == [pytest.approx([1 / 3, 1 / 3, 2 / 3], abs=1e-6)] * 3
 
 
@@ -500,7 +500,7 @@ def test_cost_that_rises_with_the_level_is_one_for_all_scenarios(plan_folder):
     """Mining costs 200, 225 and 250 from the top down, in every model, though in the third nothing is ore."""
     change = ("mining_cost = 2", "mining_cost = 2\nmining_cost_per_level = 0.25")
     gathered = solved_in_turn(prepared(plan_folder(pillar(), COLUMNS, UPRIGHT, change)))
-    worth = gathered.table.set_index(["model", "factor"])["worth_at_factor"].map(Decimal)
+    worth = gathered.table.set_index(["model", "revenue_factor"])["value_at_revenue_factor"].map(Decimal)
     assert worth["sim_1"].tolist() == [3000 - 1675, 6000 - 1675, 9000 - 1675]
     assert worth["sim_2"].tolist() == [0, 0, 2400 - 1675] and worth["sim_3"].tolist() == [0, 0, 0]
 

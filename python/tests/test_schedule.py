@@ -23,7 +23,7 @@ from pitplan.results.folder import read_folder
 from pitplan.results.rounding import shown
 from pitplan.solver.program import Solution
 
-FACTORS = (400, 700, 1000)
+FACTORS = (0.4, 0.7, 1.0)
 BOX = (3, 2, 4)
 CELLS = BOX[0] * BOX[1] * BOX[2]
 AMOUNTS = ["rock_tonnes", "ore_tonnes", "metal_copper", "cash", "discounted"]
@@ -32,7 +32,7 @@ AMOUNTS = ["rock_tonnes", "ore_tonnes", "metal_copper", "cash", "discounted"]
 def project_of(rate="0.1", ore=100, rock=None, discounting=None):
     """Mining costs 2 a tonne, processing 10, and each per cent of copper yields 40."""
     metal = {"name": "copper", "column": "cu", "unit": "percent", "price": 8000, "recovery": Decimal("0.5")}
-    shells = {"factors": list(FACTORS), "rate": Decimal(rate), "ore_per_year": ore}
+    shells = {"revenue_factors": [Decimal(str(it)) for it in FACTORS], "rate": Decimal(rate), "ore_per_year": ore}
     shells |= {} if rock is None else {"rock_per_year": rock}
     shells |= {"discounting": discounting or "continuous"}
     data = {
@@ -49,7 +49,7 @@ def project_of(rate="0.1", ore=100, rock=None, discounting=None):
 def solution_of(entry):
     """A made-up answer of the program: the factor at which each block comes in. What it says of worth is not asked for."""
     nothing = pd.Series([Decimal(0)] * len(FACTORS), index=FACTORS, dtype=object)
-    return Solution(nothing, nothing, np.array(entry, dtype=np.int32), b"")
+    return Solution(nothing, nothing, np.array(entry, dtype=float), b"")
 
 
 def dug(project, tonnes, grades, entry, box=BOX):
@@ -146,8 +146,8 @@ def plan_of(mine, project):
 @given(blocks, capacities)
 def test_years_are_those_of_a_walk_through_the_pieces(mine, capacity):
     project = project_of(*capacity)
-    table = pitplan.years(*plan_of(mine, project)).set_index(["case", "factor"])
-    shells = pitplan.shells(*plan_of(mine, project)).set_index("factor")
+    table = pitplan.years(*plan_of(mine, project)).set_index(["case", "revenue_factor"])
+    shells = pitplan.shells(*plan_of(mine, project)).set_index("revenue_factor")
     for factor in FACTORS:
         for case in ("best", "worst"):
             end, years = walked(pieces_of(mine, factor, case), project)
@@ -168,19 +168,19 @@ def test_years_are_those_of_a_walk_through_the_pieces(mine, capacity):
 def test_years_keep_the_capacities_and_add_up_to_the_shell(mine, capacity, discounting):
     project = project_of(*capacity, discounting)
     solved = plan_of(mine, project)
-    table, shells = pitplan.years(*solved), pitplan.shells(*solved).set_index("factor")
+    table, shells = pitplan.years(*solved), pitplan.shells(*solved).set_index("revenue_factor")
     assert (table["ore_tonnes"] <= capacity[1] * (1 + 1e-6)).all()
     if capacity[2] is not None:
         assert (table["rock_tonnes"] <= capacity[2] * (1 + 1e-6)).all()
     named = {"rock_tonnes": "tonnes", "ore_tonnes": "ore_tonnes", "metal_copper": "metal_copper", "cash": "worth"}
-    for (case, factor), years in table.groupby(["case", "factor"]):
+    for (case, factor), years in table.groupby(["case", "revenue_factor"]):
         for column, name in named.items():
             assert years[column].sum() == pytest.approx(shells[name][factor], abs=1e-6)
         assert years["discounted"].sum() == pytest.approx(shells[f"npv_{case}"][factor], abs=0.01)
     # A year ends when a capacity is used up, so that all but the last of a pit use one of them whole.
     is_full = table["ore_tonnes"] >= capacity[1] * (1 - 1e-6)
     is_full |= False if capacity[2] is None else table["rock_tonnes"] >= capacity[2] * (1 - 1e-6)
-    assert (is_full | ~table.duplicated(["case", "factor"], keep="last")).all()
+    assert (is_full | ~table.duplicated(["case", "revenue_factor"], keep="last")).all()
 
 
 def pillar(project, *shells):
@@ -194,10 +194,10 @@ def pillar(project, *shells):
 def test_capacity_lost_while_stripping_is_not_caught_up():
     """Nine levels of waste at ten levels a year of the mill's ten years: nothing is milled for the first nine years."""
     columns = 9
-    waste, ore = [(0, 1000)] * columns, [(5, 1000)] * columns
+    waste, ore = [(0, 1.0)] * columns, [(5, 1.0)] * columns
     # 8,100 t of waste at 900 a year, and 900 t of ore at 90 a year.
     plan, solution = pillar(project_of(ore=90, rock=900), *[waste] * 9, ore)
-    shell = pitplan.shells(plan, solution).set_index("factor").loc[1000]
+    shell = pitplan.shells(plan, solution).set_index("revenue_factor").loc[1.0]
     assert shell["years"] == pytest.approx(19)
     # A tonne of ore is worth 5 x 40 - 10 - 2 = 188; the mean of 1.1^-t over a year is (1.1^-s - 1.1^-e) / ln 1.1.
     npv = (-1800 * (1 - 1.1**-9) + 90 * 188 * (1.1**-9 - 1.1**-19)) / log(1.1)
@@ -209,7 +209,7 @@ def test_capacity_lost_while_stripping_is_not_caught_up():
 
 def test_a_year_of_several_pieces_by_hand():
     """Rock at 150 t a year and ore at 100: after 100 t of waste the first year takes 50 t of ore, and the mill is half used."""
-    plan, solution = pillar(project_of(rock=150), [(0, 1000)], [(1, 1000)])
+    plan, solution = pillar(project_of(rock=150), [(0, 1.0)], [(1, 1.0)])
     table = pitplan.years(plan, solution)
     best = table[table["case"] == "best"]
     # The waste costs 200; the ore yields 4000 - 1000 - 200, half of it in each year. The second ends when the mill is half used.
@@ -222,7 +222,7 @@ def test_a_year_of_several_pieces_by_hand():
 
 def test_waste_is_mined_in_the_years_in_which_the_mill_works():
     """A bench of ore and one of waste: the shovels do both in the year in which the mill does the ore. No bench waits for the mill."""
-    plan, solution = pillar(project_of(rock=200), [(1, 1000)], [(0, 1000)])
+    plan, solution = pillar(project_of(rock=200), [(1, 1.0)], [(0, 1.0)])
     years = pitplan.years(plan, solution)
     assert years["rock_tonnes"].tolist() == [200, 200] and years["ore_tonnes"].tolist() == [100, 100]
     assert pitplan.shells(plan, solution)["years"].tolist() == [0, 0, 1]
@@ -230,28 +230,28 @@ def test_waste_is_mined_in_the_years_in_which_the_mill_works():
 
 @pytest.mark.parametrize("discounting, before", [("end_of_year", 0.0), ("mid_year", 0.5)])
 def test_years_discounted_as_spreadsheets_do(discounting, before):
-    plan, solution = pillar(project_of(rock=150, discounting=discounting), [(0, 1000)], [(1, 1000)])
+    plan, solution = pillar(project_of(rock=150, discounting=discounting), [(0, 1.0)], [(1, 1.0)])
     expected = [1200 / 1.1 ** (1 - before), 1400 / 1.1 ** (2 - before)]
-    table, shells = pitplan.years(plan, solution), pitplan.shells(plan, solution).set_index("factor")
+    table, shells = pitplan.years(plan, solution), pitplan.shells(plan, solution).set_index("revenue_factor")
     for case in ("best", "worst"):
         assert table["discounted"][table["case"] == case].tolist() == pytest.approx(expected)
-        assert shells[f"npv_{case}"][1000] == pytest.approx(sum(expected))
+        assert shells[f"npv_{case}"][1.0] == pytest.approx(sum(expected))
 
 
 def test_cash_is_discounted_from_the_end_of_its_year_by_default():
     """As the function NPV of spreadsheets does it."""
-    data = {"factors": [1000], "rate": Decimal("0.1"), "ore_per_year": 100}
+    data = {"revenue_factors": [1], "rate": Decimal("0.1"), "ore_per_year": 100}
     assert read_schedule(Section("project.toml", "shells", data), ()).discounting == "end_of_year"
 
 
 def test_the_worst_case_can_be_worth_more_than_the_best():
     """Ore of the first shell beside waste of the second: mined bench by bench, they share the years that the mill needs for the ore."""
-    plan, solution = pillar(project_of(rock=100, ore=50), [(1, 700), (0, 1000)], [(0, 1000), (4, 1000)])
-    shells = pitplan.shells(plan, solution).set_index("factor")
+    plan, solution = pillar(project_of(rock=100, ore=50), [(1, 0.7), (0, 1.0)], [(0, 1.0), (4, 1.0)])
+    shells = pitplan.shells(plan, solution).set_index("revenue_factor")
     # Best: the waste of the second shell fills the shovels of year 2, and the last bench begins in year 3.
-    assert shells["years"][1000] == pytest.approx(4.5)
-    years = pitplan.years(plan, solution).set_index(["case", "factor"])
-    best, worst = years.loc[("best", 1000)], years.loc[("worst", 1000)]
+    assert shells["years"][1.0] == pytest.approx(4.5)
+    years = pitplan.years(plan, solution).set_index(["case", "revenue_factor"])
+    best, worst = years.loc[("best", 1.0)], years.loc[("worst", 1.0)]
     assert best["rock_tonnes"].tolist() == [50, 100, 100, 100, 50] and best["ore_tonnes"].tolist() == [
         50,
         50,
@@ -263,19 +263,19 @@ def test_the_worst_case_can_be_worth_more_than_the_best():
     # The benches earn 2800 and 14800, and each has 100 t of waste that costs 200.
     assert best["cash"].tolist() == pytest.approx([1400, 1300, 3550, 7300, 3650])
     assert worst["cash"].tolist() == pytest.approx([1300, 1300, 7300, 7300])
-    assert shells["npv_worst"][1000] > shells["npv_best"][1000]
+    assert shells["npv_worst"][1.0] > shells["npv_best"][1.0]
 
 
 def test_waste_takes_no_time_where_rock_has_no_limit():
     """It is mined in the year that the mill's capacity ends."""
-    plan, solution = pillar(project_of(), [(0, 1000)], [(1, 1000)], [(0, 1000)], [(1, 1000)])
+    plan, solution = pillar(project_of(), [(0, 1.0)], [(1, 1.0)], [(0, 1.0)], [(1, 1.0)])
     years = pitplan.years(plan, solution)
     best = years[years["case"] == "best"]
     assert best["rock_tonnes"].tolist() == [300, 100] and best["cash"].tolist() == [2400, 2800]
     npv = (2400 * (1 - 1.1**-1) + 2800 * (1.1**-1 - 1.1**-2)) / log(1.1)
     assert best["discounted"].sum() == pytest.approx(npv)
     # A pit of waste alone is dug in no time.
-    plan, solution = pillar(project_of(), [(0, 1000)])
+    plan, solution = pillar(project_of(), [(0, 1.0)])
     years, shells = pitplan.years(plan, solution), pitplan.shells(plan, solution)
     assert years[["year", "cash", "discounted"]].to_numpy().tolist() == [[1, -200, -200]] * 2
     assert shells["years"].tolist() == [0, 0, 0]
@@ -283,14 +283,14 @@ def test_waste_takes_no_time_where_rock_has_no_limit():
 
 def test_nine_ninths_of_a_year_are_a_year():
     """Binary fractions add up to a hair more, which is no second year."""
-    plan, solution = pillar(project_of(ore=900), *[[(1, 1000)]] * 9)
+    plan, solution = pillar(project_of(ore=900), *[[(1, 1.0)]] * 9)
     years = pitplan.years(plan, solution)
     assert years["year"].tolist() == [1, 1] and years["rock_tonnes"].tolist() == pytest.approx([900, 900])
     assert pitplan.shells(plan, solution)["years"].tolist() == [0, 0, 1]
 
 
 def test_years_that_could_not_be_counted_are_refused():
-    plan, solution = pillar(project_of(ore=1), *[[(1, 700)]] * 11)
+    plan, solution = pillar(project_of(ore=1), *[[(1, 0.7)]] * 11)
     with pytest.raises(PlanError) as said:
         pitplan.shells(plan, solution)
     assert str(said.value) == (
@@ -304,7 +304,7 @@ def test_years_that_could_not_be_counted_are_refused():
 def test_an_empty_pit_has_no_years():
     plan, solution = pillar(project_of(), [(1, 0)])
     table = pitplan.years(plan, solution)
-    assert list(table.columns) == ["case", "factor", "year", *AMOUNTS] and table.empty
+    assert list(table.columns) == ["case", "revenue_factor", "year", *AMOUNTS] and table.empty
     assert pitplan.shells(plan, solution)[["npv_best", "npv_worst", "years"]].to_numpy().tolist() == [[0, 0, 0]] * 3
 
 
@@ -315,8 +315,8 @@ def test_the_file_of_years_stands_beside_the_shells(solved):
     plan = pitplan.prepare(project)
     expected = shown(shell_tables.years(plan, pitplan.solve(plan))).assign(discounting="end_of_year")
     pd.testing.assert_frame_equal(table, expected, check_dtype=False)
-    shells = pd.read_csv(folder / "shells.csv").set_index("factor")
-    sums = table.groupby(["case", "factor"])["discounted"].sum()
+    shells = pd.read_csv(folder / "shells.csv").set_index("revenue_factor")
+    sums = table.groupby(["case", "revenue_factor"])["discounted"].sum()
     for case in ("best", "worst"):
         assert sums[case].tolist() == pytest.approx(shells[f"npv_{case}"].tolist(), abs=0.01)
 
@@ -328,8 +328,12 @@ def test_discounting_is_one_of_three(plan_folder):
 
 
 def test_the_factor_to_show_is_that_of_the_best_mean_of_both_cases_up_to_1000():
-    table = pd.DataFrame({"factor": [400, 700, 1000, 1300], "npv_best": [5.0, 9, 10, 99], "npv_worst": [5.0, 4, 2, 99]})
+    table = pd.DataFrame(
+        {"revenue_factor": [0.4, 0.7, 1.0, 1.3], "npv_best": [5.0, 9, 10, 99], "npv_worst": [5.0, 4, 2, 99]}
+    )
     schedule = project_of().schedule
-    assert shell_tables.chosen_factor(table, schedule) == 700
-    assert shell_tables.chosen_factor(table.assign(npv_best=[9.0, 9, 9, 9], npv_worst=[1.0, 2, 3, 4]), schedule) == 1000
-    assert shell_tables.chosen_factor(table, replace(schedule, chosen=400)) == 400
+    assert shell_tables.selected_factor(table, schedule) == 0.7
+    assert (
+        shell_tables.selected_factor(table.assign(npv_best=[9.0, 9, 9, 9], npv_worst=[1.0, 2, 3, 4]), schedule) == 1.0
+    )
+    assert shell_tables.selected_factor(table, replace(schedule, selected=0.4)) == 0.4

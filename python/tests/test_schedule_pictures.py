@@ -37,7 +37,7 @@ def schedule():
     }
     grid = SimpleNamespace(elevations=lambda: np.array([15.0, 5.0]))
     project = SimpleNamespace(money=SimpleNamespace(currency="USD"), metals=(METAL,))
-    phases = SimpleNamespace(plan=SimpleNamespace(grid=grid, project=project), factors=(500, 1000))
+    phases = SimpleNamespace(plan=SimpleNamespace(grid=grid, project=project), factors=(0.5, 1.0))
     optimum = Relaxed(np.array([[1.0, 1, 1], [0.5, 1, 1], [0, 0.5, 1]]), 990.0, np.array([300.0, 700, 300]))
     return phase_schedule.YearlySchedule(phases, problem, shares, 1, 3, optimum)
 
@@ -84,7 +84,9 @@ def test_what_is_recovered_of_a_year_without_ore_is_not_drawn(schedule):
 
 def test_curves_end_at_what_each_case_earns(schedule):
     years = phase_schedule.years(schedule)
-    best = pd.DataFrame({"case": "best", "factor": [1000, 1000, 900], "year": [1, 2, 1], "discounted": [700.0, 300, 5]})
+    best = pd.DataFrame(
+        {"case": "best", "revenue_factor": [1.0, 1.0, 0.9], "year": [1, 2, 1], "discounted": [700.0, 300, 5]}
+    )
     ax = schedule_figures.plot_cumulative(schedule, pd.concat([years, best]), Figure().subplots())
     curves = {line.get_label().partition(":")[0]: line.get_ydata() for line in ax.lines if ":" in str(line.get_label())}
     # -200 + 500, 500 + 250 and 250, discounted at the ends of years.
@@ -165,7 +167,7 @@ def test_the_page_has_a_colour_a_year(solved):
     """The last year of the blocks has the last colour; a folder without a schedule has none."""
     folder = read_folder(solved[1])
     assert viewer3d.model_of(folder)["stages"] == []
-    years = np.where(folder.blocks["factor"] > 0, 1 + np.arange(len(folder.blocks)) % 3, 0)
+    years = np.where(folder.blocks["revenue_factor"] > 0.0, 1 + np.arange(len(folder.blocks)) % 3, 0)
     scheduled = Folder(folder.path, folder.blocks.assign(year=years), folder.record | {"schedule": "lp"})
     (stage,) = viewer3d.model_of(scheduled)["stages"]
     cells = np.frombuffer(gzip.decompress(base64.b64decode(stage["cells"])), dtype=np.uint8)

@@ -36,7 +36,7 @@ def small(plan_folder):
     """Writes the project with a section of its own; gives its path."""
 
     def write(words="", *changes):
-        text = PROJECT.replace("ore_per_year = 100", 'ore_per_year = 100\nchosen = 1000\ndiscounting = "continuous"')
+        text = PROJECT.replace("ore_per_year = 100", 'ore_per_year = 100\nselected = 1.0\ndiscounting = "continuous"')
         return plan_folder(rows(5, 3, 1, **ORE), f"{text}\n[sensitivity]\n{words}\n", *changes)
 
     return write
@@ -125,7 +125,7 @@ MORE = (
     *WALLS,
     ("mining_cost = 2\n", "mining_cost = { R = 2, S = 2.5 }\nmining_cost_per_level = 0.25\n"),
     ("recovery = 0.5\n", "recovery = { R = 0.95, S = 0.5 }\nselling_cost = 200\n"),
-    ("ore_per_year = 100", "ore_per_year = 150\nrock_per_year = 900\nchosen = 1000"),
+    ("ore_per_year = 100", "ore_per_year = 150\nrock_per_year = 900\nselected = 1.0"),
 )
 
 
@@ -179,9 +179,9 @@ def demand_as_written(path, other, number, changes):
     for row, folder in ((0, path), (1, other / "project.toml")):
         shells = (
             pitplan.write_shells(folder, writing=pitplan.Writing(verifies=False))
-            .set_index("factor")
-            .loc[1000]
-            .drop("worth_at_factor")
+            .set_index("revenue_factor")
+            .loc[1.0]
+            .drop("value_at_revenue_factor")
         )
         assert table.iloc[row][shells.index].astype(float).to_dict() == pytest.approx(shells.astype(float).to_dict())
     assert table["kept_worth"].isna().tolist() == [False, number == "slopes"]
@@ -202,7 +202,7 @@ def test_recovery_by_grade_and_prices_of_years_vary(plan_folder, tmp_path, numbe
         rows(9, 8, 4, **RICH),
         project,
         by_grade,
-        ("ore_per_year = 100", 'ore_per_year = 100\nchosen = 1000\ndiscounting = "continuous"'),
+        ("ore_per_year = 100", 'ore_per_year = 100\nselected = 1.0\ndiscounting = "continuous"'),
     )
     demand_as_written(path, tmp_path / "other", number, changes)
 
@@ -215,13 +215,13 @@ def test_fixed_blocks_hold_in_every_case_and_ore_may_be_settled(plan_folder):
         table, PROJECT + words, *MORE, ("processing_cost = 10\n", 'processing_cost = 10\ncutoff = "fixed"\n')
     )
     found = pitplan.write_sensitivity(path)
-    shells = pitplan.write_shells(path, writing=pitplan.Writing(verifies=False)).set_index("factor")
-    assert found.loc[0, ["blocks", "worth"]].tolist() == pytest.approx(shells.loc[1000, ["blocks", "worth"]].tolist())
+    shells = pitplan.write_shells(path, writing=pitplan.Writing(verifies=False)).set_index("revenue_factor")
+    assert found.loc[0, ["blocks", "worth"]].tolist() == pytest.approx(shells.loc[1.0, ["blocks", "worth"]].tolist())
     folder = path.parent / "plan" / "sensitivity"
     blocks, record = pd.read_csv(folder / "blocks.csv"), json.loads((folder / "sensitivity.json").read_text())
     for case in record["cases"]:
         entry = np.load(folder / "cases" / f"{case['key']}.npz")["entry"][blocks["id"]]
-        assert (entry[blocks["must"] == 1] == 500).all() and not entry[blocks["never"] == 1].any()
+        assert (entry[blocks["must"] == 1] == 0.5).all() and not entry[blocks["never"] == 1].any()
 
 
 def test_rows_that_are_put_together_are_varied_as_blocks(plan_folder):
@@ -239,7 +239,7 @@ def test_costs_by_elevation_and_walls_by_azimuth(plan_folder, tmp_path):
     walls = ("[slopes]\nlevels = 3\n", "[slopes]\nlevels = 3\n"), ('pattern = "1:5"', "azimuths = [[0, 40], [180, 50]]")
     money = ("mining_cost = 2\n", "mining_cost = 2\nmining_cost_by_elevation = [[5, 2], [35, 0]]\n"), (
         "rate = 0.1",
-        "rate = 0.1\nchosen = 1000",
+        "rate = 0.1\nselected = 1.0",
     )
     path = plan_folder(
         rows(9, 8, 4, **RICH),
@@ -257,20 +257,20 @@ def test_costs_by_elevation_and_walls_by_azimuth(plan_folder, tmp_path):
 
 
 def test_a_lower_price_of_all_is_a_lesser_factor(plan_folder):
-    """Where nothing is paid for selling, the pit as given at 20 % less is worth what the program said at factor 800."""
+    """Where nothing is paid for selling, the pit as given at 20 % less is worth what the program said at revenue factor 0.80."""
     path = plan_folder(
         rows(9, 8, 4, **RICH),
         PROJECT + '\n[sensitivity]\nby = [-0.2]\nvary = "price"\n',
-        ("factors = [500, 1000, 1500]", "factors = [640, 800]\nchosen = 800"),
+        ("revenue_factors = [0.5, 1.0, 1.5]", "revenue_factors = [0.64, 0.8]\nselected = 0.8"),
     )
     table = pitplan.write_sensitivity(path)
-    shells = pitplan.write_shells(path, writing=pitplan.Writing(verifies=False)).set_index("factor")
-    assert table.loc[1, "factor"] == 800 and table.loc[1, "kept_worth"] == pytest.approx(
-        float(shells["worth_at_factor"][800])
+    shells = pitplan.write_shells(path, writing=pitplan.Writing(verifies=False)).set_index("revenue_factor")
+    assert table.loc[1, "revenue_factor"] == 0.8 and table.loc[1, "kept_worth"] == pytest.approx(
+        float(shells["value_at_revenue_factor"][0.8])
     )
     assert (
-        float(table.loc[1, "worth_at_factor"]) == pytest.approx(float(shells["worth_at_factor"][640]))
-        and table.loc[1, "blocks"] == shells["blocks"][640]
+        float(table.loc[1, "value_at_revenue_factor"]) == pytest.approx(float(shells["value_at_revenue_factor"][0.64]))
+        and table.loc[1, "blocks"] == shells["blocks"][0.64]
     )
 
 
@@ -310,7 +310,7 @@ def test_files_and_what_the_command_line_tells(small, capsys, monkeypatch):
         )
     }
     record = json.loads((folder / "sensitivity.json").read_text())
-    assert len(record["verified"]) == 13 and record["factor"] == 1000
+    assert len(record["verified"]) == 13 and record["revenue_factor"] == 1.0
     assert main(["verify", str(folder)]) == 0
     assert "in 25 cases: " in capsys.readouterr().out
     assert main(["sensitivity", str(path), "--quiet", "--no-verify"]) == 0
@@ -416,11 +416,11 @@ def test_grades_ratios_and_years_have_six_decimals_and_amounts_three(copied):
     table = pd.read_csv(copied / "sensitivity.csv", dtype=str)
     decimals = {name: table[name].dropna().str.partition(".")[2].str.len().max() for name in table}
     fine = ("grade_copper", "grade_gold", "strip_ratio", "years", "kept_years")
-    assert max(decimals.pop(name) for name in fine) == 6 and decimals.pop("worth_at_factor") == 9
+    assert max(decimals.pop(name) for name in fine) == 6 and decimals.pop("value_at_revenue_factor") == 9
     assert max(decimals.values()) == 3
 
 
-@pytest.mark.parametrize("column", ["mining_cost", "revenue", "processing_cost", "factor"])
+@pytest.mark.parametrize("column", ["mining_cost", "revenue", "processing_cost", "revenue_factor"])
 def test_what_blocks_have_as_given_and_is_bent_is_found(copied, column):
     table = pd.read_csv(copied / "blocks.csv", float_precision="round_trip")
     at = table.index[table[column] > 0][-1]
@@ -445,20 +445,20 @@ AMOUNTS = "blocks tonnes ore_tonnes waste_tonnes strip_ratio processed_tonnes gr
     [
         *((column, "shells") for column in AMOUNTS),
         *((column, "years") for column in ("npv", "npv_best", "npv_worst", "years")),
-        ("worth_at_factor", "worth"),
+        ("value_at_revenue_factor", "worth"),
         *((column, "kept") for column in KEPT),
         ("skin_worth", "skin"),
-        ("factor", "cases"),
+        ("revenue_factor", "cases"),
         ("share", "cases"),
         ("second_share", "cases"),
     ],
 )
 def test_each_number_that_is_bent_is_found(copied, column, name):
     """A hundredth more in the last row, which is of a pair."""
-    table = pd.read_csv(copied / "sensitivity.csv", dtype={"worth_at_factor": str})
+    table = pd.read_csv(copied / "sensitivity.csv", dtype={"value_at_revenue_factor": str})
     at = table.index[-1]
-    bent = float(table.loc[at, column]) + (1 if column in ("blocks", "factor") else 0.02)
-    table.loc[at, column] = f"{bent:.6f}" if column == "worth_at_factor" else bent
+    bent = float(table.loc[at, column]) + (1 if column in ("blocks", "revenue_factor") else 0.02)
+    table.loc[at, column] = f"{bent:.6f}" if column == "value_at_revenue_factor" else bent
     table.to_csv(copied / "sensitivity.csv", index=False)
     found = wrong(copied)
     assert name in found
@@ -475,7 +475,7 @@ def test_each_number_that_is_bent_is_found(copied, column, name):
     ],
 )
 def test_cases_that_are_not_those_asked_for_are_found(copied, bend):
-    bend(pd.read_csv(copied / "sensitivity.csv", dtype={"worth_at_factor": str})).to_csv(
+    bend(pd.read_csv(copied / "sensitivity.csv", dtype={"value_at_revenue_factor": str})).to_csv(
         copied / "sensitivity.csv", index=False
     )
     assert "cases" in wrong(copied)

@@ -14,7 +14,7 @@ from pitplan.config.economics import Curve
 from pitplan.studies.sensitivity import perturb
 
 pytestmark = pytest.mark.usefixtures("without_figures")
-BY = "ore_per_year = 100", "ore_per_year = 100\nchosen = 1000"
+BY = "ore_per_year = 100", "ore_per_year = 100\nselected = 1.0"
 RULES = "\n[sensitivity]\nby = [-0.1, 0.2]\n"
 
 
@@ -31,7 +31,7 @@ def worths(path):
 def test_several_processes(plan_folder):
     """In the mill the blocks sell for 43,200 and 2,160 and cost 1,300 each; leaching the poor one gains less, 960 - 300. Of the recovery of
     0.9 no more than all can be more: 1 is a ninth more."""
-    path = plan_folder(two_blocks(), PROJECT + RULES, *WITH, ("rate = 0.1", "rate = 0.1\nchosen = 1000"))
+    path = plan_folder(two_blocks(), PROJECT + RULES, *WITH, ("rate = 0.1", "rate = 0.1\nselected = 1.0"))
     worth = worths(path)
     assert worth[("", 0.0)] == pytest.approx(43_200 + 2_160 - 2 * 1_500)
     assert worth[("processing_cost", 0.2)] == pytest.approx(45_360 - 2 * 1_760)
@@ -98,4 +98,4 @@ def test_a_zipped_table_is_written_back(plan_folder):
         packed.write(path.parent / "blocks.csv", "blocks.csv")
     pitplan.write_shells(path)
     written = pd.read_csv(pitplan.write_export(path.parent / "plan", "table"))
-    assert written["name"].tolist() == two_blocks()["name"].tolist() and (written["factor"] > 0).sum() == 2
+    assert written["name"].tolist() == two_blocks()["name"].tolist() and (written["revenue_factor"] > 0.0).sum() == 2

@@ -19,7 +19,7 @@ from pitplan.slopes.slope_patterns import FIVE
 SMALL = settings(max_examples=25, suppress_health_check=[HealthCheck.function_scoped_fixture])
 
 
-def project_of(tmp_path, metal_price=8000, factors=(300, 700, 1000, 1600), cutoff="moving"):
+def project_of(tmp_path, metal_price=8000, factors=(0.3, 0.7, 1.0, 1.6), cutoff="moving"):
     money = {"mining_cost": 2, "processing_cost": 10, "cutoff": cutoff}
     metal = {"name": "copper", "column": "cu", "unit": "percent", "price": metal_price, "recovery": Decimal("0.5")}
     data = {
@@ -28,7 +28,11 @@ def project_of(tmp_path, metal_price=8000, factors=(300, 700, 1000, 1600), cutof
         "money": money,
         "metals": [metal],
         "slopes": {"walls": [{"pattern": "1:5"}]},
-        "shells": {"factors": list(factors), "rate": Decimal("0.1"), "ore_per_year": 100},
+        "shells": {
+            "revenue_factors": [Decimal(str(factor)) for factor in factors],
+            "rate": Decimal("0.1"),
+            "ore_per_year": 100,
+        },
     }
     return of_data(data, tmp_path / "project.toml")
 
@@ -69,8 +73,8 @@ def test_shells_are_the_best_of_all_closed_sets(tmp_path, by_id):
     table = rows(*BOX, cu=lambda i, j, k: by_id[(2 - k) * 3 + i])
     plan = pitplan.prepare(project_of(tmp_path), table=table)
     solution = pitplan.solve(plan)
-    for factor in plan.project.schedule.factors:
-        gains = [Decimal(factor) * Decimal(str(grade)) * 4000 / 1000 - 1000 for grade in by_id]
+    for factor in plan.project.schedule.revenue_factors:
+        gains = [Decimal(str(factor)) * Decimal(str(grade)) * 4000 - 1000 for grade in by_id]
         worth, pit = best_by_trying(CLOSED, [max(gain, Decimal(0)) - 200 for gain in gains])
         assert solution.worth[factor] == worth
         assert set(np.flatnonzero((solution.entry[:9] > 0) & (solution.entry[:9] <= factor))) == pit
@@ -85,9 +89,9 @@ def test_a_fixed_cutoff_is_the_best_with_ore_settled_at_1000(tmp_path, by_id):
     table = rows(*BOX, cu=lambda i, j, k: by_id[(2 - k) * 3 + i])
     plan = pitplan.prepare(project_of(tmp_path, cutoff="fixed"), table=table)
     solution = pitplan.solve(plan)
-    for factor in plan.project.schedule.factors:
+    for factor in plan.project.schedule.revenue_factors:
         yields = [Decimal(str(grade)) * 4000 for grade in by_id]
-        values = [factor * y / 1000 - 1200 if y > 1000 else Decimal(-200) for y in yields]
+        values = [Decimal(str(factor)) * y - 1200 if y > 1000 else Decimal(-200) for y in yields]
         worth, pit = best_by_trying(CLOSED, values)
         assert solution.worth[factor] == worth
         assert set(np.flatnonzero((solution.entry > 0) & (solution.entry <= factor))) == pit
@@ -113,41 +117,41 @@ def test_trimmed_needs_give_the_same_shells(seed, walls, cutoff):
 def test_the_table_of_shells_by_hand(tmp_path):
     """A pillar of three blocks: waste, poor ore at 0.4 %, and at the floor rich ore at 1.5 %."""
     table = rows(1, 1, 3, cu=lambda i, j, k: [1.5, 0.4, 0][k])
-    plan = pitplan.prepare(project_of(tmp_path, factors=(200, 500, 1000)), table=table)
-    shells = pitplan.shells(plan, pitplan.solve(plan)).set_index("factor")
-    # At the price as given processing the rich block gains 6000 - 1000, the poor one 1600 - 1000. At 500 the poor one
-    # is mined and thrown away: 800 does not pay its processing. At 200 the rich one gains 200, and mining costs 600.
+    plan = pitplan.prepare(project_of(tmp_path, factors=(0.2, 0.5, 1.0)), table=table)
+    shells = pitplan.shells(plan, pitplan.solve(plan)).set_index("revenue_factor")
+    # At the price as given processing the rich block gains 6000 - 1000, the poor one 1600 - 1000. At 0.5 the poor one
+    # is mined and thrown away: 800 does not pay its processing. At 0.2 the rich one gains 200, and mining costs 600.
     assert shells["blocks"].tolist() == [0, 3, 3]
     assert shells["tonnes"].tolist() == [0, 300, 300]
     assert shells["ore_tonnes"].tolist() == [0, 200, 200] and shells["waste_tonnes"].tolist() == [0, 100, 100]
     assert shells["processed_tonnes"].tolist() == [0, 100, 200]
-    assert shells["strip_ratio"][1000] == 0.5 and np.isnan(shells["strip_ratio"][200])
-    assert shells["grade_copper"][1000] == pytest.approx(0.95) and shells["metal_copper"][1000] == pytest.approx(0.95)
+    assert shells["strip_ratio"][1.0] == 0.5 and np.isnan(shells["strip_ratio"][0.2])
+    assert shells["grade_copper"][1.0] == pytest.approx(0.95) and shells["metal_copper"][1.0] == pytest.approx(0.95)
     assert shells["worth"].tolist() == [0, 5000, 5000]
-    assert shells["worth_at_factor"].tolist() == [Decimal(0), Decimal(1400), Decimal(5000)]
+    assert shells["value_at_revenue_factor"].tolist() == [Decimal(0), Decimal(1400), Decimal(5000)]
     # At 100 t of ore a year the waste and the poor block, -200 + 400, are the first year's and the rich one's 4800 the second's.
     npv = 200 / 1.1 + 4800 / 1.1**2
-    assert shells["npv_best"][1000] == pytest.approx(npv) and shells["npv_worst"][1000] == pytest.approx(npv)
+    assert shells["npv_best"][1.0] == pytest.approx(npv) and shells["npv_worst"][1.0] == pytest.approx(npv)
     assert shells["years"].tolist() == [0, 2, 2]
 
 
 def test_best_and_worst_case_by_hand(plan_folder):
-    """Two pillars: the east one is so poor that it comes in at 1000 alone. Rock is dug at 100 t a year."""
+    """Two pillars: the east one is so poor that it comes in at 1.0 alone. Rock is dug at 100 t a year."""
     table = rows(2, 1, 2, cu=lambda i, j, k: 0 if k else [4, 0.4][i])
     upright = ('pattern = "1:5"', "angle = 90")
     changes = [upright, ("ore_per_year = 100", "ore_per_year = 100\nrock_per_year = 100")]
     plan = pitplan.prepare(plan_folder(table, PROJECT, *changes))
-    shells = pitplan.shells(plan, pitplan.solve(plan)).set_index("factor")
-    assert shells["blocks"].to_dict() == {500: 2, 1000: 4, 1500: 4}
+    shells = pitplan.shells(plan, pitplan.solve(plan)).set_index("revenue_factor")
+    assert shells["blocks"].to_dict() == {0.5: 2, 1.0: 4, 1.5: 4}
     # The rich floor is worth 16000 - 1000 - 200, the poor one 1600 - 1000 - 200. In the best case each block takes a year;
     # in the worst case each level takes two.
     rich, poor, top = 14800, 400, -200
     first, second, third, fourth = (1.1**-year for year in (1, 2, 3, 4))
     best = top * first + rich * second + top * third + poor * fourth
     worst = top * (first + second) + (rich + poor) / 2 * (third + fourth)
-    assert shells["npv_best"][500] == pytest.approx(top * first + rich * second)
-    assert shells["npv_best"][1000] == pytest.approx(best) and shells["npv_worst"][1000] == pytest.approx(worst)
-    assert shells["years"][1000] == 4
+    assert shells["npv_best"][0.5] == pytest.approx(top * first + rich * second)
+    assert shells["npv_best"][1.0] == pytest.approx(best) and shells["npv_worst"][1.0] == pytest.approx(worst)
+    assert shells["years"][1.0] == 4
 
 
 def test_pits_that_touch_the_model_are_warned_of(plan_folder):
@@ -159,12 +163,12 @@ def test_pits_that_touch_the_model_are_warned_of(plan_folder):
         f"WARNING: the greatest pit touches the {side}" for side in ("west side", "south side", "north side", "floor")
     ]
     assert (
-        notes[0].endswith("in 3 blocks, from factor 500 on: a larger model may give another pit")
-        or "blocks, from factor 500" in notes[0]
+        notes[0].endswith("in 3 blocks, from revenue factor 0.50 on: a larger model may give another pit")
+        or "blocks, from revenue factor 0.50" in notes[0]
     )
 
 
 def test_factor_1000_is_always_there(plan_folder):
-    plan = pitplan.prepare(plan_folder(rows(2, 2, 2), PROJECT, ("[500, 1000, 1500]", "[900, 500]")))
-    assert plan.project.schedule.factors == (500, 900, 1000)
-    assert "factor 1000, the price as given, was added to the factors" in plan.notes
+    plan = pitplan.prepare(plan_folder(rows(2, 2, 2), PROJECT, ("[0.5, 1.0, 1.5]", "[0.9, 0.5]")))
+    assert plan.project.schedule.revenue_factors == (0.5, 0.9, 1.0)
+    assert "revenue factor 1.0, the base price, was added to the revenue factors" in plan.notes

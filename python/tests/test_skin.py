@@ -19,7 +19,7 @@ ORE = {"cu": lambda i, j, k: {(1, 1): 6, (3, 1): 0.5}.get((i, j), 0)}
 @pytest.fixture
 def project(plan_folder):
     def write(words=""):
-        text = PROJECT.replace("ore_per_year = 100", "ore_per_year = 100\nchosen = 1000")
+        text = PROJECT.replace("ore_per_year = 100", "ore_per_year = 100\nselected = 1.0")
         return plan_folder(rows(5, 3, 1, **ORE), f"{text}\n[sensitivity]\n{words}\n")
 
     return write
@@ -46,28 +46,28 @@ def test_what_the_skin_earns_in_each_case(project):
         ("recovery", 0.1): 1000,
     }
     assert table.to_dict() == pytest.approx(due | {("capacity", -0.1): 800, ("capacity", 0.1): 800})
-    assert record_of(path)["skin"] == {"factor": 600, "tonnes": 100, "share": 0.5, "worth": 800}
+    assert record_of(path)["skin"] == {"revenue_factor": 0.6, "tonnes": 100, "share": 0.5, "worth": 800}
 
 
 def test_a_greater_share_reaches_a_lesser_shell(project):
     """A shell of at most 80 of 200 t has neither block; the rich one breaks even at 1,200 / 24,000."""
     path = project('by = [0.1]\nvary = "price"\nskin = 0.6')
     assert pitplan.write_sensitivity(path)["skin_worth"].tolist() == pytest.approx([23_600, 23_600 + 2_600])
-    assert record_of(path)["skin"] == {"factor": 50, "tonnes": 200, "share": 1.0, "worth": 23_600}
+    assert record_of(path)["skin"] == {"revenue_factor": 0.05, "tonnes": 200, "share": 1.0, "worth": 23_600}
 
 
 def test_a_pit_that_no_lesser_factor_divides_is_all_skin(plan_folder):
     """The one block of ore pays at every factor."""
-    text = PROJECT.replace("ore_per_year = 100", "ore_per_year = 100\nchosen = 1000").replace(
+    text = PROJECT.replace("ore_per_year = 100", "ore_per_year = 100\nselected = 1.0").replace(
         "price = 8000", "price = 80000000"
     )
     path = plan_folder(rows(5, 3, 1, **ORE), text + '\n[sensitivity]\nby = [0.1]\nvary = "mining_cost"\n')
     pitplan.write_sensitivity(path)
-    assert (record_of(path)["skin"]["factor"], record_of(path)["skin"]["tonnes"]) == (0, 200)
+    assert (record_of(path)["skin"]["revenue_factor"], record_of(path)["skin"]["tonnes"]) == (0, 200)
 
 
 def test_where_walls_move_nothing_is_told_of_it(plan_folder):
-    text = PROJECT.replace("ore_per_year = 100", "ore_per_year = 100\nchosen = 1000")
+    text = PROJECT.replace("ore_per_year = 100", "ore_per_year = 100\nselected = 1.0")
     path = plan_folder(
         rows(5, 3, 1, **ORE),
         text.replace('pattern = "1:5"', "angle = 45") + '\n[sensitivity]\nby = [0.2]\nvary = "slopes"\n',
@@ -81,7 +81,7 @@ def test_the_command_line_tells_of_it(project, capsys):
     for words in ([], ["--quiet"]):
         assert main(["sensitivity", str(path), *words]) == 0
         told = capsys.readouterr().err.splitlines()
-        skin = "the pit's skin, 50.0 % of its rock, beyond the shell of factor 600, is worth 800"
+        skin = "the pit's skin, 50.0 % of its rock, beyond the shell of revenue factor 0.60, is worth 800"
         assert [line for line in told if "skin" in line] == [line for line in told if line.startswith(skin)] != []
     assert told == record_of(path)["notes"] and "15 blocks lie on a grid of 5 x 3 x 1 = 15 cells" in told
 
@@ -118,7 +118,7 @@ def test_the_second_look_finds_another_skin(project):
 
 def test_the_second_look_finds_a_skin_that_others_need(plan_folder):
     """A block above one that stays may not be the skin's."""
-    text = PROJECT.replace("ore_per_year = 100", "ore_per_year = 100\nchosen = 1000")
+    text = PROJECT.replace("ore_per_year = 100", "ore_per_year = 100\nselected = 1.0")
     path = plan_folder(
         rows(5, 5, 2, cu=lambda i, j, k: {(2, 2, 0): 9}.get((i, j, k), 0)),
         text + '\n[sensitivity]\nby = [0.1]\nvary = "price"\n',
@@ -130,6 +130,6 @@ def test_the_second_look_finds_a_skin_that_others_need(plan_folder):
     arrays = dict(np.load(answer))
     blocks = pd.read_csv(folder / "blocks.csv")
     above = np.zeros_like(arrays["skin"])
-    above[blocks["id"][(blocks["factor"] > 0) & (blocks["z"] == blocks["z"].max())].to_numpy()[:1]] = True
+    above[blocks["id"][(blocks["revenue_factor"] > 0.0) & (blocks["z"] == blocks["z"].max())].to_numpy()[:1]] = True
     np.savez_compressed(answer, **arrays | {"skin": above})
     assert "skin's shell" in wrong(folder)

@@ -25,8 +25,8 @@ OTHERS = {
     "price": (("price = 8000", "price = 9000"),),
     "recovery of one block": (("recovery = 0.5", "recovery = { R = 0.5, S = 0.6 }"),),
     "slopes": (('"1:5"', '"1:9"'),),
-    "factors": (("[500, 1000, 1500]", "[600, 1000, 1500]"),),
-    "more factors": (("[500, 1000, 1500]", "[500, 1000, 1500, 1600]"),),
+    "revenue_factors": (("[0.5, 1.0, 1.5]", "[0.6, 1.0, 1.5]"),),
+    "more factors": (("[0.5, 1.0, 1.5]", "[0.5, 1.0, 1.5, 1.6]"),),
     "fixed blocks": (FIXED,),
     "cutoff": (("processing_cost = 10", 'processing_cost = 10\ncutoff = "fixed"'),),
 }
@@ -79,7 +79,7 @@ def test_a_plan_by_the_program_has_the_key_of_that_by_the_library(mine):
     plan = mine()
     by_program = pitplan.solve(replace(plan, project=replace(plan.project, solver="program")))
     assert np.array_equal(
-        pitplan.blocks(plan, by_program)["factor"], pitplan.blocks(plan, pitplan.solve(plan))["factor"]
+        pitplan.blocks(plan, by_program)["revenue_factor"], pitplan.blocks(plan, pitplan.solve(plan))["revenue_factor"]
     )
 
 
@@ -87,6 +87,6 @@ def test_phases_have_a_solution_of_their_own_factors(plan_folder):
     path = plan_folder(rows(8, 7, 3, **ORE), PROJECT + "[pushbacks]\ncount = 2\n")
     whole = pitplan.prepare(load(path))
     phases = pitplan.pushbacks.nested.divide(whole)
-    assert len(pitplan.shells(phases.plan, phases.solution)) != len(whole.project.schedule.factors)
+    assert len(pitplan.shells(phases.plan, phases.solution)) != len(whole.project.schedule.revenue_factors)
     with pytest.raises(PlanError, match="the solution is of another plan"):
         pitplan.shells(whole, phases.solution)

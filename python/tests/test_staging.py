@@ -36,7 +36,7 @@ def mine(plan_folder):
 RUNS = {
     "prepare": lambda path, folder: write_plan(pitplan.load(path), folder),
     "shells": lambda path, folder: pitplan.write_shells(path, folder, writing=pitplan.Writing(verifies=False)),
-    "pit": lambda path, folder: pitplan.write_pit(path, 1000, folder, writing=pitplan.Writing(verifies=False)),
+    "pit": lambda path, folder: pitplan.write_pit(path, 1.0, folder, writing=pitplan.Writing(verifies=False)),
     "pushbacks": lambda path, folder: pitplan.write_pushbacks(path, folder, writing=pitplan.Writing(verifies=False)),
     "schedule": lambda path, folder: pitplan.write_schedule(path, folder, writing=pitplan.Writing(verifies=False)),
     "sensitivity": lambda path, folder: pitplan.write_sensitivity(
@@ -146,7 +146,7 @@ def test_commands_that_only_read_work_beside_a_run_and_each_other(mine):
         for write in (pitplan.write_report, pitplan.audit, pitplan.view):
             assert write(folder, *([500] if write is pitplan.audit else [])).exists()
         assert (
-            pitplan.write_export(folder, "csv", 500).exists()
+            pitplan.write_export(folder, "csv", 0.5).exists()
             and pitplan.write_export(folder, "obj", shape=Shape("year")).exists()
         )
 
@@ -154,8 +154,8 @@ def test_commands_that_only_read_work_beside_a_run_and_each_other(mine):
 def test_two_audits_or_exports_into_one_folder_are_kept_apart(mine):
     folder = mine.parent / "out"
     pitplan.write_schedule(mine, folder, writing=pitplan.Writing(verifies=False))
-    with staging.alone(folder / "audit-500"), pytest.raises(PlanError, match=f"audit-500: {OTHER}"):
-        pitplan.audit(folder, 500)
+    with staging.alone(folder / "audit-0.50"), pytest.raises(PlanError, match=f"audit-0.50: {OTHER}"):
+        pitplan.audit(folder, 0.5)
     target = folder / registry.name_of("obj", Shape("year"))
     with staging.alone(target), pytest.raises(PlanError, match=f"{target.name}: {OTHER}"):
         pitplan.write_export(folder, "obj", shape=Shape("year"))

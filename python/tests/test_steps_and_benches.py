@@ -27,7 +27,7 @@ def deposit():
 
 
 def dug(path):
-    """The places, by columns, rows and levels from the floor, that are dug at factor 1000."""
+    """The places, by columns, rows and levels from the floor, that are dug at revenue factor 1.00."""
     plan = pitplan.prepare(path)
     inside = np.flatnonzero(shell_tables.cells_of(plan, pitplan.solve(plan)).factor[:] == 500)
     column, row, level = plan.grid.indices(inside)

@@ -42,7 +42,7 @@ def is_closed(triangles):
 
 @pytest.fixture
 def far(plan_folder):
-    """The two ores of a mine at coordinates of seven digits, with halves of metres, whose pits meet along an edge at factor 1500; one block
+    """The two ores of a mine at coordinates of seven digits, with halves of metres, whose pits meet along an edge at revenue factor 1.50; one block
     within is air."""
     pytest.importorskip("vtk", reason="needs the Debian package python3-vtk9")
     ore = {(2, 3, 1): 6, (6, 3, 2): 0.9}
@@ -56,14 +56,14 @@ def far(plan_folder):
 
 
 @pytest.mark.parametrize("kind", ["stl", "obj"])
-@pytest.mark.parametrize("factor", [500, 1500])
+@pytest.mark.parametrize("factor", [0.5, 1.5])
 def test_a_surface_holds_what_its_blocks_do(far, capsys, kind, factor):
-    assert main(["export", str(far), "--to", kind, "--factor", str(factor)]) == 0
+    assert main(["export", str(far), "--to", kind, "--revenue-factor", str(factor)]) == 0
     said = capsys.readouterr()
-    path = far.parent / "plan" / f"pit-{factor}.{kind}"
+    path = far.parent / "plan" / f"pit-{factor:.2f}.{kind}"
     assert said.out.strip() == str(path)
     blocks = pd.read_csv(far.parent / "plan" / "blocks.csv")
-    dug = blocks[(blocks["factor"] > 0) & (blocks["factor"] <= factor) & (blocks["tonnes"] > 0)]
+    dug = blocks[(blocks["revenue_factor"] > 0.0) & (blocks["revenue_factor"] <= factor) & (blocks["tonnes"] > 0)]
     triangles = triangles_of(path)
     assert volume_of(triangles) == pytest.approx(1000 * len(dug), rel=1e-3) and is_closed(triangles)
     assert (
@@ -80,9 +80,9 @@ def test_an_empty_pit_has_no_surface(plan_folder):
     pytest.importorskip("vtk")
     path = plan_folder(rows(3, 3, 2), PROJECT)
     pitplan.write_shells(path, writing=pitplan.Writing(verifies=False))
-    with pytest.raises(PlanError, match="the pit of factor 1000 is empty: it has no surface"):
+    with pytest.raises(PlanError, match="the pit of revenue factor 1.00 is empty: it has no surface"):
         pitplan.write_export(path.parent / "plan", "stl")
-    assert not (path.parent / "plan" / "pit-1000.stl").exists()
+    assert not (path.parent / "plan" / "pit-1.00.stl").exists()
 
 
 def test_a_surface_that_holds_something_else_is_not_kept(far, monkeypatch):
@@ -95,10 +95,10 @@ def test_a_surface_that_holds_something_else_is_not_kept(far, monkeypatch):
 
     monkeypatch.setattr(mesh, "round_cells", higher)
     with pytest.raises(
-        PlanError, match=r"pit-500.obj: \d+ triangles hold 18,036 m3, and the 18 blocks 18,000 m3: please report this"
+        PlanError, match=r"pit-0.50.obj: \d+ triangles hold 18,036 m3, and the 18 blocks 18,000 m3: please report this"
     ):
-        pitplan.write_export(far.parent / "plan", "obj", 500)
-    assert not (far.parent / "plan" / "pit-500.obj").exists()
+        pitplan.write_export(far.parent / "plan", "obj", 0.5)
+    assert not (far.parent / "plan" / "pit-0.50.obj").exists()
 
 
 def test_a_missing_library_is_named(far, monkeypatch):

@@ -414,7 +414,7 @@ def test_a_model_too_large_for_the_program(plan_folder, tmp_path, monkeypatch):
 def test_a_sensitivity_of_blocks_that_are_cut(plan_folder, tmp_path):
     plane(tmp_path, lambda x, y: 5)
     text = (
-        PROJECT.replace("ore_per_year = 100", "ore_per_year = 100\nchosen = 1000")
+        PROJECT.replace("ore_per_year = 100", "ore_per_year = 100\nselected = 1.0")
         + '[sensitivity]\nby = [0.1]\nvary = ["price"]\n'
     )
     path = plan_folder(rows(5, 3, 1, cu=lambda i, j, k: 6 * ((i, j) == (1, 1))), text, CUT)

@@ -59,8 +59,8 @@ def test_a_turned_model_has_the_pit_of_the_straight_one(plan_folder, degrees):
     """Every shell, row by row, with walls that differ by azimuth, which are turned along."""
     _, straight = planned(plan_folder, hill(), PROJECT, walls_at(0), NO_SIZE)
     folder, found = planned(plan_folder, turned(hill(), degrees), PROJECT, walls_at(degrees), NO_SIZE)
-    assert straight["factor"].nunique() == 4
-    alike = ["id", "tonnes", "mining_cost", "revenue", "factor", "process_factor"]
+    assert straight["revenue_factor"].nunique() == 4
+    alike = ["id", "tonnes", "mining_cost", "revenue", "revenue_factor", "process_revenue_factor"]
     pd.testing.assert_frame_equal(found[alike], straight[alike])
     # The planner's own coordinates stand in the answer.
     own = turned(hill(), degrees).set_index("name")
@@ -75,7 +75,7 @@ def test_walls_that_are_not_turned_along_make_another_pit(plan_folder):
     _, straight = planned(plan_folder, hill(), PROJECT, walls_at(0), NO_SIZE)
     for degrees in (0, -40):
         _, other = planned(plan_folder, turned(hill(), 40), PROJECT, walls_at(degrees), NO_SIZE)
-        assert (other["factor"] != straight["factor"]).any()
+        assert (other["revenue_factor"] != straight["revenue_factor"]).any()
 
 
 @pytest.mark.parametrize("degrees", [30, -17.5, 44, 3, 0.05, 12.3456])
@@ -171,16 +171,16 @@ def test_the_grid_of_sides_3_4_5(one_block):
 @pytest.mark.parametrize("kind", ["stl", "obj"])
 def test_surfaces_stand_in_the_planners_coordinates(one_block, kind):
     pytest.importorskip("vtk", reason="needs the Debian package python3-vtk9")
-    assert main(["export", str(one_block), "--to", kind, "--factor", "1000"]) == 0
-    text = (one_block.parent / "plan" / f"pit-1000.{kind}").read_text()
+    assert main(["export", str(one_block), "--to", kind, "--revenue-factor", "1.00"]) == 0
+    text = (one_block.parent / "plan" / f"pit-1.00.{kind}").read_text()
     points = np.array(re.findall(r"^\s*v(?:ertex)? (\S+) (\S+) (\S+)", text, re.MULTILINE), dtype=float).round(1)
     assert {(x, y) for x, y, _ in points} == CORNERS and {z for _, _, z in points} == {10, 20}
 
 
 def test_a_drawing_stands_in_the_planners_coordinates(one_block):
     ezdxf = pytest.importorskip("ezdxf", reason="needs the Debian package python3-ezdxf")
-    assert main(["export", str(one_block), "--to", "dxf", "--factor", "1000"]) == 0
-    drawing = ezdxf.readfile(one_block.parent / "plan" / "pit-1000.dxf")
+    assert main(["export", str(one_block), "--to", "dxf", "--revenue-factor", "1.00"]) == 0
+    drawing = ezdxf.readfile(one_block.parent / "plan" / "pit-1.00.dxf")
     lines = {
         line.dxf.layer: {(round(p.x, 1), round(p.y, 1), p.z) for p in line.points()}
         for line in drawing.modelspace().query("POLYLINE")
@@ -189,20 +189,20 @@ def test_a_drawing_stands_in_the_planners_coordinates(one_block):
 
 
 def test_strings_and_lines_stand_in_the_planners_coordinates(one_block):
-    assert main(["export", str(one_block), "--to", "str", "--factor", "1000"]) == 0
-    rows = [line.split(",") for line in (one_block.parent / "plan" / "lines-1000.str").read_text().splitlines()]
+    assert main(["export", str(one_block), "--to", "str", "--revenue-factor", "1.00"]) == 0
+    rows = [line.split(",") for line in (one_block.parent / "plan" / "lines-1.00.str").read_text().splitlines()]
     # A row is number, y, x, z; heads, breaks and the end have the number or the place 0.
     points = {(round(float(x), 1), round(float(y), 1), float(z)) for number, y, x, z, *_ in rows[2:] if float(number)}
     assert points == {(x, y, z) for x, y in CORNERS for z in (10, 20)}
-    assert main(["export", str(one_block), "--to", "lines", "--factor", "1000"]) == 0
-    table = pd.read_csv(one_block.parent / "plan" / "lines-1000.csv")
+    assert main(["export", str(one_block), "--to", "lines", "--revenue-factor", "1.00"]) == 0
+    table = pd.read_csv(one_block.parent / "plan" / "lines-1.00.csv")
     assert set(zip(table["x"].round(1), table["y"].round(1))) == CORNERS
 
 
 def test_the_ground_stands_in_the_planners_coordinates(one_block):
     """The grid's sides are 50 m along 4, -3 and 40 m along 3, 4, of 5, and the pit is one block deep."""
     pytest.importorskip("vtk", reason="needs the Debian package python3-vtk9")
-    assert main(["export", str(one_block), "--to", "obj", "--surface", "ground", "--factor", "1000"]) == 0
+    assert main(["export", str(one_block), "--to", "obj", "--surface", "ground", "--revenue-factor", "1.00"]) == 0
     (path,) = (one_block.parent / "plan").glob("*.obj")
     points = np.array(re.findall(r"^v (\S+) (\S+) (\S+)", path.read_text(), re.MULTILINE), dtype=float).round(1)
     sides = {(1000, 5000), (1040, 4970), (1064, 5002), (1024, 5032)}
@@ -216,7 +216,7 @@ def test_cells_of_vtk_stand_in_the_planners_coordinates(one_block):
         reader.SetFileName(str(one_block.parent / "plan" / f"pit.{kind}"))
         reader.Update()
         data = reader.GetOutput()
-        factor = data.GetCellData().GetArray("factor")
+        factor = data.GetCellData().GetArray("revenue_factor")
         (dug,) = [cell for cell in range(data.GetNumberOfCells()) if factor.GetValue(cell) > 0]
         points = data.GetCell(dug).GetPoints()
         corners = np.array([points.GetPoint(number) for number in range(8)]).round(1)
@@ -237,7 +237,7 @@ def test_the_page_knows_where_north_is(one_block):
 def test_the_planners_table_comes_back(one_block):
     assert main(["export", str(one_block), "--to", "table"]) == 0
     table = pd.read_csv(one_block.parent / "plan" / "table.csv").set_index("name")
-    assert table.index[table["factor"] > 0].tolist() == ["b2-1-1"]
+    assert table.index[table["revenue_factor"] > 0.0].tolist() == ["b2-1-1"]
     # 25, 15 along the axes: 1000 + 20 + 9, 5000 - 15 + 12.
     assert tuple(table.loc["b2-1-1", ["x", "y"]]) == (1029.0, 4997.0)
 
@@ -294,21 +294,23 @@ def test_surfaces_and_areas_are_the_planners(plan_folder, tmp_path):
         (tmp_path / "mined.csv").write_text(turned_points(surface, degrees))
         (tmp_path / "lease.csv").write_text(turned_points(lease, degrees))
         table = turned(hill(), degrees)
-        found.append(planned(plan_folder, table, text, walls_at(degrees), NO_SIZE)[1]["factor"])
+        found.append(planned(plan_folder, table, text, walls_at(degrees), NO_SIZE)[1]["revenue_factor"])
     assert (found[0][["b0-0-5", "b1-1-4"]] == 500).all() and (found[0].filter(like="b9-") == 0).all()
     pd.testing.assert_series_equal(found[1], found[0])
 
 
 @pytest.mark.usefixtures("without_figures")
 def test_phases_widths_and_schedules_are_those_of_the_straight_model(plan_folder):
-    text = PROJECT + "[pushbacks]\ncount = 2\nlast = 1000\nwidth = 20\n[schedule]\nore_per_year = 100\nyears = 8\n"
+    text = (
+        PROJECT + "[pushbacks]\ncount = 2\nultimate_pit = 1.0\nwidth = 20\n[schedule]\nore_per_year = 100\nyears = 8\n"
+    )
     ore = hill().assign(cu=lambda it: it["cu"] + 0.3 * (it["z"] < 40))
     tables = []
     for degrees in (0, -12.5):
         path = plan_folder(turned(ore, degrees), text, walls_at(degrees), NO_SIZE)
         folder = path.parent / f"schedule{degrees}"
         pitplan.write_schedule(path, folder)
-        blocks = pd.read_csv(folder / "blocks.csv").set_index("name")[["phase", "year", "factor"]]
+        blocks = pd.read_csv(folder / "blocks.csv").set_index("name")[["phase", "year", "revenue_factor"]]
         tables.append(
             [
                 blocks,
@@ -400,5 +402,5 @@ def test_what_no_shell_can_reach_is_left_out_of_a_turned_model(plan_folder, monk
         folder, blocks = planned(plan_folder, table, PROJECT, walls_at(degrees), NO_SIZE)
         assert read_record(folder)["grid"]["rows_left_out"] == 30 * 28 * 6 - len(blocks) > 2000
         assert (blocks[["x", "y"]] == table.set_index("name").loc[blocks.index, ["x", "y"]]).all(axis=None)
-        found.append(blocks["factor"])
+        found.append(blocks["revenue_factor"])
     pd.testing.assert_series_equal(found[1], found[0])

@@ -112,7 +112,7 @@ SHELLS = "blocks tonnes ore_tonnes waste_tonnes strip_ratio processed_tonnes gra
     [
         *(("shells.csv", name, "shells") for name in SHELLS.split()),
         *(("shells.csv", name, "years") for name in ("npv_best", "npv_worst", "years")),
-        ("shells.csv", "worth_at_factor", "worth"),
+        ("shells.csv", "value_at_revenue_factor", "worth"),
         *(
             ("years.csv", name, "years")
             for name in ("rock_tonnes", "ore_tonnes", "metal_copper", "metal_gold", "cash", "discounted")
@@ -123,21 +123,27 @@ SHELLS = "blocks tonnes ore_tonnes waste_tonnes strip_ratio processed_tonnes gra
 )
 def test_each_number_that_is_bent_is_found(copied, file, column, rule):
     """A hundredth more in the last row that has the number."""
-    table = pd.read_csv(copied / file, dtype={"worth_at_factor": str})
+    table = pd.read_csv(copied / file, dtype={"value_at_revenue_factor": str})
     at = table.index[pd.to_numeric(table[column]) > 0][-1]
     bent = float(table.loc[at, column]) + (1 if column in ("blocks", "id") else 0.02)
-    table.loc[at, column] = f"{bent:.6f}" if column == "worth_at_factor" else bent
+    table.loc[at, column] = f"{bent:.6f}" if column == "value_at_revenue_factor" else bent
     table.to_csv(copied / file, index=False)
     assert rule in wrong(copied)
 
 
 @pytest.mark.parametrize(
-    ("column", "rule"), [("factor", "shells"), ("process_factor", "worth"), ("factor", "worth"), ("factor", "years")]
+    ("column", "rule"),
+    [
+        ("revenue_factor", "shells"),
+        ("process_revenue_factor", "worth"),
+        ("revenue_factor", "worth"),
+        ("revenue_factor", "years"),
+    ],
 )
 def test_a_block_at_another_factor_is_found(copied, column, rule):
     table = pd.read_csv(copied / "blocks.csv")
-    at = table.index[table[column] == 500][0]
-    table.loc[at, column] = 1000
+    at = table.index[table[column] == 0.5][0]
+    table.loc[at, column] = 1.0
     table.to_csv(copied / "blocks.csv", index=False)
     assert rule in wrong(copied)
 
@@ -145,15 +151,15 @@ def test_a_block_at_another_factor_is_found(copied, column, rule):
 def test_a_block_that_is_left_standing_is_found(copied):
     """A block of the highest level under which others are dug."""
     table = pd.read_csv(copied / "blocks.csv")
-    dug = table[(table["factor"] > 0) & (table["must"] == 0)]
-    table.loc[dug.index[0], ["factor", "process_factor"]] = 0
+    dug = table[(table["revenue_factor"] > 0.0) & (table["must"] == 0)]
+    table.loc[dug.index[0], ["revenue_factor", "process_revenue_factor"]] = 0
     table.to_csv(copied / "blocks.csv", index=False)
     assert {"walls", "shells"} <= wrong(copied)
 
 
 def test_a_barred_block_that_is_dug_is_found(copied):
     table = pd.read_csv(copied / "blocks.csv")
-    table.loc[table.index[table["never"] == 1][0], "factor"] = 500
+    table.loc[table.index[table["never"] == 1][0], "revenue_factor"] = 0.5
     table.to_csv(copied / "blocks.csv", index=False)
     assert "fixed" in wrong(copied)
 
@@ -161,19 +167,19 @@ def test_a_barred_block_that_is_dug_is_found(copied):
 def test_a_year_above_its_capacity_is_found(copied):
     """Half a tonne is dug a year earlier, so that all sums stay."""
     years = pd.read_csv(copied / "years.csv")
-    full = years.index[(years["rock_tonnes"] > 999.99) & years.duplicated(["case", "factor"], keep="last")][0]
+    full = years.index[(years["rock_tonnes"] > 999.99) & years.duplicated(["case", "revenue_factor"], keep="last")][0]
     years.loc[full, "rock_tonnes"] += 0.5
     years.loc[full + 1, "rock_tonnes"] -= 0.5
     years.to_csv(copied / "years.csv", index=False)
     (rule,) = [rule for rule in verify(copied) if rule.differences]
-    case, factor, year = years.loc[full, ["case", "factor", "year"]]
+    case, factor, year = years.loc[full, ["case", "revenue_factor", "year"]]
     last = years.loc[full + 1, "rock_tonnes"]
     said = [
         f"{year}: rock_tonnes 1000.5 above 1000",
         f"{year}: rock_tonnes 1000.5 for 1000",
         f"{year + 1}: rock_tonnes {last:g} for {last + 0.5:g}",
     ]
-    assert rule.differences == tuple(f"{case} case of factor {factor}, year {it}" for it in said)
+    assert rule.differences == tuple(f"{case} case of revenue factor {factor:.2f}, year {it}" for it in said)
 
 
 YEARLY = [
@@ -191,7 +197,7 @@ YEARLY = [
 def test_what_flows_a_year_later_is_found(copied, case, column, less):
     """All sums stay, and no capacity is exceeded."""
     years = pd.read_csv(copied / "years.csv")
-    mine = years[(years["case"] == case) & (years["factor"] == 1500) & (years[column] > less)].index
+    mine = years[(years["case"] == case) & (years["revenue_factor"] == 1.5) & (years[column] > less)].index
     years.loc[mine[0], column] -= less
     years.loc[mine[-1], column] += less
     assert mine[0] < mine[-1]
@@ -202,12 +208,15 @@ def test_what_flows_a_year_later_is_found(copied, case, column, less):
 @pytest.mark.parametrize(
     ("bend", "said"),
     [
-        (lambda it: it.assign(year=it["year"] + (it["case"] == "worst")), "worst case of factor 1500: years [2, 3"),
         (
-            lambda it: it.assign(factor=it["factor"].where(it["case"] == "best", 1400)),
-            "years of the worst case of factor 1400, which is none",
+            lambda it: it.assign(year=it["year"] + (it["case"] == "worst")),
+            "worst case of revenue factor 1.50: years [2, 3",
         ),
-        (lambda it: it[it["case"] == "best"], "worst case of factor 1500: has no years"),
+        (
+            lambda it: it.assign(revenue_factor=it["revenue_factor"].where(it["case"] == "best", 1.4)),
+            "years of the worst case of revenue factor 1.40, which is none",
+        ),
+        (lambda it: it[it["case"] == "best"], "worst case of revenue factor 1.50: has no years"),
         (lambda it: it.drop(columns="metal_gold"), "metal_gold nan for"),
     ],
 )
@@ -255,9 +264,11 @@ def test_a_field_that_is_no_number_is_named(copied, capsys, file, column, field,
 
 def test_shells_that_are_missing_or_too_many_are_named(copied):
     table = pd.read_csv(copied / "shells.csv")
-    for rows_of, there in ((table.iloc[[0, 2]], "500, 1500"), (table.iloc[[0, 1, 1, 2]], "500, 1000, 1000, 1500")):
+    for rows_of, there in ((table.iloc[[0, 2]], "0.50, 1.50"), (table.iloc[[0, 1, 1, 2]], "0.50, 1.00, 1.00, 1.50")):
         rows_of.to_csv(copied / "shells.csv", index=False)
-        with pytest.raises(PlanError, match=f"shells.csv: has rows of the factors {there} for 500, 1000, 1500"):
+        with pytest.raises(
+            PlanError, match=f"shells.csv: has rows of the revenue factors {there} for 0.50, 1.00, 1.50"
+        ):
             verify(copied)
 
 
@@ -276,16 +287,26 @@ def plus_one(table, column):
             "block b0-0-0: mining_cost 299.100001 for 299.1",
         ),
         ("blocks", lambda it: plus_one(it, "id"), 459, "block b0-0-0 has the id 397 for 396"),
-        ("blocks", lambda it: it.assign(factor=it["factor"] + (it["factor"] == 500)), None, "comes in at 501"),
-        ("worth", lambda it: plus_one(it, "process_factor"), 459, "block b0-0-0: process_factor 1 for 0"),
+        (
+            "blocks",
+            lambda it: it.assign(revenue_factor=it["revenue_factor"] + 0.001 * (it["revenue_factor"] == 0.5)),
+            None,
+            "comes in at 0.501",
+        ),
+        (
+            "worth",
+            lambda it: plus_one(it, "process_revenue_factor"),
+            459,
+            "block b0-0-0: process_revenue_factor 1.00 for 0.00",
+        ),
     ],
 )
 def test_all_that_is_bent_is_counted_and_ten_told(copied, name, bend, count, told):
-    """Of 459 blocks: by much, by less than a rounding, and by the factor 500 alone."""
+    """Of 459 blocks: by much, by less than a rounding, and by the revenue factor 0.50 alone."""
     table = pd.read_csv(copied / "blocks.csv")
     bend(table).to_csv(copied / "blocks.csv", index=False)
     (rule,) = [rule for rule in verify(copied) if rule.name == name]
-    assert rule.count == (count or (table["factor"] == 500).sum()) and len(rule.differences) == 10
+    assert rule.count == (count or (table["revenue_factor"] == 0.5).sum()) and len(rule.differences) == 10
     assert told in rule.differences[0]
     with pytest.raises(PlanError) as said:
         demand([rule])
@@ -302,7 +323,7 @@ def test_amounts_are_looked_at_exactly_at_the_edges_of_shells(copied, monkeypatc
     """A block that is dug and has one beside, above or below it that is dug at another factor or not at all, or none."""
     monkeypatch.setattr("pitplan.verification.money.SAMPLE", 0)
     answer = read(copied)
-    first = dict(zip(zip(*(axis.tolist() for axis in answer.cells)), answer.said["factor"]))
+    first = dict(zip(zip(*(axis.tolist() for axis in answer.cells)), answer.said["revenue_factor"]))
     inside = [axis.max() for axis in answer.cells]
     edge = []
     for row, cell in enumerate(zip(*answer.cells)):
@@ -311,7 +332,7 @@ def test_amounts_are_looked_at_exactly_at_the_edges_of_shells(copied, monkeypatc
         if first[cell] > 0 and any(first.get(other) != first[cell] for other in there):
             edge.append(row)
     assert sample(answer).tolist() == edge
-    assert 0 < len(edge) < (answer.said["factor"] > 0).sum()
+    assert 0 < len(edge) < (answer.said["revenue_factor"] > 0.0).sum()
 
 
 def test_a_table_that_has_changed_is_found(copied):
@@ -358,7 +379,7 @@ def looked_at(plan):
     folder.mkdir(exist_ok=True)
     record = plan.record(mine_files.write(plan, folder))
     write_tables(Answered(plan, solve(plan)), folder)
-    record["shells"] = {"factors": list(plan.project.schedule.factors)}
+    record["shells"] = {"revenue_factors": list(plan.project.schedule.revenue_factors)}
     (folder / "prepare.json").write_text(json.dumps(record))
     return verify(folder, plan.project)
 
@@ -437,7 +458,9 @@ def test_rows_without_rock_are_no_blocks_that_are_left_standing(plan_folder):
     plan = prepare(plan_folder(table, PROJECT))
     assert [rule.differences for rule in looked_at(plan)] == [()] * 10
     blocks = pd.read_csv(plan.project.folder / "blocks.csv")
-    assert (blocks.loc[blocks["tonnes"] == 0, "factor"] == 0).any() and (blocks["factor"] == 500).sum() > 13
+    assert (blocks.loc[blocks["tonnes"] == 0, "revenue_factor"] == 0).any() and (
+        blocks["revenue_factor"] == 0.5
+    ).sum() > 13
 
 
 def test_walls_between_azimuths_by_hand():
@@ -467,7 +490,7 @@ def test_high_walls_by_geometry():
 
 def test_needs_that_steeper_walls_on_the_way_do_not_lead_to_are_found(plan_folder, monkeypatch):
     monkeypatch.setattr("pitplan.slopes.domains.not_led", lambda steps, code, grid: np.zeros(len(code), dtype=bool))
-    assert "walls: block b7-7-0, dug at 500, needs a block that is not" in refused(
+    assert "walls: block b7-7-0, dug at revenue factor 0.50, needs a block that is not" in refused(
         plan_folder, two_regions(), PROJECT, LEVELS, *MIXED
     )
 
@@ -502,7 +525,7 @@ def test_what_is_left_of_great_amounts_is_as_uncertain_as_they_are(plan_folder, 
     plan = prepare(plan_folder(table, PROJECT + '\n[fixed]\nforced = "must"\n', *changes))
     assert {rule.name for rule in looked_at(plan) if rule.differences} == set()
     path = plan.project.folder / "shells.csv"
-    shells = pd.read_csv(path, dtype={"worth_at_factor": str})
+    shells = pd.read_csv(path, dtype={"value_at_revenue_factor": str})
     assert shells["worth"].tolist() == [1.0] * 3
     shells.assign(worth=shells["worth"] + float(more)).to_csv(path, index=False)
     (rule,) = [rule for rule in verify(plan.project.folder, plan.project) if rule.name == "shells"]
@@ -552,7 +575,7 @@ def test_areas_that_are_passed_over_are_found(plan_folder, tmp_path, monkeypatch
     monkeypatch.setattr(constraints, "of_table", lambda *_: constraints.NOTHING)
     (rule,) = [rule for rule in looked_at(prepare(path)) if rule.differences]
     assert (rule.name, rule.count, len(rule.differences)) == ("fixed", count, min(count, 10))
-    assert rule.differences[0] == f"block {first} may not be dug, and is so from factor 500 on"
+    assert rule.differences[0] == f"block {first} may not be dug, and is so from revenue factor 0.50 on"
 
 
 def test_a_surface_that_is_passed_over_is_found(plan_folder, tmp_path, monkeypatch):
@@ -576,7 +599,7 @@ def test_a_surface_that_is_passed_over_is_found(plan_folder, tmp_path, monkeypat
     monkeypatch.setattr(constraints, "of_table", lambda *_: constraints.NOTHING)
     (rule,) = [rule for rule in looked_at(prepare(path)) if rule.differences]
     assert (rule.name, rule.count, len(rule.differences)) == ("fixed", 7 + 2 * 7, 10)
-    assert rule.differences[0] == "block b0-2-0 must be dug, and is so from factor 0 on"
+    assert rule.differences[0] == "block b0-2-0 must be dug, and is so from revenue factor 0.00 on"
 
 
 def test_ground_that_is_taken_as_air_is_found(plan_folder, monkeypatch):
@@ -643,14 +666,14 @@ def test_sums_of_whole_numbers_have_no_limit(amounts):
 def test_each_rows_own_columns_alone_are_read(plan_folder, tmp_path):
     """Of what the planner's table says itself the centres alone are taken from the answer, but where a row may stand for no row."""
     path = plan_folder(rows(3, 3, 2))
-    blocks = rows(3, 3, 2).assign(id=range(18), factor=0)
+    blocks = rows(3, 3, 2).assign(id=range(18), revenue_factor=0)
     blocks.to_csv(tmp_path / "written.csv", index=False)
-    few = read_blocks(tmp_path / "written.csv", load(path), ("id", "factor", "free_factor"))
-    assert list(few.columns) == ["x", "y", "z", "id", "factor"]
+    few = read_blocks(tmp_path / "written.csv", load(path), ("id", "revenue_factor", "free_revenue_factor"))
+    assert list(few.columns) == ["x", "y", "z", "id", "revenue_factor"]
     path.write_text(
         path.read_text().replace('id = "name"', 'id = "name"\nabsent = { tonnes = 1, rock = "R", region = "1" }')
     )
-    whole = read_blocks(tmp_path / "written.csv", load(path), ("id", "factor", "free_factor"))
+    whole = read_blocks(tmp_path / "written.csv", load(path), ("id", "revenue_factor", "free_revenue_factor"))
     assert (
         list(whole.columns) == list(blocks.columns) == list(read_blocks(tmp_path / "written.csv", load(path)).columns)
     )

@@ -130,7 +130,10 @@ def test_a_surface_that_is_not_laid_between_its_points_is_found(plan_folder, tmp
     assert "with the blocks that are mined" in fixed_rule(path).holds
     monkeypatch.setattr(tin, "heights", lambda triangles, grid: np.full(grid.per_level, 1000.0))
     rule = fixed_rule(path)
-    assert (rule.count, rule.differences[0]) == (3 * 5 + 3 * 2, "block b5-0-0 must be dug, and is so from factor 0 on")
+    assert (rule.count, rule.differences[0]) == (
+        3 * 5 + 3 * 2,
+        "block b5-0-0 must be dug, and is so from revenue factor 0.00 on",
+    )
     monkeypatch.setattr(
         tin,
         "heights",
@@ -203,7 +206,7 @@ def test_points_that_make_no_triangle_demand_nothing_beside_them(plan_folder, tm
 def pits(plan_folder):
     """The folder of a pit with fixed blocks and without them."""
     project = load(plan_folder(ores_and_fixed(), with_section(FIXED_SECTION)))
-    pitplan.write_pit(project, 1500)
+    pitplan.write_pit(project, 1.5)
     verified = read_record(project.folder / "pit")["verified"]
     assert [line.split(":")[0] for line in verified][-3:] == ["years", "conventions", "free"]
     return project.folder / "pit"
@@ -212,42 +215,51 @@ def pits(plan_folder):
 def test_both_pits_are_right(pits):
     assert wrong(pits) == set()
     blocks = pd.read_csv(pits / "blocks.csv").set_index("name")
-    # The ore of 6 % pays for its pit from the first factor on, that of 0.5 % from 1000 on: 2000 less 1000 and four blocks of 200.
-    assert blocks.loc[["b2-0-0", "b5-0-0", "b6-0-0", "b0-0-1"], "free_factor"].tolist() == [500, 1000, 0, 0]
-    assert blocks.loc[["b2-0-0", "b5-0-0", "b6-0-0", "b0-0-1"], "free_process_factor"].tolist() == [500, 1000, 0, 0]
+    # The ore of 6 % pays for its pit from the first factor on, that of 0.5 % from 1.0 on: 2000 less 1000 and four blocks of 200.
+    assert blocks.loc[["b2-0-0", "b5-0-0", "b6-0-0", "b0-0-1"], "free_revenue_factor"].tolist() == [0.5, 1.0, 0, 0]
+    assert blocks.loc[["b2-0-0", "b5-0-0", "b6-0-0", "b0-0-1"], "free_process_revenue_factor"].tolist() == [
+        0.5,
+        1.0,
+        0,
+        0,
+    ]
 
 
 SUMS = "blocks tonnes ore_tonnes waste_tonnes strip_ratio processed_tonnes grade_copper metal_copper worth npv_best npv_worst years"
 
 
-@pytest.mark.parametrize("column", [*SUMS.split(), "worth_at_factor"])
+@pytest.mark.parametrize("column", [*SUMS.split(), "value_at_revenue_factor"])
 @pytest.mark.parametrize("pit", ["kept", "free"])
 def test_each_number_of_either_pit_that_is_bent_is_found(pits, column, pit):
     """A hundredth more."""
-    table = pd.read_csv(pits / "pits.csv", dtype={"worth_at_factor": str})
+    table = pd.read_csv(pits / "pits.csv", dtype={"value_at_revenue_factor": str})
     at = table.index[table["fixed_blocks"] == pit][0]
     bent = float(table.loc[at, column]) + (1 if column == "blocks" else 0.02)
-    table.loc[at, column] = f"{bent:.6f}" if column == "worth_at_factor" else bent
+    table.loc[at, column] = f"{bent:.6f}" if column == "value_at_revenue_factor" else bent
     table.to_csv(pits / "pits.csv", index=False)
     assert ("free" in wrong(pits)) == (pit == "free") and wrong(pits) != set()
 
 
-@pytest.mark.parametrize("column", ["free_factor", "free_process_factor"])
+@pytest.mark.parametrize("column", ["free_revenue_factor", "free_process_revenue_factor"])
 def test_a_block_of_the_pit_without_fixed_blocks_at_another_factor_is_found(pits, column):
     blocks = pd.read_csv(pits / "blocks.csv")
-    blocks.loc[blocks.index[blocks[column] == 500][-1], column] = 0
+    blocks.loc[blocks.index[blocks[column] == 0.5][-1], column] = 0
     blocks.to_csv(pits / "blocks.csv", index=False)
     assert wrong(pits) == {"free"}
 
 
 def test_a_pit_without_fixed_blocks_that_is_worth_less_is_found(pits):
     """What keeping to the fixed blocks would gain: no pit of all is worth less than one that keeps to some."""
-    table = pd.read_csv(pits / "pits.csv", dtype={"worth_at_factor": str})
-    worth = table.set_index("fixed_blocks")["worth_at_factor"].map(Decimal)
+    table = pd.read_csv(pits / "pits.csv", dtype={"value_at_revenue_factor": str})
+    worth = table.set_index("fixed_blocks")["value_at_revenue_factor"].map(Decimal)
     assert worth["free"] > worth["kept"]
-    table.assign(worth_at_factor=["999999.0", table["worth_at_factor"][1]]).to_csv(pits / "pits.csv", index=False)
+    table.assign(value_at_revenue_factor=["999999.0", table["value_at_revenue_factor"][1]]).to_csv(
+        pits / "pits.csv", index=False
+    )
     (rule,) = [rule for rule in verify(pits) if rule.name == "free"]
-    assert rule.differences == (f"factor 1500: worth_at_factor {table['worth_at_factor'][1]} is less than with them",)
+    assert rule.differences == (
+        f"revenue factor 1.50: value_at_revenue_factor {table['value_at_revenue_factor'][1]} is less than with them",
+    )
 
 
 def test_a_pit_without_fixed_blocks_that_leaves_a_block_standing_is_refused(plan_folder, monkeypatch):
@@ -267,5 +279,5 @@ def test_a_pit_without_fixed_blocks_that_leaves_a_block_standing_is_refused(plan
     project = load(plan_folder(ores_and_fixed(), with_section(FIXED_SECTION)))
     monkeypatch.setattr(problem, "ready", partial(bent, problem.ready))
     with pytest.raises(PlanError, match="free: walls: block .*, needs a block that is not"):
-        pitplan.write_pit(project, 1500)
+        pitplan.write_pit(project, 1.5)
     assert not (project.folder / "pit").exists()

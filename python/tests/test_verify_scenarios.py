@@ -106,7 +106,7 @@ def a_hundredth_more(worth):
     ("changed", "found"),
     [
         ({"places": dig_no_more}, {"walls", "shells", "worth", "probability", "tables"}),
-        ({"worth_at_factor": a_hundredth_more}, {"worth", "tables"}),
+        ({"value_at_revenue_factor": a_hundredth_more}, {"worth", "tables"}),
         ({"table": lambda it: it * 1.001}, {"shells", "tables"}),
     ],
 )
@@ -149,50 +149,50 @@ def test_a_barred_block_that_is_dug_is_found(copied):
     bend(answer_of(copied, 2), places=dug)
     (rule,) = [rule for rule in verify(copied) if rule.name == "fixed"]
     assert rule.differences == (
-        "scenario 2, cu_a at copper 11000.5, gold 45: block b10-0-0 may not be dug, and is so from factor 500 on",
+        "scenario 2, cu_a at copper 11000.5, gold 45: block b10-0-0 may not be dug, and is so from revenue factor 0.50 on",
     )
 
 
 @pytest.mark.parametrize(
     ("file", "column", "rule"),
     [
-        ("probability.csv", "probability_1000", "probability"),
+        ("probability.csv", "probability_1.00", "probability"),
         ("probability.csv", "id", "blocks"),
         *(
             ("scenarios.csv", name, "tables")
-            for name in ("price_gold", "blocks", "tonnes", "grade_gold", "worth", "worth_at_factor")
+            for name in ("price_gold", "blocks", "tonnes", "grade_gold", "worth", "value_at_revenue_factor")
         ),
         *(
             ("quantiles.csv", name, "tables")
             for name in ("models", "tonnes_mean", "worth_least", "metal_gold_quantile_0.1")
         ),
         *(
-            ("quantiles.csv", f"worth_at_factor_{name}", "tables")
+            ("quantiles.csv", f"value_at_revenue_factor_{name}", "tables")
             for name in ("quantile_0.5", "quantile_0.9", "greatest")
         ),
     ],
 )
 def test_each_number_that_is_bent_is_found(copied, file, column, rule):
     """A hundredth more in the last row that has the number."""
-    table = pd.read_csv(copied / file, dtype={"worth_at_factor": str})
+    table = pd.read_csv(copied / file, dtype={"value_at_revenue_factor": str})
     at = table.index[pd.to_numeric(table[column]) > 0][-1]
     bent = float(table.loc[at, column]) + (1 if column in ("blocks", "id", "models") else 0.01)
-    table.loc[at, column] = f"{bent:.6f}" if column == "worth_at_factor" else bent
+    table.loc[at, column] = f"{bent:.6f}" if column == "value_at_revenue_factor" else bent
     table.to_csv(copied / file, index=False)
     assert wrong(copied) == {rule}
 
 
 def test_a_probability_that_is_bent_is_named(copied):
     table = pd.read_csv(copied / "probability.csv")
-    at = table.index[table["probability_1500"] == 0.5][0]
+    at = table.index[table["probability_1.50"] == 0.5][0]
     name = table["name"][at]
-    table.loc[at, "probability_1500"] += 0.01
+    table.loc[at, "probability_1.50"] += 0.01
     table.to_csv(copied / "probability.csv", index=False)
     (rule,) = [rule for rule in verify(copied) if rule.differences]
     assert (rule.name, rule.count, rule.differences) == (
         "probability",
         1,
-        (f"block {name}: probability_1500 0.51 for 0.5",),
+        (f"block {name}: probability_1.50 0.51 for 0.5",),
     )
 
 
@@ -205,7 +205,7 @@ def test_a_probability_that_is_bent_is_named(copied):
         ),
         (lambda it: it["scenarios"][1].update(model="cu_b"), "scenarios.json lists cu_b at "),
         (lambda it: it["scenarios"].pop(), "scenarios.json lists 5 scenarios, and the models and prices make 6"),
-        (lambda it: it["factors"].pop(), "scenarios.json lists the factors [500, 1000]"),
+        (lambda it: it["revenue_factors"].pop(), "scenarios.json lists the revenue factors 0.50, 1.00"),
     ],
 )
 def test_a_list_of_other_scenarios_is_found(copied, change, said):
@@ -270,9 +270,10 @@ def test_prices_that_are_passed_over_are_found(plan_folder, monkeypatch):
     monkeypatch.setattr(worker, "priced", lambda project, prices: project)
     shared = prepared(plan_folder(pillar(), PRICES, UPRIGHT))
     solved_in_turn(shared)
-    # At 12,000 the metal of sim_1, 0.75 t, yields 4500 at factor 500, and the pit 2900.
+    # At 12,000 the metal of sim_1, 0.75 t, yields 4500 at revenue factor 0.50, and the pit 2900.
     with pytest.raises(
-        PlanError, match="worth: scenario 2, sim_1 at copper 12000: factor 500: worth_at_factor 1400.* for 2900"
+        PlanError,
+        match="worth: scenario 2, sim_1 at copper 12000: revenue factor 0.50: value_at_revenue_factor 1400.* for 2900",
     ):
         pitplan.gather(shared.folder)
 
@@ -298,11 +299,11 @@ def test_a_cost_that_is_counted_from_another_level_is_found(plan_folder, monkeyp
     pitplan.gather(shared.folder)
     # 30 m is the top of the three blocks that ore needs, and 50 m that of the model.
     assert Verification(read(shared.folder, shared.folder)).reference == 30
-    assert pd.read_csv(shared.folder / "scenarios.csv")["worth_at_factor"][1] == 4400 - 25 - 50
+    assert pd.read_csv(shared.folder / "scenarios.csv")["value_at_revenue_factor"][1] == 4400 - 25 - 50
     monkeypatch.setattr("pitplan.economics.block_values.first_level", lambda *_: 0)
     shared = prepared(path)
     solved_in_turn(shared)
-    with pytest.raises(PlanError, match="worth: scenario 1, sim_1: factor 500: worth_at_factor "):
+    with pytest.raises(PlanError, match="worth: scenario 1, sim_1: revenue factor 0.50: value_at_revenue_factor "):
         pitplan.gather(shared.folder)
 
 
@@ -355,7 +356,7 @@ def test_a_density_and_ground_without_rows_are_looked_at(plan_folder):
     solved_in_turn(shared)
     pitplan.gather(shared.folder)
     assert wrong(shared.folder) == set()
-    assert pd.read_csv(shared.folder / "scenarios.csv")["worth_at_factor"][0] == 1400 + 20 + 199
+    assert pd.read_csv(shared.folder / "scenarios.csv")["value_at_revenue_factor"][0] == 1400 + 20 + 199
 
 
 def test_a_folder_that_is_none_of_scenarios_is_named(copied, tmp_path):
@@ -364,7 +365,7 @@ def test_a_folder_that_is_none_of_scenarios_is_named(copied, tmp_path):
     ):
         verify(tmp_path / "nowhere")
     record = json.loads((copied / "scenarios.json").read_text())
-    for name in ("factors", "grid", "project"):
+    for name in ("revenue_factors", "grid", "project"):
         (copied / "scenarios.json").write_text(json.dumps({key: value for key, value in record.items() if key != name}))
         with pytest.raises(
             PlanError, match=f"plan: is no folder that pitplan scenarios and gather have written: '{name}' is missing"
@@ -438,7 +439,7 @@ def test_tables_and_models_that_are_gone_are_named(copied, plan_folder):
 
 def test_blocks_that_come_in_at_factor_1_are_dug(plan_folder):
     """At a thousandth of eight millions the first model's metal yields 6000, and its pit costs 1600."""
-    changes = [UPRIGHT, ("price = 8000", "price = 8_000_000"), ("[500, 1000, 1500]", "[1, 2, 1000]")]
+    changes = [UPRIGHT, ("price = 8000", "price = 8_000_000"), ("[0.5, 1.0, 1.5]", "[0.001, 0.002, 1.0]")]
     shared = prepared(plan_folder(pillar(), COLUMNS, *changes))
     solved_in_turn(shared)
     pitplan.gather(shared.folder)
@@ -461,16 +462,16 @@ def test_ore_that_pays_nothing_once_it_is_rounded_is_none(plan_folder):
     pitplan.gather(shared.folder)
     assert shared.record["mining_cost_reference"] == 20 and wrong(shared.folder) == set()
     # 90,000 t of copper; a tonne costs 10 to process, and 2 to mine in the upper block and 2.5 in the lower.
-    worth = pd.read_csv(shared.folder / "scenarios.csv").set_index("factor")["worth"]
-    assert worth[1000] == pytest.approx(90_000 * 8000.000001 - 3_000_000 * (10 + 2 + 2.5), abs=0.01)
+    worth = pd.read_csv(shared.folder / "scenarios.csv").set_index("revenue_factor")["worth"]
+    assert worth[1.0] == pytest.approx(90_000 * 8000.000001 - 3_000_000 * (10 + 2 + 2.5), abs=0.01)
 
 
 def test_quantiles_of_one_model_are_its_own_amounts(plan_folder):
-    """At factor 1000 its pit has three blocks of 100 t and is worth 4400."""
+    """At revenue factor 1.00 its pit has three blocks of 100 t and is worth 4400."""
     shared = prepared(plan_folder(pillar().drop(columns=["sim_2", "sim_3"]), COLUMNS, UPRIGHT))
     solved_in_turn(shared)
     pitplan.gather(shared.folder)
     assert wrong(shared.folder) == set()
-    row = pd.read_csv(shared.folder / "quantiles.csv").set_index("factor").loc[1000]
+    row = pd.read_csv(shared.folder / "quantiles.csv").set_index("revenue_factor").loc[1.0]
     parts = ("mean", "least", "quantile_0.1", "quantile_0.5", "quantile_0.9", "greatest")
     assert [(row[f"tonnes_{part}"], row[f"worth_{part}"]) for part in parts] == [(300, 4400)] * 6

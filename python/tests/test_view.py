@@ -59,32 +59,37 @@ def demand_drawn(browser, seen, **texts):
 @needs_chromium
 def test_the_page_draws_the_blocks_of_a_pit_below_a_bench(page, browser):
     path, blocks = page
-    assert set(blocks["factor"]) == {0, 500, 1000, 1500}
-    browser.open(path, "show=pit&factor=1500&cut=1")
-    demand_drawn(browser, cube_of(blocks, blocks["factor"] > 0)[1:], dugText="1500", cutText="40 m")
+    assert set(blocks["revenue_factor"]) == {0, 0.5, 1.0, 1.5}
+    browser.open(path, "show=pit&rf=1.5&cut=1")
+    demand_drawn(browser, cube_of(blocks, blocks["revenue_factor"] > 0.0)[1:], dugText="1.50", cutText="40 m")
 
 
 @needs_chromium
 def test_the_page_draws_the_ground_with_a_pit_and_sections_at_any_place(page, browser):
     """Rows are cut away from the south, columns from the west, each of 10 m."""
     path, blocks = page
-    browser.open(path, "show=ground&factor=500")
-    ground = cube_of(blocks, (blocks["factor"] == 0) | (blocks["factor"] > 500))
-    demand_drawn(browser, ground, dugText="500", cutText="50 m", southText="0 m", westText="0 m")
+    browser.open(path, "show=ground&rf=0.5")
+    ground = cube_of(blocks, (blocks["revenue_factor"] == 0.0) | (blocks["revenue_factor"] > 0.5))
+    demand_drawn(browser, ground, dugText="0.50", cutText="50 m", southText="0 m", westText="0 m")
     browser.choose("south", "4")
     browser.choose("west", "3")
     demand_drawn(browser, ground[:, 4:, 3:], southText="40 m", westText="30 m")
     browser.choose("dug", "0")
-    demand_drawn(browser, cube_of(blocks, blocks["factor"] >= 0)[:, 4:, 3:], dugText="none", dugName="Pit at factor")
+    demand_drawn(
+        browser,
+        cube_of(blocks, blocks["revenue_factor"] >= 0.0)[:, 4:, 3:],
+        dugText="none",
+        dugName="Pit at revenue factor",
+    )
 
 
 @needs_chromium
 def test_the_topography_lies_over_what_is_dug(page, browser):
     """A face for each column of which the highest block is dug."""
     path, blocks = page
-    browser.open(path, "factor=1500&topography=1")
+    browser.open(path, "rf=1.5&topography=1")
     highest = blocks.sort_values("z").groupby(["x", "y"]).tail(1)
-    assert browser.ask("document.body.dataset.topography") == str(int((highest["factor"] > 0).sum())) != "0"
+    assert browser.ask("document.body.dataset.topography") == str(int((highest["revenue_factor"] > 0.0).sum())) != "0"
     browser.choose("topography", False)
     assert browser.ask("document.body.dataset.topography") == "0"
 
@@ -92,10 +97,10 @@ def test_the_topography_lies_over_what_is_dug(page, browser):
 def scheduled(folder, place):
     """The hill with phases and years by hand: phase 1 is the first shell, and years are one more than the number of the shell."""
     result = read_folder(folder)
-    dug = result.blocks["factor"] > 0
+    dug = result.blocks["revenue_factor"] > 0.0
     more = {
-        "phase": np.where(dug, 1 + (result.blocks["factor"] > 500), 0),
-        "year": np.where(dug, 1 + result.blocks["factor"] // 500, 0),
+        "phase": np.where(dug, 1 + (result.blocks["revenue_factor"] > 0.5), 0),
+        "year": np.where(dug, 1 + (result.blocks["revenue_factor"] // 0.5).astype(int), 0),
     }
     blocks = result.blocks.assign(**more)
     place.mkdir()
@@ -129,9 +134,9 @@ def test_a_schedule_has_a_slider_through_its_years_and_colours(solved, tmp_path,
 def test_a_click_on_a_block_shows_its_row(page, browser):
     """The first block of rock below the pixel is told by the test's own ray through the camera; its row is that of blocks.csv, with its worth."""
     path, blocks = page
-    browser.open(path, "factor=1500&cut=2")
+    browser.open(path, "rf=1.5&cut=2")
     assert browser.ask("document.getElementById('picked').hidden")
-    ground = cube_of(blocks, blocks["factor"] == 0)
+    ground = cube_of(blocks, blocks["revenue_factor"] == 0.0)
     ground[:2] = False
     for x, y in ((600, 330), (520, 380), (700, 300)):
         browser.click(x, y)
@@ -169,11 +174,11 @@ def test_of_a_large_table_the_rows_of_pits_alone_are_there(solved, tmp_path, bro
     monkeypatch.setattr(viewer3d, "MOST_ROWS", len(result.blocks) - 1)
     viewer3d.write(tmp_path / "view.html", result)
     browser.open(tmp_path / "view.html", "show=pit")
-    dug = result.blocks[result.blocks["factor"] > 0]
+    dug = result.blocks[result.blocks["revenue_factor"] > 0.0]
     assert browser.ask("lines.length") == len(dug) < len(result.blocks)
     browser.ask(f"showRow({dug['id'].iloc[0]})")
     assert browser.ask("document.querySelector('#picked h1').textContent") == "The block's row"
-    browser.ask(f"showRow({result.blocks['id'][result.blocks['factor'] == 0].iloc[0]})")
+    browser.ask(f"showRow({result.blocks['id'][result.blocks['revenue_factor'] == 0].iloc[0]})")
     assert "is in no pit, and its row is not in this page" in browser.text("picked")
 
 
@@ -195,7 +200,7 @@ def test_the_picture_is_the_one_that_was_kept(page, tmp_path_factory):
     image = pytest.importorskip("matplotlib.image")
     small = Browser(tmp_path_factory.mktemp("small"), 300, 200)
     try:
-        small.open(page[0], "factor=1500&south=4&colour=pit&topography=1")
+        small.open(page[0], "rf=1.5&south=4&colour=pit&topography=1")
         found = base64.b64decode(small.ask("renderer.domElement.toDataURL()").partition(",")[2])
     finally:
         small.end()
@@ -232,13 +237,13 @@ def test_the_model_of_the_page_by_hand(solved):
     (metal,) = model["metals"]
     shell, tint = bytes_of(model["shell"]), bytes_of(metal["grade"])
     assert (model["shape"], model["size"], model["corner"], model["top"]) == ([5, 9, 10], [10, 10, 10], [0, 0, 0], 50)
-    assert (model["factors"], metal["name"], metal["sign"], metal["most"]) == (
-        [500, 1000, 1500],
+    assert (model["revenue_factors"], metal["name"], metal["sign"], metal["most"]) == (
+        [0.5, 1.0, 1.5],
         "copper",
         "%",
         pytest.approx(5.898),
     )
-    assert shell[blocks["id"]].tolist() == blocks["factor"].map({0: 0, 500: 1, 1000: 2, 1500: 3}).tolist()
+    assert shell[blocks["id"]].tolist() == blocks["revenue_factor"].map({0: 0, 0.5: 1, 1.0: 2, 1.5: 3}).tolist()
     assert tint[blocks["id"]].tolist() == blocks["cu"].map({0: 0, 0.8: 35, 0.9: 39, 6: 255}).tolist()
     air = np.setdiff1d(np.arange(450), blocks["id"])
     assert len(air) == 45 and set(shell[air]) == {255} and set(tint[air]) == {0}

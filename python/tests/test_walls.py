@@ -91,7 +91,7 @@ def project_of(walls, levels, size, never_steeper=False):
             "money": {"mining_cost": 2, "processing_cost": 10},
             "metals": [{"name": "copper", "column": "cu", "unit": "percent", "price": 8000, "recovery": 1}],
             "slopes": section,
-            "shells": {"factors": [1000], "rate": 0, "ore_per_year": 100},
+            "shells": {"revenue_factors": [1000], "rate": 0, "ore_per_year": 100},
         },
         Path("project.toml"),
     )

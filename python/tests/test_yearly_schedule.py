@@ -54,7 +54,7 @@ def test_three_pillars_by_hand(plan_folder):
         )
     years = pd.read_csv(folder / "years.csv").set_index("case").loc["rule"]
     assert (
-        years["factor"].tolist() == [1000] * 3
+        years["revenue_factor"].tolist() == [1.0] * 3
         and years["year"].tolist() == [1, 2, 3]
         and years["cash"].tolist() == WORTHS
     )
@@ -199,7 +199,9 @@ def test_the_report_and_the_workbook_have_the_schedule(copied):
         pd.testing.assert_frame_equal(book[name], pd.read_csv(copied / f"{name}.csv"), check_dtype=False)
     years = pd.read_csv(copied / "years.csv")
     pd.testing.assert_frame_equal(
-        book["years"], years[years["factor"] == years["factor"].max()].reset_index(drop=True), check_dtype=False
+        book["years"],
+        years[years["revenue_factor"] == years["revenue_factor"].max()].reset_index(drop=True),
+        check_dtype=False,
     )
     told = json.loads((copied / "schedule.json").read_text())["ways"]
     assert book["ways"]["value"].tolist() == pytest.approx([way["value"] for way in told.values()], abs=1e-3)
@@ -321,7 +323,9 @@ def test_cash_that_is_discounted_otherwise_is_found(copied):
     assert "schedule value" in wrong(copied)
 
 
-@pytest.mark.parametrize("name", ["rock_tonnes", "ore_tonnes", "metal_copper", "cash", "discounted", "factor", "year"])
+@pytest.mark.parametrize(
+    "name", ["rock_tonnes", "ore_tonnes", "metal_copper", "cash", "discounted", "revenue_factor", "year"]
+)
 def test_years_that_do_not_follow_are_found(copied, name):
     def change(table):
         table.loc[table.index[table["case"] == "rule"][-1], name] += 1

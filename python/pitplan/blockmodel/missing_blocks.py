@@ -14,6 +14,7 @@ import pandas as pd
 
 from pitplan.config.project import Project
 from pitplan.config.table import AbsentRock
+from pitplan.core.revenue_factors import factor_text
 from pitplan.errors import PlanError
 
 from .grid import Grid
@@ -79,6 +80,6 @@ def demand_known(entry: np.ndarray, grid: Grid, project: Project, source: str) -
     x, y, z = (f"{float(axis):.10g}" for axis in grid.centres(first))
     raise PlanError(
         f"{source}: the shells reach {len(reached):,} cells that have no row and are not above the highest of their column, the first "
-        f'at {x}, {y}, {z} from factor {factors.min()} on: give their rows, or say what they are by [table] absent = "air" or '
+        f'at {x}, {y}, {z} from revenue factor {factor_text(factors.min())} on: give their rows, or say what they are by [table] absent = "air" or '
         "absent = { tonnes = .., region = .. }"
     )

@@ -6,10 +6,12 @@ Words that other modules define stand here too, so that help needs none of these
 from __future__ import annotations
 
 import argparse
+from decimal import Decimal, InvalidOperation
 from pathlib import Path
 from typing import Callable
 
 from minelib.__main__ import add_arguments as add_minelib
+from pitplan.core.revenue_factors import BASE_PRICE, factor_text, of_decimal
 
 from .. import __version__
 from . import subcommands
@@ -18,10 +20,11 @@ DESCRIPTION = (
     "Plan an open-pit mine: from a block model, prices, costs and slope angles to pit shells, pushbacks and schedules."
 )
 FORMATS = ("table", "csv", "xlsx", "vti", "vtu", "dxf", "stl", "obj", "gpkg", "str", "lines")
-STAGES = ("factor", "phase", "year")
+STAGES = ("revenue_factor", "phase", "year")
 SURFACES = ("pit", "ground")
 SOLVERS = ("library", "program")
-REFERENCE_FACTOR = 1000
+# The option that names a shell.
+REVENUE_FACTOR = ("--revenue-factor", "--rf")
 # The column at which the words on a subcommand begin.
 INDENT = 15
 
@@ -112,7 +115,9 @@ def add_shells(subs: Subparsers) -> None:
 
 def add_pit(subs: Subparsers) -> None:
     sub = subs.add(
-        "pit", "solve the pit of one factor with the fixed blocks and without, and compare the two", subcommands.pit
+        "pit",
+        "solve the pit of one revenue factor with the fixed blocks and without, and compare the two",
+        subcommands.pit,
     )
     add_project(sub)
     add_set(sub)
@@ -120,11 +125,11 @@ def add_pit(subs: Subparsers) -> None:
     add_writing(sub)
     add_json(sub)
     add_solver(sub)
-    add_factor(sub, positive)
+    add_factor(sub)
 
 
 def add_pushbacks(subs: Subparsers) -> None:
-    does = "divide the pit of one factor into pushbacks; write tables, figures and the report"
+    does = "divide the pit of one revenue factor into pushbacks; write tables, figures and the report"
     sub = subs.add("pushbacks", does, subcommands.pushbacks)
     add_project(sub)
     add_set(sub)
@@ -223,10 +228,10 @@ def add_export(subs: Subparsers) -> None:
     add_project(sub)
     add_plan_folder(sub)
     add_quiet(sub)
-    text = "format; table is the planner's own table with the factor, pushback and year of each block"
+    text = "format; table is the planner's own table with the revenue factor, pushback and year of each block"
     sub.add_argument("--to", required=True, choices=FORMATS, help=text)
-    add_factor(sub, int)
-    text = "export the pit of the factor, or all pushbacks (phase) or years (default: factor)"
+    add_factor(sub)
+    text = "export the pit of one revenue factor, or all pushbacks (phase) or years (default: revenue_factor)"
     sub.add_argument("--of", choices=STAGES, default=STAGES[0], help=text)
     text = "export the mined blocks (pit), or the open surface of the ground with the pit in it (ground) (default: pit)"
     sub.add_argument("--surface", choices=SURFACES, default=SURFACES[0], help=text)
@@ -238,7 +243,9 @@ def add_audit(subs: Subparsers) -> None:
     add_project(sub)
     add_plan_folder(sub)
     add_quiet(sub)
-    sub.add_argument("--factor", type=int, required=True, help="price factor of the shell, in per mille")
+    sub.add_argument(
+        *REVENUE_FACTOR, type=factor_of, required=True, metavar="FACTOR", help="revenue factor of the shell"
+    )
 
 
 def add_verify(subs: Subparsers) -> None:
@@ -303,9 +310,9 @@ def add_solver(sub: Parser) -> None:
     sub.add_argument("--solver", choices=SOLVERS, help=text)
 
 
-def add_factor(sub: Parser, kind: Callable[[str], int]) -> None:
-    text = f"price factor of the pit, in per mille (default: {REFERENCE_FACTOR})"
-    sub.add_argument("--factor", type=kind, default=REFERENCE_FACTOR, help=text)
+def add_factor(sub: Parser) -> None:
+    text = f"revenue factor of the pit, such as 0.80 (default: {factor_text(BASE_PRICE)}, the base price)"
+    sub.add_argument(*REVENUE_FACTOR, type=factor_of, default=BASE_PRICE, metavar="FACTOR", help=text)
 
 
 def add_workers(sub: Parser) -> None:
@@ -318,10 +325,8 @@ def add_workers(sub: Parser) -> None:
 
 
 def add_gathering(sub: Parser) -> None:
-    text = (
-        "price factor whose probabilities are drawn, in per mille (default: the project's chosen one, otherwise 1000)"
-    )
-    sub.add_argument("--factor", type=int, help=text)
+    text = "revenue factor of the shell whose probabilities are drawn (default: the project's selected one, otherwise 1.00)"
+    sub.add_argument(*REVENUE_FACTOR, type=factor_of, metavar="FACTOR", help=text)
     sub.add_argument("--partial", action="store_true", help="gather although scenarios have no answer")
 
 
@@ -335,6 +340,14 @@ def scheduler_of(text: str) -> str:
     if text == "local" or "://" in text:
         return text
     raise argparse.ArgumentTypeError(f'found "{text}", expected local or tcp://host:port')
+
+
+def factor_of(text: str) -> float:
+    try:
+        return of_decimal(Decimal(text))
+    except (InvalidOperation, ValueError):
+        said = f'found "{text}", expected a revenue factor from 0 to 100 with at most three decimals, such as 0.80'
+        raise argparse.ArgumentTypeError(said) from None
 
 
 def positive(text: str) -> int:

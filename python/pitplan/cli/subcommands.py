@@ -100,7 +100,7 @@ def pit(options: Namespace) -> int:
 
     project = project_of(options)
     folder = options.out or project.folder / "pit"
-    table = write_pit(project, options.factor, folder, writing_of(options))
+    table = write_pit(project, options.revenue_factor, folder, writing_of(options))
     print_notes(read_record(folder)["notes"])
     if options.json:
         print_json(table, folder / PITS)
@@ -173,7 +173,7 @@ def scenarios(options: Namespace) -> int:
 
     from ..commands.scenarios import write_scenarios
 
-    request = Request(options.on, options.workers, options.factor, options.partial, options.by)
+    request = Request(options.on, options.workers, options.revenue_factor, options.partial, options.by)
     return print_scenarios(write_scenarios(project_of(options), options.out, request, writing_of(options)))
 
 
@@ -182,7 +182,7 @@ def gather(options: Namespace) -> int:
 
     from ..commands.scenarios import gather as gather_answers
 
-    request = Request(factor=options.factor, partial=options.partial)
+    request = Request(revenue_factor=options.revenue_factor, partial=options.partial)
     return print_scenarios(gather_answers(options.folder, request, writing_of(options)))
 
 
@@ -226,7 +226,7 @@ def export(options: Namespace) -> int:
 
     shape = Shape(options.of, options.surface, options.smooth)
     folder = folder_of(options)
-    print_path(write_export(folder, options.to, options.factor, progress_of(options), shape))
+    print_path(write_export(folder, options.to, options.revenue_factor, progress_of(options), shape))
     return 0
 
 
@@ -234,7 +234,7 @@ def audit(options: Namespace) -> int:
     from ..commands.audit import audit as write_audit
     from .printing import print_path
 
-    print_path(write_audit(folder_of(options), options.factor, progress_of(options)))
+    print_path(write_audit(folder_of(options), options.revenue_factor, progress_of(options)))
     return 0
 
 

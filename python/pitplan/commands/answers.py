@@ -10,6 +10,7 @@ import pandas as pd
 
 from pitplan.core.atomic_files import write_json
 from pitplan.core.progress import Progress
+from pitplan.core.revenue_factors import factor_text
 from pitplan.export import xlsx
 from pitplan.pits import shell_tables
 from pitplan.pushbacks import nested
@@ -60,7 +61,7 @@ def write_answer(answered: Answered, run: Run) -> pd.DataFrame:
     with progress.step("counting the shells"):
         table, years = write_tables(answered, stage)
         run.record["notes"] += shell_tables.edge_notes(plan, answered.solution)
-    factor = shell_tables.chosen_factor(table, plan.project.schedule)
+    factor = shell_tables.selected_factor(table, plan.project.schedule)
     check_fixed(run.mine, answered.solution, factor, progress)
     note_answer(answered, factor, run)
     run.record["figures"] = run.writing.figures
@@ -77,12 +78,12 @@ def write_answer(answered: Answered, run: Run) -> pd.DataFrame:
     return table
 
 
-def note_answer(answered: Answered, factor: int, run: Run) -> None:
-    """Adds the parts of the answer to the record; `factor` is that of the chosen shell, in per mille."""
+def note_answer(answered: Answered, factor: float, run: Run) -> None:
+    """Adds the parts of the answer to the record; `factor` is that of the chosen shell."""
     record = run.record
     record["shells"] = {
-        "factors": list(answered.plan.project.schedule.factors),
-        "chosen": factor,
+        "revenue_factors": list(answered.plan.project.schedule.revenue_factors),
+        "selected": factor,
         "solver": record.pop("solver"),
     }
     if answered.phases is not None:
@@ -93,11 +94,11 @@ def note_answer(answered: Answered, factor: int, run: Run) -> None:
         record["by_block"] = True
 
 
-def check_fixed(mine: Mine, solution: Solution, factor: int, progress: Progress) -> None:
-    """Solves the whole mine with its fixed blocks at a factor, in per mille. Raises PlanError if the shell of that factor is another pit."""
+def check_fixed(mine: Mine, solution: Solution, factor: float, progress: Progress) -> None:
+    """Solves the whole mine with its fixed blocks at a factor. Raises PlanError if the shell of that factor is another pit."""
     if mine.plan.settled is None:
         return
-    with progress.step(f"solving factor {factor} by itself, with the fixed blocks"):
+    with progress.step(f"solving revenue factor {factor_text(factor)} by itself, with the fixed blocks"):
         pit = mine.pit(factor)
     problem.demand_same(solution, pit, factor)
 
@@ -119,7 +120,7 @@ def sheets_of(answered: Answered, table: pd.DataFrame, years: pd.DataFrame) -> d
     sheets = {
         "ways": phase_schedule.ways(answered.schedule),
         "schedule": shown(phase_schedule.table(answered.schedule)),
-        "years": shown(with_outline(years[years["factor"] == answered.schedule.factor], project)),
+        "years": shown(with_outline(years[years["revenue_factor"] == answered.schedule.factor], project)),
         "phases": shown(nested.table(answered.phases)),
         "shells": shown(with_outline(table, project)),
     }

@@ -17,7 +17,7 @@ if TYPE_CHECKING:
     from .answers import Answered
 
 
-def draw(answered: Answered, table: pd.DataFrame, years: pd.DataFrame, chosen: int, stage: Path) -> list[str]:
+def draw(answered: Answered, table: pd.DataFrame, years: pd.DataFrame, chosen: float, stage: Path) -> list[str]:
     """Draws the pictures of shells, and those of pushbacks and schedules if there are any.
 
     Parameters
@@ -26,8 +26,8 @@ def draw(answered: Answered, table: pd.DataFrame, years: pd.DataFrame, chosen: i
         The answer.
     table, years : DataFrame
         Its tables of shells and of years.
-    chosen : int
-        The factor of the chosen shell, in per mille.
+    chosen : float
+        The factor of the chosen shell.
     stage : Path
         The folder of the pictures.
 
@@ -45,7 +45,7 @@ def draw(answered: Answered, table: pd.DataFrame, years: pd.DataFrame, chosen: i
     return files_of(drawn, formats)
 
 
-def draw_shells(answered: Answered, table: pd.DataFrame, chosen: int, stage: Path) -> None:
+def draw_shells(answered: Answered, table: pd.DataFrame, chosen: float, stage: Path) -> None:
     plan = answered.plan
     scene = plans_sections.scene_of(plan, answered.solution, chosen)
     write_pit_by_pit(table, plan.project.money.currency, chosen, stage / PICTURES["pit_by_pit"])

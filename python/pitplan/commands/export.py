@@ -6,9 +6,9 @@ from dataclasses import replace
 from pathlib import Path
 
 from pitplan import verification
-from pitplan.config.shells import REFERENCE_FACTOR
 from pitplan.core.noted_path import NotedPath, noted
 from pitplan.core.progress import Progress, silent
+from pitplan.core.revenue_factors import BASE_PRICE, factor_text, factor_texts
 from pitplan.export import registry
 from pitplan.results.folder import Folder, read_folder
 from pitplan.results.pit_states import FACTOR, Shape
@@ -18,7 +18,7 @@ from .writing import Place
 
 
 def write_export(
-    folder: Place, kind: str, factor: int = REFERENCE_FACTOR, progress: Progress = silent, shape: Shape = Shape()
+    folder: Place, kind: str, revenue_factor: float = BASE_PRICE, progress: Progress = silent, shape: Shape = Shape()
 ) -> NotedPath:
     """Writes the shells of a folder that `write_shells` has written for other programs.
 
@@ -27,11 +27,11 @@ def write_export(
     folder : str or Path
         The folder of the plan.
     kind : str
-        The format. `table` is the planner's own table, row by row, with the factors, pushback and year of each block; `xlsx` has all
-        tables; `csv`, `vti` and `vtu` hold the shells of all factors. `dxf` has the toes and crests of one shell at each level, and so do
+        The format. `table` is the planner's own table, row by row, with the revenue factors, pushback and year of each block; `xlsx` has all
+        tables; `csv`, `vti` and `vtu` hold the shells of all revenue factors. `dxf` has the toes and crests of one shell at each level, and so do
         `gpkg`, `str` and `lines`, in metres. `stl` and `obj` have the closed surface round its blocks.
-    factor : int
-        That of the shell, in per mille.
+    revenue_factor : float
+        That of the shell.
     progress : Progress
         Reports the steps.
     shape : Shape
@@ -45,14 +45,14 @@ def write_export(
     Raises
     ------
     PlanError
-        If the folder has no shells or not this factor, pushbacks or years, the format is unknown or has no such shape, or the file differs
+        If the folder has no shells or not this revenue factor, pushbacks or years, the format is unknown or has no such shape, or the file differs
         from its independent recalculation.
     MissingPackage
         Without a library that the format requires.
     """
-    shape = replace(shape, factor=factor)
+    shape = replace(shape, revenue_factor=revenue_factor)
     registry.demand_apt(kind, shape)
-    result = read_factor(folder, factor) if shape.of == FACTOR else read_folder(Path(folder))
+    result = read_factor(folder, revenue_factor) if shape.of == FACTOR else read_folder(Path(folder))
     target = result.path / registry.name_of(kind, shape)
     with progress.step(f"writing {target.name}"), registry.staged(target, kind, shape) as path:
         notes = registry.WRITERS[kind](path, result, shape)
@@ -61,9 +61,11 @@ def write_export(
     return noted(target, notes or ())
 
 
-def read_factor(folder: Place, factor: int) -> Folder:
-    """Reads the files of a plan. Raises PlanError if there is no shell of this factor, in per mille."""
+def read_factor(folder: Place, factor: float) -> Folder:
+    """Reads the files of a plan. Raises PlanError if there is no shell of this revenue factor."""
     result = read_folder(Path(folder))
     if factor not in result.factors:
-        raise PlanError(f"factor {factor} is not among the factors {', '.join(map(str, result.factors))}")
+        raise PlanError(
+            f"revenue factor {factor_text(factor)} is not among the revenue factors {factor_texts(result.factors)}"
+        )
     return result

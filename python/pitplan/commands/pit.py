@@ -1,4 +1,4 @@
-"""`pitplan pit`: the pit of one factor, with the fixed blocks and without them."""
+"""`pitplan pit`: the pit of one revenue factor, with the fixed blocks and without them."""
 
 from __future__ import annotations
 
@@ -10,7 +10,7 @@ import pandas as pd
 
 from pitplan.blockmodel import missing_blocks
 from pitplan.config.project import Project
-from pitplan.config.shells import REFERENCE_FACTOR
+from pitplan.core.revenue_factors import BASE_PRICE
 from pitplan.pits import shell_tables
 from pitplan.results import names
 from pitplan.results.rounding import shown, write_csv
@@ -22,19 +22,18 @@ from .writing import PITS, Place, Run, Source, Writing, begun, finish, note_veri
 
 
 def write_pit(
-    project: Source, factor: int = REFERENCE_FACTOR, folder: Optional[Place] = None, writing: Writing = Writing()
+    project: Source, revenue_factor: float = BASE_PRICE, folder: Optional[Place] = None, writing: Writing = Writing()
 ) -> pd.DataFrame:
-    """Solves the pit of one factor with the project's fixed blocks and without them, as `pitplan pit` does.
+    """Solves the pit of one revenue factor with the project's fixed blocks and without them, as `pitplan pit` does.
 
     The folder gets this table, blocks.csv and prepare.json. blocks.csv has the pit with the fixed blocks, and the shells of the project's
-    lower factors, which the best case mines in turn; free_factor and free_process_factor are the same without the fixed blocks.
+    lower factors, which the best case mines in turn; free_revenue_factor and free_process_revenue_factor are the same without the fixed blocks.
 
     Parameters
     ----------
     project : Project, str or Path
         A project, or the path of its project.toml.
-    factor : int
-        In per mille.
+    revenue_factor : float
     folder : str or Path, optional
         Where the files go. Default: pit in the project's output folder.
     writing : Writing
@@ -54,8 +53,8 @@ def write_pit(
     target = project.folder / "pit" if folder is None else Path(folder)
     if project.fixed is None:
         raise PlanError(f"{project.path}: [fixed] is missing: it says which blocks must be dug and which may not be")
-    with begun(project, target, writing, with_lower_factors(project, factor)) as run:
-        table, blocks = compared(run, factor)
+    with begun(project, target, writing, with_lower_factors(project, revenue_factor)) as run:
+        table, blocks = compared(run, revenue_factor)
         write_table(blocks, run.stage)
         write_csv(shown(table), run.stage / PITS, project)
         note_verified(run.mine.plan, run)
@@ -63,8 +62,8 @@ def write_pit(
     return table
 
 
-def compared(run: Run, factor: int) -> tuple[pd.DataFrame, pd.DataFrame]:
-    """Solves the pit of a factor, in per mille, with the fixed blocks and without them.
+def compared(run: Run, factor: float) -> tuple[pd.DataFrame, pd.DataFrame]:
+    """Solves the pit of a factor, with the fixed blocks and without them.
 
     Returns
     -------
@@ -75,17 +74,19 @@ def compared(run: Run, factor: int) -> tuple[pd.DataFrame, pd.DataFrame]:
     """
     plan, progress = run.mine.plan, run.writing.progress
     keeping = problem.solve(plan, run.mine, progress)
-    free = replace(run.mine.free_shells(plan.project.schedule.factors), of=plan.key)
+    free = replace(run.mine.free_shells(plan.project.schedule.revenue_factors), of=plan.key)
     missing_blocks.demand_known(free.entry, plan.grid, run.project, plan.source)
     check_fixed(run.mine, keeping, factor, progress)
     both = [shell_tables.shells(plan, solution).tail(1) for solution in (keeping, free)]
     table = pd.concat(both, ignore_index=True)
     table.insert(0, "fixed_blocks", ["kept", "free"])
-    of_free = shell_tables.blocks(plan, free)[["factor", "process_factor"]].add_prefix("free_")
+    of_free = shell_tables.blocks(plan, free)[["revenue_factor", "process_revenue_factor"]].add_prefix("free_")
     return table, pd.concat([shell_tables.blocks(plan, keeping), of_free], axis=1)
 
 
-def with_lower_factors(project: Project, factor: int) -> Project:
-    """The project with one factor, in per mille, and those of its own that are lower."""
-    within = tuple(sorted({factor, *(inner for inner in project.schedule.factors if inner < factor)}))
-    return replace(project, schedule=replace(project.schedule, factors=within, chosen=None, reference_added=False))
+def with_lower_factors(project: Project, factor: float) -> Project:
+    """The project with one factor, and those of its own that are lower."""
+    within = tuple(sorted({factor, *(inner for inner in project.schedule.revenue_factors if inner < factor)}))
+    return replace(
+        project, schedule=replace(project.schedule, revenue_factors=within, selected=None, base_price_added=False)
+    )

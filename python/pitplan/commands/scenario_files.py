@@ -13,6 +13,7 @@ from pitplan.config.figures import PictureRules
 from pitplan.core import csv_writer
 from pitplan.core.atomic_files import staged, write_json
 from pitplan.core.optional_packages import load_library
+from pitplan.core.revenue_factors import factor_text
 from pitplan.export.vtk import write_image as write_vti
 from pitplan.figures import scenario_values, scenarios
 from pitplan.figures.style import also_as
@@ -144,7 +145,7 @@ def write_image(shared: Shared, gathered: Gathered, stage: Path) -> list[str]:
     """Writes the probabilities of all factors as VTK image data; returns a note if VTK is missing."""
     grid = shared.grid
     arrays = {
-        f"probability_{factor}": grid.spread(gathered.share[:, k].astype(np.float32))
+        f"probability_{factor_text(factor)}": grid.spread(gathered.share[:, k].astype(np.float32))
         for k, factor in enumerate(gathered.factors)
     }
     tonnes = shared.frame[shared.project.table.tonnes].to_numpy()
@@ -155,8 +156,8 @@ def write_image(shared: Shared, gathered: Gathered, stage: Path) -> list[str]:
     return []
 
 
-def draw(shared: Shared, gathered: Gathered, factor: int, stage: Path) -> None:
-    """Draws plans and sections of the probabilities at a factor, in per mille, and the spread of tonnes and worth."""
+def draw(shared: Shared, gathered: Gathered, factor: float, stage: Path) -> None:
+    """Draws plans and sections of the probabilities at a factor, and the spread of tonnes and worth."""
     grid, rules = shared.grid, rules_of(shared)
     share = gathered.share[:, gathered.factors.index(factor)]
     solid = grid.spread(shared.frame[shared.project.table.tonnes].to_numpy() > 0)

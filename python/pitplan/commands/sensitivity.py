@@ -96,6 +96,6 @@ def write_cases(found: Sensitivity, folder: Path, writing: Writing) -> pd.DataFr
 def write_tables(found: Sensitivity, cases: pd.DataFrame, stage: Path) -> None:
     """Writes sensitivity.csv, and blocks.csv with the factor of each block in the pits of the project as given."""
     blocks = found.plan.blocks
-    blocks["factor"] = found.answers[Case()].entry[blocks["id"].to_numpy()]
+    blocks["revenue_factor"] = found.answers[Case()].entry[blocks["id"].to_numpy()]
     csv_writer.write(stage / names.TABLE, blocks)
     with_discounting(store.shown(cases), found.project).to_csv(stage / TABLE, index=False)

@@ -21,7 +21,7 @@ from .pushbacks import PhaseRules, read_phases
 from .scenarios import Scenarios, read_scenarios
 from .schedule import ScheduleRules, read_schedule_rules
 from .sensitivity import SensitivityRules, read_sensitivity
-from .shells import GREATEST_FACTOR, Schedule, read_schedule
+from .shells import Schedule, read_schedule
 from .slopes import Slopes, read_slopes
 from .table import GridRules, TableColumns, read_grid, read_table
 from .toml_section import Section
@@ -131,8 +131,12 @@ def validated(project: Project) -> Project:
     """
     source = f"{project.path} as changed in Python"
     found = of_data(toml_text.parsed(project.to_toml(), source), project.path, source)
-    kept, factors = project.schedule, tuple(it for it in found.schedule.factors if it in project.schedule.factors)
-    schedule = replace(found.schedule, factors=factors, chosen=kept.chosen, reference_added=kept.reference_added)
+    kept, factors = project.schedule, tuple(
+        it for it in found.schedule.revenue_factors if it in project.schedule.revenue_factors
+    )
+    schedule = replace(
+        found.schedule, revenue_factors=factors, selected=kept.selected, base_price_added=kept.base_price_added
+    )
     return replace(found, schedule=schedule, folder=project.folder, solver=project.solver)
 
 
@@ -153,7 +157,7 @@ def of_data(data: dict[str, Any], path: Path, source: Optional[str] = None) -> P
         folder=path.parent / output.text("folder", "plan"),
         scenarios=read_scenarios(top.section("scenarios"), path.parent) if top.has("scenarios") else None,
         fixed=read_fixed(top.section("fixed"), path.parent) if top.has("fixed") else None,
-        phases=read_phases(top.section("pushbacks"), GREATEST_FACTOR) if top.has("pushbacks") else None,
+        phases=read_phases(top.section("pushbacks")) if top.has("pushbacks") else None,
         schedule_rules=read_schedule_rules(top.section("schedule")) if top.has("schedule") else None,
         processes=processes,
         haulage=read_haulage(top.section("haulage")) if top.has("haulage") else None,

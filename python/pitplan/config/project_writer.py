@@ -10,9 +10,10 @@ from typing import Any, Optional, Union
 
 from pitplan.config.project import Project, load
 from pitplan.config.scenarios import Scenarios
-from pitplan.config.shells import REFERENCE_FACTOR, Schedule
+from pitplan.config.shells import Schedule
 from pitplan.config.table import AbsentRock, GridRules, Reblock, TableColumns
 from pitplan.core.atomic_files import hash_of
+from pitplan.core.revenue_factors import BASE_PRICE
 
 from .constraints import BLOCKS, FixedRules
 from .economics import ByRegion, Curve, Metal, Money, Process
@@ -214,11 +215,11 @@ def of_wall(wall: Wall) -> Values:
 
 
 def of_shells(schedule: Schedule) -> Values:
-    """Factor 1000 is left out where it was not asked for: a reader adds it."""
-    left = {REFERENCE_FACTOR} if schedule.reference_added else set()
+    """The base price, 1.0, is left out if it was added: a reader adds it."""
+    left = {BASE_PRICE} if schedule.base_price_added else set()
     return {
-        "factors": [factor for factor in schedule.factors if factor not in left],
-        "chosen": schedule.chosen,
+        "revenue_factors": [factor for factor in schedule.revenue_factors if factor not in left],
+        "selected": schedule.selected,
         "rate": schedule.rate,
         "ore_per_year": None if schedule.per_process else schedule.ore_per_year,
         "rock_per_year": schedule.rock_per_year,
@@ -245,7 +246,9 @@ def of_fixed(fixed: FixedRules, folder: Path) -> Values:
 
 
 def of_phases(rules: PhaseRules) -> Values:
-    values = {name: getattr(rules, name) for name in ("count", "tonnes", "factors", "last", "width", "bottom")}
+    values = {
+        name: getattr(rules, name) for name in ("count", "tonnes", "revenue_factors", "ultimate_pit", "width", "bottom")
+    }
     return {**values, "mining_cost_added": rules.mining_cost_added or None}
 
 

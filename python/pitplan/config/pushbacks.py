@@ -9,17 +9,18 @@ from typing import Optional
 from .toml_section import Section
 
 MOST_PHASES = 100
-WAYS = ("count", "tonnes", "factors")
+LEAST_FACTOR = 0.001
+WAYS = ("count", "tonnes", "revenue_factors")
 
 
 @dataclass(frozen=True)
 class PhaseRules:
-    """How a pit is divided into phases: by one of count, tonnes and factors; the other two are None.
+    """How a pit is divided into phases: by one of count, tonnes and revenue_factors; the other two are None.
 
     count    so many phases of even tonnage
     tonnes   even phases of about so many tonnes of rock each
-    factors  the factors of the phases' shells, per mille, rising
-    last     the factor of the last phase's shell, per mille; None: the project's chosen one, else the one that `shells` selects
+    revenue_factors  those of the phases' shells, rising
+    ultimate_pit     the revenue factor of the last phase's shell; None: the project's selected one, else the one that `shells` selects
     width    metres that a phase is wide on each level at least; None: any
     bottom   metres that the pit up to a phase is wide on each level at least, its bottom with it; None: any
     mining_cost_added  of each phase what digging a tonne costs more there, in money; none: nothing
@@ -27,25 +28,25 @@ class PhaseRules:
 
     count: Optional[int]
     tonnes: Optional[float]
-    factors: Optional[tuple[int, ...]]
-    last: Optional[int]
+    revenue_factors: Optional[tuple[float, ...]]
+    ultimate_pit: Optional[float]
     width: Optional[float] = None
     bottom: Optional[float] = None
     mining_cost_added: tuple[Decimal, ...] = ()
 
 
-def read_phases(section: Section, most_factor: int) -> PhaseRules:
+def read_phases(section: Section) -> PhaseRules:
     """The section's rules. Raises PlanError, with the key, where one is missing or wrong."""
     given = [key for key in WAYS if section.has(key)]
     if len(given) != 1:
         raise section.wrong(given[1] if given else WAYS[0], f"give exactly one of {', '.join(WAYS)}")
-    if section.has("last") and given == ["factors"]:
-        raise section.wrong("last", "the last of the factors is that of the last phase: leave it out")
+    if section.has("ultimate_pit") and given == ["revenue_factors"]:
+        raise section.wrong("ultimate_pit", "is the last of the revenue_factors: leave it out")
     rules = PhaseRules(
         count=section.whole("count", 1, 1, MOST_PHASES) if given == ["count"] else None,
         tonnes=float(section.number("tonnes")) if given == ["tonnes"] else None,
-        factors=read_factors(section, most_factor) if given == ["factors"] else None,
-        last=section.whole("last", 1000, 1, most_factor) if section.has("last") else None,
+        revenue_factors=read_factors(section) if given == ["revenue_factors"] else None,
+        ultimate_pit=section.revenue_factor("ultimate_pit", LEAST_FACTOR) if section.has("ultimate_pit") else None,
         width=read_metres(section, "width"),
         bottom=read_metres(section, "bottom"),
         mining_cost_added=section.amounts(
@@ -67,10 +68,10 @@ def read_metres(section: Section, key: str) -> Optional[float]:
     return metres
 
 
-def read_factors(section: Section, most_factor: int) -> tuple[int, ...]:
-    factors = tuple(sorted(set(section.factors("factors", most_factor))))
-    if factors[0] < 1:
-        raise section.wrong("factors", "a phase's factor is 1 or more")
+def read_factors(section: Section) -> tuple[float, ...]:
+    factors = tuple(sorted(set(section.revenue_factors("revenue_factors"))))
+    if factors[0] < LEAST_FACTOR:
+        raise section.wrong("revenue_factors", "found 0, expected 0.001 or more for each pushback")
     if len(factors) > MOST_PHASES:
-        raise section.wrong("factors", f"at most {MOST_PHASES} phases, and there are {len(factors):,} factors")
+        raise section.wrong("revenue_factors", f"found {len(factors):,}, expected {MOST_PHASES} at most")
     return factors

@@ -5,12 +5,10 @@ from __future__ import annotations
 from dataclasses import dataclass
 from typing import Optional
 
+from pitplan.core.revenue_factors import BASE_PRICE, factor_text
+
 from .economics import Process
 from .toml_section import Section
-
-REFERENCE_FACTOR = 1000
-
-GREATEST_FACTOR = 100_000
 
 MOST_FACTORS = 1_000
 
@@ -27,35 +25,37 @@ DISCOUNTINGS = tuple(IN_WORDS)
 
 @dataclass(frozen=True)
 class Schedule:
-    """Price factors in per mille, and what discounting needs: a yearly rate, yearly capacities in tonnes, and the moment that
-    cash is discounted from: that when it flows, or the end or the middle of its year.
+    """Revenue factors, and the terms of discounting: a yearly rate, yearly capacities in tonnes, and when the cash of a year flows.
 
-    per_process  the yearly capacity of each of several processes, of which `ore_per_year` is the sum then
+    revenue_factors   rising; 1.0 is the base price
+    selected          the shell that is shown; None: the one with the best mean NPV
+    base_price_added  whether 1.0 was added to the project's own factors
+    per_process       the yearly capacity of each of several processes; `ore_per_year` is their sum
     """
 
-    factors: tuple[int, ...]
-    chosen: Optional[int]
+    revenue_factors: tuple[float, ...]
+    selected: Optional[float]
     rate: float
     ore_per_year: float
     rock_per_year: Optional[float]
     discounting: str
-    reference_added: bool
+    base_price_added: bool
     per_process: tuple[float, ...] = ()
 
 
 def read_schedule(section: Section, processes: tuple[Process, ...] = ()) -> Schedule:
-    asked = section.factors("factors", GREATEST_FACTOR)
-    factors = tuple(sorted({*asked, REFERENCE_FACTOR}))
+    given = section.revenue_factors("revenue_factors")
+    factors = tuple(sorted({*given, BASE_PRICE}))
     if len(factors) > MOST_FACTORS:
-        raise section.wrong("factors", f"at most {MOST_FACTORS:,} factors, {REFERENCE_FACTOR} among them")
+        raise section.wrong("revenue_factors", f"found {len(factors):,} with 1.0, expected {MOST_FACTORS:,} at most")
     if processes and section.has("ore_per_year"):
         raise section.wrong("ore_per_year", "give per_year of each of the [[processes]], not this")
-    chosen = section.whole("chosen", REFERENCE_FACTOR, 0, GREATEST_FACTOR) if section.has("chosen") else None
-    if chosen is not None and chosen not in factors:
-        raise section.wrong("chosen", f"{chosen} is not among the factors")
+    selected = section.revenue_factor("selected") if section.has("selected") else None
+    if selected is not None and selected not in factors:
+        raise section.wrong("selected", f"{factor_text(selected)} is not among the revenue_factors")
     schedule = Schedule(
-        factors=factors,
-        chosen=chosen,
+        revenue_factors=factors,
+        selected=selected,
         rate=read_rate(section),
         ore_per_year=sum(it.per_year for it in processes)
         if processes
@@ -63,7 +63,7 @@ def read_schedule(section: Section, processes: tuple[Process, ...] = ()) -> Sche
         per_process=tuple(process.per_year for process in processes),
         rock_per_year=float(section.number("rock_per_year", least=1)) if section.has("rock_per_year") else None,
         discounting=section.choice("discounting", DISCOUNTINGS, DISCOUNTINGS[0]),
-        reference_added=REFERENCE_FACTOR not in asked,
+        base_price_added=BASE_PRICE not in given,
     )
     section.finish()
     return schedule

@@ -6,6 +6,7 @@ import difflib
 from decimal import Decimal
 from typing import Any, Optional, Union
 
+from pitplan.core.revenue_factors import GREATEST_FACTOR, PER_MILLE, factor_text, of_decimal, of_per_mille, per_mille
 from pitplan.errors import PlanError
 
 from .toml_text import LEAST_POWER, Absurd
@@ -180,33 +181,46 @@ class Section:
             raise self.wrong(key, "may not be negative" if most is None else f"must lie from 0 to {most}")
         return read if isinstance(value, dict) else read[""]
 
-    def factors(self, key: str, most: int) -> list[int]:
-        """A list of factors in per mille, or `{from, to, step}`."""
+    def revenue_factor(self, key: str, least: float = 0.0) -> float:
+        """A revenue factor with at most three decimals."""
+        return self.as_revenue_factor(key, self.get(key), least)
+
+    def as_revenue_factor(self, key: str, value: Any, least: float = 0.0) -> float:
+        found = self.as_number(key, value)
+        try:
+            factor = of_decimal(found)
+        except ValueError:
+            raise self.wrong(key, no_factor(found)) from None
+        if factor < least:
+            raise self.wrong(key, f"found {found}, expected {least} or more")
+        return factor
+
+    def revenue_factors(self, key: str) -> list[float]:
+        """A list of revenue factors, or `{from, to, step}`."""
         value = self.get(key)
         if isinstance(value, dict):
-            value = self.span(key, value, most)
+            return self.span(key, value)
         if not isinstance(value, list) or not value:
-            raise self.wrong(key, "must be a list of factors, or { from, to, step }")
-        for item in value:
-            if isinstance(item, bool) or not isinstance(item, int) or not 0 <= item <= most:
-                raise self.wrong(key, self.no_factor(item, most))
-        return value
+            raise self.wrong(key, "must be a list of revenue factors, or { from, to, step }")
+        return [self.as_revenue_factor(key, item) for item in value]
 
-    def span(self, key: str, value: dict[str, Any], most: int) -> list[int]:
-        """The factors of `{from, to, step}`."""
+    def span(self, key: str, value: dict[str, Any]) -> list[float]:
+        """The revenue factors of `{from, to, step}`."""
         inner = Section(self.file, self.inner(key), value)
-        inner.get("to")
-        first, last = inner.whole("from", 0, 0, most), inner.whole("to", 0, 0, most)
-        step = inner.whole("step", 0, 1, most)
+        first, last = (inner.revenue_factor(name) for name in ("from", "to"))
+        step = inner.revenue_factor("step", of_per_mille(1))
         inner.finish()
         if first > last:
-            raise self.wrong(key, f"from {first} to {last} there is no factor: from may not be above to")
-        return list(range(first, last + 1, step))
+            raise self.wrong(
+                key, f"found none from {factor_text(first)} to {factor_text(last)}: from may not be above to"
+            )
+        return list(map(of_per_mille, range(per_mille(first), per_mille(last) + 1, per_mille(step))))
 
-    def no_factor(self, item: Any, most: int) -> str:
-        """Why an item is no factor; of a share of the price, such as 0.3, what it is in per mille."""
-        said = f"{shown(item)} is not a whole number of per mille from 0 to {most:,}"
-        if not isinstance(item, (int, Decimal)) or isinstance(item, bool):
-            return said
-        is_share = Decimal(item).is_finite() and 0 < item < 100 and 1000 * item % 1 == 0
-        return f"{said}: 1000 is the price as given, and {1000 * item:.0f} is {item} of it" if is_share else said
+
+def no_factor(value: Decimal) -> str:
+    """Why a number is no revenue factor; of 800, perhaps a factor in per mille, the one that it stands for."""
+    if 0 <= value <= GREATEST_FACTOR:
+        return f"found {shown(value)}, expected at most three decimals"
+    said = f"found {shown(value)}, expected a revenue factor from 0 to 100; 1.0 is the base price"
+    is_per_mille = value > GREATEST_FACTOR and value <= PER_MILLE * GREATEST_FACTOR and value % 1 == 0
+    return f"{said} (did you mean {factor_text(value / PER_MILLE)}?)" if is_per_mille else said

@@ -13,6 +13,8 @@ from typing import Union
 
 import numpy as np
 
+from .revenue_factors import PER_MILLE, per_mille
+
 # Up to here a float64 holds every whole number, so a decimal of so many digits is told from its float.
 EXACT_WHOLE = 2**53
 MOST_PLACES = 15
@@ -114,9 +116,9 @@ def total(left: np.ndarray, right: np.ndarray) -> np.ndarray:
     return left + right if greatest(left) + greatest(right) <= MOST_WHOLE else left.astype(object) + right
 
 
-def at_factor(factor: int, revenue: np.ndarray, cost: np.ndarray) -> np.ndarray:
-    """`factor * revenue - 1000 * cost`, exact: billionths, of a factor in per mille and amounts in millionths."""
-    return total(product(revenue, factor), product(cost, -1000))
+def at_factor(factor: float, revenue: np.ndarray, cost: np.ndarray) -> np.ndarray:
+    """`factor * revenue - cost` in billionths, exact, of a revenue factor and amounts in millionths."""
+    return total(product(revenue, per_mille(factor)), product(cost, -PER_MILLE))
 
 
 def nearest(whole: np.ndarray, unit: Union[int, np.ndarray]) -> np.ndarray:

@@ -22,8 +22,8 @@ import pandas as pd
 
 from pitplan.blockmodel.grid import MOST_BLOCKS, Grid
 from pitplan.config.project import Project
-from pitplan.config.shells import REFERENCE_FACTOR
 from pitplan.core.decimals import Exact, Rounding, at_factor, product, total
+from pitplan.core.revenue_factors import BASE_PRICE
 from pitplan.errors import PlanError
 
 from .haulage import Hauled
@@ -114,7 +114,7 @@ class Values:
             return np.concatenate([nothing, self.steps.revenue]), np.concatenate([self.mining, self.steps.cost])
         return np.where(self.pays, self.revenue, 0), self.mining + np.where(self.pays, self.processing, 0)
 
-    def greatest_value(self, factor: int) -> np.ndarray:
+    def greatest_value(self, factor: float) -> np.ndarray:
         """The most that each cell can be worth at a factor, in billionths: less than 0 where it cannot pay for itself."""
         if self.cutoff == "fixed":
             gain = np.where(self.pays, at_factor(factor, self.revenue, self.processing), 0)
@@ -145,7 +145,7 @@ def values_of(
     weighed = [replace(rows, project=way).weighed(feed) for way in project.ways]
     names = [process.name for process in project.processes] or [""]
     ways = tuple(it.way(name, grid) for it, name in zip(weighed, names))
-    best = best_way(ways, REFERENCE_FACTOR)
+    best = best_way(ways, BASE_PRICE)
     pays = np.choose(best, [way.revenue for way in ways]) > np.choose(best, [way.cost for way in ways])
     first = first_level(project, grid, pays, needed)
     mining, rounding = rows.millionths(rows.mining(first), "mining cost")
@@ -171,7 +171,7 @@ def values_of(
 def greatest_gains(frame: pd.DataFrame, grid: Grid, project: Project, source: str) -> np.ndarray:
     """Whether each row of a checked table pays for its processing at the greatest factor, or at the price as given. Raises PlanError as
     `values_of` does."""
-    factor = max(project.schedule.factors[-1], REFERENCE_FACTOR)
+    factor = max(project.schedule.revenue_factors[-1], BASE_PRICE)
     rows = Rows(frame, grid, project, source, Exact.of_floats(frame[project.table.tonnes].to_numpy()))
     feed, found = rows.feed(), np.zeros(len(frame), dtype=bool)
     for way in project.ways:

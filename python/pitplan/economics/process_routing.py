@@ -68,7 +68,7 @@ class Steps:
         return Steps(block, way, revenue, cost)
 
 
-def best_way(ways: tuple[Way, ...], factor: int) -> np.ndarray:
+def best_way(ways: tuple[Way, ...], factor: float) -> np.ndarray:
     """By cell the number of the process that is worth most at a factor; of several that of least revenue, at which the steps end."""
     best = np.zeros(len(ways[0].revenue), dtype=np.int8)
     if len(ways) == 1:
@@ -82,7 +82,7 @@ def best_way(ways: tuple[Way, ...], factor: int) -> np.ndarray:
     return best
 
 
-def worth(way: Way, factor: int) -> np.ndarray:
+def worth(way: Way, factor: float) -> np.ndarray:
     """What each cell is worth in a process at a factor, in billionths, without its mining."""
     return at_factor(factor, way.revenue, way.cost)
 

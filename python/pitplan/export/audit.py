@@ -1,6 +1,6 @@
 """A folder by which others can check one shell, with the program and without it.
 
-The shell of factor f is the pit of the mine whose values are `f * revenue - 1000 * cost`. In money that has up to nine
+The shell of revenue factor f is the pit of the mine whose values are `f * revenue - cost`, a thousandfold. In money that has up to nine
 decimals; a model has six, so its values are written a thousandfold, exactly.
 
 A folder that the program solved has the mine's files. Where the library solved, they are written here, of project and table, which must be
@@ -21,6 +21,7 @@ from pitplan import constraints
 from pitplan.core import paths
 from pitplan.core.atomic_files import hashes, read_json, write_json
 from pitplan.core.progress import Progress
+from pitplan.core.revenue_factors import factor_text, with_exact_factors
 from pitplan.errors import PlanError
 from pitplan.export.planner_table import project_of
 from pitplan.plan import Plan, prepared
@@ -34,7 +35,7 @@ MODEL, PREC, FIXED, CERTIFICATE = "shell.upit", "shell.prec", "shell.fixed", "sh
 PIT, RECORD, SCRIPT = "pit.txt", "audit.json", "check.sh"
 
 CHECK_SCRIPT = """#!/bin/sh
-# Checks the shell of factor {factor} of "{title}": the files' hashes, then the certificate by the proved program, then by
+# Checks the shell of revenue factor {factor} of "{title}": the files' hashes, then the certificate by the proved program, then by
 # a short program in Python that shares nothing with it. PITSHELL names the program, PYTHON the interpreter.
 set -eu
 program=${{PITSHELL:-pitshell}}
@@ -63,11 +64,11 @@ def read_nodes(blocks: Path) -> tuple[np.ndarray, np.ndarray]:
 def prepared_again(folder: Folder, progress: Progress) -> Plan:
     """The plan that the library solved. Raises PlanError if an input has changed since."""
     project = project_of(folder)
-    schedule = replace(project.schedule, factors=tuple(folder.record["factors"]))
+    schedule = replace(project.schedule, revenue_factors=tuple(folder.record["revenue_factors"]))
     return prepared(replace(project, schedule=schedule), progress=progress)
 
 
-def write_mine(stage: Path, folder: Folder, factor: int, progress: Progress) -> None:
+def write_mine(stage: Path, folder: Folder, factor: float, progress: Progress) -> None:
     """Writes the mine at a factor: the model, the needs, and where blocks are fixed these. Raises PlanError where it is not that of the
     plan any more, or a value does not fit a model."""
     if mine_files.BLOCKS in folder.record["files"]:
@@ -81,10 +82,12 @@ def write_mine(stage: Path, folder: Folder, factor: int, progress: Progress) -> 
         mine_files.write_needs(stage / PREC, plan, plan.needs)
         if plan.settled is not None:
             constraints.write(stage / FIXED, plan.fixed)
-    mine_files.write_model(stage / MODEL, f"shell {factor} of {folder.record['title']}", values_at(nodes, factor))
+    mine_files.write_model(
+        stage / MODEL, f"shell {factor_text(factor)} of {folder.record['title']}", values_at(nodes, factor)
+    )
 
 
-def write(stage: Path, folder: Folder, factor: int, progress: Progress) -> None:
+def write(stage: Path, folder: Folder, factor: float, progress: Progress) -> None:
     """Writes model, precedence, certificate, pit, hashes, the identity of what solved and of the program, and the script that checks them.
 
     Raises ProgramError where the program refuses, and PlanError where its pit is not the shell of the plan, or the plan cannot be made
@@ -106,8 +109,8 @@ def write(stage: Path, folder: Folder, factor: int, progress: Progress) -> None:
     )
     record = {
         "title": folder.record["title"],
-        "factor": factor,
-        "worth_at_factor": str(worth),
+        "revenue_factor": factor,
+        "value_at_revenue_factor": str(worth),
         "solver": folder.record["shells"]["solver"],
         "program": program.identity(),
         "files": digests,
@@ -117,7 +120,7 @@ def write(stage: Path, folder: Folder, factor: int, progress: Progress) -> None:
     }
     write_json(stage / RECORD, record)
     words = {
-        "factor": factor,
+        "factor": factor_text(factor),
         "title": folder.record["title"],
         "model": MODEL,
         "prec": PREC,
@@ -139,15 +142,18 @@ def notes(folder: Path) -> list[str]:
     )
 
 
-def demand_same(stage: Path, folder: Folder, factor: int) -> Decimal:
+def demand_same(stage: Path, folder: Folder, factor: float) -> Decimal:
     """The shell's worth, once the audited pit holds the same of the table's blocks, and is worth the same, as blocks.csv and shells.csv
     say of the shell. Raises PlanError where it does not."""
     lines = (stage / PIT).read_text(encoding="ascii").split("\n")
     pit = np.array(lines[4:-1], dtype=np.int64)
     worth = Decimal(lines[3].split()[1]) / 1000
-    shells = pd.read_csv(folder.path / names.SHELLS, index_col="factor", dtype={"worth_at_factor": str})
-    ids, first = folder.blocks["id"].to_numpy(), folder.blocks["factor"].to_numpy()
+    shells = with_exact_factors(pd.read_csv(folder.path / names.SHELLS, dtype={"value_at_revenue_factor": str}))
+    shells = shells.set_index("revenue_factor")
+    ids, first = folder.blocks["id"].to_numpy(), folder.blocks["revenue_factor"].to_numpy()
     expected = ids[(first > 0) & (first <= factor)]
-    if not np.array_equal(np.intersect1d(pit, ids), expected) or worth != Decimal(shells["worth_at_factor"][factor]):
-        raise PlanError(f"{stage / PIT}: the audited pit is not the shell of factor {factor}")
+    if not np.array_equal(np.intersect1d(pit, ids), expected) or worth != Decimal(
+        shells["value_at_revenue_factor"][factor]
+    ):
+        raise PlanError(f"{stage / PIT}: the audited pit is not the shell of revenue factor {factor_text(factor)}")
     return worth

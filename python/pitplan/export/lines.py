@@ -82,12 +82,12 @@ def write_str(path: Path, folder: Folder, shape: Shape) -> None:
     Toes have the numbers 1, 3, 5 and so on, one a factor, phase or year, and crests the next. Raises PlanError as `stages_of` does, and where
     there are more numbers than Surpac knows.
     """
-    lines, numbers = [f"{path.stem},,toes and crests,", AXIS], dict[int, int]()
+    lines, numbers = [f"{path.stem},,toes and crests,", AXIS], dict[float, int]()
     for line in lines_of(folder, shape):
         number = 2 * numbers.setdefault(line.stage.number, len(numbers)) + (1 if line.kind == TOE else 2)
         if number > MOST_STRINGS:
             raise PlanError(f"{path.name}: more than {MOST_STRINGS:,} strings are needed, which Surpac does not know")
-        told = f"{line.kind}, {metres(line.bench)}, {line.stage.kind} {line.stage.number}"
+        told = f"{line.kind}, {metres(line.bench)}, {line.stage.spoken}"
         lines += [f"{number}, {y:.4f}, {x:.4f}, {z:.4f}, {told}" for x, y, z in closed(line)]
         lines.append(BREAK)
     path.write_text("\n".join([*lines, END, ""]), encoding="ascii")

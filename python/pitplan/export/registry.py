@@ -13,6 +13,7 @@ import pandas as pd
 from pitplan.core import csv_writer, staging
 from pitplan.core.atomic_files import staged as staged_files, staged_file
 from pitplan.core.optional_packages import load
+from pitplan.core.revenue_factors import factor_text, with_exact_factors
 from pitplan.errors import PlanError
 from pitplan.results import names
 from pitplan.results.folder import Folder
@@ -40,7 +41,7 @@ def name_of(kind: str, shape: Shape) -> str:
     """The file's name: a table and image data hold all factors, a drawing or a surface one, or all phases or years."""
     if kind not in OF_ONE:
         return PLANNED if kind == "table" else f"pit.{kind}"
-    of_what = str(shape.factor) if shape.of == FACTOR else f"{shape.of}s"
+    of_what = factor_text(shape.revenue_factor) if shape.of == FACTOR else f"{shape.of}s"
     if kind in LINES:
         return f"lines-{of_what}.{LINES[kind]}"
     return f"{shape.surface}-{of_what}{'-' if is_folder(kind, shape) else '.'}{kind}"
@@ -86,17 +87,17 @@ def write_table(path: Path, folder: Folder, shape: Shape) -> None:
 def write_csv(path: Path, folder: Folder, shape: Shape) -> None:
     """The blocks of the greatest pit by id, with the least factor of each; `shape` is not looked at."""
     blocks = folder.blocks
-    csv_writer.write(path, blocks[blocks["factor"] > 0])
+    csv_writer.write(path, blocks[blocks["revenue_factor"] > 0])
 
 
 def write_vti(path: Path, folder: Folder, shape: Shape) -> None:
-    """All cells as VTK image data: `factor`, `process_factor`, and the numbers of the planner's table, for all factors."""
+    """All cells as VTK image data: `revenue_factor`, `process_revenue_factor`, and the numbers of the planner's table, for all factors."""
     numbers = folder.blocks.select_dtypes("number").columns
     write_image(path, folder.grid, {name: folder.grid.spread(folder.blocks[name].to_numpy()) for name in numbers})
 
 
 def write_vtu(path: Path, folder: Folder, shape: Shape) -> None:
-    """The blocks with rock as VTK cells, in metres, with `factor` and all numbers of blocks.csv; for all factors."""
+    """The blocks with rock as VTK cells, in metres, with `revenue_factor` and all numbers of blocks.csv; for all factors."""
     vtk, numpy_support = load("vtk", PACKAGE, "a .vtu file"), load("vtk.util.numpy_support", PACKAGE, "a .vtu file")
     grid, blocks = folder.grid, folder.blocks[folder.blocks[folder.record["tonnes"]] > 0]
     levels, rows, columns = grid.shape
@@ -127,7 +128,7 @@ def write_vtu(path: Path, folder: Folder, shape: Shape) -> None:
 def write_xlsx(path: Path, folder: Folder, shape: Shape) -> None:
     """The tables of the folder as a workbook, a sheet each; `shape` is not looked at."""
     there = [folder.path / name for name in SHEETS if name in folder.record["files"]]
-    xlsx.write(path, {table.stem: pd.read_csv(table) for table in there})
+    xlsx.write(path, {table.stem: with_exact_factors(pd.read_csv(table)) for table in there})
 
 
 WRITERS: dict[str, Writer] = {

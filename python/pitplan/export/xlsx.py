@@ -19,7 +19,7 @@ SHOWN = {
     "metal_": "#,##0.00",
     "years": "0.0",
 }
-PLAIN = ("factor", "year", "phase", "bench", "pieces", "least_width", "process_factor")
+PLAIN = ("revenue_factor", "year", "phase", "bench", "pieces", "least_width", "process_revenue_factor")
 
 
 def demand_library() -> None:

@@ -14,6 +14,7 @@ from matplotlib.ticker import MaxNLocator
 
 from pitplan.config.project import Project
 from pitplan.config.shells import Schedule
+from pitplan.core.revenue_factors import factor_text
 from pitplan.figures.style import ORE, PLAIN, STYLE, WASTE, finish, list_of, scaled
 
 CASES = {"best": "Best case", "worst": "Worst case"}
@@ -55,25 +56,25 @@ def scale_of(years: pd.DataFrame, settings: Schedule) -> Scale:
     return Scale(tonnes, money, (-top * below / (1 - below), top), (-whole * below, whole * (1 - below)))
 
 
-def write_years(table: pd.DataFrame, project: Project, chosen: int, path: Path) -> None:
+def write_years(table: pd.DataFrame, project: Project, chosen: float, path: Path) -> None:
     with matplotlib.rc_context(STYLE):
         figure = Figure(figsize=(12, 4.6))
         plot_years(table, project, chosen, figure.subplots(1, 2, sharex=True))
-        if (table["factor"] == chosen).any():
+        if (table["revenue_factor"] == chosen).any():
             figure.tight_layout(rect=(0, 0, 1, 0.92))
         finish(figure, path)
 
 
-def plot_years(table: pd.DataFrame, project: Project, chosen: int, axes: Any) -> list[Axes]:
-    """The years of the pit of a factor, in per mille, the best case and the worst case on axes of its own, which it gives.
+def plot_years(table: pd.DataFrame, project: Project, chosen: float, axes: Any) -> list[Axes]:
+    """The years of the pit of a factor, the best case and the worst case on axes of its own, which it gives.
 
     The table is as `pitplan.years` gives it. A pit without rock has empty axes, under a title that says so.
     """
-    found, years = list_of(axes, 2), table[table["factor"] == chosen]
+    found, years = list_of(axes, 2), table[table["revenue_factor"] == chosen]
     if years.empty:
         for ax in found:
             ax.set_axis_off()
-        found[0].figure.suptitle(f"The pit of factor {chosen} is empty")
+        found[0].figure.suptitle(f"The pit of revenue factor {factor_text(chosen)} is empty")
     else:
         draw(found, years, project)
     return found

@@ -10,12 +10,13 @@ import pandas as pd
 from matplotlib.axes import Axes
 from matplotlib.figure import Figure
 
+from pitplan.core.revenue_factors import factor_text
 from pitplan.figures.style import BEST, BEST_MARK, CHOSEN, ORE, PLAIN, WASTE, WORST, WORST_MARK
 
 from .style import STYLE, finish, scaled
 
 
-def write_pit_by_pit(table: pd.DataFrame, currency: str, chosen: int, path: Path) -> None:
+def write_pit_by_pit(table: pd.DataFrame, currency: str, chosen: float, path: Path) -> None:
     with matplotlib.rc_context(STYLE):
         figure = Figure(figsize=(9.5, 4.8))
         plot_pit_by_pit(table, currency, chosen, figure.subplots())
@@ -23,11 +24,11 @@ def write_pit_by_pit(table: pd.DataFrame, currency: str, chosen: int, path: Path
         finish(figure, path)
 
 
-def plot_pit_by_pit(table: pd.DataFrame, currency: str, chosen: int, ax: Axes) -> Axes:
+def plot_pit_by_pit(table: pd.DataFrame, currency: str, chosen: float, ax: Axes) -> Axes:
     """Tonnes of ore and waste of each shell, and on a second scale to the right worth and NPV at the price as given; gives `ax`.
 
     table   as `pitplan.shells` gives it
-    chosen  the factor, in per mille, that is marked
+    chosen  the revenue factor that is marked
     """
     right = ax.twinx()
     draw_tonnes(ax, table, chosen)
@@ -38,16 +39,18 @@ def plot_pit_by_pit(table: pd.DataFrame, currency: str, chosen: int, ax: Axes) -
     return ax
 
 
-def draw_tonnes(axis: Axes, table: pd.DataFrame, chosen: int) -> None:
+def draw_tonnes(axis: Axes, table: pd.DataFrame, chosen: float) -> None:
     """A bar a factor, and a band behind that of the chosen one."""
-    factors = table["factor"].to_numpy()
-    wide = 0.75 * float(np.diff(factors).min()) if len(factors) > 1 else 20.0
+    factors = table["revenue_factor"].to_numpy()
+    wide = 0.75 * float(np.diff(factors).min()) if len(factors) > 1 else 0.02
     size, sign = scaled(float(table["tonnes"].max()))
     ore, waste = table["in_situ_ore_tonnes"] / size, table["waste_tonnes"] / size
-    axis.axvspan(chosen - 0.65 * wide, chosen + 0.65 * wide, color=CHOSEN, zorder=0, label=f"chosen: {chosen}")
+    axis.axvspan(
+        chosen - 0.65 * wide, chosen + 0.65 * wide, color=CHOSEN, zorder=0, label=f"selected: {factor_text(chosen)}"
+    )
     axis.bar(factors, ore, wide, color=ORE, label="ore", linewidth=0)
     axis.bar(factors, waste, wide, bottom=ore, color=WASTE, label="waste", linewidth=0)
-    axis.set_xlabel("price factor, per mille of the price as given")
+    axis.set_xlabel("revenue factor")
     axis.set_ylabel(f"rock in the pit, {sign}t")
 
 
@@ -61,9 +64,17 @@ def draw_worth(axis: Axes, table: pd.DataFrame, currency: str) -> None:
     amounts = table[[column for column, _, _, _ in curves]]
     size, sign = scaled(float(amounts.abs().max().max()))
     for column, label, colour, line in curves:
-        axis.plot(table["factor"], amounts[column] / size, line, color=colour, markersize=4, linewidth=1.4, label=label)
+        axis.plot(
+            table["revenue_factor"],
+            amounts[column] / size,
+            line,
+            color=colour,
+            markersize=4,
+            linewidth=1.4,
+            label=label,
+        )
         peak = amounts[column].idxmax()
         ring = {"markersize": 9, "markerfacecolor": "none", "markeredgecolor": colour}
-        axis.plot(table["factor"][peak], amounts[column][peak] / size, "o", **ring)
+        axis.plot(table["revenue_factor"][peak], amounts[column][peak] / size, "o", **ring)
     axis.set_ylabel(f"worth at the price as given, {sign} {currency}".replace(",  ", ", "))
     axis.set_ylim(min(0.0, 1.1 * float(amounts.min().min()) / size), axis.get_ylim()[1] * 1.05)

@@ -22,6 +22,7 @@ from pitplan.blockmodel.grid import Grid, metres
 from pitplan.config.economics import Metal
 from pitplan.config.figures import PictureRules
 from pitplan.core.cell_outlines import edges
+from pitplan.core.revenue_factors import factor_text
 from pitplan.figures.style import GROUND, MAP
 from pitplan.pits import shell_tables
 from pitplan.plan import Plan
@@ -57,7 +58,7 @@ class Scene:
     solid: np.ndarray
     grade: np.ndarray
     metal: Metal
-    chosen: int
+    selected: float
     rules: PictureRules = PictureRules()
 
     @property
@@ -72,7 +73,7 @@ class Scene:
     @property
     def dug(self) -> np.ndarray:
         """The cells of the chosen pit that hold rock."""
-        return (self.factor > 0) & (self.factor <= self.chosen) & self.solid
+        return (self.factor > 0) & (self.factor <= self.selected) & self.solid
 
     def level(self, number: int) -> Plane:
         west, east, south, north, _, _ = self.grid.extent()
@@ -90,16 +91,16 @@ class Scene:
         return Plane(self.factor[cut], self.solid[cut], self.grade[cut], self.dug[cut], extent)
 
     @property
-    def shades(self) -> tuple[ListedColormap, BoundaryNorm, list[int]]:
+    def shades(self) -> tuple[ListedColormap, BoundaryNorm, list[float]]:
         """A colour for each factor at which cells come in, from the first shells to the last."""
-        used = [int(factor) for factor in np.unique(self.factor[self.solid]) if factor > 0] or [self.chosen]
+        used = [float(factor) for factor in np.unique(self.factor[self.solid]) if factor > 0] or [self.selected]
         colours = ListedColormap(matplotlib.colormaps["viridis_r"](np.linspace(0.02, 1, len(used))))
         middles = [(a + b) / 2 for a, b in zip(used, used[1:])]
         return colours, BoundaryNorm([used[0] - 1, *middles, used[-1] + 1], len(used)), used
 
 
-def scene_of(plan: Plan, solution: Solution, chosen: Optional[int] = None) -> Scene:
-    """What plans and sections of a plan's shells show; the chosen factor, in per mille, is by default that of the report."""
+def scene_of(plan: Plan, solution: Solution, selected: Optional[float] = None) -> Scene:
+    """What plans and sections of a plan's shells show; the selected factor is by default that of the report."""
     rules, grid = plan.project.pictures or PictureRules(), plan.grid
     first = next(metal for metal in plan.project.metals if rules.metal in (None, metal.name))
     cells = shell_tables.cells_of(plan, solution)
@@ -109,9 +110,9 @@ def scene_of(plan: Plan, solution: Solution, chosen: Optional[int] = None) -> Sc
         solid=grid.cube(cells.tonnes > 0),
         grade=grid.cube(grid.spread(plan.table[first.column].to_numpy())),
         metal=first,
-        chosen=shell_tables.chosen_factor(shell_tables.shells(plan, solution), plan.project.schedule)
-        if chosen is None
-        else chosen,
+        selected=shell_tables.selected_factor(shell_tables.shells(plan, solution), plan.project.schedule)
+        if selected is None
+        else selected,
         rules=rules,
     )
 
@@ -173,7 +174,9 @@ def plot_floor(scene: Scene, ax: Axes) -> Axes:
     floor = floor_of(scene.grid, scene.dug)
     image = ax.imshow(floor, extent=(west, east, south, north), cmap="cividis", **MAP)
     between = contours(ax, scene.grid, floor) * scene.grid.size[2]
-    ax.set_title(f"Floor at factor {scene.chosen}, elevation in m, a line each {metres(between)} m")
+    ax.set_title(
+        f"Floor at revenue factor {factor_text(scene.selected)}, elevation in m, a line each {metres(between)} m"
+    )
     ax.figure.colorbar(image, ax=ax, shrink=0.85)
     mark_section_cells(ax, scene.grid, scene.section_row, scene.section_column)
     mark_map(ax, scene.grid)
@@ -208,7 +211,9 @@ def plot_grades(scene: Scene, plane: Plane, ax: Axes, most: Optional[float] = No
     draw_ground(ax, plane)
     shown = np.ma.masked_where(~plane.solid | (plane.grade <= 0), plane.grade)
     image = ax.imshow(shown, extent=plane.extent, cmap="YlOrRd", vmin=0, vmax=most or None, **MAP)
-    ax.set_title(f"{scene.metal.name.capitalize()} and the outline of the pit at factor {scene.chosen}")
+    ax.set_title(
+        f"{scene.metal.name.capitalize()} and the outline of the pit at revenue factor {factor_text(scene.selected)}"
+    )
     ax.figure.colorbar(image, ax=ax, shrink=0.85, label=f"{scene.metal.name}, {scene.metal.sign}")
     draw_outline(ax, plane)
     return ax
@@ -233,8 +238,8 @@ def colour_bar(image: AxesImage, axis: Axes, scene: Scene) -> None:
     _, norm, used = scene.shades
     step = -(-len(used) // MOST_TICKS)
     middles = [(a + b) / 2 for a, b in zip(norm.boundaries, norm.boundaries[1:])]
-    bar = axis.figure.colorbar(image, ax=axis, shrink=0.85, label="first factor, per mille", spacing="uniform")
-    bar.set_ticks(middles[::step], labels=[str(factor) for factor in used[::step]])
+    bar = axis.figure.colorbar(image, ax=axis, shrink=0.85, label="lowest revenue factor", spacing="uniform")
+    bar.set_ticks(middles[::step], labels=[factor_text(factor) for factor in used[::step]])
     bar.ax.minorticks_off()
 
 

@@ -19,6 +19,7 @@ from matplotlib.lines import Line2D
 
 from pitplan.blockmodel.grid import metres
 from pitplan.core.cell_outlines import edges
+from pitplan.core.revenue_factors import factor_text
 from pitplan.figures.plans_sections import section_column, section_levels, section_row
 from pitplan.figures.style import GROUND, MAP, STYLE, finish, list_of, name_axes, scaled, write_maps
 from pitplan.studies.scenarios.inclusion import Likely
@@ -115,7 +116,9 @@ def explain(axes: list[Axes], likely: Likely) -> None:
         for least, style in LINES.items()
     ]
     figure.legend(handles=handles, ncol=3, loc="upper right", facecolor="#9a9a9a", framealpha=1)
-    figure.suptitle(f"Probability of each block in the pit at factor {likely.factor}\n", x=0.01, ha="left")
+    figure.suptitle(
+        f"Probability of each block in the pit at revenue factor {factor_text(likely.factor)}\n", x=0.01, ha="left"
+    )
 
 
 def row_of_section(likely: Likely) -> int:
@@ -146,14 +149,14 @@ def plot_spread(table: pd.DataFrame, currency: str, axes: Any) -> list[Axes]:
     models, and of up to six sets the band in which eight in ten of them lie. The table has the columns of scenarios.csv.
     """
     found = list_of(axes, 2)
-    sets = sets_of(table.assign(worth_at_factor=table["worth_at_factor"].astype(float)))
+    sets = sets_of(table.assign(value_at_revenue_factor=table["value_at_revenue_factor"].astype(float)))
     columns = (
         ("tonnes", "rock in the pit", "t"),
-        ("worth_at_factor", "worth at the factor's prices", f" {currency}"),
+        ("value_at_revenue_factor", "worth at the factor's prices", f" {currency}"),
     )
     for axis, (column, title, unit) in zip(found, columns):
         for (prices, amounts), (colour, marker) in zip(sets, looks(len(sets))):
-            groups = amounts.groupby("factor")[column]
+            groups = amounts.groupby("revenue_factor")[column]
             if len(sets) <= MOST_BANDS:
                 band(axis, groups, colour, len(sets))
             style = {"marker": marker, "markersize": 3.5, "linewidth": 1.5, "color": colour}
@@ -161,7 +164,7 @@ def plot_spread(table: pd.DataFrame, currency: str, axes: Any) -> list[Axes]:
             axis.plot(list(groups.groups), groups.median(), label=label, **style)
         size, sign = scaled(float(table[column].astype(float).abs().max()))
         axis.yaxis.set_major_formatter(lambda value, _, size=size: f"{value / size:,.4g}")
-        axis.set_xlabel("price factor, per mille of each scenario's price")
+        axis.set_xlabel("revenue factor")
         axis.set_ylabel(f"{title}, {sign}{unit}")
     found[0].figure.suptitle(f"{table['scenario'].nunique():,} scenarios", x=0.01, ha="left")
     explain_sets(found[0], len(sets))

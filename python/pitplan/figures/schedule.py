@@ -240,7 +240,7 @@ def write_cumulative(schedule: YearlySchedule, years: pd.DataFrame, path: Path) 
 def plot_cumulative(schedule: YearlySchedule, years: pd.DataFrame, ax: Axes) -> Axes:
     """What has been earned by the end of each year, discounted, by the cases of a table of years as years.csv has it, and by the optimum of
     the linear programme, which ends at the bound; gives `ax`."""
-    shown = years[years["factor"] == schedule.factor]
+    shown = years[years["revenue_factor"] == schedule.factor]
     curves = {
         case: np.append(0.0, shown["discounted"][shown["case"] == case].cumsum()) for case in NAMES if case != "bound"
     }

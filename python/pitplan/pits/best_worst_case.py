@@ -32,12 +32,12 @@ BEFORE_THE_END = {"end_of_year": 0.0, "mid_year": 0.5}
 class Benches:
     """What each factor's shell adds to the shell before, bench by bench from the top.
 
-    factors  per mille, rising
+    factors  rising
     names    of the amounts: rock_tonnes, ore_tonnes, ore_tonnes_NAME of each of several processes, metal_NAME of each metal, and last cash, in money
     amounts  an array of factors, benches and names
     """
 
-    factors: tuple[int, ...]
+    factors: tuple[float, ...]
     names: tuple[str, ...]
     amounts: np.ndarray
 
@@ -207,7 +207,7 @@ def table_of(benches: Benches, settings: Schedule, money: YearlyMoney = PLAIN) -
     flows = np.vstack([np.zeros((0, len(columns))), *years])
     head = {
         "case": np.repeat(np.array([case for case, _ in keys], dtype=object), counts),
-        "factor": np.repeat(np.array([factor for _, factor in keys], dtype=np.int64), counts),
+        "revenue_factor": np.repeat(np.array([factor for _, factor in keys], dtype=np.float64), counts),
         "year": np.concatenate([np.arange(0), *(np.arange(1, count + 1) for count in counts)]),
     }
     return pd.DataFrame(head | dict(zip(columns, flows.T)))

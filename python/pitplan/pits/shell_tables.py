@@ -1,4 +1,4 @@
-"""Numbers for each shell. All are at the price as given (factor 1000) but for `worth_at_factor`, and for what has the money of years.
+"""Numbers for each shell. All are at the base price (revenue factor 1.0) but for `value_at_revenue_factor`, and for what has the money of years.
 
 When a pit is dug, and what it is worth discounted, is told by `schedule`.
 """
@@ -11,7 +11,8 @@ from typing import Optional
 import numpy as np
 import pandas as pd
 
-from pitplan.config.shells import REFERENCE_FACTOR, Schedule
+from pitplan.config.shells import Schedule
+from pitplan.core.revenue_factors import BASE_PRICE, factor_text
 from pitplan.economics import period_costs
 from pitplan.errors import PlanError
 from pitplan.plan import MILLION, Plan
@@ -62,7 +63,7 @@ def cells_of(plan: Plan, solution: Solution) -> Cells:
     demand_of(plan, solution)
     values, count = plan.values, plan.grid.count
     factor = solution.entry[:count]
-    processed = np.zeros(count, dtype=np.int32)
+    processed = np.zeros(count)
     if values.cutoff == "moving":
         # The first step of a block, whose others come in later.
         block, first = np.unique(values.processed, return_index=True)
@@ -87,14 +88,14 @@ def cells_of(plan: Plan, solution: Solution) -> Cells:
 
 
 def blocks(plan: Plan, solution: Solution) -> pd.DataFrame:
-    """`plan.blocks` with `factor`, the least factor whose pit holds the block (0: none), and `process_factor`, the least
-    at which it is processed (0: never), per mille; and of several processes `process`, that at the price as given ("": none).
+    """`plan.blocks` with `revenue_factor`, the least one whose pit holds the block (0: none), and `process_revenue_factor`, the least
+    at which it is processed (0: never); and of several processes `process`, that at the price as given ("": none).
     """
     cells = cells_of(plan, solution)
     frame = plan.blocks
     ids = frame["id"].to_numpy()
-    frame["factor"] = cells.factor[ids]
-    frame["process_factor"] = cells.processed[ids]
+    frame["revenue_factor"] = cells.factor[ids]
+    frame["process_revenue_factor"] = cells.processed[ids]
     if plan.project.processes:
         names = np.array([*(process.name for process in plan.project.processes), ""], dtype=object)
         frame["process"] = names[np.where(cells.ore, cells.best, -1)[ids]]
@@ -104,11 +105,11 @@ def blocks(plan: Plan, solution: Solution) -> pd.DataFrame:
 def shells(plan: Plan, solution: Solution, more: Optional[np.ndarray] = None) -> pd.DataFrame:
     """One row a factor; `more` is for each cell what digging it costs in years besides its worth, in money.
 
-    factor per mille; blocks (with rock) in the pit; tonnes; ore_tonnes, the mill feed, diluted and after ore loss; in_situ_ore_tonnes of
+    revenue_factor; blocks (with rock) in the pit; tonnes; ore_tonnes, the mill feed, diluted and after ore loss; in_situ_ore_tonnes of
     the blocks of ore; waste_tonnes, the tonnes that are not in-situ ore; strip_ratio of these two;
     processed_tonnes at the factor's own price; ore_tonnes_NAME of each of several processes; grade_NAME of the ore in its column's unit, metal_NAME recovered of it
     (tonnes, or grams); worth in money at the price as given; npv_best, npv_worst and years (of the best case), by the money of years;
-    worth_at_factor, exact (Decimal), as the program answers it. Raises PlanError where it takes too many years.
+    value_at_revenue_factor, exact (Decimal), as the program answers it. Raises PlanError where it takes too many years.
     """
     cells, settings = cells_of(plan, solution), plan.project.schedule
     benches = benches_of(plan, cells, more)
@@ -117,18 +118,18 @@ def shells(plan: Plan, solution: Solution, more: Optional[np.ndarray] = None) ->
         benches, settings, money
     )
     table = amounts(plan, cells)
-    table.insert(0, "factor", settings.factors)
+    table.insert(0, "revenue_factor", settings.revenue_factors)
     table["npv_best"] = [years.npv for years in best]
     table["years"] = [years.end for years in best]
     table["npv_worst"] = [years.npv for years in worst]
-    table["worth_at_factor"] = [solution.worth[factor] for factor in settings.factors]
+    table["value_at_revenue_factor"] = [solution.worth[factor] for factor in settings.revenue_factors]
     return table
 
 
 def years(plan: Plan, solution: Solution, more: Optional[np.ndarray] = None) -> pd.DataFrame:
     """One row a case, a factor whose pit is not empty, and a year; `more` as of `shells`.
 
-    case best or worst; factor per mille; year from 1; rock_tonnes and, of these, ore_tonnes; metal_NAME recovered (tonnes,
+    case best or worst; revenue_factor; year from 1; rock_tonnes and, of these, ore_tonnes; metal_NAME recovered (tonnes,
     or grams); fixed_cost and capital, where the project has any; cash after these, and discounted, the same as it counts for
     NPV, in money. What is ore is so at the price as given, and so is cash unless years have prices of their own. Raises
     PlanError where it takes too many years.
@@ -139,7 +140,7 @@ def years(plan: Plan, solution: Solution, more: Optional[np.ndarray] = None) -> 
 
 def benches_of(plan: Plan, cells: Cells, more: Optional[np.ndarray] = None) -> Benches:
     """The sums that the years are made of, `more` as of `shells`. Raises PlanError where there are too many years."""
-    factors, levels = plan.project.schedule.factors, plan.grid.shape[0]
+    factors, levels = plan.project.schedule.revenue_factors, plan.grid.shape[0]
     inside = np.flatnonzero(cells.factor > 0)
     _, _, level = plan.grid.indices(inside)
     piece = np.searchsorted(factors, cells.factor[inside]) * levels + level
@@ -190,7 +191,7 @@ def amounts(plan: Plan, cells: Cells) -> pd.DataFrame:
 
 def within(plan: Plan, first: np.ndarray, values: np.ndarray) -> np.ndarray:
     """For each factor the sum of the values of the cells that come in by then; `first` is each cell's factor, 0: never."""
-    factors, inside = plan.project.schedule.factors, np.flatnonzero(first > 0)
+    factors, inside = plan.project.schedule.revenue_factors, np.flatnonzero(first > 0)
     places = np.searchsorted(factors, first[inside])
     return np.cumsum(np.bincount(places, values[inside], minlength=len(factors)))
 
@@ -200,13 +201,13 @@ def ratio(amount: np.ndarray, whole: np.ndarray) -> np.ndarray:
     return np.divide(amount, whole, out=np.full(len(whole), np.nan), where=whole > 0)
 
 
-def chosen_factor(table: pd.DataFrame, schedule: Schedule) -> int:
-    """The factor to show: the project's choice, else that of the best mean of best and worst case up to 1000."""
-    if schedule.chosen is not None:
-        return schedule.chosen
-    eligible = table[table["factor"] <= REFERENCE_FACTOR]
+def selected_factor(table: pd.DataFrame, schedule: Schedule) -> float:
+    """The revenue factor of the shell to show: the project's own, otherwise the best mean NPV of both cases up to the base price."""
+    if schedule.selected is not None:
+        return schedule.selected
+    eligible = table[table["revenue_factor"] <= BASE_PRICE]
     mean = (eligible["npv_best"] + eligible["npv_worst"]) / 2
-    return int(eligible["factor"][mean.idxmax()])
+    return float(eligible["revenue_factor"][mean.idxmax()])
 
 
 def edge_notes(plan: Plan, solution: Solution) -> list[str]:
@@ -226,6 +227,6 @@ def edge_notes(plan: Plan, solution: Solution) -> list[str]:
         if len(touching):
             notes.append(
                 f"WARNING: the greatest pit touches the {name} of the model in {len(touching):,} blocks, "
-                f"from factor {touching.min()} on: a larger model may give another pit"
+                f"from revenue factor {factor_text(touching.min())} on: a larger model may give another pit"
             )
     return notes

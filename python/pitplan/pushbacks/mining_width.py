@@ -26,6 +26,7 @@ from scipy import ndimage
 from pitplan.blockmodel import missing_blocks
 from pitplan.blockmodel.grid import metres
 from pitplan.config.pushbacks import PhaseRules
+from pitplan.core.revenue_factors import factor_text
 from pitplan.errors import PlanError
 from pitplan.plan import Plan
 from pitplan.slopes import closure
@@ -68,7 +69,7 @@ class Ground:
 
 
 def ground_of(plan: Plan, rules: PhaseRules) -> Ground:
-    grid, last = plan.grid, plan.project.schedule.factors[-1]
+    grid, last = plan.grid, plan.project.schedule.revenue_factors[-1]
     closed = closure.users_of(grid, plan.walls, unknown(plan))
     if plan.settled is not None:
         closed |= plan.settled.left
@@ -103,14 +104,14 @@ def widened(phase: np.ndarray, plan: Plan, rules: PhaseRules) -> tuple[np.ndarra
 
     What must be dug stays in phase 1, however narrow. Raises PlanError where nothing of the last pit is wide enough.
     """
-    ground, count = ground_of(plan, rules), len(plan.project.schedule.factors)
+    ground, count = ground_of(plan, rules), len(plan.project.schedule.revenue_factors)
     cube = plan.grid.cube(phase)
     pits = [(cube > 0) & (cube <= number) for number in range(1, count + 1)]
     found = wide_pits(pits, ground)
     if not ((ground.tonnes > 0) & found[-1]).any():
-        factor = plan.project.schedule.factors[-1]
+        factor = plan.project.schedule.revenue_factors[-1]
         raise PlanError(
-            f"{plan.project.path}: [pushbacks] width, bottom: no part of the pit of factor {factor} is so wide: ask for less"
+            f"{plan.project.path}: [pushbacks] width, bottom: no part of the pit of revenue factor {factor_text(factor)} is so wide: ask for less"
         )
     result = np.zeros(plan.grid.shape, dtype=np.int16)
     for number in range(count, 0, -1):

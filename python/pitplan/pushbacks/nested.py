@@ -2,7 +2,7 @@
 
 Each phase is what one shell adds to the one before. For even phases the shells are sought whose tonnes come nearest to even shares of the
 last one's: since shells nest, their tonnes rise with the factor, and the neighbours of a share are found by trying factors between those
-that are known until two are left that follow each other. Factors are whole per mille. Where the tonnes between two that follow each other
+that are known until two are left that follow each other. Factors are whole thousandths. Where the tonnes between two that follow each other
 jump past a share, no factor divides that rock, which is told as a gap.
 """
 
@@ -17,12 +17,12 @@ from scipy import ndimage
 
 from pitplan.blockmodel.plausibility import WARNING
 from pitplan.config.project import Project
-from pitplan.config.pushbacks import MOST_PHASES, PhaseRules
-from pitplan.config.shells import REFERENCE_FACTOR
+from pitplan.config.pushbacks import LEAST_FACTOR, MOST_PHASES, PhaseRules
 from pitplan.core.progress import Progress, silent
+from pitplan.core.revenue_factors import BASE_PRICE, factor_text, factor_texts
 from pitplan.errors import PlanError
 from pitplan.pits import shell_tables
-from pitplan.pits.factor_search import LEAST_FACTOR, between, neighbours, with_factors
+from pitplan.pits.factor_search import between, neighbours, with_factors
 from pitplan.plan import Plan
 from pitplan.solver import problem
 from pitplan.solver.problem import Mine
@@ -33,7 +33,7 @@ from . import mining_width
 # A shell that misses its share by more than this part of it is told as a gap.
 FAR_OFF = 0.1
 # From factors to the tonnes of rock in their shells.
-TonnesAt = Callable[[tuple[int, ...]], dict[int, float]]
+TonnesAt = Callable[[tuple[float, ...]], dict[float, float]]
 
 
 @dataclass(frozen=True)
@@ -52,9 +52,9 @@ class Phases:
     notes: tuple[str, ...]
 
     @property
-    def factors(self) -> tuple[int, ...]:
-        """Of each phase the factor of the shell that ends it, per mille, rising."""
-        return self.plan.project.schedule.factors
+    def factors(self) -> tuple[float, ...]:
+        """Of each phase the factor of the shell that ends it, rising."""
+        return self.plan.project.schedule.revenue_factors
 
     @property
     def mining_cost_added(self) -> np.ndarray:
@@ -69,15 +69,15 @@ def rules_of(project: Project) -> PhaseRules:
     """Raises PlanError where the project says nothing of phases."""
     if project.phases is None:
         raise PlanError(
-            f"{project.path}: [pushbacks] is missing: it says by count, tonnes or factors which phases are asked for"
+            f"{project.path}: [pushbacks] is missing: it says by count, tonnes or revenue_factors which phases are asked for"
         )
     return project.phases
 
 
-def named_last(project: Project) -> Optional[int]:
-    """The factor of the last phase's shell, per mille, where the project names one; None: the shell that `shells` selects."""
+def named_last(project: Project) -> Optional[float]:
+    """The factor of the last phase's shell, where the project names one; None: the shell that `shells` selects."""
     rules = rules_of(project)
-    return rules.factors[-1] if rules.factors else rules.last or project.schedule.chosen
+    return rules.revenue_factors[-1] if rules.revenue_factors else rules.ultimate_pit or project.schedule.selected
 
 
 def ending(project: Project) -> Project:
@@ -86,8 +86,8 @@ def ending(project: Project) -> Project:
     return project if last is None else ended(project, last)
 
 
-def ended(project: Project, last: int) -> Project:
-    return with_factors(project, (*(factor for factor in project.schedule.factors if factor < last), last))
+def ended(project: Project, last: float) -> Project:
+    return with_factors(project, (*(factor for factor in project.schedule.revenue_factors if factor < last), last))
 
 
 def selected(plan: Plan, mine: Mine, progress: Progress) -> tuple[Plan, list[str]]:
@@ -98,11 +98,11 @@ def selected(plan: Plan, mine: Mine, progress: Progress) -> tuple[Plan, list[str
     if named_last(plan.project) is not None:
         return plan, []
     table = shell_tables.shells(plan, problem.solve(plan, mine, progress))
-    last = shell_tables.chosen_factor(table, plan.project.schedule)
-    note = f"the last phase ends with the shell of factor {last}, which shells selects: [pushbacks] last names another"
-    if not table["tonnes"][table["factor"] == last].any():
-        last = REFERENCE_FACTOR
-        note = f"{WARNING}no shell has a net present value above 0: the last phase ends with the shell of factor {last}"
+    last = shell_tables.selected_factor(table, plan.project.schedule)
+    note = f"the last phase ends with the shell of revenue factor {factor_text(last)}, which shells selects: [pushbacks] ultimate_pit names another"
+    if not table["tonnes"][table["revenue_factor"] == last].any():
+        last = BASE_PRICE
+        note = f"{WARNING}no shell has a net present value above 0: the last phase ends with the shell of revenue factor {factor_text(last)}"
     return replace(plan, project=ended(plan.project, last)), [note]
 
 
@@ -117,20 +117,20 @@ def divide(plan: Plan, mine: Optional[Mine] = None, progress: Progress = silent)
         with problem.temporary(plan) as made:
             return divide(plan, made, progress)
     plan, notes = selected(plan, mine, progress)
-    rules, last = rules_of(plan.project), plan.project.schedule.factors[-1]
+    rules, last = rules_of(plan.project), plan.project.schedule.revenue_factors[-1]
 
-    def solved(factors: tuple[int, ...]) -> tuple[Plan, Solution]:
+    def solved(factors: tuple[float, ...]) -> tuple[Plan, Solution]:
         part = replace(plan, project=with_factors(plan.project, factors))
         return part, problem.solve(part, mine, progress)
 
-    def tonnes_at(factors: tuple[int, ...]) -> dict[int, float]:
+    def tonnes_at(factors: tuple[float, ...]) -> dict[float, float]:
         part, solution = solved(factors)
         return dict(
             zip(factors, shell_tables.within(part, solution.entry[: plan.grid.count], plan.values.tonnes).tolist())
         )
 
-    if rules.factors is not None:
-        tonnes, gaps = tonnes_at(rules.factors), list[str]()
+    if rules.revenue_factors is not None:
+        tonnes, gaps = tonnes_at(rules.revenue_factors), list[str]()
     else:
         tonnes, gaps = even_shells(rules, last, tonnes_at, plan.project)
     factors, more = not_empty(tonnes, plan.project)
@@ -146,38 +146,40 @@ def divide(plan: Plan, mine: Optional[Mine] = None, progress: Progress = silent)
     return Phases(part, solution, phase, (*notes, *more))
 
 
-def not_empty(tonnes: dict[int, float], project: Project) -> tuple[tuple[int, ...], list[str]]:
+def not_empty(tonnes: dict[float, float], project: Project) -> tuple[tuple[float, ...], list[str]]:
     """The factors whose shells have rock that the ones before have not. Raises PlanError where the last shell is empty."""
     kept, notes, before = [], [], 0.0
     for factor, rock in tonnes.items():
         if rock > before:
             kept.append(factor)
         else:
-            notes.append(f"the shell of factor {factor} has no rock that the one before has not: it makes no phase")
+            notes.append(
+                f"the shell of revenue factor {factor_text(factor)} has no rock that the one before has not: it makes no phase"
+            )
         before = rock
     if not kept:
         raise PlanError(
-            f"{project.path}: [pushbacks] the pit of factor {max(tonnes)} is empty: there is nothing to divide"
+            f"{project.path}: [pushbacks] the pit of revenue factor {factor_text(max(tonnes))} is empty: there is nothing to divide"
         )
     return tuple(kept), notes
 
 
-def notes_of_added(rules: PhaseRules, factors: tuple[int, ...], project: Project) -> list[str]:
+def notes_of_added(rules: PhaseRules, factors: tuple[float, ...], project: Project) -> list[str]:
     """That phases have mining costs of their own. Raises PlanError where these are not as many as the phases."""
     amounts = rules.mining_cost_added
     if not amounts:
         return []
     if len(amounts) != len(factors):
-        said = f"mining_cost_added has {len(amounts)} amounts, and the pit has {len(factors)} phases, of the factors"
-        raise PlanError(f"{project.path}: [pushbacks] {said} {', '.join(map(str, factors))}: give one for each")
+        said = f"mining_cost_added has {len(amounts)} amounts, and the pit has {len(factors)} phases, of the revenue factors"
+        raise PlanError(f"{project.path}: [pushbacks] {said} {factor_texts(factors)}: give one for each")
     told = ", ".join(f"{amount:f}" for amount in amounts)
     where = "in phases, years, net present values and schedules, not in the worth of blocks, shells and phases"
     return [f"by phase a tonne costs {told} {project.money.currency} more to dig: {where}"]
 
 
 def even_shells(
-    rules: PhaseRules, last: int, tonnes_at: TonnesAt, project: Project
-) -> tuple[dict[int, float], list[str]]:
+    rules: PhaseRules, last: float, tonnes_at: TonnesAt, project: Project
+) -> tuple[dict[float, float], list[str]]:
     """Factors and tonnes of the shells that come nearest to even shares of the last one's tonnes, and notes of the shares that none comes
     near to."""
     known = tonnes_at(tuple(sorted({LEAST_FACTOR, last})))
@@ -211,11 +213,11 @@ def count_of(rules: PhaseRules, whole: float, project: Project) -> int:
     return count
 
 
-def gap(known: dict[int, float], low: int, high: int) -> str:
+def gap(known: dict[float, float], low: float, high: float) -> str:
     if low == high:
-        return f"the shell of factor {low} has {known[low]:,.0f} t already: no lesser factor divides it"
+        return f"the shell of revenue factor {factor_text(low)} has {known[low]:,.0f} t already: no lesser factor divides it"
     return (
-        f"between the factors {low} and {high} the shells grow by {known[high] - known[low]:,.0f} t at once, from {known[low]:,.0f} to "
+        f"between the revenue factors {factor_text(low)} and {factor_text(high)} the shells grow by {known[high] - known[low]:,.0f} t at once, from {known[low]:,.0f} to "
         f"{known[high]:,.0f}: no factor divides this rock"
     )
 
@@ -229,7 +231,7 @@ def blocks(phases: Phases) -> pd.DataFrame:
 def table(phases: Phases) -> pd.DataFrame:
     """One row a phase, of what it adds to those before, at the price as given.
 
-    phase from 1; factor, per mille, of the shell that ends it; blocks (with rock); tonnes, ore_tonnes, in_situ_ore_tonnes, waste_tonnes and
+    phase from 1; revenue_factor, of the shell that ends it; blocks (with rock); tonnes, ore_tonnes, in_situ_ore_tonnes, waste_tonnes and
     strip_ratio as of shells;
     grade_NAME of the ore in its column's unit, metal_NAME recovered of it (tonnes, or grams); worth in money; mining_cost_added, where
     phases have mining costs of their own, which are not in the worth; deferred_value, what the shell that ends a phase is worth more than
@@ -244,7 +246,7 @@ def table(phases: Phases) -> pd.DataFrame:
     )
     columns = {
         "phase": np.arange(1, len(phases.factors) + 1),
-        "factor": np.array(phases.factors),
+        "revenue_factor": np.array(phases.factors),
         "blocks": added(phases.phase, cells.tonnes > 0, phases).astype(np.int64),
         "tonnes": tonnes,
         "ore_tonnes": ore_tonnes,

@@ -9,6 +9,7 @@ from jinja2 import Environment, FileSystemLoader, select_autoescape
 
 from pitplan.config.economics import Metal
 from pitplan.config.project import Project
+from pitplan.core.revenue_factors import factor_text
 from pitplan.figures.style import scaled
 
 TEMPLATES = Environment(
@@ -17,6 +18,7 @@ TEMPLATES = Environment(
     trim_blocks=True,
     lstrip_blocks=True,
 )
+TEMPLATES.filters["rf"] = factor_text
 # Column, heading with unit, by what to divide, and decimals.
 Columns = list[tuple[str, str, float, int]]
 
@@ -25,7 +27,7 @@ def columns_of(table: pd.DataFrame, project: Project) -> Columns:
     """What the page's table shows: column, heading with unit, by what to divide, and decimals."""
     money, m_sign = scaled(float(table[["worth", "npv_best", "npv_worst"]].abs().max().max()))
     currency = f"{m_sign} {project.money.currency}".strip()
-    columns = [("factor", "factor, per mille", 1.0, 0), *columns_of_rock(table, project)]
+    columns = [("revenue_factor", "revenue factor", 1.0, 2), *columns_of_rock(table, project)]
     for name, heading in (("worth", "worth"), ("npv_best", "NPV best"), ("npv_worst", "NPV worst")):
         columns.append((name, f"{heading}, {currency}", money, 1))
     return [*columns, ("years", "years", 1.0, 1)]
@@ -58,7 +60,7 @@ def columns_of_phases(table: pd.DataFrame, project: Project) -> Columns:
     currency = f"{sign} {project.money.currency}".strip()
     return [
         ("phase", "phase", 1.0, 0),
-        ("factor", "factor, per mille", 1.0, 0),
+        ("revenue_factor", "revenue factor", 1.0, 2),
         *columns_of_rock(table, project),
         ("worth", f"worth, {currency}", money, 1),
         *(
@@ -178,8 +180,10 @@ def cells_of(table: pd.DataFrame, columns: Columns) -> list[list[str]]:
     def cell(row: pd.Series, name: str, size: float, places: int) -> str:
         if name in ("way", "case"):
             return str(row[name])
-        if name in ("phase", "factor"):
+        if name == "phase":
             return str(int(row[name]))
+        if name == "revenue_factor":
+            return factor_text(row[name])
         return "–" if pd.isna(row[name]) else f"{row[name] / size:,.{places}f}"
 
     return [[cell(row, name, size, places) for name, _, size, places in columns] for _, row in table.iterrows()]

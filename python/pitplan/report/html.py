@@ -15,8 +15,9 @@ import pandas as pd
 
 from pitplan.config import project_writer
 from pitplan.config.project import Project
-from pitplan.config.shells import IN_WORDS, REFERENCE_FACTOR
+from pitplan.config.shells import IN_WORDS
 from pitplan.core.atomic_files import hash_of, read_json
+from pitplan.core.revenue_factors import BASE_PRICE, factor_text
 from pitplan.errors import PlanError
 from pitplan.figures import schedule
 from pitplan.results import names
@@ -132,9 +133,10 @@ def write(path: Path, folder: Path, project: Project, sensitivity: Optional[Path
         bins=names.MILLING in record["files"],
         project_file=project_writer.AS_RUN if project_writer.AS_RUN in record["files"] else project.path.name,
         project_text=text_of(folder, project, record),
+        count=len(record["shells"]["revenue_factors"]),
         inputs=record["inputs"],
         outputs=record["files"],
-        **{name: record["shells"][name] for name in ("chosen", "solver")},
+        **{name: record["shells"][name] for name in ("selected", "solver")},
         **{name: record[name] for name in ("summary", "verified")},
     )
     path.write_text(page, encoding="utf-8")
@@ -169,10 +171,10 @@ def without_comments(text: str) -> str:
 
 def of_answer(folder: Path, project: Project, record: dict[str, Any]) -> dict[str, Any]:
     """Figures and tables of shells, and where there are such of phases and of a schedule."""
-    chosen = record["shells"]["chosen"]
+    chosen = record["shells"]["selected"]
     shells, years = read_table(folder, names.SHELLS), read_table(folder, names.YEARS)
-    marks = shells.frame["factor"].map(
-        lambda factor: " ".join(["chosen"] * (factor == chosen) + ["given"] * (factor == REFERENCE_FACTOR))
+    marks = shells.frame["revenue_factor"].map(
+        lambda factor: " ".join(["selected"] * (factor == chosen) + ["given"] * (factor == BASE_PRICE))
     )
     found: dict[str, Any] = {"shells": parts_of(shells, report.columns_of, project, marks)}
     cases, figures = ["best", "worst"], of_shell(shells, chosen, project)
@@ -183,15 +185,16 @@ def of_answer(folder: Path, project: Project, record: dict[str, Any]) -> dict[st
         shown = record.get("schedule", BY_BLOCK)
         of_ways = report.columns_by_block if shown == BY_BLOCK else report.columns_of_ways
         found["ways"], found["shown"] = (
-            parts_of(ways, of_ways, project, ways.frame["way"].map({shown: "chosen"}).fillna("")),
+            parts_of(ways, of_ways, project, ways.frame["way"].map({shown: "selected"}).fillna("")),
             shown,
         )
         found["way"] = schedule.NAMES.get(shown, shown)
         # What is scheduled by block is the pit of the price as given, whichever shell is shown.
-        pit = REFERENCE_FACTOR if shown == BY_BLOCK else chosen
+        pit = BASE_PRICE if shown == BY_BLOCK else chosen
         cases, figures = [shown], [*of_way(ways, shown, project), *grades(shells, pit, project)]
     dug = years.frame[
-        years.frame["case"].isin(cases) & ((years.frame["factor"] == chosen) | (years.frame["case"] == BY_BLOCK))
+        years.frame["case"].isin(cases)
+        & ((years.frame["revenue_factor"] == chosen) | (years.frame["case"] == BY_BLOCK))
     ]
     found["years"] = parts_of(Written(years.file, dug), report.columns_of_years, project) if len(dug) else []
     return found | {"figures": figures}
@@ -224,9 +227,9 @@ def part_of(table: Written, columns: Columns, marks: Optional[pd.Series]) -> dic
     return {"file": table.file, "headings": [heading for _, heading, _, _ in columns], "rows": rows}
 
 
-def of_shell(shells: Written, chosen: int, project: Project) -> list[Figure]:
+def of_shell(shells: Written, chosen: float, project: Project) -> list[Figure]:
     """What the board asks first of a pit that has no schedule."""
-    row = int(shells.frame.index[shells.frame["factor"] == chosen][0])
+    row = int(shells.frame.index[shells.frame["revenue_factor"] == chosen][0])
     columns = {column[0]: column for column in report.columns_of(shells.frame.loc[[row]], project)}
     names = {
         "npv_best": "Net present value, best case",
@@ -241,11 +244,11 @@ def of_shell(shells: Written, chosen: int, project: Project) -> list[Figure]:
     return [*found, shells.figure("Life, best case", row, ("years", "life, years", 1.0, 1))]
 
 
-def grades(shells: Written, factor: int, project: Project) -> list[Figure]:
-    row = int(shells.frame.index[shells.frame["factor"] == factor][0])
+def grades(shells: Written, factor: float, project: Project) -> list[Figure]:
+    row = int(shells.frame.index[shells.frame["revenue_factor"] == factor][0])
     return [
         shells.figure(
-            f"{metal.name.capitalize()} in the ore of the pit of factor {factor}",
+            f"{metal.name.capitalize()} in the ore of the pit of revenue factor {factor_text(factor)}",
             row,
             (f"grade_{metal.name}", f"grade, {metal.sign}", 1.0, 3),
         )
@@ -286,7 +289,7 @@ def of_sensitivity(found: Sensitivity, project: Project) -> dict[str, Any]:
     return {
         "parts": parts_of(Written(table.file, named), report.columns_of_cases, project),
         "tornado": picture(found.folder / TORNADO) if (found.folder / TORNADO).is_file() else "",
-        "factor": record["factor"],
+        "revenue_factor": record["revenue_factor"],
         "verified": record["verified"],
         "pairs": len(table.frame) > len(alone),
         "sha256": hash_of(found.folder / SENSITIVITY),

@@ -50,9 +50,9 @@ def model_of(folder: Folder) -> dict[str, Any]:
         raise PlanError(
             f"the 3D page can show {MOST_FACTORS} shells, and there are {len(factors):,}: give fewer factors"
         )
-    place = np.searchsorted(factors, blocks["factor"].to_numpy()) + 1
+    place = np.searchsorted(factors, blocks["revenue_factor"].to_numpy()) + 1
     solid = (blocks[folder.record["tonnes"]] > 0).to_numpy()
-    shell = np.where(solid, np.where(blocks["factor"] > 0, place, 0), AIR).astype(np.uint8)
+    shell = np.where(solid, np.where(blocks["revenue_factor"] > 0, place, 0), AIR).astype(np.uint8)
     west, _, south, _, floor, top = grid.extent()
     towards_north = 1j / turn_of(grid.azimuth)
     return {
@@ -62,8 +62,8 @@ def model_of(folder: Folder) -> dict[str, Any]:
         "axes": list(grid.frame.names),
         "north": [towards_north.real, towards_north.imag],
         "top": top,
-        "factors": factors,
-        "chosen": folder.record["shells"]["chosen"],
+        "revenue_factors": factors,
+        "selected": folder.record["shells"]["selected"],
         "shell": encoded(grid.spread(shell, AIR)),
         "shell_colours": colours("viridis_r", np.linspace(0.02, 1, len(factors))),
         "metals": [metal_of(folder, metal, solid) for metal in folder.record["metals"]],
@@ -99,7 +99,7 @@ def rows_of(folder: Folder) -> str:
     blocks = folder.blocks
     written = pd.read_csv(folder.path / TABLE, dtype=str, keep_default_na=False, na_values={})
     written["worth"] = worths(blocks).round(6)
-    return written[(blocks["factor"] > 0).to_numpy() | (len(blocks) <= MOST_ROWS)].to_csv(
+    return written[(blocks["revenue_factor"] > 0).to_numpy() | (len(blocks) <= MOST_ROWS)].to_csv(
         index=False, lineterminator="\n"
     )
 

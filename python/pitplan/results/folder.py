@@ -12,6 +12,7 @@ from numpy.typing import NDArray
 
 from pitplan.blockmodel.grid import Grid, grid_of
 from pitplan.core.atomic_files import hash_of
+from pitplan.core.revenue_factors import with_exact_factors
 from pitplan.errors import PlanError
 
 from . import json_records
@@ -27,7 +28,7 @@ def read_record(folder: Path) -> dict[str, Any]:
 class Folder:
     """The files of a plan, read back.
 
-    blocks  one row a block of the planner's table, with `id` and the shell's `factor` (0: in none)
+    blocks  one row a block of the planner's table, with `id` and the shell's `revenue_factor` (0: in none)
     record  what prepare.json says
     """
 
@@ -40,12 +41,12 @@ class Folder:
         return grid_of(self.record["grid"], self.blocks["id"].to_numpy())
 
     @property
-    def factors(self) -> list[int]:
-        return list(self.record["shells"]["factors"])
+    def factors(self) -> list[float]:
+        return list(self.record["shells"]["revenue_factors"])
 
-    def dug(self, factor: int) -> NDArray[Any]:
+    def dug(self, factor: float) -> NDArray[Any]:
         """Whether the pit of a factor digs rock of a cell; a truth for each level (from the top), row and column."""
-        first, grid = self.blocks["factor"], self.grid
+        first, grid = self.blocks["revenue_factor"], self.grid
         dug = (first > 0) & (first <= factor) & (self.blocks[self.record["tonnes"]] > 0)
         return grid.cube(grid.spread(dug.to_numpy(), fill=False))
 
@@ -60,7 +61,7 @@ def read_folder(path: Path) -> Folder:
         if "shells" not in record:
             raise PlanError(f"{path}: has no shells yet: run pitplan shells first")
         codes = {name: str for name in record["codes"]}
-        blocks = pd.read_csv(path / TABLE, dtype=codes, keep_default_na=False, na_values={})
+        blocks = with_exact_factors(pd.read_csv(path / TABLE, dtype=codes, keep_default_na=False, na_values={}))
     except OSError as error:
         raise PlanError(f"{error.filename}: cannot be read: run pitplan shells first") from error
     except ValueError as error:
@@ -72,7 +73,7 @@ def read_folder(path: Path) -> Folder:
 def demand_blocks(blocks: pd.DataFrame, record: dict[str, Any], path: Path) -> None:
     """Raises PlanError where blocks.csv and prepare.json do not fit each other."""
     wrong = f"{path / RECORD}: does not fit {TABLE}"
-    numbers = ["id", "factor", record["tonnes"], *(metal["column"] for metal in record["metals"])]
+    numbers = ["id", "revenue_factor", record["tonnes"], *(metal["column"] for metal in record["metals"])]
     for name in [*numbers, *record["codes"]]:
         if name not in blocks:
             raise PlanError(f"{wrong}, which has no column {name}: run pitplan shells again")

@@ -15,11 +15,11 @@ from pathlib import Path
 from typing import Any
 
 from pitplan.config.toml_section import FARTHEST, cut
+from pitplan.core.revenue_factors import is_factor
 from pitplan.errors import PlanError
 
 # Cells that a grid may have along an axis and in all.
 MOST_ALONG, MOST_CELLS = 10**6, 64 * 10**6
-GREATEST_FACTOR = 100_000
 HASH = re.compile("[0-9a-f]{64}")
 
 
@@ -59,10 +59,10 @@ NUMBER = Kind("a number", lambda value: is_number(value) and math.isfinite(value
 LENGTH = Kind("a length in metres above 0", lambda value: is_number(value) and value > 0)
 TRUTH = Kind("true or false", lambda value: isinstance(value, bool))
 SHA256 = Kind("a SHA-256", lambda value: isinstance(value, str) and HASH.fullmatch(value) is not None)
-FACTOR = whole(0, GREATEST_FACTOR)
+FACTOR = Kind("a revenue factor from 0 to 100 with at most three decimals", is_factor)
 ALONG = whole(1, MOST_ALONG)
 RISING = Kind(
-    "factors, each greater than the one before",
+    "revenue factors, each greater than the one before",
     lambda value: isinstance(value, list)
     and len(value) > 0
     and all(map(FACTOR.holds, value))
@@ -79,12 +79,12 @@ SOLVER = {
     "version": TEXT,
     "sha256": SHA256,
 }
-SHELLS = {"factors": RISING, "chosen": FACTOR, "solver": SOLVER}
+SHELLS = {"revenue_factors": RISING, "selected": FACTOR, "solver": SOLVER}
 PLAN = {
     "title": TEXT,
     "grid": GRID,
     "walls": [{"levels": Lacking(whole(1, 1000))}],
-    "factors": RISING,
+    "revenue_factors": RISING,
     "summary": [TEXT],
     "notes": [TEXT],
     "codes": [TEXT],
@@ -103,7 +103,7 @@ PLAN = {
 
 # The verification requires the grid, and checks the other parts where they are present.
 LAID = {key: kind if key == "grid" or isinstance(kind, Lacking) else Lacking(kind) for key, kind in PLAN.items()}
-LAID["shells"] = Lacking({key: kind if key == "factors" else Lacking(kind) for key, kind in SHELLS.items()})
+LAID["shells"] = Lacking({key: kind if key == "revenue_factors" else Lacking(kind) for key, kind in SHELLS.items()})
 
 
 class Reader:
@@ -174,7 +174,7 @@ def demand_plan(reader: Reader, record: dict[str, Any]) -> None:
     if levels * rows * columns > MOST_CELLS:
         raise reader.wrong("grid.shape", f"found {levels} x {rows} x {columns} cells, expected {MOST_CELLS:,} at most")
     shells = record.get("shells", {})
-    if "chosen" in shells and shells["chosen"] not in shells["factors"]:
-        raise reader.wrong("shells.chosen", f"found {shells['chosen']}, expected one of the factors")
+    if "selected" in shells and shells["selected"] not in shells["revenue_factors"]:
+        raise reader.wrong("shells.selected", f"found {shells['selected']}, expected one of the revenue factors")
     for name in record.get("files", ()):
         reader.demand(name, NAME, "files")

@@ -9,11 +9,11 @@ import numpy as np
 from numpy.typing import NDArray
 
 from pitplan.blockmodel.grid import Grid
-from pitplan.config.shells import REFERENCE_FACTOR
+from pitplan.core.revenue_factors import BASE_PRICE, factor_text
 from pitplan.errors import PlanError
 from pitplan.results.folder import Folder
 
-FACTOR, PHASE, YEAR = "factor", "phase", "year"
+FACTOR, PHASE, YEAR = "revenue_factor", "phase", "year"
 KINDS = (FACTOR, PHASE, YEAR)
 PIT, GROUND = "pit", "ground"
 MADE_BY = {PHASE: "pitplan pushbacks", YEAR: "pitplan schedule"}
@@ -23,16 +23,15 @@ MADE_BY = {PHASE: "pitplan pushbacks", YEAR: "pitplan schedule"}
 class Shape:
     """Which pits are exported, and as what.
 
-    of       factor: that of one factor; phase, year: what is dug up to the end of each
+    of       revenue_factor: that of one; phase, year: what is dug up to the end of each
     surface  pit: round the blocks that are dug; ground: the open surface of the ground with the pit in it
     smooth   of ground: without the steps of blocks
-    factor   in per mille
     """
 
     of: str = FACTOR
     surface: str = PIT
     smooth: bool = False
-    factor: int = REFERENCE_FACTOR
+    revenue_factor: float = BASE_PRICE
 
 
 @dataclass(frozen=True)
@@ -40,13 +39,19 @@ class Stage:
     """What is dug up to a factor, a phase or a year: a truth for each level (from the top), row and column; number 0 is before all."""
 
     kind: str
-    number: int
+    number: float
     dug: NDArray[Any]
 
     @property
     def name(self) -> str:
         """As files and layers are called by it."""
-        return f"{self.kind}-{self.number}" if self.number else "before"
+        return self.spoken.replace(" ", "-") if self.number else "before"
+
+    @property
+    def spoken(self) -> str:
+        """In words, such as `revenue factor 0.80` or `phase 2`."""
+        number = factor_text(self.number) if self.kind == FACTOR else f"{self.number:.0f}"
+        return f"{self.kind.replace('_', ' ')} {number}"
 
     @property
     def prefix(self) -> str:
@@ -60,10 +65,12 @@ def stages_of(folder: Folder, shape: Shape) -> list[Stage]:
     Raises PlanError where the folder has no phases or years, and where the pit of the factor is empty.
     """
     if shape.of == FACTOR:
-        dug = folder.dug(shape.factor)
+        dug = folder.dug(shape.revenue_factor)
         if not dug.any():
-            raise PlanError(f"{folder.path}: the pit of factor {shape.factor} is empty: it has no surface")
-        return [Stage(FACTOR, shape.factor, dug)]
+            raise PlanError(
+                f"{folder.path}: the pit of revenue factor {factor_text(shape.revenue_factor)} is empty: it has no surface"
+            )
+        return [Stage(FACTOR, shape.revenue_factor, dug)]
     if shape.of not in folder.blocks:
         raise PlanError(f"{folder.path}: has no {shape.of}s: run {MADE_BY[shape.of]}, and name its folder by --out")
     number = np.where(rock(folder), cube_of(folder, shape.of), 0)

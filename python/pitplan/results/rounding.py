@@ -20,8 +20,8 @@ def write_csv(table: pd.DataFrame, path: Path, project: Project) -> None:
 def shown(table: pd.DataFrame) -> pd.DataFrame:
     """A table as shells.csv and years.csv have it: sums to a thousandth, grades and ratios to a millionth, shares to a billionth."""
     result = table.copy()
-    if "worth_at_factor" in result:
-        result["worth_at_factor"] = result["worth_at_factor"].map("{:f}".format)
+    if "value_at_revenue_factor" in result:
+        result["value_at_revenue_factor"] = result["value_at_revenue_factor"].map("{:f}".format)
     for name in result.columns:
         if result[name].dtype == np.float64:
             places = (

@@ -64,8 +64,8 @@ class YearlySchedule:
         return self.problem.settings
 
     @property
-    def factor(self) -> int:
-        """That of the last phase's shell, per mille."""
+    def factor(self) -> float:
+        """That of the last phase's shell."""
         return self.phases.factors[-1]
 
     @property
@@ -200,7 +200,7 @@ def years(schedule: YearlySchedule) -> pd.DataFrame:
     for way in schedule.shares:
         years = schedule.yearly(way)
         for place, (name, values) in enumerate(
-            {"case": way, "factor": schedule.factor, "year": years.index + 1}.items()
+            {"case": way, "revenue_factor": schedule.factor, "year": years.index + 1}.items()
         ):
             years.insert(place, name, values)
         found.append(years)
@@ -275,7 +275,7 @@ def record(schedule: YearlySchedule) -> dict[str, Any]:
         for way, shares in schedule.shares.items()
     }
     return {
-        "factor": schedule.factor,
+        "revenue_factor": schedule.factor,
         "ways": found,
         "bound": bound,
         "milp_bound": None

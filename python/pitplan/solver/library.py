@@ -14,6 +14,7 @@ import pandas as pd
 
 from pitplan.core.atomic_files import hash_of
 from pitplan.core.optional_packages import LIBRARY, is_of
+from pitplan.core.revenue_factors import per_mille
 from pitplan.errors import ProgramError
 from pitplan.precedences import Rows
 
@@ -59,27 +60,28 @@ def identity() -> dict[str, str]:
     return {"version": f"libpitshell {pitshell.__version__}", "sha256": hash_of(pitshell.LIBRARY)}
 
 
-def shells(nodes: tuple[np.ndarray, np.ndarray], rows: Rows, factors: tuple[int, ...]) -> Solution:
-    """The shells of nodes with these revenues and costs, int64 millionths, at factors in per mille. Raises ProgramError where the library
+def shells(nodes: tuple[np.ndarray, np.ndarray], rows: Rows, factors: tuple[float, ...]) -> Solution:
+    """The shells of nodes with these revenues and costs, int64 millionths, at revenue factors. Raises ProgramError where the library
     refuses."""
     revenue, cost = nodes
-    found = called("shells", revenue, cost, (rows.starts, rows.needs), factors, millionths=True)
+    solved = [per_mille(factor) for factor in factors]
+    found = called("shells", revenue, cost, (rows.starts, rows.needs), solved, millionths=True)
     inside = np.bincount(found.first, minlength=len(factors) + 1)
     return Solution(
         worth=pd.Series(found.worths, index=factors, dtype=object),
         nodes=pd.Series(np.cumsum(inside)[:-1], index=factors),
-        entry=np.array([*factors, 0], dtype=np.int32)[found.first],
+        entry=np.array([*factors, 0.0])[found.first],
     )
 
 
-def pit(values: np.ndarray, rows: Rows, fixed: np.ndarray, factor: int) -> Solution:
+def pit(values: np.ndarray, rows: Rows, fixed: np.ndarray, factor: float) -> Solution:
     """One pit of nodes with these values, int64 billionths at a factor, of which some are forced in (1) or barred (2). Raises ProgramError
     where the library refuses, as where a block must be dug and may not be."""
     found = called("solve", values, (rows.starts, rows.needs), fixed, millionths=True)
     nodes = pd.Series([int(np.count_nonzero(found.in_pit))], index=[factor])
     # From a text, which no decimal context rounds.
     worth = pd.Series([Decimal(f"{found.worth}E-3")], index=[factor], dtype=object)
-    return Solution(worth, nodes, np.where(found.in_pit, factor, 0).astype(np.int32))
+    return Solution(worth, nodes, np.where(found.in_pit, factor, 0.0))
 
 
 def called(name: str, *arrays: Any, **options: Any) -> Any:

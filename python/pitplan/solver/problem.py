@@ -20,6 +20,7 @@ from pitplan.blockmodel import missing_blocks
 from pitplan.constraints import Settled
 from pitplan.core.decimals import at_factor, greatest
 from pitplan.core.progress import Progress, silent
+from pitplan.core.revenue_factors import PER_MILLE, factor_text, per_mille
 from pitplan.economics.block_values import Values
 from pitplan.errors import PlanError
 from pitplan.plan import Plan
@@ -52,7 +53,7 @@ class MineInFiles:
         """Their names."""
         return mine_files.of_program(self.folder)
 
-    def shells(self, factors: tuple[int, ...]) -> Solution:
+    def shells(self, factors: tuple[float, ...]) -> Solution:
         """The shells of the rest that fixed blocks leave; of all where there are none."""
         names = (
             (mine_files.BLOCKS, mine_files.PREC)
@@ -62,11 +63,11 @@ class MineInFiles:
         blocks, prec = (self.folder / name for name in names)
         return program.solve_files(blocks, prec, factors)
 
-    def free_shells(self, factors: tuple[int, ...]) -> Solution:
+    def free_shells(self, factors: tuple[float, ...]) -> Solution:
         """The shells as if nothing were fixed."""
         return program.solve_files(self.folder / mine_files.BLOCKS, self.folder / mine_files.PREC, factors)
 
-    def pit(self, factor: int) -> Solution:
+    def pit(self, factor: float) -> Solution:
         """The pit of a factor, with the fixed blocks."""
         path = self.folder / mine_files.PIT_MODEL
         mine_files.write_model(path, self.plan.project.title, values_at(self.plan.values.nodes(), factor))
@@ -87,15 +88,15 @@ class MineInArrays:
     def rows_of_rest(self) -> Rows:
         return self.rows if self.plan.settled is None else counted_rows(self.plan.needs_of_rest, self.plan)[0]
 
-    def shells(self, factors: tuple[int, ...]) -> Solution:
+    def shells(self, factors: tuple[float, ...]) -> Solution:
         settled, values = self.plan.settled, self.plan.values
         nodes = values.nodes() if settled is None else constraints.nodes_of_rest(values, settled)
         return library.shells(nodes, self.rows_of_rest, factors)
 
-    def free_shells(self, factors: tuple[int, ...]) -> Solution:
+    def free_shells(self, factors: tuple[float, ...]) -> Solution:
         return library.shells(self.plan.values.nodes(), self.rows, factors)
 
-    def pit(self, factor: int) -> Solution:
+    def pit(self, factor: float) -> Solution:
         values = values_at(self.plan.values.nodes(), factor)
         return library.pit(values, self.rows, constraints.numbers(self.plan.fixed, len(values)), factor)
 
@@ -124,15 +125,15 @@ def temporary(plan: Plan) -> Iterator[Mine]:
         yield ready(plan, chosen(plan.project.solver), Path(place))
 
 
-def values_at(nodes: tuple[np.ndarray, np.ndarray], factor: int) -> np.ndarray:
-    """Each node's value at a factor, int64 billionths, of its revenue and cost in millionths: `factor * revenue - 1000 * cost`.
+def values_at(nodes: tuple[np.ndarray, np.ndarray], factor: float) -> np.ndarray:
+    """Each node's value at a factor, int64 billionths, of its revenue and cost in millionths: `factor * revenue - cost`.
 
     Raises PlanError where one is 10^18 or more: such values, a thousandfold, are those of a model.
     """
     values = at_factor(factor, *nodes)
     if greatest(values) >= GREATEST:
         raise PlanError(
-            f"a value at factor {factor}, a thousandfold, is 10^12 or more and does not fit a model: give prices and costs in a greater "
+            f"a value at revenue factor {factor_text(factor)}, a thousandfold, is 10^12 or more and does not fit a model: give prices and costs in a greater "
             "unit of money"
         )
     return values.astype(np.int64)
@@ -146,8 +147,8 @@ def solve(plan: Plan, mine: Optional[Mine] = None, progress: Progress = silent) 
     if mine is None:
         with temporary(plan) as made:
             return solve(plan, made, progress)
-    factors = plan.project.schedule.factors
-    with progress.step(f"solving {len(factors)} factors by the {mine.solver.by}"):
+    factors = plan.project.schedule.revenue_factors
+    with progress.step(f"solving {len(factors)} revenue factors by the {mine.solver.by}"):
         rest = mine.shells(factors)
     solution = replace(joined(rest, plan.settled, plan.values), of=plan.key)
     missing_blocks.demand_known(solution.entry, plan.grid, plan.project, plan.source)
@@ -163,17 +164,20 @@ def joined(rest: Solution, settled: Optional[Settled], values: Values) -> Soluti
     entry = rest.entry.copy()
     entry[:count][settled.dug] = factors[0]
     revenue, cost = (int(amounts[:count][settled.dug].sum(dtype=object)) for amounts in values.nodes())
-    worth = [amount + Decimal(factor * revenue - 1000 * cost).scaleb(-9) for factor, amount in rest.worth.items()]
+    worth = [
+        amount + Decimal(per_mille(factor) * revenue - PER_MILLE * cost).scaleb(-9)
+        for factor, amount in rest.worth.items()
+    ]
     nodes = rest.nodes + int(np.count_nonzero(settled.dug))
     return replace(rest, worth=pd.Series(worth, index=factors, dtype=object), nodes=nodes, entry=entry)
 
 
-def demand_same(shells: Solution, pit: Solution, factor: int) -> None:
+def demand_same(shells: Solution, pit: Solution, factor: float) -> None:
     """Raises PlanError where the shell of a factor is not the pit that was found for it alone, block by block."""
     inside = (shells.entry > 0) & (shells.entry <= factor)
     other = np.flatnonzero(inside != (pit.entry > 0))
     if len(other) or shells.worth[factor] != pit.worth[factor]:
         raise PlanError(
-            f"the shell of factor {factor} is not the solver's pit with the fixed blocks: {len(other):,} nodes differ, "
+            f"the shell of revenue factor {factor_text(factor)} is not the solver's pit with the fixed blocks: {len(other):,} nodes differ, "
             f"worth {shells.worth[factor]} for {pit.worth[factor]}; please report this"
         )

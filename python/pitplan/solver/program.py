@@ -14,6 +14,7 @@ import pandas as pd
 
 from pitplan.core.atomic_files import hash_of
 from pitplan.core.paths import program
+from pitplan.core.revenue_factors import PER_MILLE, of_per_mille, per_mille
 from pitplan.errors import BudgetUsedUp, ProgramError
 
 
@@ -21,9 +22,9 @@ from pitplan.errors import BudgetUsedUp, ProgramError
 class Solution:
     """The shells that the solver found.
 
-    worth   Series by factor: the worth of each whole pit in its factor's own values, exact (Decimal)
-    nodes   Series by factor: how many nodes the pit has, processing nodes among them
-    entry   for each node the least factor whose pit holds it; 0 where none does
+    worth   Series by revenue factor: the value of each whole pit at the prices of its factor, exact (Decimal)
+    nodes   Series by revenue factor: how many nodes the pit has, processing nodes among them
+    entry   for each node the least revenue factor whose pit holds it; 0 if none does
     answer  the program's own text; None where the library solved
     of      the key of the plan that was solved; "" if it is not known
     """
@@ -56,14 +57,14 @@ def identity() -> dict[str, str]:
     return {"version": call("--version").decode().strip(), "sha256": hash_of(program())}
 
 
-def solve_files(blocks: Path, prec: Path, factors: tuple[int, ...]) -> Solution:
+def solve_files(blocks: Path, prec: Path, factors: tuple[float, ...]) -> Solution:
     """The shells of a block model's columns 0 (revenue) and 1 (cost)."""
-    listed = ",".join(map(str, factors))
+    listed = ",".join(str(per_mille(factor)) for factor in factors)
     options = ("--blocks", blocks, "--prec", prec, "--revenue", "0", "--cost", "1", "--factors", listed)
     return read_answer(call("shells", *options))
 
 
-def solve_pit(model: Path, prec: Path, fixed: Optional[Path], factor: int) -> Solution:
+def solve_pit(model: Path, prec: Path, fixed: Optional[Path], factor: float) -> Solution:
     """One pit, of a model whose values are those of a factor, a thousandfold; with fixed blocks, where there is a file of them.
 
     Raises ProgramError where the program refuses, as where a block must be dug and may not be.
@@ -74,7 +75,7 @@ def solve_pit(model: Path, prec: Path, fixed: Optional[Path], factor: int) -> So
     answer = call("solve", *options)
     lines = answer.decode().split("\n")
     nodes, count, worth = (lines[k].split()[1] for k in (1, 2, 3))
-    entry = np.zeros(int(nodes), dtype=np.int32)
+    entry = np.zeros(int(nodes))
     entry[np.array(lines[4:-1], dtype=np.int64)] = factor
     worths = pd.Series([Decimal(worth) / 1000], index=[factor], dtype=object)
     return Solution(worths, pd.Series([int(count)], index=[factor]), entry, answer)
@@ -86,11 +87,11 @@ def read_answer(answer: bytes) -> Solution:
     nodes, count = int(head[1].split()[1]), int(head[2].split()[1])
     *rows, rest = head[3].split(b"\n", count)
     fields = [row.decode().split() for row in rows[:count]]
-    factors = [int(row[0]) for row in fields]
-    entry = np.zeros(nodes, dtype=np.int32)
+    factors = [of_per_mille(int(row[0])) for row in fields]
+    entry = np.zeros(nodes)
     if rest.strip():
         lines = pd.read_csv(io.BytesIO(rest), sep=" ", header=None, dtype=np.int64).to_numpy()
-        entry[lines[:, 0]] = lines[:, 1]
+        entry[lines[:, 0]] = lines[:, 1] / PER_MILLE
     return Solution(
         worth=pd.Series([Decimal(row[2]) for row in fields], index=factors, dtype=object),
         nodes=pd.Series([int(row[1]) for row in fields], index=factors),

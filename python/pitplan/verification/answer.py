@@ -42,9 +42,9 @@ def read_shells(
 ) -> Answer:
     """The answer of `pitplan shells`, `pitplan pushbacks` or `pitplan schedule`."""
     shells = read_table(folder / "shells.csv")
-    demand_factors(shells, record["shells"]["factors"], "shells.csv")
+    demand_factors(shells, record["shells"]["revenue_factors"], "shells.csv")
     shells, years = (
-        shells.set_index("factor"),
+        shells.set_index("revenue_factor"),
         read_table(folder / "years.csv", ["case"]) if (folder / "years.csv").exists() else None,
     )
     frame, parts, beyond = table
@@ -55,7 +55,7 @@ def read_shells(
     shares = shares_of(project) if is_by_block else []
     more = [*([PHASE] if phases is not None else []), *([YEAR] if schedule is not None or is_by_block else []), *shares]
     said, factors = written[[*said_of(project), *more]].iloc[order].reset_index(drop=True), tuple(
-        record["shells"]["factors"]
+        record["shells"]["revenue_factors"]
     )
     found = {"phases": phases, "schedule": schedule, "parts": parts, "beyond": beyond, "is_by_block": is_by_block}
     found["own"] = own_columns(written, rows, order)
@@ -67,15 +67,15 @@ def read_pits(
 ) -> Answer:
     """The two answers of `pitplan pit`: that which keeps to the fixed blocks, and in it the one that does not."""
     pits = read_table(folder / "pits.csv", ["fixed_blocks"])
-    demand_factors(pits, [record["factors"][-1]] * 2, "pits.csv")
-    kept, free = (pits[pits["fixed_blocks"] == name].set_index("factor") for name in ("kept", "free"))
+    demand_factors(pits, [record["revenue_factors"][-1]] * 2, "pits.csv")
+    kept, free = (pits[pits["fixed_blocks"] == name].set_index("revenue_factor") for name in ("kept", "free"))
     if len(kept) != len(free):
         raise PlanError("pits.csv: has not a row that keeps to the fixed blocks and one that is free")
     frame, parts, beyond = table
     rows, known, order = beside(frame, written, project, record["grid"], "blocks.csv")
     said = written[[*said_of(project), *FREE]].iloc[order].reset_index(drop=True)
-    other = said.assign(**{name: said[f"free_{name}"] for name in ("factor", "process_factor")})
-    factors = tuple(record["factors"])
+    other = said.assign(**{name: said[f"free_{name}"] for name in ("revenue_factor", "process_revenue_factor")})
+    factors = tuple(record["revenue_factors"])
     alone = Answer(folder, replace(project, fixed=None), rows, known, other, free, None, record, factors)
     own = own_columns(written, rows, order)
     return Answer(
@@ -84,7 +84,7 @@ def read_pits(
 
 
 # In place of a factor: a cell that is not dug at any, and one where there is nothing to dig.
-UNDUG, NOTHING = 2**30, 0
+UNDUG, NOTHING = np.inf, 0.0
 
 
 @dataclass(frozen=True)
@@ -93,7 +93,7 @@ class Answer:
 
     rows    one row a block: the planner's columns of the table as it is now, and behind them those of cells that it has no row of
     known   how many of the rows are the table's
-    said    the same rows of blocks.csv: id, mining_cost, revenue, processing_cost, factor, process_factor
+    said    the same rows of blocks.csv: id, mining_cost, revenue, processing_cost, revenue_factor, process_revenue_factor
     shells  shells.csv (of `pitplan pit`: the one row that keeps to the fixed blocks), by factor
     years   years.csv; None where the folder has none
     record  prepare.json
@@ -116,7 +116,7 @@ class Answer:
     shells: pd.DataFrame
     years: pd.DataFrame | None
     record: dict[str, Any]
-    factors: tuple[int, ...]
+    factors: tuple[float, ...]
     free: Optional[Answer] = None
     found: dict[str, Any] = field(default_factory=dict)
     phases: Optional[pd.DataFrame] = None
@@ -235,8 +235,8 @@ class Answer:
     def dug(self) -> np.ndarray:
         """For each cell the least factor at which it is dug: UNDUG where none is, and where nothing is known of the ground; NOTHING where
         there is nothing to dig."""
-        cube = np.full(self.shape, UNDUG, dtype=np.int32)
-        factor = self.said["factor"].to_numpy()
+        cube = np.full(self.shape, UNDUG)
+        factor = self.said["revenue_factor"].to_numpy()
         known = np.zeros(self.shape, dtype=bool)
         known[self.cells] = True
         cube[self.cells] = np.where(self.tonnes > 0, np.where(factor > 0, factor, UNDUG), NOTHING)

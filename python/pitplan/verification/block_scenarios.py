@@ -107,7 +107,7 @@ class Schedules:
         )
 
     def out_of_order(self, kept: Kept) -> list[str]:
-        answer = replace(self.ground, said=self.ground.said.assign(factor=kept.year))
+        answer = replace(self.ground, said=self.ground.said.assign(revenue_factor=kept.year))
         found = [difference.replace("dug at", "dug in year", 1) for difference in walls.verify(answer).differences]
         wrong = (kept.year < 0) | (kept.year > self.whole.folder.record["years"])
         wrong |= (kept.share < -SLIGHT) | (kept.share > (kept.year > 0) + SLIGHT)

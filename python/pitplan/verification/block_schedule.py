@@ -115,7 +115,7 @@ def shares_of(answer: Answer) -> Shares:
 def verify_order(answer: Answer, told: dict[str, Any]) -> Rule:
     """No block is dug before one of its whole cone, nor behind the last year, and none goes to processes in more than one whole."""
     year = answer.said[YEAR].to_numpy()
-    dated = replace(answer, said=answer.said.assign(factor=year))
+    dated = replace(answer, said=answer.said.assign(revenue_factor=year))
     found = walls.verify(dated)
     differences = [difference.replace("dug at", "dug in year", 1) for difference in found.differences]
     wrong = (year < 0) | (year > told["years"])

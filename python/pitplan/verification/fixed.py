@@ -6,6 +6,7 @@ import numpy as np
 from matplotlib.path import Path as Outline
 
 from pitplan.config.constraints import FixedRules
+from pitplan.core.revenue_factors import factor_text
 from pitplan.verification.answer import Answer
 from pitplan.verification.rules import TOLD, Rule, rule
 
@@ -17,14 +18,20 @@ HAIR = 1e-6
 
 def verify(answer: Answer) -> Rule:
     """Every block that must be dug is in every shell, none that may not be is in any."""
-    rules, first = answer.project.fixed, answer.said["factor"].to_numpy()
+    rules, first = answer.project.fixed, answer.said["revenue_factor"].to_numpy()
     if rules is None:
         return rule("fixed", "nothing is fixed", [])
     must, never = demanded(answer, rules)
     left = np.flatnonzero(must & (first != min(answer.factors)))
     dug = np.flatnonzero(never & (first > 0))
-    differences = [f"{answer.called(row)} must be dug, and is so from factor {first[row]} on" for row in left[:TOLD]]
-    differences += [f"{answer.called(row)} may not be dug, and is so from factor {first[row]} on" for row in dug[:TOLD]]
+    differences = [
+        f"{answer.called(row)} must be dug, and is so from revenue factor {factor_text(first[row])} on"
+        for row in left[:TOLD]
+    ]
+    differences += [
+        f"{answer.called(row)} may not be dug, and is so from revenue factor {factor_text(first[row])} on"
+        for row in dug[:TOLD]
+    ]
     ground = ", with the blocks that are mined," if rules.surface else ""
     holds = f"what must be dug{ground} is in every shell, and what may not be is in none"
     return rule("fixed", holds, differences, len(left) + len(dug))
@@ -88,8 +95,11 @@ def verify_places(answer: Answer) -> Rule:
     differences += [
         f"{answer.called(row)} has the id {answer.said['id'].iloc[row]} for {number[row]}" for row in wrong[:TOLD]
     ]
-    strange = np.flatnonzero(~answer.said["factor"].isin([0, *answer.factors]))
-    differences += [f"{answer.called(row)} comes in at {answer.said['factor'].iloc[row]}" for row in strange[:TOLD]]
+    strange = np.flatnonzero(~answer.said["revenue_factor"].isin([0, *answer.factors]))
+    differences += [
+        f"{answer.called(row)} comes in at {factor_text(answer.said['revenue_factor'].iloc[row])}"
+        for row in strange[:TOLD]
+    ]
     count += len(wrong) + len(strange)
     return rule(
         "blocks",

@@ -6,6 +6,7 @@ from dataclasses import replace
 
 import numpy as np
 
+from pitplan.core.revenue_factors import factor_text, factor_texts
 from pitplan.verification.answer import Answer
 from pitplan.verification.rules import TOLD, Rule, rule
 
@@ -25,7 +26,8 @@ def of_phases(of_shells: Rule) -> Rule:
     """What was found of phases as if they were shells, in words of phases."""
     holds = of_shells.holds.replace("of any shell", "of the phases up to any").replace("in every shell", "in phase 1")
     differences = tuple(
-        text.replace("from factor", "from phase").replace("dug at", "in phase") for text in of_shells.differences
+        text.replace("from revenue factor", "from phase").replace("dug at", "in phase")
+        for text in of_shells.differences
     )
     return Rule(f"phase {of_shells.name}", holds, differences, of_shells.count)
 
@@ -33,8 +35,8 @@ def of_phases(of_shells: Rule) -> Rule:
 def by_phase(answer: Answer) -> Answer:
     """The same answer with phases in place of factors, each as if it were the shell of its number."""
     assert answer.phases is not None
-    said = answer.said.assign(factor=answer.said["phase"])
-    return replace(answer, said=said, factors=tuple(int(number) for number in answer.phases.index))
+    said = answer.said.assign(revenue_factor=answer.said["phase"])
+    return replace(answer, said=said, factors=tuple(float(number) for number in answer.phases.index))
 
 
 def verify_places(answer: Answer) -> Rule:
@@ -42,10 +44,12 @@ def verify_places(answer: Answer) -> Rule:
     assert answer.phases is not None
     numbers, factors = answer.phases.index.tolist(), sorted(answer.factors)
     differences = []
-    if numbers != list(range(1, len(factors) + 1)) or answer.phases["factor"].tolist() != factors:
-        differences.append(f"phases {numbers} of factors {answer.phases['factor'].tolist()} for the shells {factors}")
+    if numbers != list(range(1, len(factors) + 1)) or answer.phases["revenue_factor"].tolist() != factors:
+        differences.append(
+            f"phases {numbers} of revenue factors {factor_texts(answer.phases['revenue_factor'])} for the shells {factor_texts(factors)}"
+        )
     differences += unlike_rules(answer, factors)
-    first, said = answer.said["factor"].to_numpy(), answer.said["phase"].to_numpy()
+    first, said = answer.said["revenue_factor"].to_numpy(), answer.said["phase"].to_numpy()
     expected = np.array([0, *range(1, len(factors) + 1), -1])[np.searchsorted([0, *factors], first)]
     holds = "each block is in the phase of the first shell that holds it"
     off = np.flatnonzero(expected != said)
@@ -56,22 +60,26 @@ def verify_places(answer: Answer) -> Rule:
     return rule("phase of blocks", holds, differences, len(differences) + max(0, len(off) - TOLD))
 
 
-def unlike_rules(answer: Answer, factors: list[int]) -> list[str]:
+def unlike_rules(answer: Answer, factors: list[float]) -> list[str]:
     """What the project asks of the phases' factors, and is not so."""
     asked = answer.project.phases
     if asked is None:
         return ["the project asks for no phases"]
     found = []
-    last = asked.last or answer.project.schedule.chosen or 1000
-    if asked.factors is not None:
-        last = max(asked.factors)
-        found += [f"factor {factor} was not asked for" for factor in factors if factor not in asked.factors]
+    last = asked.ultimate_pit or answer.project.schedule.selected or 1000
+    if asked.revenue_factors is not None:
+        last = max(asked.revenue_factors)
+        found += [
+            f"revenue factor {factor_text(factor)} was not asked for"
+            for factor in factors
+            if factor not in asked.revenue_factors
+        ]
     if asked.mining_cost_added and len(factors) != len(asked.mining_cost_added):
         found.append(f"{len(factors)} phases for mining costs of {len(asked.mining_cost_added)}")
     if asked.count is not None and len(factors) > asked.count:
         found.append(f"{len(factors)} phases for {asked.count}")
     if factors[-1] > last:
-        found.append(f"the last phase is of factor {factors[-1]} for {last}")
+        found.append(f"the last phase is of revenue factor {factor_text(factors[-1])} for {factor_text(last)}")
     return found
 
 
@@ -82,7 +90,7 @@ def verify_sums(answer: Answer) -> Rule:
     phase, ore = answer.said["phase"].to_numpy(), answer.ore
     for number, said in answer.phases.iterrows():
         mine, up_to = phase == number, (phase > 0) & (phase <= number)
-        lost = answer.worths[sums.within(answer, int(said["factor"]))].sum() - answer.worths[up_to].sum()
+        lost = answer.worths[sums.within(answer, float(said["revenue_factor"]))].sum() - answer.worths[up_to].sum()
         later = (
             {"deferred_value": 0.0, "cost_of_width": lost}
             if number == answer.phases.index[-1]

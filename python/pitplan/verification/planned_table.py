@@ -22,7 +22,7 @@ from pitplan.verification.rules import Rule, rule
 from .turned import steps_of
 
 NAME = "table.csv"
-FOUND = ("factor", "process_factor", "phase", "year")
+FOUND = ("revenue_factor", "process_revenue_factor", "phase", "year")
 HOLDS = "table.csv has the planner's rows in their order, each field as it stands there, and each block's own factors, phase and year"
 
 

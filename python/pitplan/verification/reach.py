@@ -7,6 +7,7 @@ from dataclasses import replace
 import numpy as np
 import pandas as pd
 
+from pitplan.core.revenue_factors import BASE_PRICE, factor_text
 from pitplan.verification.answer import NOTHING, UNDUG, Answer
 from pitplan.verification.rules import TOLD, Rule, rule
 
@@ -22,18 +23,18 @@ def verify(answer: Answer) -> Rule:
     """No row beyond the grid pays for its processing at the greatest factor, none must be dug, and no cone above a dug block goes there."""
     rows = answer.beyond
     assert rows is not None
-    factor = max(*answer.factors, 1000)
+    factor = max(*answer.factors, BASE_PRICE)
     differences, count = [], 0
     for way in answer.project.ways:
         part = replace(answer, project=way, rows=rows, said=pd.DataFrame(index=rows.index), found={})
         revenue, processing = gains_by_floats(part)
         pays = rock_of(
             part,
-            np.flatnonzero(
-                factor / 1000 * revenue - processing > HAIR * revenue + 10.0**-answer.project.money.decimals
-            ),
+            np.flatnonzero(factor * revenue - processing > HAIR * revenue + 10.0**-answer.project.money.decimals),
         )
-        differences += [f"{part.called(row)} was left out, and pays at factor {factor}" for row in pays[:TOLD]]
+        differences += [
+            f"{part.called(row)} was left out, and pays at revenue factor {factor_text(factor)}" for row in pays[:TOLD]
+        ]
         count += len(pays)
     fixed = answer.project.fixed
     if fixed is not None and fixed.forced:
@@ -43,7 +44,7 @@ def verify(answer: Answer) -> Rule:
         count += len(forced)
     reaching = leading_off(answer)
     differences += [
-        f"{answer.called(row)}, dug at {answer.said['factor'].iloc[row]}, needs ground that was left out"
+        f"{answer.called(row)}, dug at revenue factor {factor_text(answer.said['revenue_factor'].iloc[row])}, needs ground that was left out"
         for row in reaching[:TOLD]
     ]
     holds = f"of {len(rows):,} blocks that were left out none pays for its processing or must be dug, and no shell needs ground there"

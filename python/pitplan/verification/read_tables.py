@@ -18,13 +18,13 @@ from .turned import steps_of
 from .written import demand_numbers
 
 # The columns of blocks.csv that are the answer's.
-SAID = ("id", "mining_cost", "revenue", "processing_cost", "factor", "process_factor")
+SAID = ("id", "mining_cost", "revenue", "processing_cost", "revenue_factor", "process_revenue_factor")
 # Of several processes that of each block at the price as given, "" where it is waste; there are amounts of each process then.
 PROCESS = "process"
 # With `[haulage]` the road of each block, and what of the costs is hauling.
 HAULED = ("road", "haulage_cost", "ore_haulage_cost")
 # Those that `pitplan pit` writes besides, of the pit that keeps to no fixed blocks.
-FREE = ("free_factor", "free_process_factor")
+FREE = ("free_revenue_factor", "free_process_revenue_factor")
 # Those that `pitplan pushbacks` and `pitplan schedule` write besides.
 PHASE, YEAR = "phase", "year"
 # If a surface cuts blocks: the tonnes in the table, before the cut. The answer has the tonnes below the surface.

@@ -17,6 +17,7 @@ import numpy as np
 import pandas as pd
 
 from pitplan.config.project import Project
+from pitplan.core.revenue_factors import factor_text, factor_texts
 from pitplan.verification.answer import Answer
 from pitplan.verification.read_tables import own_columns
 from pitplan.verification.rules import TOLD, Rule, rule
@@ -36,7 +37,7 @@ OF_EACH = {
     "shells": "tonnes, grades, metal and worth of each shell are the sums of its blocks",
     "worth": "the program's worth of each shell is that of its blocks, by the scenario's own grades and prices",
 }
-AMOUNTS = ("blocks", "tonnes", "ore_tonnes", "in_situ_ore_tonnes", "waste_tonnes", "worth", "worth_at_factor")
+AMOUNTS = ("blocks", "tonnes", "ore_tonnes", "in_situ_ore_tonnes", "waste_tonnes", "worth", "value_at_revenue_factor")
 
 
 def verify(folder: Path, written: Optional[Path] = None) -> list[Rule]:
@@ -97,8 +98,8 @@ class Verification:
     def ground(self) -> Answer:
         """The blocks as if a plan had told of them in which none is dug."""
         folder = self.folder
-        said = pd.DataFrame({"id": folder.told["id"].to_numpy(), "factor": 0})
-        rows = folder.rows
+        said = pd.DataFrame({"id": folder.told["id"].to_numpy(), "revenue_factor": 0})
+        rows, known = folder.rows, len(folder.table)
         own = own_columns(folder.told, rows, np.arange(len(rows)))
         return Answer(
             folder.folder,
@@ -122,8 +123,10 @@ class Verification:
             differences.append(
                 f"scenarios.json lists {len(listed):,} scenarios, and the models and prices make {len(own):,}"
             )
-        if tuple(folder.record["factors"]) != folder.factors:
-            differences.append(f"scenarios.json lists the factors {folder.record['factors']}")
+        if tuple(folder.record["revenue_factors"]) != folder.factors:
+            differences.append(
+                f"scenarios.json lists the revenue factors {factor_texts(folder.record['revenue_factors'])}"
+            )
         for scenario, entry in zip(own, listed):
             prices = {metal: Decimal(price) for metal, price in entry["prices"].items()}
             if entry["model"] != scenario.model.name or prices != scenario.prices:
@@ -156,7 +159,7 @@ class Verification:
         """A scenario's answer, as a plan at its prices and grades would have told it, without costs and revenue."""
         folder, told = self.folder, self.folder.answer(scenario)
         factors = np.array([0, *folder.factors])
-        said = self.ground.said.assign(factor=factors[np.clip(told.places, 0, len(folder.factors))])
+        said = self.ground.said.assign(revenue_factor=factors[np.clip(told.places, 0, len(folder.factors))])
         return replace(self.in_scenario(scenario), said=said, shells=told.table)
 
     def in_scenario(self, scenario: Scenario) -> Answer:
@@ -227,7 +230,7 @@ class Verification:
             said = told.table[name].to_numpy()
             off = np.flatnonzero(~np.isclose(said, amounts, rtol=1e-9, atol=1e-9))
             found += [
-                f"{scenario.label}: factor {folder.factors[k]}: {name} {said[k]:.10g} for {amounts[k]:.10g}"
+                f"{scenario.label}: revenue factor {factor_text(folder.factors[k])}: {name} {said[k]:.10g} for {amounts[k]:.10g}"
                 for k in off
             ]
         return found
@@ -236,11 +239,11 @@ class Verification:
         """Where probability.csv does not say these shares, to its six digits: the first ten of each factor, and how many there are."""
         differences, count = [], 0
         for number, factor in enumerate(self.folder.factors):
-            said = self.folder.told[f"probability_{factor}"].to_numpy()
+            said = self.folder.told[f"probability_{factor_text(factor)}"].to_numpy()
             off = np.flatnonzero(~(np.abs(said - expected[:, number]) <= 1e-6))
             for row in off[:TOLD]:
                 differences.append(
-                    f"{self.ground.called(row)}: probability_{factor} {said[row]:g} for {expected[row, number]:.6g}"
+                    f"{self.ground.called(row)}: probability_{factor_text(factor)} {said[row]:g} for {expected[row, number]:.6g}"
                 )
             count += len(off)
         return differences, count
@@ -258,17 +261,17 @@ def in_pits(answer: Told, factors: int) -> np.ndarray:
 
 def unlike_rows(folder: Simulated, tables: list[tuple[Scenario, pd.DataFrame]]) -> list[str]:
     """Where scenarios.csv does not say what the answers do."""
-    codes = {"model": str, "worth_at_factor": str}
+    codes = {"model": str, "value_at_revenue_factor": str}
     written = pd.read_csv(folder.tables / SCENARIOS, dtype=codes, keep_default_na=False, na_values=[""])
     found = []
     for number in sorted({*written["scenario"]} ^ {scenario.number for scenario, _ in tables}):
         found.append(f"{SCENARIOS}: scenario {number} has an answer or rows there, not both: run pitplan gather again")
     for scenario, table in tables:
-        rows = written[written["scenario"] == scenario.number].set_index("factor")
+        rows = written[written["scenario"] == scenario.number].set_index("revenue_factor")
         if rows.index.equals(table.index):
             found += [f"{SCENARIOS}: {scenario.label}, {said}" for said in unlike_row(rows, scenario, table)]
         elif len(rows):
-            found.append(f"{SCENARIOS}: {scenario.label} has rows of factors {rows.index.tolist()}")
+            found.append(f"{SCENARIOS}: {scenario.label} has rows of the revenue factors {factor_texts(rows.index)}")
     return found
 
 
@@ -276,12 +279,12 @@ def unlike_row(rows: pd.DataFrame, scenario: Scenario, table: pd.DataFrame) -> l
     expected = table.assign(**{f"price_{metal}": float(price) for metal, price in scenario.prices.items()})
     found = [] if (rows["model"] == scenario.model.name).all() else [f"the model is {rows['model'].iloc[0]}"]
     for name in expected:
-        if name == "worth_at_factor":
+        if name == "value_at_revenue_factor":
             off = np.array([Decimal(said) != Decimal(worth) for said, worth in zip(rows[name], expected[name])])
         else:
             off = ~np.isclose(rows[name].to_numpy(), expected[name].to_numpy(), rtol=1e-9, atol=1e-9, equal_nan=True)
         found += [
-            f"factor {rows.index[k]}: {name} {rows[name].iloc[k]} for {expected[name].iloc[k]}"
+            f"revenue factor {factor_text(rows.index[k])}: {name} {rows[name].iloc[k]} for {expected[name].iloc[k]}"
             for k in np.flatnonzero(off)
         ]
     return found
@@ -298,13 +301,15 @@ def unlike_quantiles(folder: Simulated, tables: list[tuple[Scenario, pd.DataFram
     for prices, group in sets.items():
         of_set = written[
             np.logical_and.reduce(
-                [np.isclose(written[name], price) for name, price in prices] or [written["factor"] > 0]
+                [np.isclose(written[name], price) for name, price in prices] or [written["revenue_factor"] > 0]
             )
         ]
         for factor in folder.factors:
-            rows = of_set[of_set["factor"] == factor]
+            rows = of_set[of_set["revenue_factor"] == factor]
             found += unlike_spread(
-                rows, [table.loc[factor] for table in group], f"{QUANTILES}: factor {factor} of {prices}"
+                rows,
+                [table.loc[factor] for table in group],
+                f"{QUANTILES}: revenue factor {factor_text(factor)} of {prices}",
             )
     return found
 

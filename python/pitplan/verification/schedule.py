@@ -12,6 +12,7 @@ from typing import Any
 import numpy as np
 import pandas as pd
 
+from pitplan.core.revenue_factors import factor_texts
 from pitplan.verification.answer import Answer
 from pitplan.verification.rules import TOLD, Rule, rule
 
@@ -238,7 +239,7 @@ def verify_value(ways: list[Way], told: dict[str, Any], sums: pd.DataFrame) -> R
         for name in ("bound", "milp_bound"):
             if told[name] is not None and way.said["value"] > told[name] + CENT + 1e-7 * abs(told[name]):
                 differences.append(f"{way.name}: value {way.said['value']:.12g} is above {name} {told[name]:.12g}")
-        differences += unlike_years(way, told["factor"])
+        differences += unlike_years(way, told["revenue_factor"])
     if ways:
         of_record = {
             way.name: {"value": way.said["value"], "bound": told["bound"], "left_tonnes": way.said["left_tonnes"]}
@@ -263,14 +264,18 @@ def present_costs(answer: Answer, year: int) -> float:
     return of_year + capital(answer.project, year) * (1 + answer.project.schedule.rate) ** -(year - 1)
 
 
-def unlike_years(way: Way, factor: int) -> list[str]:
+def unlike_years(way: Way, factor: float) -> list[str]:
     """What years.csv says of a way, and is not the sum of its rows."""
     assert way.answer.years is not None
     said = way.answer.years[way.answer.years["case"] == way.name].set_index("year")
-    found = [] if set(said["factor"]) <= {factor} else [f"{way.name}: years of factors {sorted(set(said['factor']))}"]
+    found = (
+        []
+        if set(said["revenue_factor"]) <= {factor}
+        else [f"{way.name}: years of revenue factors {factor_texts(sorted(set(said['revenue_factor'])))}"]
+    )
     if said.index.tolist() != list(range(1, way.last + 1)):
         return [*found, f"{way.name}: years {said.index.tolist()} for 1 to {way.last}"]
-    for name in [name for name in said.columns if name not in ("case", "factor")]:
+    for name in [name for name in said.columns if name not in ("case", "revenue_factor")]:
         total = of_years(way, name, said.index)
         off = (said[name] - total).abs() > CENT + AMOUNT * len(way.rows) + 1e-9 * total.abs()
         found += [

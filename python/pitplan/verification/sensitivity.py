@@ -19,6 +19,7 @@ from pitplan.config import toml_text
 from pitplan.config.project import Project, of_data
 from pitplan.config.project_writer import AS_RUN, as_run
 from pitplan.core import keyed_arrays
+from pitplan.core.revenue_factors import factor_text
 from pitplan.verification.answer import Answer
 from pitplan.verification.read_tables import beside, own_columns, read_blocks, rows_of, said_of
 from pitplan.verification.rules import TOLD, Rule, rule
@@ -98,7 +99,7 @@ class Told:
     told: Answer
     rows: pd.DataFrame
     cases: list[Case]
-    factor: int
+    factor: float
     text: Text
 
     @staticmethod
@@ -109,13 +110,13 @@ class Told:
         blocks = read_blocks(written / "blocks.csv", project)
         frame, parts, beyond = rows_of(project, blocks, record["grid"])
         known, count, order = beside(frame, blocks, project, record["grid"], "blocks.csv")
-        factor = int(record["factor"])
-        factors = tuple(it for it in project.schedule.factors if it <= factor)
+        factor = float(record["revenue_factor"])
+        factors = tuple(it for it in project.schedule.revenue_factors if it <= factor)
         said = blocks[[name for name in said_of(project) if name in blocks]].iloc[order].reset_index(drop=True)
         record |= {"walls": record["cases"][0]["walls"]}
         found = {"parts": parts, "beyond": beyond, "own": own_columns(blocks, known, order)}
         told = Answer(folder, project, known, count, said, pd.DataFrame(), None, record, factors, **found)
-        ground = replace(told, said=said[["id"]].assign(factor=0))
+        ground = replace(told, said=said[["id"]].assign(revenue_factor=0))
         rows = read_table(written / "sensitivity.csv", ["number", "second"])
         rows[["number", "second"]] = rows[["number", "second"]].fillna("")
         return Told(ground, told, rows, list(cases_in(folder, record)), factor, text)
@@ -151,8 +152,8 @@ class Told:
             )
         if there != noted:
             differences.append("sensitivity.json lists other cases than sensitivity.csv")
-        if not (self.rows["factor"] == self.factor).all():
-            differences.append(f"sensitivity.csv has another factor than {self.factor}")
+        if not (self.rows["revenue_factor"] == self.factor).all():
+            differences.append(f"sensitivity.csv has another revenue factor than {factor_text(self.factor)}")
         return rule(
             "cases", "each number that is varied has a row for each share, and each pair for each two", differences
         )
@@ -161,10 +162,13 @@ class Told:
         """What blocks.csv says of the project as given: costs, revenue and roads, and the least factor whose pit holds each block."""
         told = self.told
         found = [money.verify(told), *([haulage.verify(told, money.sample(told))] if told.project.haulage else [])]
-        said, due = told.said["factor"].to_numpy(), self.cases[0].entry[told.said["id"].to_numpy()]
+        said, due = told.said["revenue_factor"].to_numpy(), self.cases[0].entry[told.said["id"].to_numpy()]
         off = np.flatnonzero(said != due)
         differences = [difference for it in found for difference in it.differences]
-        differences += [f"{told.called(row)}: factor {said[row]} for {due[row]}" for row in off[:TOLD]]
+        differences += [
+            f"{told.called(row)}: revenue factor {factor_text(said[row])} for {factor_text(due[row])}"
+            for row in off[:TOLD]
+        ]
         holds = "costs and revenue of blocks follow from the project as given, and their factors are those of its pits"
         return rule("as given", holds, differences, sum(it.count for it in found) + len(off))
 
@@ -173,7 +177,10 @@ class Told:
         given, record, tonnes = self.cases[0], self.ground.record["skin"], self.ground.tonnes
         assert given.skin is not None
         shell = self.dug(np.where(given.skin, 0, given.entry), self.ground.project, given.walls)
-        differences = [*walls.verify(shell).differences, *(fixed.verify(shell).differences if record["factor"] else ())]
+        differences = [
+            *walls.verify(shell).differences,
+            *(fixed.verify(shell).differences if record["revenue_factor"] else ()),
+        ]
         ids = self.ground.said["id"].to_numpy()
         if (given.skin & (given.entry == 0)).any():
             differences.append("a block of the skin is not in the pit")
@@ -198,7 +205,7 @@ class Told:
         """Everything that a row says."""
         project = changed(self.text, case.changes)
         whole = self.dug(case.entry, project, case.walls)
-        pit = replace(weighed(whole), shells=row.set_index("factor"))
+        pit = replace(weighed(whole), shells=row.set_index("revenue_factor"))
         mean = (row["npv_best"] + row["npv_worst"]) / 2
         unlike = (
             []
@@ -213,7 +220,9 @@ class Told:
             "shells": sums.verify(pit),
             "worth": rule("worth", "", sums.unlike_worth(pit)),
             "years": rule("years", "", [*npv.differences, *unlike], npv.count + len(unlike)),
-            "kept": self.kept(project, row.set_index("factor"), any(name == "slopes" for name, _ in case.changes)),
+            "kept": self.kept(
+                project, row.set_index("revenue_factor"), any(name == "slopes" for name, _ in case.changes)
+            ),
             "skin": self.skin(
                 project, float(row["skin_worth"].iloc[0]), any(name == "slopes" for name, _ in case.changes)
             ),
@@ -247,7 +256,7 @@ class Told:
 
     def dug(self, entry: np.ndarray, project: Project, patterns: list[Data]) -> Answer:
         """The ground with pits, by the numbers of a case."""
-        said = self.ground.said.assign(factor=entry[self.ground.said["id"].to_numpy()])
+        said = self.ground.said.assign(revenue_factor=entry[self.ground.said["id"].to_numpy()])
         record = {**self.ground.record, "walls": patterns}
         whole = replace(self.ground, project=project, said=said, record=record, found={})
         if project.money.mining_cost_per_level and project.money.mining_cost_reference is None:

@@ -92,8 +92,8 @@ class Simulated:
     parts: Optional[pd.DataFrame] = None
 
     @property
-    def factors(self) -> tuple[int, ...]:
-        return self.project.schedule.factors
+    def factors(self) -> tuple[float, ...]:
+        return self.project.schedule.revenue_factors
 
     @cached_property
     def scenarios(self) -> list[Scenario]:
@@ -188,8 +188,12 @@ class Simulated:
     def answer(self, scenario: Scenario) -> Told:
         try:
             said = keyed_arrays.read(scenario.file, scenario.file.stem)
-            table = pd.DataFrame(said["table"], columns=said["columns"], index=pd.Index(self.factors, name="factor"))
-            told = Told(said["places"].astype(np.int64), table.assign(worth_at_factor=said["worth_at_factor"]))
+            table = pd.DataFrame(
+                said["table"], columns=said["columns"], index=pd.Index(self.factors, name="revenue_factor")
+            )
+            told = Told(
+                said["places"].astype(np.int64), table.assign(value_at_revenue_factor=said["value_at_revenue_factor"])
+            )
         except (ValueError, KeyError, TypeError) as error:
             raise PlanError(f"{scenario.file}: is no answer of {scenario.label}: {error}") from error
         if len(told.places) != len(self.rows):

@@ -6,6 +6,7 @@ from decimal import Decimal
 
 import numpy as np
 
+from pitplan.core.revenue_factors import BASE_PRICE, PER_MILLE, factor_text, per_mille
 from pitplan.verification.answer import Answer
 from pitplan.verification.rules import TOLD, Rule, rule
 
@@ -18,12 +19,12 @@ def verify(answer: Answer) -> Rule:
     differences: list[str] = []
     for factor in answer.shells.index:
         # What is left of great gains and great costs is as uncertain as these.
-        gross = float(np.abs(answer.worths[within(answer, int(factor))]).sum())
-        for name, amount in sums(answer, int(factor)).items():
+        gross = float(np.abs(answer.worths[within(answer, float(factor))]).sum())
+        for name, amount in sums(answer, float(factor)).items():
             said = float(answer.shells[name][factor])
             slack = 0.6 * smallest(name) + (1e-12 * gross if name == "worth" else 0.0)
             if not np.isclose(said, amount, rtol=1e-9, atol=slack, equal_nan=True):
-                differences.append(f"factor {factor}: {name} {said:.10g} for {amount:.10g}")
+                differences.append(f"revenue factor {factor_text(factor)}: {name} {said:.10g} for {amount:.10g}")
     return rule(
         "shells",
         "blocks, tonnes, grades, ratios, metal and worth of each shell are the sums of its blocks",
@@ -36,16 +37,16 @@ def smallest(name: str) -> float:
     return 1e-6 if name.startswith("grade_") or name in ("strip_ratio", "years") else 1e-3
 
 
-def within(answer: Answer, factor: int) -> np.ndarray:
+def within(answer: Answer, factor: float) -> np.ndarray:
     """Whether a factor's pit holds each block."""
-    first = answer.said["factor"].to_numpy()
+    first = answer.said["revenue_factor"].to_numpy()
     return (first > 0) & (first <= factor)
 
 
-def sums(answer: Answer, factor: int) -> dict[str, float]:
+def sums(answer: Answer, factor: float) -> dict[str, float]:
     inside = within(answer, factor)
     ore, tonnes = inside & answer.ore, answer.tonnes
-    processed = answer.said["process_factor"].to_numpy()
+    processed = answer.said["process_revenue_factor"].to_numpy()
     of_ore, of_all, in_situ = answer.feed[ore].sum(), tonnes[inside].sum(), tonnes[ore].sum()
     found = {
         "blocks": np.count_nonzero(inside & (tonnes > 0)),
@@ -78,26 +79,26 @@ def unlike_worth(answer: Answer) -> list[str]:
     """The factors at which the program's worth is not the sum of what the pit's blocks are worth at that factor."""
     mining, lost, differences = millionths(answer, "mining_cost"), lost_digits(answer), []
     for factor in answer.shells.index:
-        inside = np.flatnonzero(within(answer, int(factor)))
-        revenue, processing = chosen(answer, int(factor), inside)
-        gain, cost = int(factor) * total(revenue), 1000 * (total(processing) + total(mining[inside]))
-        said = Decimal(answer.shells["worth_at_factor"][factor]).scaleb(9)
+        inside = np.flatnonzero(within(answer, float(factor)))
+        revenue, processing = chosen(answer, float(factor), inside)
+        gain, cost = per_mille(factor) * total(revenue), PER_MILLE * (total(processing) + total(mining[inside]))
+        said = Decimal(answer.shells["value_at_revenue_factor"][factor]).scaleb(9)
         if abs(said - (gain - cost)) > lost * (gain + cost):
             differences.append(
-                f"factor {factor}: worth_at_factor {said.scaleb(-9)} for {Decimal(gain - cost).scaleb(-9)}"
+                f"revenue factor {factor_text(factor)}: value_at_revenue_factor {said.scaleb(-9)} for {Decimal(gain - cost).scaleb(-9)}"
             )
     return differences
 
 
-def chosen(answer: Answer, factor: int, rows: np.ndarray) -> tuple[np.ndarray, np.ndarray]:
+def chosen(answer: Answer, factor: float, rows: np.ndarray) -> tuple[np.ndarray, np.ndarray]:
     """Revenue and processing cost of the blocks of these rows in the process that is worth most at a factor; 0 where none pays. With a fixed
     cut-off in that of the price as given."""
     is_moving = answer.project.money.cutoff == "moving"
-    ways, price = (answer.amounts_of_ways, factor) if is_moving else ([("revenue", "processing_cost")], 1000)
+    ways, price = (answer.amounts_of_ways, factor) if is_moving else ([("revenue", "processing_cost")], BASE_PRICE)
     revenue = processing = gain = np.zeros(len(rows), dtype=np.int64)
     for names in ways:
         first, second = (millionths(answer, name)[rows] for name in names)
-        worth = price * first - 1000 * second
+        worth = per_mille(price) * first - PER_MILLE * second
         better = np.asarray(worth > gain, dtype=bool)
         revenue, processing, gain = (
             np.where(better, new, old) for new, old in ((first, revenue), (second, processing), (worth, gain))
@@ -118,8 +119,8 @@ def millionths(answer: Answer, name: str) -> np.ndarray:
     if name not in answer.whole:
         decimals = answer.project.money.decimals
         whole = np.rint(answer.said[name].to_numpy() * 10**decimals).astype(np.int64)
-        factors = (*answer.factors, *map(int, answer.shells.index))
-        most = int(np.abs(whole).max(initial=0)) * 10 ** (6 - decimals) * max(1000, *factors)
+        factors = (*answer.factors, *map(float, answer.shells.index))
+        most = int(np.abs(whole).max(initial=0)) * 10 ** (6 - decimals) * max(PER_MILLE, *map(per_mille, factors))
         answer.whole[name] = (whole if most < MOST_WHOLE else whole.astype(object)) * 10 ** (6 - decimals)
     return answer.whole[name]
 
@@ -134,19 +135,22 @@ def total(amounts: np.ndarray) -> int:
 
 def first_processed(answer: Answer) -> np.ndarray:
     """For each block the first of the folder's factors, from that on at which it is dug, at which processing it pays; 0 at none."""
-    first = answer.said["factor"].to_numpy()
-    expected = np.zeros(len(first), dtype=np.int64)
+    first = answer.said["revenue_factor"].to_numpy()
+    expected = np.zeros(len(first))
     if answer.project.money.cutoff == "moving":
         for factor in sorted(answer.factors, reverse=True):
             inside = np.flatnonzero((first > 0) & (first <= factor))
             expected[inside[np.asarray(chosen(answer, factor, inside)[0] > 0, dtype=bool)]] = factor
         return expected
     every = np.arange(len(first))
-    return np.where(np.asarray(chosen(answer, 1000, every)[0] > 0, dtype=bool), first, 0)
+    return np.where(np.asarray(chosen(answer, BASE_PRICE, every)[0] > 0, dtype=bool), first, 0)
 
 
 def late(answer: Answer) -> tuple[list[str], int]:
-    """Blocks whose process_factor is not the first factor at which they are processed: the first ten, and how many there are."""
-    expected, said = first_processed(answer), answer.said["process_factor"].to_numpy()
+    """Blocks whose process_revenue_factor is not the first factor at which they are processed: the first ten, and how many there are."""
+    expected, said = first_processed(answer), answer.said["process_revenue_factor"].to_numpy()
     off = np.flatnonzero(expected != said)
-    return [f"{answer.called(row)}: process_factor {said[row]} for {expected[row]}" for row in off[:TOLD]], len(off)
+    return [
+        f"{answer.called(row)}: process_revenue_factor {factor_text(said[row])} for {factor_text(expected[row])}"
+        for row in off[:TOLD]
+    ], len(off)

@@ -10,6 +10,7 @@ from scipy.ndimage import maximum_filter1d
 from scipy.spatial import ConvexHull, QhullError
 
 from pitplan.config.slopes import Wall
+from pitplan.core.revenue_factors import factor_text
 from pitplan.verification.answer import NOTHING, UNDUG, Answer
 from pitplan.verification.rules import TOLD, Rule, rule
 
@@ -184,7 +185,7 @@ def box(mask: np.ndarray) -> tuple[slice, slice, slice] | None:
 def told(answer: Answer, wrong: np.ndarray) -> tuple[list[str], int]:
     rows = np.flatnonzero(wrong[answer.cells])
     said = [
-        f"{answer.called(row)}, dug at {answer.said['factor'].iloc[row]}, needs a block that is not"
+        f"{answer.called(row)}, dug at revenue factor {factor_text(answer.said['revenue_factor'].iloc[row])}, needs a block that is not"
         for row in rows[:TOLD]
     ]
     return said, len(rows)

@@ -17,7 +17,7 @@ from . import money, sums
 
 def weighed(whole: Answer) -> Answer:
     """The blocks that are dug at any factor, with exact costs and revenue."""
-    dug = (whole.said["factor"] > 0).to_numpy()
+    dug = (whole.said["revenue_factor"] > 0).to_numpy()
     part = replace(whole, rows=whole.rows[dug].reset_index(drop=True), said=whole.said[dug].reset_index(drop=True))
     told: dict[str, Any] = {}
     for way, names in zip(part.project.ways, part.amounts_of_ways):
@@ -25,7 +25,7 @@ def weighed(whole: Answer) -> Answer:
         amounts = [[float(amount) for amount in exactly.amounts(row)] for row in range(len(part.rows))]
         told |= dict(zip((money.MINING, *names), np.array(amounts, dtype=np.float64).reshape(-1, 3).T))
     part = replace(part, said=pd.concat([part.said, with_best(pd.DataFrame(told), part)], axis=1))
-    return replace(part, said=part.said.assign(process_factor=sums.first_processed(part)))
+    return replace(part, said=part.said.assign(process_revenue_factor=sums.first_processed(part)))
 
 
 def with_best(told: pd.DataFrame, answer: Answer) -> pd.DataFrame:

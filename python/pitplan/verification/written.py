@@ -8,6 +8,7 @@ from pathlib import Path
 import pandas as pd
 
 from pitplan.core.numeric_fields import at_row, is_numeric
+from pitplan.core.revenue_factors import factor_texts, with_exact_factors
 
 from ..errors import PlanError
 
@@ -15,7 +16,7 @@ from ..errors import PlanError
 # sought, what is of other cases alone.
 MAY_LACK = ("strip_ratio", "grade_", "least_width", "bound", "below_bound", "sum_", "kept_", "skin_worth")
 # Numbers whose digits count each are left as texts.
-EXACT = "worth_at_factor"
+EXACT = "value_at_revenue_factor"
 
 
 # Text columns, which have a rule of their own.
@@ -25,7 +26,7 @@ WORDS = ("discounting", "outline")
 def read_table(path: Path, texts: Sequence[str] = ()) -> pd.DataFrame:
     """Reads a table without its WORDS; `texts` names its other text columns. Raises PlanError, with file, row and column, where a field is no number that is to be one."""
     frame = pd.read_csv(path, dtype=dict.fromkeys([*texts, EXACT], str), keep_default_na=False, na_values=[""])
-    frame = frame.drop(columns=frame.columns.intersection(WORDS))
+    frame = with_exact_factors(frame.drop(columns=frame.columns.intersection(WORDS)))
     demand_numbers(frame, path.name, texts)
     return frame
 
@@ -49,10 +50,8 @@ def demand_numbers(frame: pd.DataFrame, source: str, texts: Iterable[str]) -> No
             raise at_row(source, row, name, why)
 
 
-def demand_factors(frame: pd.DataFrame, factors: Iterable[int], source: str) -> None:
+def demand_factors(frame: pd.DataFrame, factors: Iterable[float], source: str) -> None:
     """Raises PlanError where a table has not one row for each factor, in their order."""
-    there, due = frame["factor"].tolist(), list(factors)
+    there, due = frame["revenue_factor"].tolist(), list(factors)
     if there != due:
-        raise PlanError(
-            f"{source}: has rows of the factors {', '.join(map(str, there))} for {', '.join(map(str, due))}"
-        )
+        raise PlanError(f"{source}: has rows of the revenue factors {factor_texts(there)} for {factor_texts(due)}")

@@ -9,6 +9,7 @@ from itertools import product
 import numpy as np
 import pandas as pd
 
+from pitplan.core.revenue_factors import factor_text
 from pitplan.verification.answer import Answer
 from pitplan.verification.rules import Rule, rule
 
@@ -41,7 +42,7 @@ def over_capacity(answer: Answer, years: pd.DataFrame) -> list[str]:
     for name, most in limits.items():
         over = years[years[name] > most * (1 + 1e-9) + CENT]
         found += [
-            f"{row.case} case of factor {row.factor}, year {row.year}: {name} {getattr(row, name):.10g} above {most:.10g}"
+            f"{row.case} case of revenue factor {factor_text(row.revenue_factor)}, year {row.year}: {name} {getattr(row, name):.10g} above {most:.10g}"
             for row in over.itertuples()
         ]
     return found
@@ -49,13 +50,14 @@ def over_capacity(answer: Answer, years: pd.DataFrame) -> list[str]:
 
 def unlike_years(answer: Answer, years: pd.DataFrame, flows: pd.DataFrame) -> Iterator[str]:
     """Where a year of a case is not what flows in it, as benches are dug one after the other, or is missing or one too many."""
-    factors = flows.index.get_level_values("factor")
+    factors = flows.index.get_level_values("revenue_factor")
     due = [
         (case, factor) for case, factor in product(CASES, answer.shells.index) if flows["rock"][factors <= factor].sum()
     ]
-    groups = {pit: rows.set_index("year") for pit, rows in years.groupby(["case", "factor"])}
+    groups = {pit: rows.set_index("year") for pit, rows in years.groupby(["case", "revenue_factor"])}
     yield from (
-        f"years of the {case} case of factor {factor}, which is none" for case, factor in groups.keys() - set(due)
+        f"years of the {case} case of revenue factor {factor_text(factor)}, which is none"
+        for case, factor in groups.keys() - set(due)
     )
     for case, factor in due:
         pieces = flows[factors <= factor]
@@ -64,10 +66,11 @@ def unlike_years(answer: Answer, years: pd.DataFrame, flows: pd.DataFrame) -> It
         slack = CENT + 1e-12 * float(pieces["gross"].sum())
         if (case, factor) in groups:
             yield from (
-                f"{case} case of factor {factor}{said}" for said in unlike_rows(groups[case, factor], expected, slack)
+                f"{case} case of revenue factor {factor_text(factor)}{said}"
+                for said in unlike_rows(groups[case, factor], expected, slack)
             )
         else:
-            yield f"{case} case of factor {factor}: has no years"
+            yield f"{case} case of revenue factor {factor_text(factor)}: has no years"
 
 
 def unlike_rows(said: pd.DataFrame, expected: pd.DataFrame, slack: float) -> Iterator[str]:
@@ -87,13 +90,13 @@ def verify_npv(answer: Answer, flows: pd.DataFrame) -> Rule:
     """Both NPVs and the years of each shell, by following its benches."""
     differences: list[str] = []
     for factor in answer.shells.index:
-        best = flows[flows.index.get_level_values("factor") <= factor]
+        best = flows[flows.index.get_level_values("revenue_factor") <= factor]
         slack = CENT + 1e-12 * float(best["gross"].sum())
         (npv_best, life), (npv_worst, _) = (npv(pieces, answer) for pieces in (best, best.groupby("level").sum()))
         for name, amount in {"npv_best": npv_best, "npv_worst": npv_worst, "years": life}.items():
             said = float(answer.shells[name][factor])
             if not abs(said - amount) <= (1e-5 if name == "years" else slack) + 1e-9 * abs(amount):
-                differences.append(f"factor {factor}: {name} {said:.12g} for {amount:.12g}")
+                differences.append(f"revenue factor {factor_text(factor)}: {name} {said:.12g} for {amount:.12g}")
     return rule("years", "both net present values follow from them", differences)
 
 
@@ -107,8 +110,8 @@ def flows_of(answer: Answer) -> pd.DataFrame:
         **answer.feeds,
         **{f"metal_{name}": np.where(answer.ore, metal, 0.0) for name, metal in answer.quantities.items()},
     )
-    frame = frame.assign(factor=answer.said["factor"].to_numpy(), level=answer.cells[0])
-    return frame[frame["factor"] > 0].groupby(["factor", "level"]).sum()
+    frame = frame.assign(revenue_factor=answer.said["revenue_factor"].to_numpy(), level=answer.cells[0])
+    return frame[frame["revenue_factor"] > 0].groupby(["revenue_factor", "level"]).sum()
 
 
 def npv(pieces: pd.DataFrame, answer: Answer) -> tuple[float, float]:

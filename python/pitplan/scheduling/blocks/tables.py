@@ -12,8 +12,8 @@ import scipy
 from numpy.typing import NDArray
 
 from pitplan.config.schedule import ScheduleRules
-from pitplan.config.shells import REFERENCE_FACTOR
 from pitplan.core.progress import Progress, silent
+from pitplan.core.revenue_factors import BASE_PRICE
 from pitplan.economics.period_costs import of_project
 from pitplan.pits.best_worst_case import year_discounts
 from pitplan.plan import Plan
@@ -70,7 +70,7 @@ class ScheduledBlocks:
             for name, amounts in (self.planned.flows | {CASH: cash[dug]}).items()
         }
         discounted = sums[CASH] * year_discounts(project.schedule, problem.years)[: self.count]
-        head = {"case": CASE, "factor": REFERENCE_FACTOR, "year": np.arange(1, self.count + 1)}
+        head = {"case": CASE, "revenue_factor": BASE_PRICE, "year": np.arange(1, self.count + 1)}
         return pd.DataFrame(head | sums | {"discounted": discounted})
 
     @property

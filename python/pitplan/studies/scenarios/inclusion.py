@@ -1,4 +1,4 @@
-"""The probability of each cell in the pit of a factor, as plans and sections show it."""
+"""The probability of each cell in the pit of a revenue factor, as plans and sections show it."""
 
 from __future__ import annotations
 
@@ -12,7 +12,7 @@ from pitplan.config.figures import PictureRules
 
 @dataclass(frozen=True)
 class Likely:
-    """The probability of each cell in the pit of a factor.
+    """The probability of each cell in the pit of a revenue factor.
 
     Attributes
     ----------
@@ -23,7 +23,7 @@ class Likely:
     solid : ndarray of bool, shape (levels, rows, columns)
         Whether the cell holds rock.
     factor : int
-        That of the pits, in per mille.
+        That of the pits.
     count : int
         How many scenarios there are.
     rules : PictureRules
@@ -33,7 +33,7 @@ class Likely:
     grid: Grid
     share: np.ndarray
     solid: np.ndarray
-    factor: int
+    factor: float
     count: int
     rules: PictureRules = PictureRules()
 

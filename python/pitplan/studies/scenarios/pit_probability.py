@@ -9,6 +9,7 @@ import numpy as np
 import pandas as pd
 
 from pitplan.core import keyed_arrays
+from pitplan.core.revenue_factors import factor_text
 from pitplan.errors import PlanError
 
 from . import store
@@ -26,7 +27,7 @@ class Gathered:
     missing the scenarios without an answer, by number, each with why
     """
 
-    factors: list[int]
+    factors: list[float]
     share: np.ndarray
     table: pd.DataFrame
     missing: dict[int, str]
@@ -35,7 +36,7 @@ class Gathered:
 def gather(shared: Shared, partial: bool = False) -> Gathered:
     """Raises PlanError as `missing_of` does, or where an answer cannot be read."""
     scenarios, missing = shared.scenarios, missing_of(shared, partial)
-    factors = list(shared.record["factors"])
+    factors = list(shared.record["revenue_factors"])
     counts = np.zeros((len(shared.frame), len(factors) + 1), dtype=np.int64)
     rows, tables = np.arange(len(shared.frame)), []
     for scenario in scenarios:
@@ -67,18 +68,18 @@ def read_answer(shared: Shared, scenario: Scenario) -> tuple[np.ndarray, pd.Data
     try:
         answer = keyed_arrays.read(path, scenario.key)
         table = pd.DataFrame(answer["table"], columns=answer["columns"])
-        worth, places = answer["worth_at_factor"], answer["places"].astype(np.int64)
+        worth, places = answer["value_at_revenue_factor"], answer["places"].astype(np.int64)
         if places.shape != (len(shared.frame),) or not 0 <= places.min(initial=0) <= places.max(initial=0) <= len(
-            shared.record["factors"]
+            shared.record["revenue_factors"]
         ):
             raise keyed_arrays.NoAnswer("it holds other blocks or factors")
         table["blocks"] = table["blocks"].astype(np.int64)
     except (OSError, ValueError, KeyError, TypeError) as error:
         raise PlanError(f"{path}: is no answer: remove it, and run pitplan scenarios again: {error}") from error
-    heads = heads_of(scenario) | {"factor": shared.record["factors"]}
+    heads = heads_of(scenario) | {"revenue_factor": shared.record["revenue_factors"]}
     for place, (name, values) in enumerate(heads.items()):
         table.insert(place, name, values)
-    table["worth_at_factor"] = worth
+    table["value_at_revenue_factor"] = worth
     return places, table
 
 
@@ -90,14 +91,14 @@ def heads_of(scenario: Scenario) -> dict[str, object]:
 
 def quantiles(table: pd.DataFrame) -> pd.DataFrame:
     """One row a set of prices and factor, over the models: mean, least, greatest and quantiles of each amount."""
-    by = [name for name in table.columns if name.startswith("price_")] + ["factor"]
+    by = [name for name in table.columns if name.startswith("price_")] + ["revenue_factor"]
     amounts = [
         name
         for name in ("blocks", "tonnes", "ore_tonnes", "in_situ_ore_tonnes", "waste_tonnes")
         if name in table.columns
     ]
-    amounts += [name for name in table.columns if name.startswith("metal_")] + ["worth", "worth_at_factor"]
-    return spread_of(table.assign(worth_at_factor=table["worth_at_factor"].astype(float)), by, amounts)
+    amounts += [name for name in table.columns if name.startswith("metal_")] + ["worth", "value_at_revenue_factor"]
+    return spread_of(table.assign(value_at_revenue_factor=table["value_at_revenue_factor"].astype(float)), by, amounts)
 
 
 def spread_of(table: pd.DataFrame, by: list[str], amounts: list[str]) -> pd.DataFrame:
@@ -120,7 +121,9 @@ def spread_of(table: pd.DataFrame, by: list[str], amounts: list[str]) -> pd.Data
 def by_block(shared: Shared, gathered: Gathered, blocks: pd.DataFrame) -> pd.DataFrame:
     """The rows of blocks.csv, by the program's id, with `probability_F` for each factor F; numbers as they are written."""
     order = np.argsort(shared.grid.rows)
-    columns = {f"probability_{factor}": gathered.share[order, k] for k, factor in enumerate(gathered.factors)}
+    columns = {
+        f"probability_{factor_text(factor)}": gathered.share[order, k] for k, factor in enumerate(gathered.factors)
+    }
     return pd.concat([written(blocks), pd.DataFrame(columns)], axis=1)
 
 

@@ -64,7 +64,7 @@ def prepare(project: Project, folder: Path, progress: Progress, by: str = store.
         with progress.step("writing blocks and needs"), staged(folder, store.RECORD) as stage:
             written = [*write_shared(laid, stage), *write_needs(laid.plan, solver, stage)]
             parts = common_parts(laid)
-            parts["project"] |= {"factors": list(project.schedule.factors)}
+            parts["project"] |= {"revenue_factors": list(project.schedule.revenue_factors)}
             write_record(laid, keyed(laid.scenarios, project, parts), written, stage)
     return store.read_shared(folder)
 
@@ -195,7 +195,7 @@ def write_record(laid: Laid, scenarios: list[Scenario], written: list[str], stag
     record: dict[str, Any] = {
         "title": plan.project.title,
         "project": os.path.relpath(plan.project.path, stage.parent),
-        "factors": list(plan.project.schedule.factors),
+        "revenue_factors": list(plan.project.schedule.revenue_factors),
         "solver": vars(solver),
         "grid": plan.grid.as_json(),
         "walls": [pattern.as_json() for pattern in plan.walls.patterns],

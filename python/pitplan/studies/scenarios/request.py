@@ -18,8 +18,8 @@ class Request:
         `local`, the address of a Dask scheduler, `slurm` or `parallel`.
     workers : int, optional
         The number of processes of `local`. Default: one for each processor.
-    factor : int, optional
-        The factor whose probabilities are drawn, in per mille. Default: the project's chosen one, otherwise 1000.
+    revenue_factor : float, optional
+        The shell whose probabilities are drawn. Default: the project's selected one, otherwise 1.0.
     partial : bool
         Gather although scenarios have no answer.
     by : str
@@ -28,6 +28,6 @@ class Request:
 
     where: str = "local"
     workers: Optional[int] = None
-    factor: Optional[int] = None
+    revenue_factor: Optional[float] = None
     partial: bool = False
     by: str = PIT

@@ -13,7 +13,7 @@ import pandas as pd
 from pitplan.blockmodel.grid import grid_of
 from pitplan.config.figures import PictureRules
 from pitplan.config.project import load
-from pitplan.config.shells import REFERENCE_FACTOR
+from pitplan.core.revenue_factors import BASE_PRICE, factor_text
 from pitplan.errors import PlanError
 from pitplan.plan import codes_of, shown_name
 
@@ -45,15 +45,17 @@ class ScenarioResult:
 
     @property
     def probability(self) -> pd.DataFrame:
-        """One row a block: the planner's columns, and `probability_F`, from 0 to 1, for each factor F in per mille."""
+        """One row a block: the planner's columns, and `probability_F`, from 0 to 1, for each revenue factor F, as probability_0.80."""
         codes = codes_of(load(self.folder / store.PROJECT))
         return self.frame(PROBABILITY, dtype={name: str for name in codes}, keep_default_na=False, na_values={})
 
     @property
     def table(self) -> pd.DataFrame:
-        """One row a scenario and factor: model, prices, tonnes, grades, metal, and worth; `worth_at_factor` is exact (Decimal)."""
-        table = self.frame(TABLE, dtype={"model": str, "worth_at_factor": str}, keep_default_na=False, na_values=[""])
-        return table.assign(worth_at_factor=table["worth_at_factor"].map(Decimal))
+        """One row a scenario and factor: model, prices, tonnes, grades, metal, and worth; `value_at_revenue_factor` is exact (Decimal)."""
+        table = self.frame(
+            TABLE, dtype={"model": str, "value_at_revenue_factor": str}, keep_default_na=False, na_values=[""]
+        )
+        return table.assign(value_at_revenue_factor=table["value_at_revenue_factor"].map(Decimal))
 
     @property
     def quantiles(self) -> pd.DataFrame:
@@ -67,18 +69,18 @@ class ScenarioResult:
         schedule for all earns in it."""
         return self.frame(SCHEDULES, dtype={"model": str}, keep_default_na=False, na_values=[""])
 
-    def likely(self, factor: int = REFERENCE_FACTOR) -> Likely:
-        """What the pictures of probability show of a factor, in per mille. Raises PlanError where it is none of the factors."""
-        blocks, name = self.probability, f"probability_{factor}"
+    def likely(self, revenue_factor: float = BASE_PRICE) -> Likely:
+        """What the pictures of probability show of a factor. Raises PlanError where it is none of the factors."""
+        blocks, name = self.probability, f"probability_{factor_text(revenue_factor)}"
         if name not in blocks:
-            raise PlanError(f"{self.folder / PROBABILITY}: has no factor {factor}")
+            raise PlanError(f"{self.folder / PROBABILITY}: has no revenue factor {factor_text(revenue_factor)}")
         record = json.loads((self.folder / store.RECORD).read_text(encoding="utf-8"))
         grid = grid_of(record["grid"], blocks["id"].to_numpy())
         project = load(self.folder / store.PROJECT)
         solid = blocks[shown_name(project.table.tonnes)].to_numpy() > 0
         count = self.table["scenario"].nunique()
         share, rules = grid.cube(grid.spread(blocks[name].to_numpy())), project.pictures or PictureRules()
-        return Likely(grid, share, grid.cube(grid.spread(solid, fill=False)), factor, count, rules)
+        return Likely(grid, share, grid.cube(grid.spread(solid, fill=False)), revenue_factor, count, rules)
 
     def frame(self, name: str, **reading: Any) -> pd.DataFrame:
         try:

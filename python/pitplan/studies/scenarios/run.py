@@ -12,8 +12,8 @@ from pathlib import Path
 from typing import Optional
 
 from pitplan.config.project import Project
-from pitplan.config.shells import REFERENCE_FACTOR
 from pitplan.core.progress import Progress
+from pitplan.core.revenue_factors import BASE_PRICE, factor_text, factor_texts
 from pitplan.errors import PlanError
 from pitplan.studies import dask_pool
 
@@ -85,14 +85,16 @@ def notes_of_outcomes(outcomes: list[worker.Outcome]) -> list[str]:
 
 def demand_no_factor(request: Request) -> None:
     """Raises PlanError if a factor to draw is given: schedules by block have none."""
-    if request.factor is not None:
-        raise PlanError("--factor: schedules by block are made at the price as given: leave it out")
+    if request.revenue_factor is not None:
+        raise PlanError("--revenue-factor: schedules by block are made at the base price: leave it out")
 
 
-def shown_factor(shared: Shared, request: Request) -> int:
-    """The factor whose probabilities are drawn, in per mille. Raises PlanError if no scenario was solved at it."""
-    factors = list(shared.record["factors"])
-    factor = request.factor or shared.project.schedule.chosen or REFERENCE_FACTOR
+def shown_factor(shared: Shared, request: Request) -> float:
+    """The factor whose probabilities are drawn. Raises PlanError if no scenario was solved at it."""
+    factors = list(shared.record["revenue_factors"])
+    factor = request.revenue_factor or shared.project.schedule.selected or BASE_PRICE
     if factor not in factors:
-        raise PlanError(f"factor {factor} is not among the factors {', '.join(map(str, factors))}")
+        raise PlanError(
+            f"revenue factor {factor_text(factor)} is not among the revenue factors {factor_texts(factors)}"
+        )
     return factor

@@ -109,7 +109,7 @@ def plan_of(shared: Shared, scenario: Scenario) -> Plan:
 def shells_of(shared: Shared, plan: Plan) -> Solution:
     """The shells of a scenario by the solver of all. Raises ProgramError where that is another here, or refuses."""
     choice.demand_same(shared.solver)
-    factors = plan.project.schedule.factors
+    factors = plan.project.schedule.revenue_factors
     nodes = plan.values.nodes() if plan.settled is None else constraints.nodes_of_rest(plan.values, plan.settled)
     if shared.solver.by == choice.LIBRARY:
         return library.shells(nodes, shared.rows, factors)
@@ -135,9 +135,9 @@ def write_answer(shared: Shared, scenario: Scenario) -> None:
     missing_blocks.demand_known(solution.entry, plan.grid, plan.project, plan.source)
     cells = shell_tables.cells_of(plan, solution)
     table = shell_tables.amounts(plan, cells).astype(np.float64)
-    factors = np.array(plan.project.schedule.factors)
+    factors = np.array(plan.project.schedule.revenue_factors)
     entry = cells.factor[plan.grid.rows]
-    texts = {"worth_at_factor": np.array([f"{worth:f}" for worth in solution.worth], dtype=str)}
+    texts = {"value_at_revenue_factor": np.array([f"{worth:f}" for worth in solution.worth], dtype=str)}
     with staged_file(shared.answer(scenario)) as path:
         # The place of a block's least factor in the list, from 1; 0: in no pit.
         places = np.where(entry > 0, np.searchsorted(factors, entry) + 1, 0).astype(np.uint16)

@@ -62,7 +62,7 @@ class Found:
 
     row    what the pit holds and earns, by the names of `shells`, and with kept_ before them what the pit as given earns; and what the skin
            of that pit is worth
-    entry  for each cell the least of the factors whose pit holds it, per mille; 0: none
+    entry  for each cell the least of the factors whose pit holds it; 0: none
     walls  the record of the walls' patterns
     skin   of the project as given the skin of its pit, else None
     """
@@ -77,14 +77,14 @@ class Found:
 class Sensitivity:
     """All cases with their answers, in order; the first is the project as given, whose plan is kept.
 
-    factor  that of the pit that is looked at, per mille
+    factor  that of the pit that is looked at
     solver  what found all of them
     asked   the project as it was given; `project` has the factors up to the shown one alone
     """
 
     project: Project
     plan: Plan
-    factor: int
+    factor: float
     answers: dict[Case, Found]
     keys: dict[Case, str]
     solver: Solver
@@ -136,14 +136,14 @@ def solve(project: Project, folder: Path, where: dask_pool.Where | None, progres
         why = "is too large for the program, and what shells can reach of it is another with each number: reblock it by [table] reblock"
         raise PlanError(f"{project.table.file}: {why}, or give a smaller model")
     solution = problem.solve(plan, progress=progress)
-    factor = shell_tables.chosen_factor(shell_tables.shells(plan, solution), project.schedule)
+    factor = shell_tables.selected_factor(shell_tables.shells(plan, solution), project.schedule)
     asked = Asked(up_to(project, factor), frame, found_by)
     rules = rules_of(project)
     begun = {
         "project": project.to_toml(),
         "inputs": hashes_of(project.named_inputs),
         "solver": found_by.sha256,
-        "factor": factor,
+        "revenue_factor": factor,
         "skin": str(rules.skin),
     }
     cases = cases_of(rules)
@@ -188,10 +188,12 @@ def over_dask(missing: dict[Case, Path], asked: Asked, where: dask_pool.Where, p
             task.result()
 
 
-def up_to(project: Project, factor: int) -> Project:
+def up_to(project: Project, factor: float) -> Project:
     """The project with the factors up to one alone, whose pit is shown."""
-    factors = tuple(it for it in project.schedule.factors if it <= factor)
-    return replace(project, schedule=replace(project.schedule, factors=factors, chosen=factor, reference_added=False))
+    factors = tuple(it for it in project.schedule.revenue_factors if it <= factor)
+    return replace(
+        project, schedule=replace(project.schedule, revenue_factors=factors, selected=factor, base_price_added=False)
+    )
 
 
 def find(case: Case, asked: Asked) -> Found:
@@ -222,8 +224,8 @@ def of_last(table: pd.DataFrame) -> dict[str, Any]:
 
 def write(path: Path, found: Found) -> None:
     """Keeps an answer under the name that is its key."""
-    numbers = {name: float(amount) for name, amount in found.row.items() if name != "worth_at_factor"}
-    texts = {"worth_at_factor": f"{found.row['worth_at_factor']:f}", "walls": json.dumps(found.walls)}
+    numbers = {name: float(amount) for name, amount in found.row.items() if name != "value_at_revenue_factor"}
+    texts = {"value_at_revenue_factor": f"{found.row['value_at_revenue_factor']:f}", "walls": json.dumps(found.walls)}
     skin = {} if found.skin is None else {"skin": found.skin.cells, "skin_factor": found.skin.factor}
     with staged_file(path) as place:
         keyed_arrays.write(
@@ -236,12 +238,15 @@ def read(path: Path, cells: int) -> Found:
     try:
         said = keyed_arrays.read(path, path.stem)
         row: dict[str, Any] = dict(zip(said["names"].tolist(), said["amounts"].tolist()))
-        row |= {name: int(row[name]) for name in ("factor", *WHOLE)}
-        skin = Skin(int(said["skin_factor"]), said["skin"]) if "skin" in said else None
+        row |= {name: int(row[name]) for name in WHOLE}
+        skin = Skin(float(said["skin_factor"]), said["skin"]) if "skin" in said else None
         if said["entry"].shape != (cells,):
             raise keyed_arrays.NoAnswer("it holds other blocks")
         return Found(
-            row | {"worth_at_factor": str(said["worth_at_factor"])}, said["entry"], json.loads(str(said["walls"])), skin
+            row | {"value_at_revenue_factor": str(said["value_at_revenue_factor"])},
+            said["entry"],
+            json.loads(str(said["walls"])),
+            skin,
         )
     except (OSError, ValueError, KeyError, TypeError) as error:
         raise PlanError(f"{path}: is no answer: remove it, and run pitplan sensitivity again: {error}") from error

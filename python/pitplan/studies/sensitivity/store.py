@@ -9,6 +9,7 @@ import numpy as np
 import pandas as pd
 
 from pitplan.core.atomic_files import hashes_of
+from pitplan.core.revenue_factors import factor_text
 
 from .cases import SKIN_WORTH, Case, Sensitivity
 
@@ -23,7 +24,7 @@ def record(found: Sensitivity, project: str) -> dict[str, Any]:
         "solver": asdict(found.solver),
         "inputs": hashes_of(found.project.named_inputs),
         "grid": found.plan.record_of_grid(),
-        "factor": found.factor,
+        "revenue_factor": found.factor,
         "skin": (skin := skin_of(found)),
         "notes": [*found.plan.notes, told_of_skin(skin, found.project.money.currency)],
         "cases": [
@@ -44,7 +45,7 @@ def skin_of(found: Sensitivity) -> dict[str, Any]:
     assert skin is not None
     tonnes = float(found.plan.values.tonnes[skin.cells].sum())
     return {
-        "factor": skin.factor,
+        "revenue_factor": skin.factor,
         "tonnes": tonnes,
         "share": tonnes / row["tonnes"] if tonnes else 0.0,
         "worth": row[SKIN_WORTH],
@@ -52,7 +53,11 @@ def skin_of(found: Sensitivity) -> dict[str, Any]:
 
 
 def told_of_skin(skin: dict[str, Any], currency: str) -> str:
-    where = f"beyond the shell of factor {skin['factor']}" if skin["factor"] else "which no lesser shell divides"
+    where = (
+        f"beyond the shell of revenue factor {factor_text(skin['revenue_factor'])}"
+        if skin["revenue_factor"]
+        else "which no lesser shell divides"
+    )
     return f"the pit's skin, {100 * skin['share']:.1f} % of its rock, {where}, is worth {skin['worth']:,.0f} {currency}".rstrip()
 
 

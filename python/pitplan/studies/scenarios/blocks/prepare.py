@@ -11,9 +11,9 @@ import pandas as pd
 from pitplan.blockmodel.grid import grid_of
 from pitplan.config.project import Project
 from pitplan.config.schedule import ScheduleRules
-from pitplan.config.shells import REFERENCE_FACTOR
 from pitplan.core.atomic_files import staged
 from pitplan.core.progress import Progress
+from pitplan.core.revenue_factors import BASE_PRICE
 from pitplan.errors import PlanError
 from pitplan.pushbacks.bench_table import CASH
 from pitplan.scheduling.blocks.from_plan import demand_of_blocks, diggable, pit_of
@@ -67,7 +67,7 @@ def spread(laid: Laid, folder: Path, progress: Progress) -> tuple[Diggable, Weig
     plan, project, count = laid.plan, laid.base.project, len(laid.scenarios)
     with progress.step("gathering the blocks that may be dug"):
         # What pays in a scenario pays at the greatest grades and prices and without selling cost, since no recovery falls with the grade.
-        cells, needs = diggable(plan, np.array(plan.values.greatest_value(REFERENCE_FACTOR) > 0, dtype=bool))
+        cells, needs = diggable(plan, np.array(plan.values.greatest_value(BASE_PRICE) > 0, dtype=bool))
         forced = np.isin(cells, plan.fixed.forced)
     rules = project.schedule_rules or ScheduleRules()
 

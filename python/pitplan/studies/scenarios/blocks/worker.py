@@ -11,9 +11,9 @@ import numpy as np
 from numpy.typing import NDArray
 
 from pitplan.blockmodel import missing_blocks
-from pitplan.config.shells import REFERENCE_FACTOR
 from pitplan.core import keyed_arrays
 from pitplan.core.atomic_files import staged_file
+from pitplan.core.revenue_factors import BASE_PRICE
 from pitplan.errors import PlanError
 from pitplan.pushbacks.bench_table import ORE, ROCK
 from pitplan.scheduling.blocks import Scheduled, solve
@@ -84,7 +84,7 @@ class Made:
     def entry(self) -> NDArray[np.int64]:
         """For each cell the price as given where it is dug, and else 0."""
         entry = np.zeros(self.shared.grid.count, dtype=np.int64)
-        entry[self.diggable.cells] = np.where(self.is_dug, REFERENCE_FACTOR, 0)
+        entry[self.diggable.cells] = np.where(self.is_dug, BASE_PRICE, 0)
         return entry
 
     @property
