@@ -37,7 +37,7 @@ demo:
 # not built, all but that. DESTDIR stands before it, for whoever makes a package.
 LAYER = $(DESTDIR)$(PREFIX)/lib/pitshell/python
 DOC = $(DESTDIR)$(PREFIX)/share/doc/pitshell
-DOCUMENTS = README.md CHANGELOG.md docs/*.md docs/*/* examples/*.ipynb examples/*/*.* examples/*/expected/* examples/*/models/*
+DOCUMENTS = README.md CHANGELOG.md docs/*.md docs/*/* examples/*.ipynb examples/*/*.* examples/*/expected/* examples/*/realisations/*
 install:
 	test -x $(PROGRAM) || $(MAKE) build
 	install -D -m 755 $(PROGRAM) $(DESTDIR)$(PREFIX)/bin/pitshell

@@ -23,7 +23,7 @@ WALLS = ((0, 60), (90, 30), (180, 60), (270, 60))
 PROJECT = f"""
 [table]
 file = "blocks.csv"
-[money]
+[economics]
 mining_cost = 2
 processing_cost = 10
 [[metals]]
@@ -33,12 +33,12 @@ unit = "percent"
 price = 8000
 recovery = 0.9
 [slopes]
-[[slopes.walls]]
+[[slopes.domains]]
 azimuths = {[list(pair) for pair in WALLS]}
 [shells]
 revenue_factors = [1]
-rate = 0.1
-ore_per_year = 1000
+discount_rate = 0.1
+processing_capacity = 1000
 """
 
 

@@ -17,13 +17,13 @@ Functions write what the subcommands do, by default into the project's own folde
     pitplan.audit("out", 800)                              # that of a folder by which others can check the shell
     rules = pitplan.verify("out")                          # each with what holds, differences, and their count
     pits = pitplan.write_pit("project.toml", 1000)         # a row with the fixed blocks and one without
-    phases = pitplan.write_pushbacks("project.toml")       # one row a pushback
+    pushbacks = pitplan.write_pushbacks("project.toml")       # one row a pushback
     ways = pitplan.write_schedule("project.toml")          # one row a method: rule and lp
     cases = pitplan.write_sensitivity("project.toml")      # one row a case: a number more or less by a share
     found = pitplan.write_scenarios("project.toml")        # found.probability, found.table, found.quantiles; found.notes
     each = pitplan.write_scenarios("project.toml", request=pitplan.Request(by="block"))     # each.schedules
 
-`write_block_schedule("project.toml")`, where no blocks are fixed, gives one row: value, bound, below_bound, years, blocks and tonnes.
+`write_block_schedule("project.toml")`, where no blocks are fixed, gives one row: value, bound, optimality_gap, years, blocks and tonnes.
 `Writing` says how a command writes its folder, `Request` where and how scenarios are solved, and `Where` on which Dask cases are;
 `gather(folder)` gathers the scenarios that others have solved.
 

@@ -82,7 +82,7 @@ def marks(grid: Grid, cells: NDArray[Any]) -> NDArray[Any]:
 
 
 def of_table(frame: pd.DataFrame, grid: Grid, project: Project, source: str = "table") -> FixedBlocks:
-    """What `[fixed]` says of the rows of a checked table; nothing where there is no such section.
+    """What `[constraints]` says of the rows of a checked table; nothing where there is no such section.
 
     Raises PlanError where a file is not usable, and where a block would be both; MissingPackage where what reads a file is not there.
     """
@@ -90,7 +90,7 @@ def of_table(frame: pd.DataFrame, grid: Grid, project: Project, source: str = "t
     if rules is None:
         return NOTHING
     rock = frame[project.table.tonnes].to_numpy() > 0
-    forced, barred = marked(frame, rules.forced) & rock, marked(frame, rules.barred) & rock
+    forced, barred = marked(frame, rules.must_mine) & rock, marked(frame, rules.exclude) & rock
     notes = []
     forced |= depletion.is_mined(frame)
     for area in rules.areas:
@@ -122,10 +122,10 @@ def in_area(grid: Grid, area: Area) -> tuple[NDArray[Any], list[str]]:
         notes.append(f"WARNING: {file}: {twice}")
     if not barred.any():
         said = f"{file}: no block lies in it: {tin.beside(np.concatenate([polygon[0] for polygon in areas.polygons]), grid)}"
-        if area.barred == "outside":
+        if area.exclude == "outside":
             raise PlanError(said)
         notes.append(f"WARNING: {said}")
-    return barred == (area.barred == "inside"), notes
+    return barred == (area.exclude == "inside"), notes
 
 
 def within(x: NDArray[Any], y: NDArray[Any], corners: NDArray[Any]) -> NDArray[Any]:

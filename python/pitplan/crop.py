@@ -16,6 +16,7 @@ import pandas as pd
 from pitplan import constraints
 from pitplan.blockmodel import grid as grids
 from pitplan.blockmodel.grid import Grid
+from pitplan.config.economics import PER_REVENUE_FACTOR
 from pitplan.config.project import Project
 from pitplan.economics import block_values
 from pitplan.errors import PlanError
@@ -50,7 +51,7 @@ class Box:
 def is_too_large(model: Model, project: Project) -> bool:
     """Whether blocks and nodes for processing may be more than the program takes."""
     nodes = model.grid.count + (
-        np.count_nonzero(with_metal(model.frame, project)) if project.money.cutoff == "moving" else 0
+        np.count_nonzero(with_metal(model.frame, project)) if project.money.cutoff == PER_REVENUE_FACTOR else 0
     )
     return nodes > grids.MOST_BLOCKS
 

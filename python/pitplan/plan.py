@@ -14,12 +14,12 @@ from numpy.typing import NDArray
 
 from pitplan.blockmodel import depletion, missing_blocks, plausibility, reader
 from pitplan.blockmodel.grid import Grid
+from pitplan.config.economics import PER_REVENUE_FACTOR
 from pitplan.config.project import Project, load, validated
 from pitplan.config.shells import IN_WORDS
 from pitplan.core.keyed_arrays import hash_of_all
 from pitplan.core.progress import Progress, silent
 from pitplan.core.revenue_factors import factor_text
-from pitplan.crop import Model
 from pitplan.economics import block_values, haulage, period_costs
 from pitplan.economics.block_values import Values
 from pitplan.precedences import MOST_PAIRS, Needs, Pairs
@@ -44,10 +44,10 @@ OWN_COLUMNS = (
         "free_revenue_factor",
         "free_process_revenue_factor",
     ),
-    "phase",
+    "pushback",
     "year",
     "process",
-    *("road", "haulage_cost", "ore_haulage_cost"),
+    *("haul_distance", "haulage_cost", "ore_haulage_cost"),
 )
 
 
@@ -65,7 +65,7 @@ class Plan:
     notes   sentences that a planner should read before trusting the plan
     summary what the table holds: extents, tonnes, grades with units, and columns that say nothing
     fixed   blocks that must be dug, and blocks that may not be
-    settled what is dug and what is left for their sake; None where the project has no `[fixed]`
+    settled what is dug and what is left for their sake; None where the project has no `[constraints]`
     left_out how many rows of the table no shell can reach, of a model too large for the program
     read    the table's rows as they were read, before any were put together, added or left out; the second look takes them
     """
@@ -127,7 +127,7 @@ class Plan:
             frame[f"revenue_{way.name}"] = way.revenue[ids] / MILLION
             frame[f"processing_cost_{way.name}"] = way.cost[ids] / MILLION
         if hauled := self.values.hauled:
-            frame["road"] = hauled.road[ids] / 10**haulage.LENGTH_PLACES
+            frame["haul_distance"] = hauled.road[ids] / 10**haulage.LENGTH_PLACES
             frame["haulage_cost"], frame["ore_haulage_cost"] = (
                 hauled.waste[ids] / MILLION,
                 hauled.ore_more[ids] / MILLION,
@@ -153,10 +153,10 @@ class Plan:
         """Raises PlanError where there are more needs than program and library take."""
         count = pairs.written + pairs.processing
         if count > MOST_PAIRS:
-            fewer = "give fewer [slopes] levels"
-            if self.project.slopes.levels is None:
+            fewer = "give fewer [slopes] precedence_benches"
+            if self.project.slopes.precedence_benches is None:
                 chosen = max(pattern.levels for pattern in self.walls.patterns)
-                fewer = f"give [slopes] levels, fewer than the {chosen} that were chosen"
+                fewer = f"give [slopes] precedence_benches, fewer than the {chosen} that were chosen"
             raise PlanError(
                 f"{count:,} needs, and the program takes at most {MOST_PAIRS:,}: {fewer}, or a smaller model"
             )
@@ -303,7 +303,7 @@ def notes_of(plan: Plan) -> list[str]:
     levels, rows, columns = grid.shape
     notes = [f"{count:,} blocks lie on a grid of {columns} x {rows} x {levels} = {grid.count:,} cells"]
     notes += missing_blocks.notes(plan.table, grid, plan.project)
-    if plan.values.cutoff == "moving":
+    if plan.values.cutoff == PER_REVENUE_FACTOR:
         steps = len(plan.values.processed) - len(plan.values.ore)
         more = (
             f", and {steps:,} nodes more for processes that are better from a greater price on"
@@ -321,10 +321,10 @@ def notes_of(plan: Plan) -> list[str]:
     notes += plan.values.notes
     grades = [plan.table[metal.column].to_numpy() for metal in plan.project.metals]
     notes += plausibility.of_prices(plan.values.pays, plan.project.metals, grades, plan.project.money.currency)
-    if plan.project.money.mining_cost_per_level and plan.project.money.mining_cost_reference is None:
+    if plan.project.money.mining_cost_per_bench and plan.project.money.mining_cost_reference is None:
         notes.append(
             f"mining costs more for each level below that of {plan.reference - grid.size[2]:.10g} to {plan.reference:.10g} m, the "
-            "highest of which ore needs a block: [money] mining_cost_reference names another elevation"
+            "highest of which ore needs a block: [economics] mining_cost_reference names another elevation"
         )
     notes += plan.fixed.notes
     if plan.settled is not None:
@@ -336,7 +336,7 @@ def notes_of(plan: Plan) -> list[str]:
     notes += period_costs.notes(plan.project)
     settings = plan.project.schedule
     notes.append(
-        f"net present values: {100 * settings.rate:.10g} % a year, cash discounted {IN_WORDS[settings.discounting]}"
+        f"net present values: {100 * settings.discount_rate:.10g} % a year, cash discounted {IN_WORDS[settings.discounting]}"
     )
     for name, rounding in plan.values.roundings.items():
         if rounding.changed:
@@ -356,7 +356,7 @@ def greatest_shift(table: pd.DataFrame, grid: Grid, project: Project) -> float:
 
 def codes_of(project: Project) -> list[str]:
     """The columns of blocks.csv that are texts, whatever they look like."""
-    named = [project.table.id, project.table.rock, project.table.region]
+    named = [project.table.id, project.table.rock_type, project.table.domain]
     return [shown_name(name) for name in named if name]
 
 

@@ -149,7 +149,7 @@ def cut_by_topography(model: Preparation) -> None:
 
 
 def cut_by_as_mined_surface(model: Preparation) -> None:
-    """Cuts tonnes to those that remain below `[fixed] surface`, and marks the blocks that are mined."""
+    """Cuts tonnes to those that remain below `[constraints] surface`, and marks the blocks that are mined."""
     model.frame, notes = depletion.depleted(model.frame, model.grid, model.project)
     model.notes += notes
 
@@ -157,7 +157,7 @@ def cut_by_as_mined_surface(model: Preparation) -> None:
 def lay_slope_domains(model: Preparation) -> None:
     """Gives each cell its slope domain, and each domain its precedence pattern."""
     with model.progress.step("laying the walls"):
-        model.region = domains.regions_of(model.frame, model.grid, model.project.table.region)
+        model.region = domains.regions_of(model.frame, model.grid, model.project.table.domain)
         model.walls = domains.walls_of(model.region, model.grid, model.project.slopes)
 
 

@@ -25,11 +25,11 @@ title = "Test hill"
 [table]
 file = "blocks.csv"
 id = "name"
-rock = "rock"
-region = "region"
+rock_type = "rock"
+domain = "region"
 [grid]
 size = [10, 10, 10]
-[money]
+[economics]
 mining_cost = 2
 processing_cost = 10
 [[metals]]
@@ -39,13 +39,13 @@ unit = "percent"
 price = 8000
 recovery = 0.5
 [slopes]
-levels = 3
-[[slopes.walls]]
+precedence_benches = 3
+[[slopes.domains]]
 pattern = "1:5"
 [shells]
 revenue_factors = [0.5, 1.0, 1.5]
-rate = 0.1
-ore_per_year = 100
+discount_rate = 0.1
+processing_capacity = 100
 """
 
 
@@ -128,7 +128,7 @@ def without_figures():
 
 @pytest.fixture(scope="session")
 def scheduled_hill(tmp_path_factory):
-    """A hill far from the origin in two phases with years, without pictures; the place of its project."""
+    """A hill far from the origin in two pushbacks with years, without pictures; the place of its project."""
     import pitplan
 
     place = tmp_path_factory.mktemp("ground")
@@ -138,7 +138,7 @@ def scheduled_hill(tmp_path_factory):
         x=lambda it: it["x"] + 430_000.5, y=lambda it: it["y"] + 6_512_000.25
     )
     table.to_csv(place / "blocks.csv", index=False)
-    (place / "project.toml").write_text(PROJECT + "[pushbacks]\ncount = 2\n[schedule]\nrock_per_year = 2000\n")
+    (place / "project.toml").write_text(PROJECT + "[pushbacks]\ncount = 2\n[schedule]\nmining_capacity = 2000\n")
     pitplan.write_schedule(place / "project.toml", writing=pitplan.Writing(verifies=False, figures=False))
     return place
 

@@ -13,8 +13,8 @@ from pitplan.blockmodel.grid import Grid
 from pitplan.cli import main
 
 SHAPE = (4, 2, 3)
-AIR = ('file = "blocks.csv"', 'file = "blocks.csv"\nabsent = "air"')
-ROCK = ('file = "blocks.csv"', 'file = "blocks.csv"\nabsent = { tonnes = 100, rock = "R", region = "1" }')
+AIR = ('file = "blocks.csv"', 'file = "blocks.csv"\nmissing_blocks = "air"')
+ROCK = ('file = "blocks.csv"', 'file = "blocks.csv"\nmissing_blocks = { tonnes = 100, rock_type = "R", domain = "1" }')
 
 
 @given(st.lists(st.booleans(), min_size=24, max_size=24))
@@ -50,7 +50,7 @@ def test_shells_that_reach_a_hole_are_refused(plan_folder, capsys):
         "blocks.csv: the shells reach 1 cells that have no row and are not above the highest of their column, the first at 25, 5, 15 from revenue factor 0.50 on"
         in said
     )
-    assert 'absent = "air"' in said
+    assert 'missing_blocks = "air"' in said
     assert not (path.parent / "plan" / "shells.csv").exists()
 
 
@@ -76,7 +76,7 @@ def test_air_on_request_costs_nothing(plan_folder):
         "revenue_factor"
     )
     # A block of 100 t at 2 a tonne less is dug.
-    assert (holed["worth"] - whole["worth"]).tolist() == [200] * 3
+    assert (holed["undiscounted_cash_flow"] - whole["undiscounted_cash_flow"]).tolist() == [200] * 3
     assert (whole["tonnes"] - holed["tonnes"]).tolist() == [100] * 3
 
 
@@ -105,14 +105,14 @@ def test_rock_on_request_in_scenarios(plan_folder):
 @pytest.mark.parametrize(
     ("text", "said"),
     [
-        ('absent = "rock"', '[table] absent: "rock" is none of refuse, air'),
-        ("absent = { tonnes = -1 }", "[table.absent] tonnes: -1 is below 0"),
+        ('missing_blocks = "rock"', '[table] missing_blocks: "rock" is none of refuse, air'),
+        ("missing_blocks = { tonnes = -1 }", "[table.missing_blocks] tonnes: -1 is below 0"),
         (
-            "absent = { tonnes = 1 }",
-            "[table] absent: needs a rock where, and only where, a column of the table is its rock",
+            "missing_blocks = { tonnes = 1 }",
+            "[table] missing_blocks: needs a rock_type if, and only if, [table] rock_type names a column",
         ),
-        ('absent = { tonnes = 1, rock = "R" }', "[table] absent: needs a region where"),
-        ('absent = { tonnes = 1, rocks = "R" }', "[table.absent] rocks: is no key here; rock is"),
+        ('missing_blocks = { tonnes = 1, rock_type = "R" }', "[table] missing_blocks: needs a domain if"),
+        ('missing_blocks = { tonnes = 1, rocks = "R" }', "[table.missing_blocks] rocks: is no key here; rock_type is"),
     ],
 )
 def test_absent_is_refused_in_words(plan_folder, text, said):

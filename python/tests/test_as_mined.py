@@ -9,7 +9,7 @@ from pitplan import PlanError, load, prepare, write_shells
 from pitplan.verification import verify
 
 TOPOGRAPHY = ('file = "blocks.csv"', 'file = "blocks.csv"\ntopography = "ground.csv"')
-SURFACE = PROJECT + '\n[fixed]\nsurface = "mined.csv"\n'
+SURFACE = PROJECT + '\n[constraints]\nas_mined = "mined.csv"\n'
 
 
 def slope(x, y):
@@ -78,7 +78,7 @@ def test_a_block_that_is_mined_out_has_no_tonnes(mine):
 
 
 def test_tonnes_that_the_table_has_cut_already(mine):
-    """The original ground stands below [fixed]: the table's tonnes are those below it."""
+    """The original ground stands below [constraints]: the table's tonnes are those below it."""
     text = SURFACE + 'topography = "ground.csv"\n'
 
     def below(height):
@@ -116,15 +116,15 @@ def test_what_a_run_writes_of_it_is_verified(plan_folder, tmp_path, without_figu
     ("text", "said"),
     [
         (
-            '[fixed]\ntopography = "ground.csv"\n',
-            r"\[fixed\] topography: is the original ground of an as-mined surface: give surface too",
+            '[constraints]\ntopography = "ground.csv"\n',
+            r"\[constraints\] topography: is the original ground of an as-mined surface: give surface too",
         ),
         (
-            '[fixed]\nsurface = "mined.csv"\ntopography = "ground.csv"\n',
+            '[constraints]\nas_mined = "mined.csv"\ntopography = "ground.csv"\n',
             r"\[table\] topography is the original ground already",
         ),
         (
-            '[fixed]\nsurface = "mined.csv"\ntopography = "blocks"\n',
+            '[constraints]\nas_mined = "mined.csv"\ntopography = "blocks"\n',
             r"\[table\] topography is the original ground already",
         ),
     ],
@@ -136,5 +136,7 @@ def test_two_original_grounds_or_none_to_mine_are_refused(plan_folder, text, sai
 
 def test_a_survey_without_the_original_ground_is_refused(plan_folder):
     """Blocks that the original ground cuts would be taken as mined by their centres, all over the property."""
-    with pytest.raises(PlanError, match=r'\[fixed\] topography: is missing: .* or "blocks" if all blocks are whole'):
+    with pytest.raises(
+        PlanError, match=r'\[constraints\] topography: is missing: .* or "blocks" if all blocks are whole'
+    ):
         load(plan_folder(rows(1, 1, 1), SURFACE))

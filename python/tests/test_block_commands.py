@@ -23,7 +23,9 @@ from pitplan.verification import verify
 
 pytestmark = pytest.mark.usefixtures("without_figures")
 # The mill takes the ore of one pillar a year, and the shovels a pillar.
-YEARLY = UPRIGHT.replace("ore_per_year = 100", 'ore_per_year = 100\nrock_per_year = 200\ndiscounting = "end_of_year"')
+YEARLY = UPRIGHT.replace(
+    "processing_capacity = 100", 'processing_capacity = 100\nmining_capacity = 200\ndiscounting = "end_of_year"'
+)
 RULES = ["block order", "block limits", "block value"]
 
 
@@ -46,22 +48,26 @@ def test_three_pillars_by_hand(plan_folder):
     other schedule earns more, and the bound says so."""
     row, folder = scheduled(plan_folder)
     value = 2600 / 1.1 + 1400 / 1.21 + 600 / 1.331
-    assert row["value"] == pytest.approx(value) == row["bound"] and row["below_bound"] == pytest.approx(0, abs=1e-9)
-    assert row[["years", "blocks", "tonnes", "ore_tonnes"]].tolist() == [3, 6, 600, 300]
+    assert row["npv"] == pytest.approx(value) == row["upper_bound"] and row["optimality_gap"] == pytest.approx(
+        0, abs=1e-9
+    )
+    assert row[["years", "blocks", "tonnes", "feed_tonnes"]].tolist() == [3, 6, 600, 300]
     years = years_of(folder)
     assert years["year"].tolist() == [1, 2, 3] and years["revenue_factor"].tolist() == [1.0] * 3
-    assert years["rock_tonnes"].tolist() == [200] * 3 and years["ore_tonnes"].tolist() == [100] * 3
-    assert years["metal_copper"].tolist() == pytest.approx([0.5, 0.35, 0.25]) and years["cash"].tolist() == [
+    assert years["total_tonnes"].tolist() == [200] * 3 and years["feed_tonnes"].tolist() == [100] * 3
+    assert years["recovered_copper"].tolist() == pytest.approx([0.5, 0.35, 0.25]) and years["cash_flow"].tolist() == [
         2600,
         1400,
         600,
     ]
-    assert years["discounted"].tolist() == pytest.approx([2600 / 1.1, 1400 / 1.21, 600 / 1.331], abs=1e-3)
+    assert years["discounted_cash_flow"].tolist() == pytest.approx([2600 / 1.1, 1400 / 1.21, 600 / 1.331], abs=1e-3)
     blocks = pd.read_csv(folder / "blocks.csv").set_index("name")
     assert blocks["year"].to_dict() == {f"b{i}-0-{k}": i + 1 for i in range(3) for k in range(2)}
     told = json.loads((folder / "block_schedule.json").read_text())
-    assert told["value"] == pytest.approx(value, abs=1e-3) and told["bound"] == pytest.approx(value, abs=1e-3)
-    assert told["limits"] == {"ore_tonnes": 100, "rock_tonnes": 200} and told["blocks"] == 6 and not told["interrupted"]
+    assert told["npv"] == pytest.approx(value, abs=1e-3) and told["upper_bound"] == pytest.approx(value, abs=1e-3)
+    assert (
+        told["limits"] == {"feed_tonnes": 100, "total_tonnes": 200} and told["blocks"] == 6 and not told["interrupted"]
+    )
     # Three years at the limits, and a fifth more.
     assert told["years"] == 4
 
@@ -70,37 +76,37 @@ def test_money_in_thousands_has_the_share_below_the_bound_of_what_is_told(plan_f
     """The shovels take a block and a half a year, so a block a year: waste costs 0.2, and the ore under it earns 2.8, 1.6 and 0.8. The
     bound, of shares of blocks, is more; files have both to a thousandth, and the share by which they differ is that of these.
     """
-    text = YEARLY.replace("rock_per_year = 200", "rock_per_year = 150").replace("price = 8000", "price = 8")
+    text = YEARLY.replace("mining_capacity = 200", "mining_capacity = 150").replace("price = 8000", "price = 8")
     text = text.replace("mining_cost = 2", "mining_cost = 0.002").replace(
         "processing_cost = 10", "processing_cost = 0.01"
     )
     row, folder = scheduled(plan_folder, "[schedule]\nyears = 6\n", text)
     earned = [-0.2, 2.8, -0.2, 1.6, -0.2, 0.8]
-    assert row["value"] == pytest.approx(sum(cash / 1.1**year for year, cash in enumerate(earned, 1)))
-    told, way = json.loads((folder / "block_schedule.json").read_text()), pd.read_csv(folder / "ways.csv").iloc[0]
-    share = (told["bound"] - told["value"]) / told["bound"]
-    assert share > 0.01 and (told["value"], told["bound"]) == (way["value"], way["bound"])
-    assert told["gap"] == pytest.approx(share, abs=6e-10) and way["below_bound"] == pytest.approx(share, abs=6e-10)
+    assert row["npv"] == pytest.approx(sum(cash / 1.1**year for year, cash in enumerate(earned, 1)))
+    told, way = json.loads((folder / "block_schedule.json").read_text()), pd.read_csv(folder / "methods.csv").iloc[0]
+    share = (told["upper_bound"] - told["npv"]) / told["upper_bound"]
+    assert share > 0.01 and (told["npv"], told["upper_bound"]) == (way["npv"], way["upper_bound"])
+    assert told["gap"] == pytest.approx(share, abs=6e-10) and way["optimality_gap"] == pytest.approx(share, abs=6e-10)
 
 
 @pytest.mark.parametrize(
     ("words", "cash"),
     [
         ("years = 2", [2600, 1400]),
-        ("ore_per_year = 200\nrock_per_year = 400", [4000, 600]),
+        ("processing_capacity = 200\nmining_capacity = 400", [4000, 600]),
         # The mill stands still in the first year, in which nothing needs to be dug.
         ("ramp_up = [0, 1.0]", [0, 2600, 1400, 600]),
-        ("metal_per_year = { copper = 0.85 }\nore_per_year = 1e6\nrock_per_year = 1e6", [4000, 600]),
+        ("max_metal_per_year = { copper = 0.85 }\nprocessing_capacity = 1e6\nmining_capacity = 1e6", [4000, 600]),
         # A block of 100 t does not fit into half of the mill.
         ("ramp_up = [0.5, 1.0]", [0, 2600, 1400, 600]),
-        ("years = 1\nrock_per_year = 300", [2600]),
+        ("years = 1\nmining_capacity = 300", [2600]),
         ("milp = { gap = 0, seconds = 60 }", [2600, 1400, 600]),
     ],
 )
 def test_each_limit_by_hand(plan_folder, words, cash):
     row, folder = scheduled(plan_folder, f"[schedule]\n{words}\n")
-    assert years_of(folder)["cash"].tolist() == cash
-    assert row["value"] == pytest.approx(sum(amount / 1.1 ** (year + 1) for year, amount in enumerate(cash)))
+    assert years_of(folder)["cash_flow"].tolist() == cash
+    assert row["npv"] == pytest.approx(sum(amount / 1.1 ** (year + 1) for year, amount in enumerate(cash)))
 
 
 def test_years_have_prices_of_their_own(plan_folder):
@@ -110,12 +116,14 @@ def test_years_have_prices_of_their_own(plan_folder):
     row, folder = scheduled(plan_folder, text=text)
     blocks = pd.read_csv(folder / "blocks.csv").set_index("name")
     assert blocks["year"][["b0-0-0", "b1-0-0", "b2-0-0"]].tolist() == [2, 1, 3]
-    assert row["value"] == pytest.approx(1400 / 1.1 + 4600 / 1.21 + 600 / 1.331) and wrong(folder) == set()
+    assert row["npv"] == pytest.approx(1400 / 1.1 + 4600 / 1.21 + 600 / 1.331) and wrong(folder) == set()
 
 
 def with_processes():
     """Leach earns 32 a per cent and tonne less 3, and takes 300 t a year; the mill 72 less 13, and 100 t. Shovels take 600 t a year."""
-    text = UPRIGHT.replace("rate = 0.1", 'rate = 0.1\nrock_per_year = 600\ndiscounting = "end_of_year"')
+    text = UPRIGHT.replace(
+        "discount_rate = 0.1", 'discount_rate = 0.1\nmining_capacity = 600\ndiscounting = "end_of_year"'
+    )
     for old, new in WITH:
         assert text.count(old) == 1
         text = text.replace(old, new)
@@ -128,7 +136,7 @@ def test_each_ore_waits_for_the_process_where_it_is_worth_most(plan_folder):
     blocks = pd.read_csv(folder / "blocks.csv").set_index("name")
     ores = blocks.loc[["b0-0-0", "b1-0-0", "b2-0-0"]]
     assert ores["year"].tolist() == [1, 2, 3] and ores["share_mill"].tolist() == [1] * 3
-    assert row["value"] == pytest.approx(5500 / 1.1 + 3340 / 1.21 + 1900 / 1.331) and wrong(folder) == set()
+    assert row["npv"] == pytest.approx(5500 / 1.1 + 3340 / 1.21 + 1900 / 1.331) and wrong(folder) == set()
 
 
 def test_a_block_goes_to_the_process_that_has_room(plan_folder):
@@ -139,9 +147,9 @@ def test_a_block_goes_to_the_process_that_has_room(plan_folder):
     assert blocks["year"].tolist() == [1] * 6
     assert blocks["share_mill"][["b0-0-0", "b1-0-0", "b2-0-0"]].tolist() == [1, 0, 0]
     assert blocks["share_leach"][["b0-0-0", "b1-0-0", "b2-0-0"]].tolist() == [0, 1, 1]
-    assert row["value"] == pytest.approx((7200 - 1300 + 2240 - 300 + 1600 - 300 - 6 * 200) / 1.1)
-    assert row["bound"] == pytest.approx(row["value"]) and wrong(folder) == set()
-    assert years_of(folder)[["ore_tonnes", "ore_tonnes_leach", "ore_tonnes_mill"]].to_numpy().tolist() == [
+    assert row["npv"] == pytest.approx((7200 - 1300 + 2240 - 300 + 1600 - 300 - 6 * 200) / 1.1)
+    assert row["upper_bound"] == pytest.approx(row["npv"]) and wrong(folder) == set()
+    assert years_of(folder)[["feed_tonnes", "feed_tonnes_leach", "feed_tonnes_mill"]].to_numpy().tolist() == [
         [300, 200, 100]
     ]
 
@@ -149,11 +157,11 @@ def test_a_block_goes_to_the_process_that_has_room(plan_folder):
 @pytest.mark.parametrize(
     ("words", "said"),
     [
-        ("[schedule]\nlag = 1", "[schedule] lag: is of phases"),
-        ("[schedule]\nsinking_rate = 2", "[schedule] sinking_rate: is of the benches of a phase"),
+        ("[schedule]\nbench_lag = 1", "[schedule] bench_lag: is of pushbacks"),
+        ("[schedule]\nvertical_advance_rate = 2", "[schedule] vertical_advance_rate: is of the benches of a pushback"),
         ("[schedule]\nbins = 2", "[schedule] bins: are of benches"),
-        ("[schedule]\nbins = 2\nstockpile = { rehandling_cost = 1 }", "[schedule] bins: are of benches"),
-        ("[schedule]\nore_per_year = 1", "holds 100 of ore_tonnes, and a year at most 1"),
+        ("[schedule]\nbins = 2\nstockpile = { reclaim_cost = 1 }", "[schedule] bins: are of benches"),
+        ("[schedule]\nprocessing_capacity = 1", "holds 100 of feed_tonnes, and a year at most 1"),
     ],
 )
 def test_what_is_refused(plan_folder, words, said):
@@ -162,9 +170,9 @@ def test_what_is_refused(plan_folder, words, said):
     assert said in str(error.value) and "project.toml" in str(error.value)
 
 
-@pytest.mark.parametrize("words", ["fixed_cost_per_year = 5", "capital = [[1, 5]]"])
+@pytest.mark.parametrize("words", ["fixed_cost_per_year = 5", "capex = [[1, 5]]"])
 def test_what_years_cost_is_refused(plan_folder, words):
-    with pytest.raises(PlanError, match="fixed_cost_per_year, capital: what years cost"):
+    with pytest.raises(PlanError, match="fixed_cost_per_year, capex: what years cost"):
         scheduled(plan_folder, text=YEARLY.replace("mining_cost = 2\n", f"mining_cost = 2\n{words}\n"))
 
 
@@ -173,7 +181,7 @@ def test_the_command_line_tells_value_bound_and_gap(plan_folder, capsys):
     assert main(["schedule", str(path), "--by", "block"]) == 0
     said = capsys.readouterr()
     lines = [line.split() for line in said.out.splitlines()]
-    assert lines[0][:3] == ["NPV", "bound", "below"] and lines[2][:4] == ["3,971.45", "3,971.45", "0.00", "3"]
+    assert lines[0][:3] == ["NPV", "upper_bound", "below"] and lines[2][:4] == ["3,971.45", "3,971.45", "0.00", "3"]
     assert (
         "no schedule by block of up to 4 years that keeps these limits earns more than 3,971, wherever it sends its blocks; this one earns 3,971, 0.00 %"
         in said.err
@@ -181,9 +189,10 @@ def test_the_command_line_tells_value_bound_and_gap(plan_folder, capsys):
     assert "round 1: bound " in said.err and "relaxation 3,971 over" in said.err
     page = (path.parent / "plan" / "block_schedule" / "report.html").read_text()
     assert (
-        "in the ore of the pit of revenue factor 1.00</span>" in page and 'title="ways.csv row 2 column value"' in page
+        "head grade of the pit at revenue factor 1.00</span>" in page
+        and 'title="methods.csv row 2 column npv"' in page
     )
-    assert "ways.csv" in page and "the schedule and its bound, the other numbers" in page
+    assert "methods.csv" in page and "the schedule and its bound, the other numbers" in page
 
 
 def test_without_the_library_it_is_told_what_is_missing(plan_folder):
@@ -215,7 +224,7 @@ def written(without_figures, tmp_path_factory):
     table.to_csv(place / "blocks.csv", index=False)
     text = (
         PROJECT
-        + "[schedule]\nrock_per_year = 1000\nramp_up = [0.5, 1]\nore_per_year = 200\nmetal_per_year = { copper = 3.5 }\n"
+        + "[schedule]\nmining_capacity = 1000\nramp_up = [0.5, 1]\nprocessing_capacity = 200\nmax_metal_per_year = { copper = 3.5 }\n"
     )
     (place / "project.toml").write_text(text)
     pitplan.write_block_schedule(place / "project.toml")
@@ -275,7 +284,9 @@ def test_a_year_above_a_limit_is_found(copied):
     assert {"block limits", "block value"} <= wrong(copied)
 
 
-@pytest.mark.parametrize("name", ["rock_tonnes", "ore_tonnes", "metal_copper", "cash", "discounted"])
+@pytest.mark.parametrize(
+    "name", ["total_tonnes", "feed_tonnes", "recovered_copper", "cash_flow", "discounted_cash_flow"]
+)
 def test_a_year_that_is_not_the_sum_of_its_blocks_is_found(copied, name):
     def change(table):
         table.loc[table["case"] == "block", name] += 1
@@ -284,7 +295,7 @@ def test_a_year_that_is_not_the_sum_of_its_blocks_is_found(copied, name):
     assert "block value" in wrong(copied)
 
 
-@pytest.mark.parametrize(("key", "change"), [("value", 1), ("bound", -1e9), ("gap", 0.01)])
+@pytest.mark.parametrize(("key", "change"), [("npv", 1), ("upper_bound", -1e9), ("gap", 0.01)])
 def test_a_value_or_a_bound_that_is_not_so_is_found(copied, key, change):
     told = json.loads((copied / "block_schedule.json").read_text())
     (copied / "block_schedule.json").write_text(json.dumps(told | {key: told[key] + change}))
@@ -293,7 +304,7 @@ def test_a_value_or_a_bound_that_is_not_so_is_found(copied, key, change):
 
 def test_a_limit_that_is_not_the_projects_is_found(copied):
     told = json.loads((copied / "block_schedule.json").read_text())
-    (copied / "block_schedule.json").write_text(json.dumps(told | {"limits": told["limits"] | {"rock_tonnes": 5000}}))
+    (copied / "block_schedule.json").write_text(json.dumps(told | {"limits": told["limits"] | {"total_tonnes": 5000}}))
     assert wrong(copied) == {"block limits"}
 
 
@@ -330,16 +341,16 @@ def test_a_pit_of_too_many_years_is_refused(plan_folder, monkeypatch):
 @pytest.mark.parametrize(
     ("change", "said"),
     [
-        ("ore_per_year = 99", "100 of ore_tonnes, and a year at most 99"),
-        ("rock_per_year = 90", "100 of rock_tonnes, and a year at most 90"),
+        ("processing_capacity = 99", "100 of feed_tonnes, and a year at most 99"),
+        ("mining_capacity = 90", "100 of total_tonnes, and a year at most 90"),
     ],
 )
 def test_a_block_that_a_year_cannot_hold_is_refused(plan_folder, change, said):
     """Each block has 100 t. It would never be mined whole, and what lies below it neither."""
     text = (
-        YEARLY.replace("ore_per_year = 100", change)
-        if "ore" in change
-        else YEARLY.replace("rock_per_year = 200", change)
+        YEARLY.replace("processing_capacity = 100", change)
+        if "processing" in change
+        else YEARLY.replace("mining_capacity = 200", change)
     )
     with pytest.raises(
         PlanError,
@@ -352,14 +363,16 @@ def test_both_notations_of_one_mine_have_the_same_value_and_bound(plan_folder):
     """Of two blocks of ore with a limit on what lies in the mill's feed one goes to waste, whether the mill is named or not. The second
     pillar's ore holds so much of it that the year takes none of the first then."""
     table = pillars(as_ppm=lambda i, j, k: [10, 90, 20][i])
-    sums = '[[schedule.sums]]\ncolumn = "as_ppm"\na_tonne = true\nof = "ore"\nmost = 4000\n[schedule]\nyears = 3\n'
+    sums = '[[schedule.limits]]\ncolumn = "as_ppm"\nper_tonne = true\nof = "feed"\nmax = 4000\n[schedule]\nyears = 3\n'
     plain, folder = scheduled(plan_folder, sums, table=table)
     named = (
-        YEARLY.replace("processing_cost = 10\n", "").replace("recovery = 0.5\n", "").replace("ore_per_year = 100\n", "")
+        YEARLY.replace("processing_cost = 10\n", "")
+        .replace("recovery = 0.5\n", "")
+        .replace("processing_capacity = 100\n", "")
     )
-    named += '[[processes]]\nname = "mill"\ncost = 10\nper_year = 100\nrecovery = { copper = 0.5 }\n'
+    named += '[[processes]]\nname = "mill"\ncost = 10\ncapacity = 100\nrecovery = { copper = 0.5 }\n'
     other, _ = scheduled(plan_folder, sums, text=named, table=table)
-    assert plain["value"] == pytest.approx(other["value"]) and plain["bound"] == pytest.approx(other["bound"])
+    assert plain["npv"] == pytest.approx(other["npv"]) and plain["upper_bound"] == pytest.approx(other["upper_bound"])
     # The ore of the second pillar holds 9,000 in 100 t: 4,000 of it go to the mill, and 1,400 + 1,000 for 0.444 of its ore do not pay.
     blocks = pd.read_csv(folder / "blocks.csv").set_index("name")
     assert blocks.loc["b1-0-0", "share_mill"] < 1
@@ -369,7 +382,7 @@ def test_where_no_block_pays_nothing_is_mined_which_is_an_answer(plan_folder):
     """Copper at a hundredth of its price: a table, a sentence and a picture with one."""
     project = load(plan_folder(pillars(), YEARLY, ("price = 8000", "price = 80")))
     row = pitplan.write_block_schedule(project).iloc[0]
-    assert row[["value", "bound", "years", "blocks"]].tolist() == [0, 0, 0, 0]
+    assert row[["npv", "upper_bound", "years", "blocks"]].tolist() == [0, 0, 0, 0]
     notes = read_record(project.folder / "block_schedule")["notes"]
     assert "nothing is mined: at these prices and costs no block pays for itself and what it needs" in notes
     made = tables.make(prepare(project))

@@ -13,7 +13,9 @@ from pitplan import PlanError, load
 
 pytestmark = pytest.mark.usefixtures("without_figures")
 # Mill and shovels take all three pillars in a year.
-WIDE = YEARLY.replace("ore_per_year = 100", "ore_per_year = 300").replace("rock_per_year = 200", "rock_per_year = 600")
+WIDE = YEARLY.replace("processing_capacity = 100", "processing_capacity = 300").replace(
+    "mining_capacity = 200", "mining_capacity = 600"
+)
 
 
 def years(folder):
@@ -25,34 +27,34 @@ def years(folder):
     ("words", "cash"),
     [
         ("years = 3", [4600]),
-        ("years = 3\nleast = { ore = 100 }", [2600, 1400, 600]),
-        ("years = 3\nleast = { rock = 200 }", [2600, 1400, 600]),
+        ("years = 3\nminimum = { feed = 100 }", [2600, 1400, 600]),
+        ("years = 3\nminimum = { total = 200 }", [2600, 1400, 600]),
         # Two pillars in the first year are all that is left: 0.5 t of copper need the richest, and so it waits.
-        ("years = 2\nleast = { copper = 0.5 }", [2600, 2000]),
+        ("years = 2\nminimum = { copper = 0.5 }", [2600, 2000]),
         # 150 t of ore are the most of the first year, and 100 the least; 200 the least of the second.
-        ("years = 2\nleast = { ore = 200 }\nramp_up = [0.5, 1.0]", [2600, 2000]),
+        ("years = 2\nminimum = { feed = 200 }\nramp_up = [0.5, 1.0]", [2600, 2000]),
     ],
 )
 def test_each_least_amount_by_hand(plan_folder, words, cash):
     row, folder = scheduled(plan_folder, f"[schedule]\n{words}\n", WIDE)
-    assert years_of(folder)["cash"].tolist() == cash and wrong(folder) == set()
-    assert row["value"] == pytest.approx(sum(amount / 1.1 ** (year + 1) for year, amount in enumerate(cash)))
-    assert row["bound"] >= row["value"] - 1e-6
+    assert years_of(folder)["cash_flow"].tolist() == cash and wrong(folder) == set()
+    assert row["npv"] == pytest.approx(sum(amount / 1.1 ** (year + 1) for year, amount in enumerate(cash)))
+    assert row["upper_bound"] >= row["npv"] - 1e-6
 
 
 def test_what_none_can_keep_is_told(plan_folder):
     with pytest.raises(
-        PlanError, match="^no schedule keeps what must be held at least: ore_tonnes in years 1, 2, 3, 4$"
+        PlanError, match="^no schedule keeps what must be held at least: feed_tonnes in years 1, 2, 3, 4$"
     ):
-        scheduled(plan_folder, "[schedule]\nyears = 4\nleast = { ore = 100 }\n", WIDE)
+        scheduled(plan_folder, "[schedule]\nyears = 4\nminimum = { feed = 100 }\n", WIDE)
 
 
 def test_a_block_that_does_not_pay_is_dug_for_a_least_amount(plan_folder):
     """A fourth pillar without ore is outside the pit: 400 t of rock in each of two years need it, at a loss of 400, in the second year."""
     table = rows(4, 1, 2, cu=lambda i, j, k: 0 if k or i == 3 else (1, 0.7, 0.5)[i])
-    row, folder = scheduled(plan_folder, "[schedule]\nyears = 2\nleast = { rock = 400 }\n", WIDE, table)
-    assert years_of(folder)["cash"].tolist() == [4000, 200] and wrong(folder) == set()
-    assert row["value"] == pytest.approx(4000 / 1.1 + 200 / 1.21) == pytest.approx(row["bound"])
+    row, folder = scheduled(plan_folder, "[schedule]\nyears = 2\nminimum = { total = 400 }\n", WIDE, table)
+    assert years_of(folder)["cash_flow"].tolist() == [4000, 200] and wrong(folder) == set()
+    assert row["npv"] == pytest.approx(4000 / 1.1 + 200 / 1.21) == pytest.approx(row["upper_bound"])
 
 
 ARSENIC = {
@@ -61,17 +63,15 @@ ARSENIC = {
 }
 
 
-@pytest.mark.parametrize("words", ['column = "as_kg"', 'column = "as_ppm"\na_tonne = true\nname = "as_kg"'])
-@pytest.mark.parametrize("of", ["rock", "ore"])
+@pytest.mark.parametrize("words", ['column = "as_kg"', 'column = "as_ppm"\nper_tonne = true\nname = "as_kg"'])
+@pytest.mark.parametrize("of", ["total", "feed"])
 def test_a_sum_of_a_column_by_hand(plan_folder, words, of):
     """Of 5, 4 and 1 kg at most 6 a year: the richest and the poorest pillar first, 3200, and then the other, 1400; the other way it were
     2600 and 2000, which is 49.6 less."""
-    text = f'[schedule]\nyears = 3\n[[schedule.sums]]\n{words}\nof = "{of}"\nmost = 6\n'
+    text = f'[schedule]\nyears = 3\n[[schedule.limits]]\n{words}\nof = "{of}"\nmax = 6\n'
     row, folder = scheduled(plan_folder, text, WIDE, pillars(**ARSENIC))
     assert (
-        years(folder) == [1, 2, 1]
-        and row["value"] == pytest.approx(3200 / 1.1 + 1400 / 1.21)
-        and wrong(folder) == set()
+        years(folder) == [1, 2, 1] and row["npv"] == pytest.approx(3200 / 1.1 + 1400 / 1.21) and wrong(folder) == set()
     )
     assert years_of(folder)["sum_as_kg"].tolist() == pytest.approx([6, 4])
     assert json.loads((folder / "block_schedule.json").read_text())["limits"]["sum_as_kg"] == 6
@@ -83,18 +83,18 @@ HALVES = {
 }
 
 
-@pytest.mark.parametrize("words", ['column = "as_kg"', 'column = "as_ppm"\na_tonne = true\nname = "as_kg"'])
+@pytest.mark.parametrize("words", ['column = "as_kg"', 'column = "as_ppm"\nper_tonne = true\nname = "as_kg"'])
 def test_a_sum_of_blocks_that_are_put_together(plan_folder, words):
     """The same three pillars in halves of 50 t each, of 5, 4 and 1 kg in all: the richest and the poorest first. A bent number is found."""
     table = rows(6, 1, 2, tonnes=lambda i, j, k: 50, cu=lambda i, j, k: 0 if k else (1, 0.7, 0.5)[i // 2], **HALVES)
-    text = f"[schedule]\nyears = 3\n[[schedule.sums]]\n{words}\nmost = 6\n"
+    text = f"[schedule]\nyears = 3\n[[schedule.limits]]\n{words}\nmax = 6\n"
     wide = WIDE.replace('file = "blocks.csv"', 'file = "blocks.csv"\nreblock = [2, 1, 1]')
     row, folder = scheduled(plan_folder, text, wide, table)
     blocks = pd.read_csv(folder / "blocks.csv", dtype={"region": str})
     ore = blocks[blocks["name"].isin(["1-1-1", "2-1-1", "3-1-1"])].sort_values("x")
     assert (
         ore["year"].tolist() == [1, 2, 1]
-        and row["value"] == pytest.approx(3200 / 1.1 + 1400 / 1.21)
+        and row["npv"] == pytest.approx(3200 / 1.1 + 1400 / 1.21)
         and wrong(folder) == set()
     )
     assert years_of(folder)["sum_as_kg"].tolist() == pytest.approx([6, 4])
@@ -105,7 +105,7 @@ def test_a_sum_of_blocks_that_are_put_together(plan_folder, words):
 
 def test_the_least_of_a_sum_by_hand(plan_folder):
     """At least 3 kg in each of three years do not come of 5, 4 and 1; 1 kg does, one pillar a year."""
-    text = '[schedule]\nyears = 3\n[[schedule.sums]]\ncolumn = "as_kg"\nof = "ore"\nleast = {}\n'
+    text = '[schedule]\nyears = 3\n[[schedule.limits]]\ncolumn = "as_kg"\nof = "feed"\nmin = {}\n'
     with pytest.raises(PlanError, match="no schedule .*keeps what must be held at least.*sum_as_kg"):
         scheduled(plan_folder, text.format(3.5), WIDE, pillars(**ARSENIC))
     row, folder = scheduled(plan_folder, text.format(1), WIDE, pillars(**ARSENIC))
@@ -118,9 +118,9 @@ def test_hours_of_one_process(plan_folder):
     less 10 a tonne: 3000, 1800 and 1000, which are 1500, 1800 and 1000 an hour. So the second is milled and half of the richest.
     """
     hours = pillars(hours=lambda i, j, k: 0 if k else (2, 1, 1)[i])
-    text = with_processes().replace("per_year = 100\n", "per_year = 300\n")
-    assert text.count("per_year = 300") >= 1
-    words = '[schedule]\nyears = 1\n[[schedule.sums]]\ncolumn = "hours"\nof = "mill"\nmost = 2\n'
+    text = with_processes().replace("capacity = 100\n", "capacity = 300\n")
+    assert text.count("capacity = 300") >= 1
+    words = '[schedule]\nyears = 1\n[[schedule.limits]]\ncolumn = "hours"\nof = "mill"\nmax = 2\n'
     _, folder = scheduled(plan_folder, words, text, hours)
     blocks = pd.read_csv(folder / "blocks.csv").set_index("name")
     assert (
@@ -133,11 +133,11 @@ def test_hours_of_one_process(plan_folder):
 def test_barren_rock_is_not_milled_for_a_least_amount(plan_folder):
     """300 t of ore are there; 350 t are not made of waste."""
     text = with_processes()
-    with pytest.raises(PlanError, match="^no schedule keeps what must be held at least: ore_tonnes in year 1$"):
-        scheduled(plan_folder, "[schedule]\nyears = 1\nleast = { ore = 350 }\n", text)
+    with pytest.raises(PlanError, match="^no schedule keeps what must be held at least: feed_tonnes in year 1$"):
+        scheduled(plan_folder, "[schedule]\nyears = 1\nminimum = { feed = 350 }\n", text)
 
 
-FIXED = '[fixed]\nforced = "must"\nbarred = "never"\n'
+FIXED = '[constraints]\nmust_mine = "must"\nexclude = "never"\n'
 
 
 def test_fixed_blocks_by_hand(plan_folder):
@@ -157,7 +157,7 @@ def test_fixed_blocks_by_hand(plan_folder):
         "b3-0-1": 4,
     }
     assert (
-        row["value"] == pytest.approx(1400 / 1.1 + 600 / 1.21 - 400 / 1.1**4) == pytest.approx(row["bound"])
+        row["npv"] == pytest.approx(1400 / 1.1 + 600 / 1.21 - 400 / 1.1**4) == pytest.approx(row["upper_bound"])
         and wrong(folder) == set()
     )
     for name in ("b3-0-0", "b0-0-1"):
@@ -177,17 +177,17 @@ def test_fixed_blocks_that_no_year_has_room_for_are_told(plan_folder):
 
 
 def test_a_year_below_a_least_amount_is_found(plan_folder):
-    _, folder = scheduled(plan_folder, "[schedule]\nyears = 3\nleast = { ore = 100 }\n", WIDE)
+    _, folder = scheduled(plan_folder, "[schedule]\nyears = 3\nminimum = { feed = 100 }\n", WIDE)
     rewrite(folder / "blocks.csv", lambda table: table.__setitem__("year", table["year"].replace({3: 2})))
     assert {"block limits", "block value"} <= wrong(folder)
     told = json.loads((folder / "block_schedule.json").read_text())
-    (folder / "block_schedule.json").write_text(json.dumps(told | {"least": {"ore_tonnes": 50}}))
+    (folder / "block_schedule.json").write_text(json.dumps(told | {"least": {"feed_tonnes": 50}}))
     assert "block limits" in wrong(folder)
 
 
 @pytest.mark.parametrize("name", ["sum_as_kg"])
 def test_a_sum_that_is_not_that_of_its_blocks_is_found(plan_folder, name):
-    text = '[schedule]\nyears = 3\n[[schedule.sums]]\ncolumn = "as_kg"\nmost = 6\n'
+    text = '[schedule]\nyears = 3\n[[schedule.limits]]\ncolumn = "as_kg"\nmax = 6\n'
     _, folder = scheduled(plan_folder, text, WIDE, pillars(**ARSENIC))
     rewrite(folder / "years.csv", lambda table: table.__setitem__(name, table[name] + 1))
     assert "block value" in wrong(folder)
@@ -197,27 +197,27 @@ def test_a_sum_that_is_not_that_of_its_blocks_is_found(plan_folder, name):
     ("words", "said"),
     [
         (
-            "least = { ore = 100 }",
+            "minimum = { feed = 100 }",
             r"\[schedule\] years: is missing: in each of so many years there must be what is asked for at least",
         ),
-        ("years = 2\nleast = { gold = 1 }", r"\[schedule.least\] gold: is none of ore, rock, copper"),
-        ("years = 2\nleast = { ore = 400 }", r"\[schedule.least\] ore: 400 is above the most of a year, 300"),
-        ("years = 2\nleast = { ore = -1 }", r"\[schedule.least\] ore: -1 is below 0"),
-        ('[[schedule.sums]]\ncolumn = "cu"', r"\[schedule.sums 1\] most: is missing, and so is least"),
+        ("years = 2\nminimum = { gold = 1 }", r"\[schedule.minimum\] gold: is none of feed, total, copper"),
+        ("years = 2\nminimum = { feed = 400 }", r"\[schedule.minimum\] feed: 400 is above the most of a year, 300"),
+        ("years = 2\nminimum = { feed = -1 }", r"\[schedule.minimum\] feed: -1 is below 0"),
+        ('[[schedule.limits]]\ncolumn = "cu"', r"\[schedule.limits 1\] max: is missing, and so is min"),
         (
-            '[[schedule.sums]]\ncolumn = "cu"\nmost = 1\nof = "mill"',
-            r"\[schedule.sums\] cu: of mill is none of rock, ore",
+            '[[schedule.limits]]\ncolumn = "cu"\nmax = 1\nof = "mill"',
+            r"\[schedule.limits\] cu: of mill is none of total, feed",
         ),
         (
-            '[[schedule.sums]]\ncolumn = "cu"\nmost = 1\nleast = 2',
-            r"\[schedule.sums 1\] least: 2 is above the most of 1",
+            '[[schedule.limits]]\ncolumn = "cu"\nmax = 1\nmin = 2',
+            r"\[schedule.limits 1\] min: 2 is above the max of 1",
         ),
-        ('[[schedule.sums]]\ncolumn = "as t"\nmost = 1', r'\[schedule.sums 1\] name: "as t" is not one word'),
+        ('[[schedule.limits]]\ncolumn = "as t"\nmax = 1', r'\[schedule.limits 1\] name: "as t" is not one word'),
         (
-            '[[schedule.sums]]\ncolumn = "cu"\nmost = 1\n[[schedule.sums]]\ncolumn = "cu"\nmost = 2',
-            r"\[schedule\] sums: two have one name",
+            '[[schedule.limits]]\ncolumn = "cu"\nmax = 1\n[[schedule.limits]]\ncolumn = "cu"\nmax = 2',
+            r"\[schedule\] limits: two have one name",
         ),
-        ('[[schedule.sums]]\ncolumn = "lead"\nmost = 1', "there is no column lead"),
+        ('[[schedule.limits]]\ncolumn = "lead"\nmax = 1', "there is no column lead"),
     ],
 )
 def test_what_is_refused(plan_folder, words, said):
@@ -225,27 +225,29 @@ def test_what_is_refused(plan_folder, words, said):
         scheduled(plan_folder, f"[schedule]\n{words}\n", WIDE)
 
 
-@pytest.mark.parametrize("name", ["ore", "rock"])
+@pytest.mark.parametrize("name", ["feed", "total"])
 def test_a_least_amount_of_a_name_that_is_a_metals_too_is_refused(plan_folder, name):
     path = plan_folder(
         pillars(),
-        WIDE.replace('name = "copper"', f'name = "{name}"') + f"[schedule]\nyears = 2\nleast = {{ {name} = 1 }}\n",
+        WIDE.replace('name = "copper"', f'name = "{name}"') + f"[schedule]\nyears = 2\nminimum = {{ {name} = 1 }}\n",
     )
     with pytest.raises(
         PlanError,
-        match=rf"\[schedule.least\] {name}: stands for several things: call the metal or the process otherwise",
+        match=rf"\[schedule.minimum\] {name}: stands for several things: call the metal or the process otherwise",
     ):
         load(path)
 
 
 def test_a_sum_of_a_name_that_is_a_processes_too_is_refused(plan_folder):
-    process = '[[processes]]\nname = "ore"\ncost = 3\nper_year = 100\nrecovery = { copper = 0.5 }\n'
+    process = '[[processes]]\nname = "feed"\ncost = 3\ncapacity = 100\nrecovery = { copper = 0.5 }\n'
     text = (
-        WIDE.replace("processing_cost = 10\n", "").replace("recovery = 0.5\n", "").replace("ore_per_year = 300\n", "")
+        WIDE.replace("processing_cost = 10\n", "")
+        .replace("recovery = 0.5\n", "")
+        .replace("processing_capacity = 300\n", "")
         + process
     )
-    path = plan_folder(pillars(), text + '[[schedule.sums]]\ncolumn = "cu"\nof = "ore"\nmost = 1\n')
-    with pytest.raises(PlanError, match=r"\[schedule.sums\] cu: of ore stands for several things"):
+    path = plan_folder(pillars(), text + '[[schedule.limits]]\ncolumn = "cu"\nof = "feed"\nmax = 1\n')
+    with pytest.raises(PlanError, match=r"\[schedule.limits\] cu: of feed stands for several things"):
         load(path)
 
 
@@ -254,22 +256,22 @@ def test_a_least_amount_to_which_no_block_adds_is_refused(plan_folder):
     with pytest.raises(
         PlanError, match="no schedule keeps what must be held at least: no block that adds to it can be dug in time"
     ):
-        scheduled(plan_folder, "[schedule]\nyears = 2\nleast = { copper = 0.1 }\n", WIDE, pillars().assign(cu=0))
+        scheduled(plan_folder, "[schedule]\nyears = 2\nminimum = { copper = 0.1 }\n", WIDE, pillars().assign(cu=0))
 
 
 def test_an_amount_below_0_is_refused(plan_folder):
     with pytest.raises(PlanError, match="row 2 column as_kg: -1 is negative"):
         scheduled(
             plan_folder,
-            '[schedule]\n[[schedule.sums]]\ncolumn = "as_kg"\nmost = 1\n',
+            '[schedule]\n[[schedule.limits]]\ncolumn = "as_kg"\nmax = 1\n',
             WIDE,
             pillars(as_kg=lambda i, j, k: -1),
         )
 
 
-def test_phases_keep_no_least_amounts(plan_folder):
+def test_pushbacks_keep_no_least_amounts(plan_folder):
     project = load(
-        plan_folder(pillars(), WIDE + "[pushbacks]\ncount = 2\n[schedule]\nyears = 2\nleast = { ore = 10 }\n")
+        plan_folder(pillars(), WIDE + "[pushbacks]\ncount = 2\n[schedule]\nyears = 2\nminimum = { feed = 10 }\n")
     )
     with pytest.raises(PlanError, match=r"\[schedule\] least, sums: are kept by --by block alone"):
         pitplan.write_schedule(project)
@@ -285,8 +287,8 @@ def test_a_hill_with_all_of_it_passes_the_second_look(plan_folder):
     table = rows(11, 9, 4, cu=lambda i, j, k: grades.get((i, j, k), 0), **more)
     words = (
         FIXED
-        + "[schedule]\nyears = 5\nrock_per_year = 1200\nleast = { rock = 400 }\n[[schedule.sums]]\ncolumn = 'arsenic'\nmost = 7\n"
+        + "[schedule]\nyears = 5\nmining_capacity = 1200\nminimum = { total = 400 }\n[[schedule.limits]]\ncolumn = 'arsenic'\nmax = 7\n"
     )
     row, folder = scheduled(plan_folder, words, PROJECT, table)
-    assert wrong(folder) == set() and row["value"] <= row["bound"] and row["years"] == 5
-    assert years_of(folder)["rock_tonnes"].min() >= 400 and years_of(folder)["sum_arsenic"].max() <= 7 + 1e-9
+    assert wrong(folder) == set() and row["npv"] <= row["upper_bound"] and row["years"] == 5
+    assert years_of(folder)["total_tonnes"].min() >= 400 and years_of(folder)["sum_arsenic"].max() <= 7 + 1e-9

@@ -28,15 +28,17 @@ from pitplan.studies.scenarios import prepare, store, worker
 from pitplan.studies.scenarios.blocks.common_schedule import best_shares
 
 # The mill takes the ore of one block a year, and the shovels two pillars of two blocks.
-YEARLY = UPRIGHT.replace("ore_per_year = 100", 'ore_per_year = 100\nrock_per_year = 400\ndiscounting = "end_of_year"')
+YEARLY = UPRIGHT.replace(
+    "processing_capacity = 100", 'processing_capacity = 100\nmining_capacity = 400\ndiscounting = "end_of_year"'
+)
 COLUMNS = '[scenarios]\ncolumns = { copper = "sim_*" }\n'
 TWO_YEARS = YEARLY + "[schedule]\nyears = 2\n" + COLUMNS
 BY_BLOCK = Request(by="block")
 # The same with the process by its name.
-MILL = '[[processes]]\nname = "mill"\ncost = 10\nrecovery = { copper = 0.5 }\nper_year = 100\n'
-IN_MILL = [("recovery = 0.5\n", ""), ("ore_per_year = 100\n", "")]
+MILL = '[[processes]]\nname = "mill"\ncost = 10\nrecovery = { copper = 0.5 }\ncapacity = 100\n'
+IN_MILL = [("recovery = 0.5\n", ""), ("processing_capacity = 100\n", "")]
 pytestmark = pytest.mark.usefixtures("without_figures")
-FILES = ["schedules.csv", "one_schedule.csv", "one_schedule_years.csv", "quantiles.csv", "one_schedule.json"]
+FILES = ["schedules.csv", "common_schedule.csv", "common_schedule_years.csv", "quantiles.csv", "common_schedule.json"]
 
 
 def pillars(*models):
@@ -64,16 +66,16 @@ def answered(plan_folder, table, text=TWO_YEARS):
 
 
 def table_of(folder):
-    return pd.read_csv(folder / "schedules.csv").set_index("model")
+    return pd.read_csv(folder / "schedules.csv").set_index("realisation")
 
 
 def years_of(folder, model):
-    years = pd.read_csv(folder / "one_schedule_years.csv")
-    return years[years["model"] == model].set_index("year")
+    years = pd.read_csv(folder / "common_schedule_years.csv")
+    return years[years["realisation"] == model].set_index("year")
 
 
 def record_of(folder):
-    return json.loads((folder / "one_schedule.json").read_text())
+    return json.loads((folder / "common_schedule.json").read_text())
 
 
 EACH = 2600 / 1.1 + 600 / 1.21
@@ -85,19 +87,22 @@ def test_two_models_by_hand(plan_folder):
     a whole mill."""
     folder = answered(plan_folder, pillars([1, 0.5, 0], [0, 0.5, 1]))
     table, told = table_of(folder), record_of(folder)
-    assert table["value"].tolist() == pytest.approx([EACH] * 2) == table["bound"].tolist()
+    assert table["npv"].tolist() == pytest.approx([EACH] * 2) == table["upper_bound"].tolist()
     assert (
-        table[["status", "years", "blocks", "tonnes", "ore_tonnes"]].to_numpy().tolist()
+        table[["status", "years", "blocks", "tonnes", "feed_tonnes"]].to_numpy().tolist()
         == [["solved", 2, 4, 400, 200]] * 2
     )
     planned = (3000 - 800) / 1.1 + 600 / 1.21
-    assert table["one_value"].tolist() == pytest.approx([planned] * 2) and told["value_as_planned"] == pytest.approx(
+    assert table["common_npv"].tolist() == pytest.approx([planned] * 2) and told["npv_as_planned"] == pytest.approx(
         planned, abs=1e-3
     )
     assert told["perfect_information"] == pytest.approx(400 / 1.1, abs=1e-3)
-    assert told["bound_as_planned"] == pytest.approx(planned, abs=1e-3)
-    assert table[["one_ore_tonnes", "one_ore_left_tonnes", "one_years_short"]].to_numpy().tolist() == [[200, 0, 0]] * 2
-    blocks = pd.read_csv(folder / "one_schedule.csv").set_index("name")
+    assert told["upper_bound_as_planned"] == pytest.approx(planned, abs=1e-3)
+    assert (
+        table[["common_feed_tonnes", "common_unprocessed_tonnes", "common_years_short"]].to_numpy().tolist()
+        == [[200, 0, 0]] * 2
+    )
+    blocks = pd.read_csv(folder / "common_schedule.csv").set_index("name")
     assert blocks["year"].to_dict() == {f"b{i}-0-{k}": 2 if i == 1 else 1 for i in range(3) for k in range(2)}
     assert "cu" not in blocks and blocks["share_mill"][["b0-0-0", "b1-0-0", "b2-0-0"]].tolist() == [1, 1, 1]
 
@@ -108,23 +113,25 @@ def test_ore_above_the_mill_stays_waste_and_is_told(plan_folder):
     folder = answered(plan_folder, pillars([1, 0.5, 1], [0, 0.5, 0]))
     table, told = table_of(folder), record_of(folder)
     rich, poor = (3000 - 800) / 1.1 + 600 / 1.21, -800 / 1.1 + 600 / 1.21
-    assert table["one_value"].tolist() == pytest.approx([rich, poor])
-    assert told["value_as_planned"] == pytest.approx(rich, abs=1e-3)
-    assert table["bound"].tolist() == pytest.approx([2600 / 1.1 + 2600 / 1.21, 600 / 1.1])
-    assert table[["one_ore_tonnes", "one_ore_left_tonnes", "one_years_short"]].to_numpy().tolist() == [
+    assert table["common_npv"].tolist() == pytest.approx([rich, poor])
+    assert told["npv_as_planned"] == pytest.approx(rich, abs=1e-3)
+    assert table["upper_bound"].tolist() == pytest.approx([2600 / 1.1 + 2600 / 1.21, 600 / 1.1])
+    assert table[["common_feed_tonnes", "common_unprocessed_tonnes", "common_years_short"]].to_numpy().tolist() == [
         [200, 100, 0],
         [100, 0, 1],
     ]
     first = years_of(folder, "sim_1").loc[1]
-    assert first[["rock_tonnes", "ore_tonnes", "ore_left_tonnes", "planned_ore_tonnes", "cash"]].tolist() == [
+    assert first[
+        ["total_tonnes", "feed_tonnes", "unprocessed_tonnes", "planned_feed_tonnes", "cash_flow"]
+    ].tolist() == [
         400,
         100,
         100,
         100,
         2200,
     ]
-    assert years_of(folder, "sim_2")["cash"].tolist() == [-800, 600]
-    mean = (sum(table["bound"]) - sum(table["one_value"])) / 2
+    assert years_of(folder, "sim_2")["cash_flow"].tolist() == [-800, 600]
+    mean = (sum(table["upper_bound"]) - sum(table["common_npv"])) / 2
     assert told["perfect_information"] == pytest.approx(mean, abs=1e-3) == pytest.approx(2528.926 - 1132.231, abs=2e-3)
 
 
@@ -134,12 +141,12 @@ def test_quantiles_by_hand(plan_folder):
     folder = answered(plan_folder, pillars([1, 0.5, 0], [0.75, 0.5, 0]), TWO_YEARS + sets)
     table = pd.read_csv(folder / "quantiles.csv").set_index("price_copper")
     values = [2600 / 1.1 + 600 / 1.21, 1600 / 1.1 + 600 / 1.21]
-    assert table.index.tolist() == [8000, 12000] and table["models"].tolist() == [2, 2]
-    told = table.loc[8.0, ["value_least", "value_greatest", "value_mean"]].tolist()
+    assert table.index.tolist() == [8000, 12000] and table["realisations"].tolist() == [2, 2]
+    told = table.loc[8.0, ["npv_least", "npv_greatest", "npv_mean"]].tolist()
     assert told == pytest.approx([values[1], values[0], sum(values) / 2])
-    assert table.loc[8000, "bound_quantile_0.1"] == pytest.approx(values[1] + 0.1 * (values[0] - values[1]))
+    assert table.loc[8000, "upper_bound_quantile_0.1"] == pytest.approx(values[1] + 0.1 * (values[0] - values[1]))
     # The one schedule digs the first pillar and then the second, as each scenario's own does.
-    assert table.loc[12000, "one_value_greatest"] == pytest.approx(4600 / 1.1 + 1600 / 1.21)
+    assert table.loc[12000, "common_npv_greatest"] == pytest.approx(4600 / 1.1 + 1600 / 1.21)
     assert pd.read_csv(folder / "schedules.csv")["price_copper"].tolist() == [8000, 12000] * 2
     assert record_of(folder)["perfect_information"] == pytest.approx(0, abs=0.01)
 
@@ -147,8 +154,8 @@ def test_quantiles_by_hand(plan_folder):
 def test_of_one_scenario_the_one_schedule_is_its_own(plan_folder):
     folder = answered(plan_folder, pillars([1, 0.5, 0.9, 0.3]))
     (row,) = table_of(folder).to_dict("records")
-    assert row["one_value"] == pytest.approx(row["value"])
-    assert record_of(folder)["value_as_planned"] == pytest.approx(row["value"], abs=1e-3)
+    assert row["common_npv"] == pytest.approx(row["npv"])
+    assert record_of(folder)["npv_as_planned"] == pytest.approx(row["npv"], abs=1e-3)
     shared = store.read_shared(folder)
     own, one = (np.load(shared.answer(job)) for job in shared.jobs)
     assert own["year"].tolist() == one["year"].tolist() and own["share"].tolist() == one["share"].tolist()
@@ -192,8 +199,8 @@ def test_no_schedule_of_all_earns_more_than_a_scenario_s_bound(tmp_path_factory,
     """Of six blocks in two years every schedule is tried, each milling its best ore: the bounds hold for all of them, and so the mean of
     bounds for any one schedule in both."""
     place = tmp_path_factory.mktemp("all")
-    text = TWO_YEARS.replace("ore_per_year = 100", f"ore_per_year = {ore}").replace(
-        "rock_per_year = 400", f"rock_per_year = {rock}"
+    text = TWO_YEARS.replace("processing_capacity = 100", f"processing_capacity = {ore}").replace(
+        "mining_capacity = 400", f"mining_capacity = {rock}"
     )
     (place / "project.toml").write_text(text)
     table = rows(3, 1, 2).drop(columns="cu").assign(sim_1=one, sim_2=other)
@@ -203,12 +210,14 @@ def test_no_schedule_of_all_earns_more_than_a_scenario_s_bound(tmp_path_factory,
     best = [[earned(year, grades, 2, ore) for year in every] for grades in (one, other)]
     for name, grades, of_all in zip(found.index, (one, other), best):
         row = found.loc[name]
-        assert float(max(of_all)) <= row["bound"] + 1e-6 and row["value"] <= float(max(of_all)) + 1e-6
-        year = [it or 3 for it in pd.read_csv(folder / "one_schedule.csv").set_index("name")["year"][table["name"]]]
-        assert tuple(year) in every and row["one_value"] == pytest.approx(float(earned(year, grades, 2, ore)), abs=1e-6)
+        assert float(max(of_all)) <= row["upper_bound"] + 1e-6 and row["npv"] <= float(max(of_all)) + 1e-6
+        year = [it or 3 for it in pd.read_csv(folder / "common_schedule.csv").set_index("name")["year"][table["name"]]]
+        assert tuple(year) in every and row["common_npv"] == pytest.approx(
+            float(earned(year, grades, 2, ore)), abs=1e-6
+        )
     most = float(max(sum(pair) for pair in zip(*best))) / 2
     told = record_of(folder)
-    assert told["one_value"]["mean"] <= most + 1e-3 <= told["bound"]["mean"] + 2e-3
+    assert told["common_npv"]["mean"] <= most + 1e-3 <= told["upper_bound"]["mean"] + 2e-3
     # What knowing the ground is worth, had the best one schedule been found.
     assert sum(float(max(of_all)) for of_all in best) / 2 - most <= told["perfect_information"] + 2e-3
 
@@ -237,13 +246,13 @@ def test_a_limit_of_metal_holds_in_each_scenario(plan_folder):
     """Half a tonne of metal a block of grade 1, and three quarters a year: of two blocks of grade 1 the second goes by half to
     the mill where both are dug. That scenario's own schedule digs one alone, since years are filled with whole blocks.
     """
-    text = TWO_YEARS.replace("ore_per_year = 100", "ore_per_year = 300")
-    text = text.replace("years = 2", "years = 1\nmetal_per_year = { copper = 0.75 }")
+    text = TWO_YEARS.replace("processing_capacity = 100", "processing_capacity = 300")
+    text = text.replace("years = 2", "years = 1\nmax_metal_per_year = { copper = 0.75 }")
     folder = answered(plan_folder, pillars([1, 0, 1], [0.5, 0, 0.5]), text)
     table = table_of(folder)
-    assert table["one_value"]["sim_1"] == pytest.approx((3000 + 1500 - 800) / 1.1)
-    assert table["metal_copper"].tolist() == pytest.approx([0.5, 0.5])
-    assert table["one_ore_left_tonnes"].tolist() == pytest.approx([50, 0])
+    assert table["common_npv"]["sim_1"] == pytest.approx((3000 + 1500 - 800) / 1.1)
+    assert table["recovered_copper"].tolist() == pytest.approx([0.5, 0.5])
+    assert table["common_unprocessed_tonnes"].tolist() == pytest.approx([50, 0])
 
 
 def test_a_schedule_each_is_that_of_the_model_with_the_process_by_name(plan_folder, tmp_path):
@@ -251,7 +260,7 @@ def test_a_schedule_each_is_that_of_the_model_with_the_process_by_name(plan_fold
     rng = np.random.default_rng(5)
     table = rows(6, 5, 3)
     table["cu"] = np.where(rng.random(len(table)) < 0.25, rng.random(len(table)).round(3) * 2, 0.0)
-    text = TWO_YEARS.replace("years = 2", "years = 5").replace("rock_per_year = 400", "rock_per_year = 1200")
+    text = TWO_YEARS.replace("years = 2", "years = 5").replace("mining_capacity = 400", "mining_capacity = 1200")
     folder = answered(plan_folder, table.rename(columns={"cu": "sim_1"}), text)
     alone = text.partition("[scenarios]")[0]
     for old, new in [("processing_cost = 10\n", ""), *IN_MILL, ("[slopes]\n", MILL + "[slopes]\n")]:
@@ -262,8 +271,8 @@ def test_a_schedule_each_is_that_of_the_model_with_the_process_by_name(plan_fold
     (tmp_path / "other" / "project.toml").write_text(alone)
     other = pitplan.write_block_schedule(tmp_path / "other" / "project.toml").iloc[0]
     (row,) = table_of(folder).to_dict("records")
-    assert row["bound"] == pytest.approx(other["bound"], rel=1e-4) and row["value"] > 0
-    assert row["value"] == pytest.approx(other["value"]) and row["years"] == other["years"] > 2
+    assert row["upper_bound"] == pytest.approx(other["upper_bound"], rel=1e-4) and row["npv"] > 0
+    assert row["npv"] == pytest.approx(other["npv"]) and row["years"] == other["years"] > 2
 
 
 def test_years_are_those_of_the_longest_pit_and_a_fifth_more(plan_folder):
@@ -276,7 +285,7 @@ def test_years_are_those_of_the_longest_pit_and_a_fifth_more(plan_folder):
 def test_it_goes_on_where_it_stopped(plan_folder):
     """A model more is solved alone, with the one schedule for all; another rate makes all anew."""
     table, model = hill()
-    text = YEARLY + '[schedule]\nyears = 2\n[scenarios]\nmodels = "models"\n'
+    text = YEARLY + '[schedule]\nyears = 2\n[scenarios]\nrealisations = "realisations"\n'
     path = plan_folder(table, text)
     write_models(path, first=model, second=model.assign(cu=model["cu"] * 2))
     folder = solved_in_turn(prepared(path))
@@ -287,7 +296,7 @@ def test_it_goes_on_where_it_stopped(plan_folder):
     assert [job.label for job in shared.missing()] == ["third", "one schedule for all"]
     solved_in_turn(shared)
     assert {file: file.stat().st_mtime_ns for file in written} == written
-    path.write_text(text.replace("rate = 0.1", "rate = 0.09"))
+    path.write_text(text.replace("discount_rate = 0.1", "discount_rate = 0.09"))
     assert len(prepared(path).missing()) == 4
 
 
@@ -297,9 +306,9 @@ def test_it_goes_on_where_it_stopped(plan_folder):
         ('discounting = "end_of_year"', 'discounting = "mid_year"'),
         ("years = 2", "years = 3"),
         ("years = 2", "years = 2\nramp_up = [0.5, 1.0]"),
-        ("years = 2", "years = 2\nmetal_per_year = { copper = 1 }"),
-        ("rock_per_year = 400", "rock_per_year = 500"),
-        ("ore_per_year = 100", "ore_per_year = 101"),
+        ("years = 2", "years = 2\nmax_metal_per_year = { copper = 1 }"),
+        ("mining_capacity = 400", "mining_capacity = 500"),
+        ("processing_capacity = 100", "processing_capacity = 101"),
         ("mining_cost = 2", "mining_cost = 2.1"),
     ],
 )
@@ -332,12 +341,12 @@ def test_factors_are_no_part_of_a_schedule(plan_folder):
     ("words", "said"),
     [
         ("milp = { seconds = 5 }", "[schedule] milp: its seconds would let answers hang on the machine"),
-        ("lag = 1", "[schedule] lag: is of phases"),
-        ("sinking_rate = 2", "[schedule] sinking_rate: is of the benches of a phase"),
+        ("bench_lag = 1", "[schedule] bench_lag: is of pushbacks"),
+        ("vertical_advance_rate = 2", "[schedule] vertical_advance_rate: is of the benches of a pushback"),
         ("bins = 2", "[schedule] bins: are of benches"),
-        ("bins = 2\nstockpile = { rehandling_cost = 1 }", "[schedule] bins: are of benches"),
-        ("least = { ore = 10 }", "[schedule] least: a schedule for all scenarios cannot keep it in each"),
-        ('[[schedule.sums]]\ncolumn = "tonnes"\nmost = 5', "[[schedule.sums]]: are of a table's columns"),
+        ("bins = 2\nstockpile = { reclaim_cost = 1 }", "[schedule] bins: are of benches"),
+        ("minimum = { feed = 10 }", "[schedule] least: a schedule for all scenarios cannot keep it in each"),
+        ('[[schedule.limits]]\ncolumn = "tonnes"\nmax = 5', "[[schedule.limits]]: are of a table's columns"),
     ],
 )
 def test_what_is_refused(plan_folder, words, said):
@@ -353,7 +362,7 @@ def test_what_is_refused(plan_folder, words, said):
     [
         (
             [("mining_cost = 2\n", "mining_cost = 2\nfixed_cost_per_year = 5\n")],
-            "fixed_cost_per_year, capital: what years cost",
+            "fixed_cost_per_year, capex: what years cost",
         ),
         ([("price = 8000", "price = 8000\nprices = [8000, 9000]")], "[[metals]] prices: of years"),
         ([(COLUMNS, "")], "[scenarios] is missing: it names the models"),
@@ -370,7 +379,9 @@ def test_what_else_is_refused(plan_folder, changes, said):
 
 
 def test_limits_under_which_a_pit_would_take_too_long_are_refused(plan_folder):
-    text = TWO_YEARS.replace("[schedule]\nyears = 2\n", "").replace("ore_per_year = 100", "ore_per_year = 1")
+    text = TWO_YEARS.replace("[schedule]\nyears = 2\n", "").replace(
+        "processing_capacity = 100", "processing_capacity = 1"
+    )
     path = plan_folder(pillars([1, 1, 1]), text)
     with pytest.raises(PlanError, match="the pit would take more than 200 years: are the limits in tonnes a year?"):
         write_scenarios(path, request=BY_BLOCK)
@@ -382,7 +393,8 @@ def test_a_factor_another_kind_of_folder_and_the_program_are_refused(plan_folder
     words = ["scenarios", str(path), "--by", "block", "--quiet"]
     assert main([*words, "--revenue-factor", "1.00"]) == 1
     assert (
-        "pitplan: --factor: schedules by block are made at the price as given: leave it out" in capsys.readouterr().err
+        "pitplan: --revenue-factor: schedules by block are made at the base price: leave it out"
+        in capsys.readouterr().err
     )
     assert main([*words, "--solver", "program"]) == 1
     assert "pitplan: --solver program: finds pits alone" in capsys.readouterr().err
@@ -448,22 +460,22 @@ def test_some_schedules_are_gathered_on_request_alone(plan_folder):
     notes = gather(shared.folder, Request(partial=True)).notes
     assert "WARNING: 1 scenarios have no answer and are left out of everything" in notes
     table = table_of(shared.folder)
-    assert table.columns[:4].tolist() == ["scenario", "status", "value", "bound"]
-    assert table["status"].tolist() == ["was not solved", "solved"] and np.isnan(table["bound"]["sim_1"])
-    assert table["one_value"].tolist() == pytest.approx([(3000 - 800) / 1.1 + 600 / 1.21] * 2)
-    assert record_of(shared.folder)["answered"] == 1 and record_of(shared.folder)["bound"]["mean"] == pytest.approx(
-        EACH, abs=1e-3
-    )
+    assert table.columns[:4].tolist() == ["scenario", "status", "npv", "upper_bound"]
+    assert table["status"].tolist() == ["was not solved", "solved"] and np.isnan(table["upper_bound"]["sim_1"])
+    assert table["common_npv"].tolist() == pytest.approx([(3000 - 800) / 1.1 + 600 / 1.21] * 2)
+    assert record_of(shared.folder)["answered"] == 1 and record_of(shared.folder)["upper_bound"][
+        "mean"
+    ] == pytest.approx(EACH, abs=1e-3)
 
 
 def test_fixed_blocks_hold_in_every_schedule(plan_folder):
     """The pillar that must be dug is waste in both models; the rich one may not be dug."""
     table = pillars([1, 0.5, 0], [0.8, 0.5, 0]).assign(must=[0, 0, 1, 0, 0, 0], never=[0, 0, 0, 1, 0, 0])
-    text = TWO_YEARS + '[fixed]\nforced = "must"\nbarred = "never"\n'
+    text = TWO_YEARS + '[constraints]\nmust_mine = "must"\nexclude = "never"\n'
     folder = answered(plan_folder, table, text)
     # To dig the waste in the second year costs less.
-    assert table_of(folder)["value"].tolist() == pytest.approx([600 / 1.1 - 400 / 1.21] * 2)
-    blocks = pd.read_csv(folder / "one_schedule.csv").set_index("name")["year"]
+    assert table_of(folder)["npv"].tolist() == pytest.approx([600 / 1.1 - 400 / 1.21] * 2)
+    blocks = pd.read_csv(folder / "common_schedule.csv").set_index("name")["year"]
     assert blocks[["b0-0-0", "b0-0-1"]].tolist() == [0, 0] and blocks["b2-0-0"] == 2 and blocks["b1-0-0"] == 1
 
 
@@ -477,8 +489,8 @@ def test_a_schedule_that_reaches_ground_that_is_not_known_is_refused(plan_folder
 
 def test_nothing_that_pays_is_a_schedule_of_nothing(plan_folder):
     folder = answered(plan_folder, pillars([0, 0.2, 0], [0.1, 0, 0]))
-    assert table_of(folder)[["value", "bound", "years", "one_value"]].to_numpy().tolist() == [[0, 0, 0, 0]] * 2
-    assert pd.read_csv(folder / "one_schedule_years.csv").empty
+    assert table_of(folder)[["npv", "upper_bound", "years", "common_npv"]].to_numpy().tolist() == [[0, 0, 0, 0]] * 2
+    assert pd.read_csv(folder / "common_schedule_years.csv").empty
 
 
 def test_the_command_line_tells_what_a_planner_should_know(plan_folder):
@@ -517,7 +529,7 @@ def test_an_interrupted_schedule_is_no_answer(plan_folder, monkeypatch):
 
 def test_the_picture_has_each_scenario_and_the_spread():
     figure = scenario_values.Figure()
-    table = pd.DataFrame({"one_value": [1e7, 3e7], "value": [2e7, 4e7], "bound": [2.5e7, 4.1e7]})
+    table = pd.DataFrame({"common_npv": [1e7, 3e7], "npv": [2e7, 4e7], "upper_bound": [2.5e7, 4.1e7]})
     each, spread = scenario_values.plot(table, "USD", figure.subplots(1, 2, sharey=True))
     points = {line.get_label(): line.get_ydata().tolist() for line in each.lines}
     assert points["the one schedule for all"] == [10, 30] and points["the bound of each"] == [25, 41]

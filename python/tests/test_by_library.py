@@ -87,17 +87,17 @@ def test_a_pit_with_fixed_blocks_and_without_is_the_same(tmp_path):
     assert {"blocks.csv", "pits.csv", "project-as-run.toml"} == written(arrays).keys()
 
 
-def test_phases_and_their_schedule_are_the_same(tmp_path):
+def test_pushbacks_and_their_schedule_are_the_same(tmp_path):
     """Of a division that asks the solver again and again for shells of other factors."""
     shutil.copytree(EXAMPLES / "plan", tmp_path / "plan")
     with open(tmp_path / "plan" / "project.toml", "a") as file:
-        file.write("\n[pushbacks]\ncount = 3\nwidth = 40\n[schedule]\nlag = 1\n")
+        file.write("\n[pushbacks]\ncount = 3\nmin_mining_width = 40\n[schedule]\nbench_lag = 1\n")
     arrays, _ = by_both(tmp_path, "schedule", tmp_path / "plan" / "project.toml")
-    assert {"phases.csv", "schedule.csv", "schedule.json", "blocks.csv"} <= written(arrays).keys()
+    assert {"pushbacks.csv", "schedule.csv", "schedule.json", "blocks.csv"} <= written(arrays).keys()
 
 
 def test_a_sensitivity_is_the_same_and_keeps_answers_apart(plan_folder, tmp_path):
-    text = with_section(FIXED_SECTION) + '\n[sensitivity]\nby = [-0.1]\nvary = ["price", "slopes"]\n'
+    text = with_section(FIXED_SECTION) + '\n[sensitivity]\nchanges = [-0.1]\nparameters = ["price", "slopes"]\n'
     path = plan_folder(ores_and_fixed(), text, UPRIGHT)
     arrays, texts = by_both(tmp_path, "sensitivity", path)
     assert {"blocks.csv", "sensitivity.csv"} <= written(arrays).keys()
@@ -148,31 +148,31 @@ def test_arrays_are_handed_over_as_they_are(monkeypatch):
     monkeypatch.setattr(pitshell._nesting._library, "shells", lambda *words: given.extend(words) or 0)
     revenue, cost = np.array([0, 5], dtype=np.int64), np.array([3, 0], dtype=np.int64)
     listed = Rows(np.array([0, 0, 1], dtype=np.uint32), np.array([0], dtype=np.uint32))
-    library.shells((revenue, cost), listed, (500, 1000))
+    library.shells((revenue, cost), listed, (0.5, 1.0))
     for array in (revenue, cost, listed.starts, listed.needs):
         assert any(array is it for it in given)
 
 
 def test_shells_of_arrays_by_hand():
-    """Ore of 5 under waste of 3: dug at 1000 and worth 2 there; at 700 it is worth half a unit."""
+    """Ore of 5 under waste of 3: mined at 1.0 and worth 2 there; at 0.7 it is worth half a unit."""
     millions = np.array([[0, 5_000_000], [3_000_000, 0]])
     listed = Rows(np.array([0, 0, 1], dtype=np.uint32), np.array([0], dtype=np.uint32))
-    found = library.shells((millions[0], millions[1]), listed, (500, 700, 1000))
-    assert found.entry.tolist() == [700, 700] and found.answer is None
-    assert found.worth.to_dict() == {500: 0, 700: Decimal("0.5"), 1000: 2} and found.nodes.to_dict() == {
-        500: 0,
-        700: 2,
-        1000: 2,
+    found = library.shells((millions[0], millions[1]), listed, (0.5, 0.7, 1.0))
+    assert found.entry.tolist() == [0.7, 0.7] and found.answer is None
+    assert found.worth.to_dict() == {0.5: 0, 0.7: Decimal("0.5"), 1.0: 2} and found.nodes.to_dict() == {
+        0.5: 0,
+        0.7: 2,
+        1.0: 2,
     }
-    forced = library.pit(np.array([-3 * 10**9, 2 * 10**9]), listed, np.array([0, 1], dtype=np.uint8), 700)
-    assert forced.entry.tolist() == [700, 700] and forced.worth[700] == -1 and forced.nodes[700] == 2
+    forced = library.pit(np.array([-3 * 10**9, 2 * 10**9]), listed, np.array([0, 1], dtype=np.uint8), 0.7)
+    assert forced.entry.tolist() == [0.7, 0.7] and forced.worth[0.7] == -1 and forced.nodes[0.7] == 2
 
 
 def lines_of(tmp_path, *lines):
     """The program's files of two blocks, of which these lines say what needs what."""
     (tmp_path / "mine.blocks").write_text("0 0 0 0 0 3\n1 0 0 1 5 0\n")
     (tmp_path / "mine.prec").write_text("".join(f"{line}\n" for line in lines))
-    return tmp_path / "mine.blocks", tmp_path / "mine.prec", (1000,)
+    return tmp_path / "mine.blocks", tmp_path / "mine.prec", (1.0,)
 
 
 @pytest.mark.parametrize(
@@ -189,7 +189,7 @@ def test_refusals_are_those_of_the_program(tmp_path, lines, starts, needs, said)
     amounts = np.array([0, 5]), np.array([3, 0])
     for solve in (
         lambda: program.solve_files(*lines_of(tmp_path, *lines)),
-        lambda: library.shells(amounts, listed, (1000,)),
+        lambda: library.shells(amounts, listed, (1.0,)),
     ):
         with pytest.raises(ProgramError, match=f"^pitshell shells ended with status 1: {said}") as refused:
             solve()
@@ -202,7 +202,7 @@ def test_a_block_that_must_be_dug_and_may_not_be_is_refused_as_by_the_program():
     with pytest.raises(
         ProgramError, match="^pitshell solve ended with status 1: error 21: fixed blocks clash at block 0$"
     ):
-        library.pit(np.array([-1, 1]), listed, np.array([2, 1], dtype=np.uint8), 1000)
+        library.pit(np.array([-1, 1]), listed, np.array([2, 1], dtype=np.uint8), 1.0)
 
 
 MEMORY = """
@@ -218,7 +218,7 @@ library.loaded()
 held = int(open("/proc/self/statm").read().split()[0]) * resource.getpagesize()
 resource.setrlimit(resource.RLIMIT_AS, (held + 2**27,) * 2)
 try:
-    library.shells((amounts, amounts), rows, (1000,))
+    library.shells((amounts, amounts), rows, (1.0,))
 except ProgramError as error:
     print(error.status, error)
 """
@@ -245,7 +245,9 @@ def test_a_solve_that_takes_long_is_ended_at_once(plan_folder, asked, status, sa
     """A single column of blocks, the deeper half ore, takes the library many seconds, and time that grows with the square of its depth."""
     deep = 40_000
     table = rows(1, 1, deep, cu=lambda i, j, k: 2 if k < deep // 2 else 0)
-    path = plan_folder(table, PROJECT, UPRIGHT, ("levels = 3", "levels = 1"), ("[0.5, 1.0, 1.5]", "[1.0]"))
+    path = plan_folder(
+        table, PROJECT, UPRIGHT, ("precedence_benches = 3", "precedence_benches = 1"), ("[0.5, 1.0, 1.5]", "[1.0]")
+    )
     words = [sys.executable, str(ROOT / "tools" / "pitplan"), "shells", str(path), "--solver", "library"]
     ran = subprocess.Popen(
         words, stderr=subprocess.PIPE, text=True, preexec_fn=lambda: signal.signal(signal.SIGINT, signal.SIG_DFL)
@@ -328,7 +330,9 @@ def test_an_audit_of_what_the_library_solved_writes_the_mine_itself(tmp_path):
 
 @pytest.fixture
 def solved_by_library(plan_folder):
-    path = plan_folder(ores_and_fixed(), with_section(FIXED_SECTION + 'surface = "mined.csv"\ntopography = "blocks"\n'))
+    path = plan_folder(
+        ores_and_fixed(), with_section(FIXED_SECTION + 'as_mined = "mined.csv"\ntopography = "blocks"\n')
+    )
     (path.parent / "mined.csv").write_text("x,y,z\n0,0,900\n")
     pitplan.write_shells(replace(load(path), solver="library"), writing=pitplan.Writing(verifies=False))
     return path.parent

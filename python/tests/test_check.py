@@ -36,11 +36,14 @@ def test_the_command_line(mine, capsys):
     ("change", "said"),
     [
         (("price = 8000", 'price = "much"'), "[metals 1] price: 'much' is not a number"),
-        (("levels = 3", "levels = 0"), "[slopes] levels: must be a whole number from 1 to 40"),
-        (("rate = 0.1", "rate = 0.1\nrates = 1"), "[shells] rates: is no key here"),
-        (('region = "region"', 'region = "region"\ntopography = "nowhere.csv"'), "nowhere.csv"),
-        (("[shells]", '[fixed]\nforced = "must"\n[shells]'), "must"),
-        (("[shells]", "[pictures]\nlevels = [900]\n[shells]"), "[pictures] levels: 900 is beyond the model"),
+        (
+            ("precedence_benches = 3", "precedence_benches = 0"),
+            "[slopes] precedence_benches: must be a whole number from 1 to 40",
+        ),
+        (("discount_rate = 0.1", "discount_rate = 0.1\nrates = 1"), "[shells] discount_rates: is no key here"),
+        (('domain = "region"', 'domain = "region"\ntopography = "nowhere.csv"'), "nowhere.csv"),
+        (("[shells]", '[constraints]\nmust_mine = "must"\n[shells]'), "must"),
+        (("[shells]", "[figures]\nlevels = [900]\n[shells]"), "[figures] levels: 900 is beyond the model"),
     ],
 )
 def test_what_prepare_refuses_it_refuses(mine, change, said, capsys):

@@ -83,7 +83,7 @@ def test_the_debian_package_serves_where_it_is_unpacked(dist, tmp_path):
         "docs/pictures/plans.png",
         "examples/plan/project.toml",
     )
-    wanted |= {f"share/doc/pitshell/{name}" for name in (*documents, "examples/scenarios/models/model_001.csv")}
+    wanted |= {f"share/doc/pitshell/{name}" for name in (*documents, "examples/scenarios/realisations/model_001.csv")}
     assert {f"./usr/{name}" for name in wanted} <= held
 
 

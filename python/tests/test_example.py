@@ -43,13 +43,13 @@ def test_the_table_of_shells_is_the_expected_one(solved_example):
 def amounts_of(row, project, top):
     """Tonnes, worth of processing, and worth of mining of one row of the CSV, by the project's words alone."""
     tonnes, rock = float(row["tonnes"]), row["rock"]
-    gain = -tonnes * project["money"]["processing_cost"][rock]
+    gain = -tonnes * project["economics"]["processing_cost"][rock]
     for metal in project["metals"]:
         share = {"percent": 0.01, "gram_per_tonne": 1}[metal["unit"]]
         amount = tonnes * float(row[metal["column"]]) * share * metal["recovery"][rock]
         gain += amount * (metal["price"] - metal["selling_cost"])
     level = (top - float(row["z"])) / 15
-    cost = tonnes * (project["money"]["mining_cost"] + project["money"]["mining_cost_per_level"] * level)
+    cost = tonnes * (project["economics"]["mining_cost"] + project["economics"]["mining_cost_per_bench"] * level)
     return tonnes, gain, cost
 
 
@@ -67,8 +67,8 @@ def test_tonnes_and_worth_are_the_sums_over_the_rows(solved_example, factor):
         if row["id"] in inside:
             tonnes, gain, cost = amounts_of(row, project, top)
             totals["tonnes"] += tonnes
-            totals["ore_tonnes"] += tonnes if gain > 0 else 0
-            totals["worth"] += max(gain, 0) - cost
+            totals["feed_tonnes"] += tonnes if gain > 0 else 0
+            totals["undiscounted_cash_flow"] += max(gain, 0) - cost
     shell = table.set_index("revenue_factor").loc[factor]
     assert shell["blocks"] == len(inside)
     for name, total in totals.items():
@@ -79,7 +79,7 @@ def test_tonnes_and_worth_are_the_sums_over_the_rows(solved_example, factor):
 def test_a_fixed_cutoff_digs_no_more_and_earns_no_more(solved_example):
     """At every factor the moving cut-off's pit is worth at least as much in the factor's own values."""
     plan, solution, _ = solved_example
-    fixed = replace(plan.project, money=replace(plan.project.money, cutoff="fixed"))
+    fixed = replace(plan.project, money=replace(plan.project.money, cutoff="base_price"))
     other = pitplan.solve(pitplan.prepare(fixed))
     lost = [factor for factor in plan.project.schedule.revenue_factors if other.worth[factor] < solution.worth[factor]]
     assert all(other.worth[factor] <= solution.worth[factor] for factor in plan.project.schedule.revenue_factors)

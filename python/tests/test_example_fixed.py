@@ -77,14 +77,18 @@ def test_without_fixed_blocks_the_pit_is_that_of_the_plain_example_less_the_cut(
     plan = prepare(ROOT / "examples" / "plan" / "project.toml")
     blocks = plan.blocks[plan.blocks["planner_id"].isin(called)]
     is_ore = blocks["revenue"] > blocks["processing_cost"]
-    gone = {"blocks": 24, "tonnes": blocks["tonnes"].sum(), "ore_tonnes": blocks["tonnes"][is_ore].sum()}
-    gone["worth"] = (blocks["revenue"] - blocks["processing_cost"])[is_ore].sum() - blocks["mining_cost"].sum()
+    gone = {"blocks": 24, "tonnes": blocks["tonnes"].sum(), "feed_tonnes": blocks["tonnes"][is_ore].sum()}
+    gone["undiscounted_cash_flow"] = (blocks["revenue"] - blocks["processing_cost"])[is_ore].sum() - blocks[
+        "mining_cost"
+    ].sum()
     for name, amount in gone.items():
         assert pits[name]["free"] == pytest.approx(plain[name] - amount, rel=1e-9), name
-    cost = pits["worth"]["free"] - pits["worth"]["kept"]
+    cost = pits["undiscounted_cash_flow"]["free"] - pits["undiscounted_cash_flow"]["kept"]
     page = (ROOT / "docs" / "PLANNING.md").read_text(encoding="utf-8")
     assert (
-        cost > 0 and f"to keep to both costs {cost / 1e6:.1f} of {pits['worth']['free'] / 1e6:.1f} million USD" in page
+        cost > 0
+        and f"to keep to both costs {cost / 1e6:.1f} of {pits['undiscounted_cash_flow']['free'] / 1e6:.1f} million USD"
+        in page
     )
 
 

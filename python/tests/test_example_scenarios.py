@@ -83,7 +83,7 @@ def pits():
     """By model, price and factor the blocks of the pit, by their ids, and its worth."""
     rows = {row["id"]: row for row in rows_of(EXAMPLE / "blocks.csv")}
     places, leads, found = {name: place_of(row) for name, row in rows.items()}, needs(), {}
-    for path in sorted((EXAMPLE / "models").iterdir()):
+    for path in sorted((EXAMPLE / "realisations").iterdir()):
         grades = {row["id"]: row for row in rows_of(path)}
         for price, factor in ((price, factor) for price in PRICES for factor in FACTORS):
             values = {name: value_at(row, grades[name], price, factor) for name, row in rows.items()}
@@ -100,13 +100,13 @@ def test_each_scenario_is_that_of_the_oracle(folder, pits):
     table = rows_of(folder / "scenarios.csv")
     assert len(table) == len(pits) == 16
     for row in table:
-        inside, worth = pits[row["model"], int(row["price_copper"]), float(row["revenue_factor"])]
+        inside, worth = pits[row["realisation"], int(row["price_copper"]), float(row["revenue_factor"])]
         assert (int(row["blocks"]), Decimal(row["value_at_revenue_factor"])) == (len(inside), worth)
     counts = [len(pits["model_003", price, 1.0][0]) for price in PRICES]
     assert counts[0] == 0 < counts[1]
 
 
-@pytest.mark.parametrize("revenue_factor", FACTORS)
+@pytest.mark.parametrize("factor", FACTORS)
 def test_probabilities_are_shares_of_the_oracle(folder, pits, factor):
     likely = pd.read_csv(folder / "probability.csv").set_index("planner_id")[f"probability_{factor:.2f}"]
     asked = [inside for (_, _, at), (inside, _) in pits.items() if at == factor]
@@ -218,15 +218,15 @@ def milled(worth, year):
 def test_bounds_and_what_the_one_schedule_earns_are_those_of_programmes_of_the_tests_own(scheduled):
     """Eight scenarios: each bound is the optimum of the whole linear programme within 1e-4, and no value is above that."""
     table, leads = pd.read_csv(scheduled / "schedules.csv"), needs()
-    year = pd.read_csv(scheduled / "one_schedule.csv").set_index("planner_id")["year"].to_dict()
+    year = pd.read_csv(scheduled / "common_schedule.csv").set_index("planner_id")["year"].to_dict()
     bounds = []
     for row in table.to_dict("records"):
-        worth = worths(EXAMPLE / "models" / f"{row['model']}.csv", int(row["price_copper"]))
+        worth = worths(EXAMPLE / "realisations" / f"{row['realisation']}.csv", int(row["price_copper"]))
         bounds.append(bound_of(worth, leads))
-        assert bounds[-1] * (1 - 1e-9) <= row["bound"] + 0.01 <= bounds[-1] * (1 + 1e-4) + 0.02
-        assert row["one_value"] == pytest.approx(milled(worth, year), abs=0.01)
-        assert max(row["value"], row["one_value"]) <= bounds[-1] + 0.01
-    told = json.loads((scheduled / "one_schedule.json").read_text())
-    known = sum(bounds) / 8 - table["one_value"].mean()
+        assert bounds[-1] * (1 - 1e-9) <= row["upper_bound"] + 0.01 <= bounds[-1] * (1 + 1e-4) + 0.02
+        assert row["common_npv"] == pytest.approx(milled(worth, year), abs=0.01)
+        assert max(row["npv"], row["common_npv"]) <= bounds[-1] + 0.01
+    told = json.loads((scheduled / "common_schedule.json").read_text())
+    known = sum(bounds) / 8 - table["common_npv"].mean()
     assert told["years"] == YEARS and known <= told["perfect_information"] + 0.01 <= known * (1 + 1e-2)
-    assert max(year.values()) == 2 and told["one_value"]["mean"] > 0
+    assert max(year.values()) == 2 and told["common_npv"]["mean"] > 0

@@ -44,7 +44,7 @@ def by_elevation(rng):
 
 def haulage(rng):
     """A road with a ramp that is no whole number of millimetres long, or nothing."""
-    road = f"[haulage]\nexit = [{rng.integers(0, 200)}, {rng.integers(-50, 0)}, 60]\ngradient = {pick(rng, 0.07, 0.12, 0.083)}\ncost = 0.12\n"
+    road = f"[haulage]\npit_exit = [{rng.integers(0, 200)}, {rng.integers(-50, 0)}, 60]\nramp_gradient = {pick(rng, 0.07, 0.12, 0.083)}\ncost = 0.12\n"
     return pick(rng, "", road)
 
 
@@ -54,25 +54,25 @@ def processes(rng):
     text = ""
     for number, name in enumerate(names, 1):
         of_gold = f", gold = {recovery(rng)}" if number > 1 else ""
-        text += f'[[processes]]\nname = "{name}"\ncost = {2 + 5 * number}\nper_year = {150 * number}\nrecovery = {{ copper = {recovery(rng)}{of_gold} }}\n'
+        text += f'[[processes]]\nname = "{name}"\ncost = {2 + 5 * number}\ncapacity = {150 * number}\nrecovery = {{ copper = {recovery(rng)}{of_gold} }}\n'
     return text
 
 
 def project_of(rng):
     """The text of a project, and whether it has one process alone."""
     several = processes(rng)
-    money = "mining_cost = { R = 2, S = 2.3 }\n" + pick(rng, "", "mining_cost_per_level = 0.11\n", by_elevation(rng))
-    money += pick(rng, "", "mining_recovery = 0.943\n", "mining_recovery = { region = { 1 = 0.91, 2 = 0.97 } }\n")
+    money = "mining_cost = { R = 2, S = 2.3 }\n" + pick(rng, "", "mining_cost_per_bench = 0.11\n", by_elevation(rng))
+    money += pick(rng, "", "mining_recovery = 0.943\n", "mining_recovery = { domain = { 1 = 0.91, 2 = 0.97 } }\n")
     money += pick(rng, "", "dilution = 0.057\n", "dilution = { R = 0.04, S = 0.11 }\n") + pick(
         rng, "", "royalty = 0.035\n"
     )
     money += (
         pick(rng, "", "royalty_per_tonne = 0.37\n")
         + pick(rng, "", "fixed_cost_per_year = 777.5\n")
-        + pick(rng, "", "capital = [[1, 4000], [3, 990]]\n")
+        + pick(rng, "", "capex = [[1, 4000], [3, 990]]\n")
     )
-    money += pick(rng, "decimals = 2\n", "") + pick(rng, "", 'cutoff = "fixed"\n')
-    tail = "" if several else pick(rng, "", "fixed_tail = 0.08\n")
+    money += pick(rng, "decimals = 2\n", "") + pick(rng, "", 'cutoff = "base_price"\n')
+    tail = "" if several else pick(rng, "", "tail_grade = 0.08\n")
     metal = (
         "price = 8000\n"
         + ("" if several else f"recovery = {recovery(rng)}\n")
@@ -84,8 +84,8 @@ def project_of(rng):
         rng,
         'pattern = "1:9"',
         "angle = 47",
-        "bench = { height = 20, face = 66, berm = 7 }",
-        "steps = [[0, 0, 1], [1, 0, 1], [-1, 1, 2]]",
+        "bench = { height = 20, face_angle = 66, berm_width = 7 }",
+        "offsets = [[0, 0, 1], [1, 0, 1], [-1, 1, 2]]",
     )
     changes = [
         (
@@ -98,14 +98,22 @@ def project_of(rng):
         ("[slopes]\n", f"{gold}{several}[slopes]\n"),
         ('pattern = "1:5"', wall),
     ]
-    changes += [("rate = 0.1", f'rate = 0.1\ndiscounting = "{pick(rng, "continuous", "mid_year", "end_of_year")}"')]
     changes += [
-        ("ore_per_year = 100", ("" if several else "ore_per_year = 310\n") + pick(rng, "", "rock_per_year = 1900"))
+        (
+            "discount_rate = 0.1",
+            f'discount_rate = 0.1\ndiscounting = "{pick(rng, "continuous", "mid_year", "end_of_year")}"',
+        )
+    ]
+    changes += [
+        (
+            "processing_capacity = 100",
+            ("" if several else "processing_capacity = 310\n") + pick(rng, "", "mining_capacity = 1900"),
+        )
     ]
     changes += [
         (
             'file = "blocks.csv"',
-            'file = "blocks.csv"\n' + pick(rng, "", "", "reblock = [2, 1, 1]\n", 'absent = "air"\n'),
+            'file = "blocks.csv"\n' + pick(rng, "", "", "reblock = [2, 1, 1]\n", 'missing_blocks = "air"\n'),
         )
     ]
     return changes, not several
@@ -119,13 +127,13 @@ def test_what_is_written_is_right(plan_folder, without_figures, monkeypatch, see
     if rng.random() < 0.3:
         # Of 1,440 cells what no shell can reach is left out: no cone above the ore goes beyond the 15th of 20 columns.
         monkeypatch.setattr(pitplan.blockmodel.grid, "MOST_BLOCKS", 1200)
-    rules = "[schedule]\nlag = 1\nyears = 9\n" + (
-        pick(rng, "", "bins = 3\n", "bins = 3\nstockpile = { rehandling_cost = 0.4 }\n") if is_one else ""
+    rules = "[schedule]\nbench_lag = 1\nyears = 9\n" + (
+        pick(rng, "", "bins = 3\n", "bins = 3\nstockpile = { reclaim_cost = 0.4 }\n") if is_one else ""
     )
     text = (
         PROJECT
         + haulage(rng)
-        + f'[pushbacks]\nrevenue_factors = [0.5, 1.0]\n{rules}[fixed]\nforced = "must"\nbarred = "never"\n'
+        + f'[pushbacks]\nrevenue_factors = [0.5, 1.0]\n{rules}[constraints]\nmust_mine = "must"\nexclude = "never"\n'
     )
     path = plan_folder(table_of(rng), text, *changes)
     ways = [

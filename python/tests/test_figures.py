@@ -8,16 +8,16 @@ from conftest import PROJECT, rows
 import pitplan
 from pitplan import Writing
 from pitplan.cli import main
-from pitplan.commands.writing import BLOCK_PICTURES, FIGURES, PHASE_PICTURES, PICTURES, SCHEDULE_PICTURES
+from pitplan.commands.writing import BLOCK_PICTURES, FIGURES, PICTURES, PUSHBACK_PICTURES, SCHEDULE_PICTURES
 
 ORE = {"cu": lambda i, j, k: 6 * ((i, j, k) == (2, 2, 1)), "cu2": lambda i, j, k: 3 * ((i, j, k) == (2, 2, 1))}
 MORE = """[pushbacks]
 count = 1
 [schedule]
-rock_per_year = 2000
+mining_capacity = 2000
 [sensitivity]
-by = [0.1]
-vary = ["price", "mining_cost"]
+changes = [0.1]
+parameters = ["price", "mining_cost"]
 pairs = [["price", "mining_cost"]]
 [scenarios]
 columns = { copper = ["cu", "cu2"] }
@@ -42,8 +42,8 @@ def figures_in(folder):
         (
             pitplan.write_schedule,
             "schedule",
-            PICTURES | PHASE_PICTURES | SCHEDULE_PICTURES,
-            ["Yearly schedule", "Phases"],
+            PICTURES | PUSHBACK_PICTURES | SCHEDULE_PICTURES,
+            ["Yearly schedule", "Pushbacks"],
         ),
         (pitplan.write_block_schedule, "block_schedule", PICTURES | BLOCK_PICTURES, ["Schedule by block"]),
     ],
@@ -64,7 +64,7 @@ def test_a_run_without_figures_removes_those_of_an_earlier_run(mine, command, na
 
 
 def test_figures_of_other_formats_are_removed_too(mine):
-    mine.write_text(mine.read_text() + '[pictures]\nformats = ["svg"]\n')
+    mine.write_text(mine.read_text() + '[figures]\nformats = ["svg"]\n')
     pitplan.write_shells(mine, writing=ONCE)
     folder = mine.parent / "plan"
     assert len(figures_in(folder)) == 2 * len(PICTURES)

@@ -24,6 +24,7 @@ from pitplan.commands.writing import PICTURES
 from pitplan.core import cell_outlines, optional_packages
 from pitplan.core.atomic_files import hash_of, write_json
 from pitplan.core.progress import silent
+from pitplan.core.revenue_factors import factor_text
 from pitplan.export import audit
 from pitplan.results.folder import read_folder, read_record
 from pitplan.results.rounding import shown
@@ -63,7 +64,7 @@ def test_shells_write_tables_pictures_and_a_page_that_needs_no_other_file(solved
 def test_a_mine_without_ore_has_a_report_and_a_page_too(plan_folder):
     project = load(plan_folder(rows(4, 4, 3), PROJECT, ("[0.5, 1.0, 1.5]", "[1.0]")))
     table = pitplan.write_shells(project, project.folder)
-    assert table["blocks"].tolist() == [0] and table["worth"].tolist() == [0]
+    assert table["blocks"].tolist() == [0] and table["undiscounted_cash_flow"].tolist() == [0]
     pitplan.view(project.folder, silent)
     assert (
         "–" in (project.folder / "report.html").read_text()
@@ -112,7 +113,7 @@ def test_a_prepared_folder_has_no_shells_yet(plan_folder):
         read_folder(project.folder / "nowhere")
 
 
-@pytest.mark.parametrize("revenue_factor", [0.5, 1.0, 1.5])
+@pytest.mark.parametrize("factor", [0.5, 1.0, 1.5])
 def test_an_audit_is_confirmed_by_the_program_and_by_the_short_checker(solved, factor):
     _, folder = solved
     target = pitplan.audit(folder, factor, silent)
@@ -160,7 +161,7 @@ def test_values_of_an_audit_are_exact(tmp_path):
     from pitplan.export.audit import read_nodes
 
     (tmp_path / "mine.blocks").write_text("0 0 0 0 0 1.000001\n1 0 0 0 12345.678901 0.1\n")
-    assert problem.values_at(read_nodes(tmp_path / "mine.blocks"), 333).tolist() == [
+    assert problem.values_at(read_nodes(tmp_path / "mine.blocks"), 0.333).tolist() == [
         -1000001000,
         333 * 12345678901 - 100000000,
     ]
@@ -169,15 +170,15 @@ def test_values_of_an_audit_are_exact(tmp_path):
         problem.values_at(read_nodes(tmp_path / "mine.blocks"), 1.0)
     # Products that 64 bits would not hold, and the greatest and least value that a model takes.
     most = np.array([10**18 - 1]), np.array([0])
-    assert problem.values_at(most, 1).tolist() == [10**18 - 1] and problem.values_at(
+    assert problem.values_at(most, 0.001).tolist() == [10**18 - 1] and problem.values_at(
         (np.array([10**17 - 1]), np.array([10**17 - 10**12])), 1.0
     ).tolist() == [10**15 - 1000]
     for amounts, factor in (
-        ((np.array([10**17]), np.array([0])), 100_000),
-        ((np.array([0]), np.array([10**15])), 1),
+        ((np.array([10**17]), np.array([0])), 100.0),
+        ((np.array([0]), np.array([10**15])), 0.001),
         ((np.array([10**15]), np.array([0])), 1.0),
     ):
-        with pytest.raises(PlanError, match=f"a value at factor {factor}, a thousandfold, is 10.12 or more"):
+        with pytest.raises(PlanError, match=f"a value at revenue factor {factor_text(factor)}, a thousandfold, is 10.12 or more"):
             problem.values_at(amounts, factor)
 
 
@@ -210,7 +211,7 @@ def test_vti_is_read_back_by_vtk_cell_by_cell(solved):
     factor = vtk_to_numpy(image.GetCellData().GetArray("revenue_factor"))
     for _, block in pd.read_csv(folder / "blocks.csv").iterrows():
         place = int(block.z // 10) * 90 + int(block.y // 10) * 10 + int(block.x // 10)
-        assert factor[place] == block.factor
+        assert factor[place] == block.revenue_factor
 
 
 def test_vtu_has_a_cell_a_block_of_rock_where_the_block_lies(plan_folder):
@@ -323,7 +324,9 @@ def test_what_is_above_a_limit_is_refused(plan_folder, monkeypatch, solved, modu
 
 def test_levels_that_were_chosen_are_named_where_their_needs_are_too_many(plan_folder, monkeypatch):
     monkeypatch.setattr("pitplan.plan.MOST_PAIRS", 100)
-    path = plan_folder(rows(6, 6, 4, **ORE), PROJECT, ("levels = 3\n", ""), ('pattern = "1:5"', "angle = 30"))
+    path = plan_folder(
+        rows(6, 6, 4, **ORE), PROJECT, ("precedence_benches = 3\n", ""), ('pattern = "1:5"', "angle = 30")
+    )
     words = r"needs, and the program takes at most 100: give \[slopes\] levels, fewer than the 7 that were chosen"
     with pytest.raises(PlanError, match=words):
         write_plan(load(path), path.parent / "out", silent)
@@ -403,7 +406,7 @@ def test_a_status_that_is_fine_gives_the_answer(tmp_path, monkeypatch):
 
 def test_amounts_are_written_to_a_thousandth_and_nothing_has_no_minus():
     table = pd.DataFrame(
-        {"cash": [-0.0004, -0.0006, 1234.5678], "grade_copper": [0.1234567, 1e-7, -1e-9], "year": [1, 2, 3]}
+        {"cash_flow": [-0.0004, -0.0006, 1234.5678], "head_grade_copper": [0.1234567, 1e-7, -1e-9], "year": [1, 2, 3]}
     )
     written = shown(table.assign(value_at_revenue_factor=[Decimal("1E+3"), Decimal("-0.5"), Decimal(7)])).to_csv(
         index=False
@@ -414,11 +417,11 @@ def test_amounts_are_written_to_a_thousandth_and_nothing_has_no_minus():
 def test_the_share_below_a_bound_is_that_of_the_value_and_the_bound_that_are_told():
     """By hand: (5 + 500) / 5, (0.033 - 0.032) / 0.033, nothing of a bound that is told as 0, and nothing known without one."""
     ways = {
-        "value": [-500.0004, 0.0324, 0.0001, 7.0],
-        "bound": [5.0004, 0.0334, 0.0003, np.nan],
-        "below_bound": [100.99, 0.0299, 0.67, np.nan],
+        "npv": [-500.0004, 0.0324, 0.0001, 7.0],
+        "upper_bound": [5.0004, 0.0334, 0.0003, np.nan],
+        "optimality_gap": [100.99, 0.0299, 0.67, np.nan],
     }
-    assert shown(pd.DataFrame(ways))["below_bound"].fillna(-1).tolist() == [101.0, 0.03030303, 0.0, -1]
+    assert shown(pd.DataFrame(ways))["optimality_gap"].fillna(-1).tolist() == [101.0, 0.03030303, 0.0, -1]
 
 
 def test_the_command_line_tells_table_steps_and_warnings(solved_once):
@@ -483,7 +486,7 @@ def test_a_folder_with_another_record_is_no_plan(solved):
 def test_the_command_line_refuses_in_one_sentence(plan_folder, capsys):
     path = plan_folder(rows(3, 3, 3), PROJECT, ("mining_cost = 2", "mining_cost = -2"))
     assert main(["prepare", str(path)]) == 1
-    assert capsys.readouterr().err == f"pitplan: {path}: [money] mining_cost: may not be negative\n"
+    assert capsys.readouterr().err == f"pitplan: {path}: [economics] mining_cost: may not be negative\n"
 
 
 @pytest.mark.parametrize(

@@ -37,7 +37,7 @@ def lines_of(path, table, text, tmp_path):
 def test_columns_of_the_table(plan_folder, tmp_path):
     """Two levels of four blocks; ids run from the top level down."""
     table = rows(4, 1, 2, must=lambda i, j, k: int(i == 0), never=lambda i, j, k: int((i, k) == (3, 1)))
-    assert lines_of(plan_folder, table, '[fixed]\nforced = "must"\nbarred = "never"\n', tmp_path) == [
+    assert lines_of(plan_folder, table, '[constraints]\nmust_mine = "must"\nexclude = "never"\n', tmp_path) == [
         "in 0",
         "out 3",
         "in 4",
@@ -46,11 +46,11 @@ def test_columns_of_the_table(plan_folder, tmp_path):
 
 def test_cells_without_rock_are_never_fixed(plan_folder, tmp_path):
     table = rows(3, 1, 1, must=lambda i, j, k: 1, tonnes=lambda i, j, k: 100 * (i < 2))
-    assert lines_of(plan_folder, table, '[fixed]\nforced = "must"\n', tmp_path) == ["in 0", "in 1"]
+    assert lines_of(plan_folder, table, '[constraints]\nmust_mine = "must"\n', tmp_path) == ["in 0", "in 1"]
 
 
 def test_nothing_is_fixed(plan_folder, tmp_path):
-    assert lines_of(plan_folder, rows(2, 1, 1), "[fixed]\n", tmp_path) == []
+    assert lines_of(plan_folder, rows(2, 1, 1), "[constraints]\n", tmp_path) == []
     plan = prepare(load(plan_folder(rows(2, 1, 1))))
     (tmp_path / "free").mkdir()
     mine_files.write(plan, tmp_path / "free")
@@ -62,7 +62,7 @@ def test_rock_above_the_surface_must_be_dug(plan_folder, tmp_path):
     points = "x,y,z\n3,4,20\n12,2,0\n18,9,10\n-50,5,0\n"
     (tmp_path / "mined.csv").write_text(points)
     plan = prepare(
-        load(plan_folder(rows(3, 1, 3), with_section('[fixed]\nsurface = "mined.csv"\ntopography = "blocks"\n')))
+        load(plan_folder(rows(3, 1, 3), with_section('[constraints]\nas_mined = "mined.csv"\ntopography = "blocks"\n')))
     )
     assert plan.fixed.forced.tolist() == [0, 1, 4]
     assert any("1 columns of blocks lie beyond all points" in note for note in plan.notes)
@@ -75,7 +75,7 @@ def test_each_column_has_the_surface_of_its_own_points(plan_folder, tmp_path):
     points += [(-1, 5, -900), (41, 15, -900), (15, -1, -900), (25, 31, -900)]
     pd.DataFrame(points, columns=["x", "y", "z"]).to_csv(tmp_path / "mined.csv", index=False)
     plan = prepare(
-        load(plan_folder(rows(4, 3, 4), with_section('[fixed]\nsurface = "mined.csv"\ntopography = "blocks"\n')))
+        load(plan_folder(rows(4, 3, 4), with_section('[constraints]\nas_mined = "mined.csv"\ntopography = "blocks"\n')))
     )
     blocks = plan.blocks
     ground = [heights[int(x // 10), int(y // 10)] for x, y in zip(blocks["x"], blocks["y"])]
@@ -96,7 +96,9 @@ def test_a_surface_between_points_is_their_plane(plan_folder, tmp_path):
         tmp_path / "mined.csv", index=False
     )
     table = rows(6, 4, 3).assign(x=lambda it: it["x"] + east, y=lambda it: it["y"] + north)
-    plan = prepare(load(plan_folder(table, with_section('[fixed]\nsurface = "mined.csv"\ntopography = "blocks"\n'))))
+    plan = prepare(
+        load(plan_folder(table, with_section('[constraints]\nas_mined = "mined.csv"\ntopography = "blocks"\n')))
+    )
     blocks = plan.blocks
     assert plan.fixed.forced.tolist() == blocks.loc[blocks["z"] > plane(blocks["x"], blocks["y"]), "id"].tolist()
     assert 0 < len(plan.fixed.forced) < 72
@@ -107,7 +109,7 @@ def test_points_that_make_no_triangle_say_nothing_beside_them(plan_folder, tmp_p
     """Over the second and third column: one point, the same twice, and points on a line."""
     (tmp_path / "mined.csv").write_text("x,y,z\n" + points)
     plan = prepare(
-        load(plan_folder(rows(3, 3, 1), with_section('[fixed]\nsurface = "mined.csv"\ntopography = "blocks"\n')))
+        load(plan_folder(rows(3, 3, 1), with_section('[constraints]\nas_mined = "mined.csv"\ntopography = "blocks"\n')))
     )
     over = {
         (int(x) // 10, int(y) // 10)
@@ -122,7 +124,11 @@ def test_a_triangle_bars_what_lies_in_it(plan_folder, tmp_path):
     """Below the line from 40 m in the north to 60 m in the east."""
     (tmp_path / "corner.csv").write_text("x,y\n0,0\n60,0\n0,40\n")
     plan = prepare(
-        load(plan_folder(rows(7, 5, 1), with_section('[[fixed.areas]]\npolygon = "corner.csv"\nbarred = "inside"\n')))
+        load(
+            plan_folder(
+                rows(7, 5, 1), with_section('[[constraints.areas]]\npolygon = "corner.csv"\nexclude = "inside"\n')
+            )
+        )
     )
     blocks = plan.blocks
     assert plan.fixed.barred.tolist() == blocks.loc[blocks["x"] / 60 + blocks["y"] / 40 < 1, "id"].tolist()
@@ -130,7 +136,7 @@ def test_a_triangle_bars_what_lies_in_it(plan_folder, tmp_path):
 
 def test_blocks_of_less_than_a_tonne_are_rock(plan_folder, tmp_path):
     table = rows(3, 1, 1, must=lambda i, j, k: 1, tonnes=lambda i, j, k: [0.5, 0, 1][i])
-    assert lines_of(plan_folder, table, '[fixed]\nforced = "must"\n', tmp_path) == ["in 0", "in 2"]
+    assert lines_of(plan_folder, table, '[constraints]\nmust_mine = "must"\n', tmp_path) == ["in 0", "in 2"]
     plan = prepare(load(plan_folder(table)))
     assert plan.values.mining.tolist() == [1_000_000, 0, 2_000_000]
 
@@ -140,7 +146,7 @@ def test_a_surface_of_few_points_is_laid_between_them(plan_folder, tmp_path):
     at 26, 16 and 6 m."""
     (tmp_path / "mined.csv").write_text("x,y,z\n0,-50,31\n0,50,31\n30,-50,1\n30,50,1\n")
     plan = prepare(
-        load(plan_folder(rows(3, 1, 3), with_section('[fixed]\nsurface = "mined.csv"\ntopography = "blocks"\n')))
+        load(plan_folder(rows(3, 1, 3), with_section('[constraints]\nas_mined = "mined.csv"\ntopography = "blocks"\n')))
     )
     assert plan.fixed.forced.tolist() == [1, 2, 5]
     assert any(
@@ -152,7 +158,7 @@ def test_areas_on_the_map(plan_folder, tmp_path):
     """A lease round the first three of four columns of blocks, and a river through the second."""
     (tmp_path / "lease.csv").write_text("x,y\n0,0\n30,0\n30,10\n0,10\n")
     (tmp_path / "river.csv").write_text("x,y\n10,-5\n20,-5\n20,15\n10,15\n")
-    text = '[[fixed.areas]]\npolygon = "lease.csv"\nbarred = "outside"\n[[fixed.areas]]\npolygon = "river.csv"\nbarred = "inside"\n'
+    text = '[[constraints.areas]]\npolygon = "lease.csv"\nexclude = "outside"\n[[constraints.areas]]\npolygon = "river.csv"\nexclude = "inside"\n'
     plan = prepare(load(plan_folder(rows(4, 1, 2), with_section(text))))
     assert plan.fixed.barred.tolist() == [1, 3, 5, 7]
 
@@ -169,19 +175,27 @@ def test_a_polygon_with_a_bay():
 @pytest.mark.parametrize(
     ("text", "file", "said"),
     [
-        ('[fixed]\nforced = "mined"\n', "", "there is no column mined"),
-        ('[fixed]\nforced = "must"\nbarred = "must"\n', "", "block b0-0-0 .row 2. must be dug and may not be dug"),
-        ('[fixed]\nsurface = "area.csv"\ntopography = "blocks"\n', "x,y\n1,2\n", "there is no column z"),
+        ('[constraints]\nmust_mine = "mined"\n', "", "there is no column mined"),
         (
-            '[fixed]\nsurface = "area.csv"\ntopography = "blocks"\n',
+            '[constraints]\nmust_mine = "must"\nexclude = "must"\n',
+            "",
+            "block b0-0-0 .row 2. must be dug and may not be dug",
+        ),
+        ('[constraints]\nas_mined = "area.csv"\ntopography = "blocks"\n', "x,y\n1,2\n", "there is no column z"),
+        (
+            '[constraints]\nas_mined = "area.csv"\ntopography = "blocks"\n',
             "x,y,z\n1,2,\n",
             "area.csv row 2 column z: is empty",
         ),
-        ('[fixed]\nsurface = "none.csv"\ntopography = "blocks"\n', "", "cannot be read"),
-        ('[[fixed.areas]]\npolygon = "area.csv"\nbarred = "inside"\n', "x,y\n1,2\n3,4\n", "has three corners or more"),
-        ('[[fixed.areas]]\npolygon = "area.csv"\nbarred = "both"\n', "", "barred"),
-        ('[[fixed.areas]]\npolygon = "area.csv"\n', "", "barred"),
-        ('[fixed]\nforce = "must"\n', "", "force: is no key here; forced is"),
+        ('[constraints]\nas_mined = "none.csv"\ntopography = "blocks"\n', "", "cannot be read"),
+        (
+            '[[constraints.areas]]\npolygon = "area.csv"\nexclude = "inside"\n',
+            "x,y\n1,2\n3,4\n",
+            "has three corners or more",
+        ),
+        ('[[constraints.areas]]\npolygon = "area.csv"\nexclude = "both"\n', "", "exclude"),
+        ('[[constraints.areas]]\npolygon = "area.csv"\n', "", "exclude"),
+        ('[constraints]\nforce = "must"\n', "", "force: is no key here"),
     ],
 )
 def test_what_is_refused(plan_folder, tmp_path, text, file, said):
@@ -195,7 +209,7 @@ def test_the_needs_of_forced_blocks_are_kept(plan_folder):
     """No block pays, so that all needs but those of the forced block at the floor are left out."""
     table = rows(3, 1, 3, must=lambda i, j, k: int((i, k) == (1, 0)))
     assert not prepare(load(plan_folder(table))).used.any()
-    plan = prepare(load(plan_folder(table, with_section('[fixed]\nforced = "must"\n'))))
+    plan = prepare(load(plan_folder(table, with_section('[constraints]\nmust_mine = "must"\n'))))
     assert np.flatnonzero(plan.used).tolist() == [0, 1, 2, 3, 4, 5, 7]
 
 
@@ -212,7 +226,7 @@ def ore_below_waste():
 
 
 def test_a_pit_that_keeps_to_fixed_blocks(plan_folder, capsys):
-    path = plan_folder(ore_below_waste(), with_section('[fixed]\nbarred = "never"\n'))
+    path = plan_folder(ore_below_waste(), with_section('[constraints]\nexclude = "never"\n'))
     assert main(["pit", str(path), "--quiet"]) == 0
     folder = path.parent / "plan" / "pit"
     table = pd.read_csv(folder / "pits.csv")
@@ -223,16 +237,16 @@ def test_a_pit_that_keeps_to_fixed_blocks(plan_folder, capsys):
 
 
 def test_a_pit_with_forced_blocks(plan_folder):
-    project = load(plan_folder(ore_below_waste(), with_section('[fixed]\nforced = "must"\n')))
+    project = load(plan_folder(ore_below_waste(), with_section('[constraints]\nmust_mine = "must"\n')))
     table = pitplan.write_pit(project, 1.0)
     assert table["blocks"].tolist() == [6, 4]
     assert read_record(project.folder / "pit")["fixed"] == {"forced": 1, "barred": 0}
     # the block at the floor and the one above it, at 2 a tonne and 100 t a block
-    assert table["worth"][0] == table["worth"][1] - 400
+    assert table["undiscounted_cash_flow"][0] == table["undiscounted_cash_flow"][1] - 400
 
 
 def test_fixed_blocks_that_clash(plan_folder, capsys):
-    text = '[fixed]\nforced = "must"\nbarred = "never"\n'
+    text = '[constraints]\nmust_mine = "must"\nexclude = "never"\n'
     table = ore_below_waste().assign(never=[0] * 9 + [1])
     assert main(["pit", str(plan_folder(table, with_section(text))), "--quiet"]) == 1
     said = "blocks.csv: block b4-0-0 (row 6) must be dug and needs block b4-0-1 (row 11), which may not be dug\n"
@@ -243,7 +257,7 @@ def test_fixed_blocks_that_clash(plan_folder, capsys):
 @given(
     grades,
     st.lists(st.sampled_from(["", "", "", "in", "out"]), min_size=9, max_size=9),
-    st.sampled_from(["moving", "fixed"]),
+    st.sampled_from(["per_revenue_factor", "base_price"]),
 )
 def test_shells_with_fixed_blocks_are_the_best_of_all_closed_sets_that_keep_to_them(tmp_path, by_id, words, cutoff):
     """100 t a block: mining 200, processing 1000, and 40,000 for each per cent of copper."""
@@ -259,7 +273,7 @@ def test_shells_with_fixed_blocks_are_the_best_of_all_closed_sets_that_keep_to_t
     solution = pitplan.solve(prepare(project, table=table))
     for factor in project.schedule.revenue_factors:
         yields = [Decimal(str(grade)) * 4000 for grade in by_id]
-        if cutoff == "moving":
+        if cutoff == "per_revenue_factor":
             values = [max(Decimal(str(factor)) * y - 1000, Decimal(0)) - 200 for y in yields]
         else:
             values = [Decimal(str(factor)) * y - 1200 if y > 1000 else Decimal(-200) for y in yields]
@@ -281,7 +295,7 @@ def ores_and_fixed():
     )
 
 
-FIXED_SECTION = '[fixed]\nforced = "must"\nbarred = "never"\n'
+FIXED_SECTION = '[constraints]\nmust_mine = "must"\nexclude = "never"\n'
 
 
 def test_shells_keep_to_fixed_blocks_and_are_compared_with_the_pit_of_the_program(plan_folder, capsys):
@@ -358,7 +372,7 @@ def test_scenarios_keep_to_fixed_blocks(plan_folder, tmp_path):
 
 def test_a_project_without_fixed_blocks_has_no_pit(plan_folder, capsys):
     assert main(["pit", str(plan_folder(rows(1, 1, 1)))]) == 1
-    assert "[fixed] is missing" in capsys.readouterr().err
+    assert "[constraints] is missing" in capsys.readouterr().err
 
 
 def solution_of(entry, worth):
@@ -367,7 +381,8 @@ def solution_of(entry, worth):
 
 
 @pytest.mark.parametrize(
-    ("entry", "worth", "count"), [([1, 1, 0], 5, None), ([1, 0, 0], 5, 1), ([0, 1, 1], 5, 2), ([1, 1, 0], 6, 0)]
+    ("entry", "worth", "count"),
+    [([1, 1, 0], 5, None), ([1, 0, 0], 5, 1), ([0, 1, 1], 5, 2), ([1, 1, 0], 6, 0)],
 )
 def test_a_shell_is_compared_with_its_pit_by_blocks_and_worth(entry, worth, count):
     """The shells of revenue factors 1 and 2 against the pit of revenue factor 1, which is the first two nodes, worth 5."""

@@ -70,7 +70,7 @@ def test_csv_files_keep_the_text(plan_folder, without_figures, capsys):
 def test_a_workbook_has_them_as_texts(tmp_path):
     openpyxl = pytest.importorskip("openpyxl")
     texts = [*BEGIN, "#N/A", "#REF!", "plain"]
-    xlsx.write(tmp_path / "book.xlsx", {"texts": pd.DataFrame({"=head": texts, "value": range(len(texts))})})
+    xlsx.write(tmp_path / "book.xlsx", {"texts": pd.DataFrame({"=head": texts, "npv": range(len(texts))})})
     cells = openpyxl.load_workbook(tmp_path / "book.xlsx")["texts"]
     assert [cells.cell(row, 1).value for row in range(1, 11)] == ["=head", *texts]
     assert {cells.cell(row, 1).data_type for row in range(1, 11)} == {"s"} and cells.cell(2, 2).data_type == "n"

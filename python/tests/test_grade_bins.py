@@ -9,7 +9,7 @@ from conftest import rows
 from hypothesis import given, settings, strategies as st
 from scipy.optimize import linprog
 from test_linear_programme import limits
-from test_pushbacks import UPRIGHT, with_phases
+from test_pushbacks import UPRIGHT, with_pushbacks
 from test_sequencing import benches_of, demand_diggable, problem_of
 
 import pitplan
@@ -19,7 +19,7 @@ from pitplan.scheduling.bench_sequencing import Limits, by_rule
 from pitplan.scheduling.value_bins import Parcels, bins_of, edges_of
 from pitplan.verification import milling, verify
 
-NAMES = ("ore_tonnes", "metal_copper", "gain")
+NAMES = ("feed_tonnes", "recovered_copper", "gain")
 
 
 def test_bins_are_even_by_tonnes_as_far_as_worths_let_them():
@@ -54,7 +54,7 @@ def two_benches():
 def test_two_benches_by_hand(cost, years, value, reclaimed):
     benches, parcels = two_benches()
     problem = cutoff_lp.MillingProblem(
-        problem_of(benches, Limits({"ore_tonnes": 100}, sinking_rate=1.0)), parcels, years, cost
+        problem_of(benches, Limits({"feed_tonnes": 100}, vertical_advance_rate=1.0)), parcels, years, cost
     )
     optimum = problem.relaxed()
     dug, milling = problem.diggable(optimum)
@@ -76,7 +76,7 @@ def test_two_benches_by_hand(cost, years, value, reclaimed):
 def test_a_mill_of_metal_has_its_limit_too():
     """A tonne of copper a year at most: all ore holds a hundredth, so 100 t a year, although the mill takes 300."""
     benches, parcels = two_benches()
-    limits = Limits({"ore_tonnes": 300, "metal_copper": 1}, sinking_rate=1.0)
+    limits = Limits({"feed_tonnes": 300, "recovered_copper": 1}, vertical_advance_rate=1.0)
     problem = cutoff_lp.MillingProblem(problem_of(benches, limits), parcels, 2, None)
     assert problem.relaxed().bound == pytest.approx(800 / 1.1 + 900 / 1.21)
 
@@ -84,7 +84,7 @@ def test_a_mill_of_metal_has_its_limit_too():
 def test_a_mill_that_stands_still_in_all_years():
     benches, parcels = two_benches()
     problem = cutoff_lp.MillingProblem(
-        problem_of(benches, Limits({"ore_tonnes": 100}, (0.0, 0.0, 1.0))), parcels, 2, 0.5
+        problem_of(benches, Limits({"feed_tonnes": 100}, (0.0, 0.0, 1.0))), parcels, 2, 0.5
     )
     optimum = problem.relaxed()
     assert optimum.bound == pytest.approx(0) and problem.diggable(optimum)[0].shape == (2, 0)
@@ -100,12 +100,12 @@ mines = st.lists(st.tuples(st.integers(0, 1), st.lists(bench, min_size=1, max_si
 def mine_of(pits, lag):
     """Benches of waste and parcels; each parcel is of the bin of its number."""
     found, of, amounts = [], [], []
-    for phase, (top, benches) in enumerate(pits, 1):
+    for pushback, (top, benches) in enumerate(pits, 1):
         for k, (waste, parcels, mining) in enumerate(benches):
             ore = sum(tonnes for tonnes, _ in parcels)
             of += [(len(found), number) for number in range(1, len(parcels) + 1)]
             amounts += [[tonnes, tonnes / 100, gain] for tonnes, gain in parcels]
-            found.append((phase, top + k, waste + ore, ore, sum(gain for _, gain in parcels) - mining))
+            found.append((pushback, top + k, waste + ore, ore, sum(gain for _, gain in parcels) - mining))
     place = np.array(of, dtype=np.int64).reshape(-1, 2)
     return benches_of(*found, lag=lag), Parcels(
         place[:, 0], place[:, 1], NAMES, np.array(amounts, dtype=float).reshape(-1, 3), np.array([1.0])
@@ -117,7 +117,7 @@ def bound_of(problem):
     benches, parcels, years = problem.problem.benches, problem.parcels, problem.years
     count, size = len(benches), len(benches) + 2 * len(parcels)
     limits = problem.problem.limits
-    rock = limits.most.get("rock_tonnes", np.inf)
+    rock = limits.most.get("total_tonnes", np.inf)
     table, most = [], []
 
     def add(right, *terms):
@@ -132,8 +132,10 @@ def bound_of(problem):
         [
             other
             for other in range(count)
-            if (benches.phase[other] == benches.phase[b] and benches.level[other] < benches.level[b])
-            or (benches.phase[other] < benches.phase[b] and benches.level[other] <= benches.level[b] + benches.lag)
+            if (benches.pushback[other] == benches.pushback[b] and benches.level[other] < benches.level[b])
+            or (
+                benches.pushback[other] < benches.pushback[b] and benches.level[other] <= benches.level[b] + benches.lag
+            )
         ]
         for b in range(count)
     ]
@@ -141,33 +143,33 @@ def bound_of(problem):
         before[b] = sorted(set(before[b]).union(*(before[other] for other in before[b])))
     for year in range(years):
         now, past = slice(year, year + 1), slice(0, year)
-        mill = limits.most["ore_tonnes"] * limits.ramp_up[min(year, len(limits.ramp_up) - 1)]
+        mill = limits.most["feed_tonnes"] * limits.ramp_up[min(year, len(limits.ramp_up) - 1)]
         tonnes = [
-            (count + kind * len(parcels) + q, parcels.of("ore_tonnes")[q])
+            (count + kind * len(parcels) + q, parcels.of("feed_tonnes")[q])
             for q in range(len(parcels))
             for kind in (0, 1)
         ]
         add(mill, *((now, column, weight) for column, weight in tonnes))
-        add(rock, *((now, b, benches.of("rock_tonnes")[b]) for b in range(count)))
-        for phase in set(benches.phase.tolist()):
-            add(limits.sinking_rate, *((now, b, 1.0) for b in range(count) if benches.phase[b] == phase))
+        add(rock, *((now, b, benches.of("total_tonnes")[b]) for b in range(count)))
+        for pushback in set(benches.pushback.tolist()):
+            add(limits.vertical_advance_rate, *((now, b, 1.0) for b in range(count) if benches.pushback[b] == pushback))
         for b in range(count):
             add(1.0, (up_to[year], b, 1.0))
-            own = benches.of("rock_tonnes")[b]
+            own = benches.of("total_tonnes")[b]
             add(
-                max(0.0, (rock * (year + 1) - sum(benches.of("rock_tonnes")[other] for other in before[b])) / own),
+                max(0.0, (rock * (year + 1) - sum(benches.of("total_tonnes")[other] for other in before[b])) / own),
                 (up_to[year], b, 1.0),
             )
-            above = sum(benches.phase[other] == benches.phase[b] for other in before[b])
-            add(max(0.0, limits.sinking_rate * (year + 1) - above), (up_to[year], b, 1.0))
+            above = sum(benches.pushback[other] == benches.pushback[b] for other in before[b])
+            add(max(0.0, limits.vertical_advance_rate * (year + 1) - above), (up_to[year], b, 1.0))
             for other in before[b]:
                 add(0.0, (up_to[year], b, 1.0), (up_to[year], other, -1.0))
         for q in range(len(parcels)):
             b = parcels.bench[q]
             add(0.0, (now, count + q, 1.0), (now, b, -1.0))
             add(0.0, (up_to[year], count + len(parcels) + q, 1.0), (past, count + q, 1.0), (past, b, -1.0))
-    mining = benches.of("cash") - np.bincount(parcels.bench, parcels.of("gain"), minlength=count)
-    again = parcels.of("gain") - (problem.cost or 0.0) * parcels.of("ore_tonnes")
+    mining = benches.of("cash_flow") - np.bincount(parcels.bench, parcels.of("gain"), minlength=count)
+    again = parcels.of("gain") - (problem.cost or 0.0) * parcels.of("feed_tonnes")
     worth = np.concatenate([mining, parcels.of("gain"), again])
     gain = np.outer(1.1 ** -np.arange(1, years + 1), worth).ravel()
     upper = np.full((years, size), np.inf)
@@ -188,11 +190,11 @@ def test_the_bound_and_what_is_made_of_it(pits, limits, lag, cost):
     benches, parcels = mine_of(pits, lag)
     problem = cutoff_lp.MillingProblem(problem_of(benches, limits), parcels, 5, cost)
     optimum = problem.relaxed()
-    slack = 2e-6 * max(1.0, np.abs(benches.of("cash")).sum() + parcels.of("gain").sum())
+    slack = 2e-6 * max(1.0, np.abs(benches.of("cash_flow")).sum() + parcels.of("gain").sum())
     assert optimum.bound == pytest.approx(bound_of(problem), abs=slack)
     assert optimum.cash @ 1.1 ** -np.arange(1.0, 6) == pytest.approx(optimum.bound, abs=slack)
     dug, milling = problem.diggable(optimum)
-    unlimited = Limits({**limits.most, "ore_tonnes": 1e9}, limits.ramp_up, limits.sinking_rate)
+    unlimited = Limits({**limits.most, "feed_tonnes": 1e9}, limits.ramp_up, limits.vertical_advance_rate)
     if dug.shape[1]:
         demand_diggable(benches, unlimited, dug)
     value = mine_value(dug, milling, benches, parcels)
@@ -213,18 +215,18 @@ def demand_milled(problem, dug, milling):
     stock = np.zeros(len(parcels))
     for year in range(dug.shape[1]):
         straight, reclaimed = milling.straight[:, year], milling.reclaimed[:, year]
-        mill = limits.most["ore_tonnes"] * limits.ramp_up[min(year, len(limits.ramp_up) - 1)]
-        assert parcels.of("ore_tonnes") @ (straight + reclaimed) <= mill * (1 + 1e-9)
+        mill = limits.most["feed_tonnes"] * limits.ramp_up[min(year, len(limits.ramp_up) - 1)]
+        assert parcels.of("feed_tonnes") @ (straight + reclaimed) <= mill * (1 + 1e-9)
         assert (straight <= dug[parcels.bench, year] + 1e-12).all() and (reclaimed <= stock + 1e-9).all()
         assert problem.cost is not None or not reclaimed.any()
         stock += dug[parcels.bench, year] - straight - reclaimed
 
 
 # Two pillars of waste over ore, and the second has poor ore over the rich.
-TEXT = with_phases(
-    "count = 2", UPRIGHT.replace("ore_per_year = 100", 'ore_per_year = 100\ndiscounting = "end_of_year"')
+TEXT = with_pushbacks(
+    "count = 2", UPRIGHT.replace("processing_capacity = 100", 'processing_capacity = 100\ndiscounting = "end_of_year"')
 )
-WORDS = "[schedule]\nbins = 2\nstockpile = { rehandling_cost = 0.5 }\n"
+WORDS = "[schedule]\nbins = 2\nstockpile = { reclaim_cost = 0.5 }\n"
 
 
 def scheduled(place, words=WORDS, text=TEXT, **more):
@@ -243,25 +245,25 @@ def written(without_figures, tmp_path_factory):
 
 def test_ore_in_bins_is_written_and_passes(written):
     told = json.loads((written / "schedule.json").read_text())
-    assert told["ways"]["rule"]["value"] < told["ways"]["lp"]["value"] <= told["bound"] + 1e-3
-    assert list(told["bins"]) == ["lp"] and told["bins"]["lp"]["rehandling_cost"] == 0.5
-    milling = pd.read_csv(written / "milling.csv")
+    assert told["methods"]["rule"]["npv"] < told["methods"]["lp"]["npv"] <= told["upper_bound"] + 1e-3
+    assert list(told["bins"]) == ["lp"] and told["bins"]["lp"]["reclaim_cost"] == 0.5
+    milling = pd.read_csv(written / "mill_feed.csv")
     assert set(milling["bin"]) == {1, 2} and milling["reclaimed_tonnes"].sum() > 0
     # By bins of 0.3 and 0.35 per cent, and of 1 and 1.2: 40 a per cent and tonne, less 10 for processing.
     assert told["bins"]["lp"]["edges"] == pytest.approx([(4 + 30) / 2])
     schedule = pd.read_csv(written / "schedule.csv")
-    by_lp = schedule[schedule["way"] == "lp"]
-    assert by_lp["ore_tonnes"].sum() == pytest.approx(
+    by_lp = schedule[schedule["method"] == "lp"]
+    assert by_lp["feed_tonnes"].sum() == pytest.approx(
         milling["milled_tonnes"].sum() + milling["reclaimed_tonnes"].sum()
     )
-    assert (by_lp.groupby("year")["ore_tonnes"].sum() <= 100 + 1e-6).all()
+    assert (by_lp.groupby("year")["feed_tonnes"].sum() <= 100 + 1e-6).all()
     assert [rule.name for rule in verify(written) if rule.differences] == []
 
 
 @pytest.mark.parametrize(
     ("name", "by"),
     [
-        ("dug_tonnes", 1.0),
+        ("mined_tonnes", 1.0),
         ("milled_tonnes", -1.0),
         ("milled_tonnes", 500.0),
         ("reclaimed_tonnes", 1.0),
@@ -272,15 +274,15 @@ def test_ore_in_bins_is_written_and_passes(written):
     ],
 )
 def test_milling_that_is_bent_is_found(written, name, by):
-    kept = (written / "milling.csv").read_text()
+    kept = (written / "mill_feed.csv").read_text()
     try:
-        table = pd.read_csv(written / "milling.csv")
+        table = pd.read_csv(written / "mill_feed.csv")
         row = table["milled_tonnes"].idxmax()
         table.loc[row, name] += by
-        table.to_csv(written / "milling.csv", index=False)
+        table.to_csv(written / "mill_feed.csv", index=False)
         assert "schedule amounts" in {rule.name for rule in verify(written) if rule.differences}
     finally:
-        (written / "milling.csv").write_text(kept)
+        (written / "mill_feed.csv").write_text(kept)
 
 
 @pytest.mark.parametrize(("year", "cutoff"), [(1, 17.5), (1, None), (1, 16.0), (2, 17.5)])
@@ -297,17 +299,19 @@ def test_a_cutoff_that_is_told_as_another_is_found(written, year, cutoff):
 
 
 def test_ore_that_is_reclaimed_before_it_is_stocked_is_found(written):
-    kept = {name: (written / name).read_text() for name in ("milling.csv", "schedule.csv")}
+    kept = {name: (written / name).read_text() for name in ("mill_feed.csv", "schedule.csv")}
     try:
         for name in kept:
             table = pd.read_csv(written / name)
-            late = table["reclaimed_tonnes"] > 0 if name == "milling.csv" else (table["share"] == 0)
+            late = table["reclaimed_tonnes"] > 0 if name == "mill_feed.csv" else (table["share"] == 0)
             table.loc[late, "year"] = 1
             table.to_csv(written / name, index=False)
         found = [text for rule in verify(written) for text in rule.differences]
         # Of three levels the lowest has its centre 20 m below the first, at 25 m.
-        early = pd.read_csv(written / "milling.csv").query("reclaimed_tonnes > 0")
-        places = {f"phase {row.phase}, level {(25 - row.bench) / 10:.0f}, bin {row.bin}" for row in early.itertuples()}
+        early = pd.read_csv(written / "mill_feed.csv").query("reclaimed_tonnes > 0")
+        places = {
+            f"pushback {row.pushback}, level {(25 - row.bench) / 10:.0f}, bin {row.bin}" for row in early.itertuples()
+        }
         said = {text.partition(" of ")[2] for text in found if "more is reclaimed" in text}
         assert said == {f"{place} than is stocked" for place in places} and len(said) > 0
     finally:
@@ -318,17 +322,19 @@ def test_ore_that_is_reclaimed_before_it_is_stocked_is_found(written):
 @pytest.mark.parametrize("tonnes", [1, 1_000_000])
 def test_tonnages_great_and_small_are_right_too(without_figures, tmp_path, tonnes):
     """Of a million tonnes a block the solver leaves more open than the files' last digit; of one, a tonne is reclaimed at most."""
-    text = TEXT.replace("ore_per_year = 100", f"ore_per_year = {tonnes}")
+    text = TEXT.replace("processing_capacity = 100", f"processing_capacity = {tonnes}")
     project = scheduled(tmp_path, WORDS, text, tonnes=lambda i, j, k: tonnes)
     pitplan.write_schedule(project)
-    reclaimed = pd.read_csv(project.folder / "schedule" / "milling.csv")["reclaimed_tonnes"]
+    reclaimed = pd.read_csv(project.folder / "schedule" / "mill_feed.csv")["reclaimed_tonnes"]
     assert 0 < reclaimed.sum() / tonnes <= 1 + 1e-6
     assert [rule.name for rule in verify(project.folder / "schedule") if rule.differences] == []
 
 
 def test_thousandths_of_tonnes_that_are_worth_much_are_right_too(without_figures, tmp_path):
     """A third of 100 t a block, of which a thousandth earns more than a cent."""
-    text = TEXT.replace("ore_per_year = 100", "ore_per_year = 33").replace("price = 8000", "price = 80_000_000")
+    text = TEXT.replace("processing_capacity = 100", "processing_capacity = 33").replace(
+        "price = 8000", "price = 80_000_000"
+    )
     project = scheduled(tmp_path, WORDS, text, tonnes=lambda i, j, k: 100 / 3)
     pitplan.write_schedule(project)
     assert [rule.name for rule in verify(project.folder / "schedule") if rule.differences] == []
@@ -336,13 +342,13 @@ def test_thousandths_of_tonnes_that_are_worth_much_are_right_too(without_figures
 
 def test_what_is_reclaimed_is_stocked_the_year_before_by_hand():
     """Of 10 t each of which 4 are milled at once: 6 reclaimed a year later, in the same year, and 7."""
-    place = {"phase": [2, 2, 3, 4, 4], "level": [0, 0, 5, 1, 1], "bin": [1, 1, 2, 1, 1], "year": [1, 2, 1, 1, 2]}
-    tonnes = {"dug_tonnes": [10, 0, 10, 10, 0], "milled_tonnes": [4, 0, 4, 4, 0], "reclaimed_tonnes": [0, 6, 6, 0, 7]}
+    place = {"pushback": [2, 2, 3, 4, 4], "level": [0, 0, 5, 1, 1], "bin": [1, 1, 2, 1, 1], "year": [1, 2, 1, 1, 2]}
+    tonnes = {"mined_tonnes": [10, 0, 10, 10, 0], "milled_tonnes": [4, 0, 4, 4, 0], "reclaimed_tonnes": [0, 6, 6, 0, 7]}
     table = pd.DataFrame(place | tonnes).astype({name: float for name in tonnes})
-    whole = table.groupby(["phase", "level", "bin"])[["dug_tonnes"]].sum().set_axis(["ore_tonnes"], axis=1)
+    whole = table.groupby(["pushback", "level", "bin"])[["mined_tonnes"]].sum().set_axis(["feed_tonnes"], axis=1)
     said = milling.unlike_stock(table, whole, True)
     assert said == [
-        f"milling.csv: more is reclaimed of phase {at} than is stocked"
+        f"mill_feed.csv: more is reclaimed of pushback {at} than is stocked"
         for at in ("3, level 5, bin 2", "4, level 1, bin 1")
     ]
     assert milling.unlike_stock(table, whole, False) == ["ore is reclaimed, and there is no stockpile"]
@@ -352,8 +358,8 @@ def test_what_is_reclaimed_is_stocked_the_year_before_by_hand():
     ("words", "said"),
     [
         ("bins = 0", "[schedule] bins: must be a whole number from 1 to 50"),
-        ("stockpile = { rehandling_cost = 1 }", "[schedule] stockpile: needs bins"),
-        ("bins = 2\nstockpile = { cost = 1 }", "[schedule.stockpile] rehandling_cost: is missing"),
+        ("stockpile = { reclaim_cost = 1 }", "[schedule] stockpile: needs bins"),
+        ("bins = 2\nstockpile = { cost = 1 }", "[schedule.stockpile] reclaim_cost: is missing"),
         ("bins = 2\nmilp = { seconds = 5 }", "[schedule] milp: knows no bins"),
     ],
 )

@@ -136,14 +136,14 @@ def test_faces_that_hold_something_else_are_not_kept(monkeypatch):
 
 
 def volume_dug(folder, name, number):
-    """Of the blocks of rock up to a phase or year; they have 1,000 cubic metres."""
+    """Of the blocks of rock up to a pushback or year; they have 1,000 cubic metres."""
     blocks = pd.read_csv(folder / "blocks.csv")
     return 1000.0 * int(((blocks[name] > 0) & (blocks[name] <= number)).sum())
 
 
 @pytest.mark.parametrize("kind", ["stl", "obj"])
-@pytest.mark.parametrize("name", ["phase", "year"])
-def test_each_phase_and_each_year_has_a_surface(folder, kind, name, capsys):
+@pytest.mark.parametrize("name", ["pushback", "year"])
+def test_each_pushback_and_each_year_has_a_surface(folder, kind, name, capsys):
     pytest.importorskip("vtk")
     last = int(pd.read_csv(folder / "blocks.csv")[name].max())
     words = ["--out", str(folder), "--to", kind, "--of", name, "--surface", "ground"]
@@ -177,37 +177,37 @@ def test_a_file_of_an_earlier_run_goes_and_those_of_others_stay(folder):
     assert "notes.txt" in names and "year-1.stl" in names and "year-99.stl" not in names
 
 
-def test_phases_have_closed_bodies_too(folder):
+def test_pushbacks_have_closed_bodies_too(folder):
     pytest.importorskip("vtk")
-    target = pitplan.write_export(folder, "stl", shape=Shape("phase"))
+    target = pitplan.write_export(folder, "stl", shape=Shape("pushback"))
     for number in (1, 2):
-        assert volume_of(triangles_of(target / f"phase-{number}.stl")) == pytest.approx(
-            volume_dug(folder, "phase", number)
+        assert volume_of(triangles_of(target / f"pushback-{number}.stl")) == pytest.approx(
+            volume_dug(folder, "pushback", number)
         )
     assert len(list(target.iterdir())) == 2
 
 
-def test_a_drawing_has_a_layer_a_bench_and_phase(folder):
+def test_a_drawing_has_a_layer_a_bench_and_pushback(folder):
     ezdxf = pytest.importorskip("ezdxf")
-    drawing = ezdxf.readfile(pitplan.write_export(folder, "dxf", shape=Shape("phase", "ground")))
+    drawing = ezdxf.readfile(pitplan.write_export(folder, "dxf", shape=Shape("pushback", "ground")))
     faces = {}
     for face in drawing.modelspace().query("3DFACE"):
         faces.setdefault(face.dxf.layer, []).append([list(face.dxf.vtx0), list(face.dxf.vtx1), list(face.dxf.vtx2)])
-    assert {"BEFORE_GROUND", "PHASE_1_GROUND", "PHASE_2_GROUND"} < set(faces) and not any(
+    assert {"BEFORE_GROUND", "PUSHBACK_1_GROUND", "PUSHBACK_2_GROUND"} < set(faces) and not any(
         name.startswith("BEFORE_BENCH") for name in faces
     )
     blocks = pd.read_csv(folder / "blocks.csv")
     for number in (1, 2):
-        dug = blocks[(blocks["phase"] > 0) & (blocks["phase"] <= number)]
-        layers = {f"PHASE_{number}_BENCH_{z - 5:g}" for z in dug["z"].unique()}
-        assert layers == {name for name in faces if name.startswith(f"PHASE_{number}_BENCH")}
+        dug = blocks[(blocks["pushback"] > 0) & (blocks["pushback"] <= number)]
+        layers = {f"PUSHBACK_{number}_BENCH_{z - 5:g}" for z in dug["z"].unique()}
+        assert layers == {name for name in faces if name.startswith(f"PUSHBACK_{number}_BENCH")}
         parts = [
             np.array(sum((faces[name] for name in faces if name.startswith(start)), []))
-            for start in (f"PHASE_{number}_", "BEFORE_")
+            for start in (f"PUSHBACK_{number}_", "BEFORE_")
         ]
         corner = parts[1].reshape(-1, 3).min(axis=0)
         assert prisms(parts[1] - corner) - prisms(parts[0] - corner) == pytest.approx(
-            volume_dug(folder, "phase", number)
+            volume_dug(folder, "pushback", number)
         )
         for name in layers:
             bench = np.array(faces[name])[..., 2]
@@ -219,8 +219,8 @@ def test_a_drawing_has_a_layer_a_bench_and_phase(folder):
     ("words", "said"),
     [
         (
-            ["--to", "csv", "--of", "phase"],
-            "csv holds all factors, phases and years: of one kind of them are dxf, stl, obj, gpkg, str, lines",
+            ["--to", "csv", "--of", "pushback"],
+            "csv holds all factors, pushbacks and years: of one kind of them are dxf, stl, obj, gpkg, str, lines",
         ),
         (["--to", "vtu", "--surface", "ground"], "vtu has no surface of the ground: dxf, stl, obj have"),
         (["--to", "gpkg", "--surface", "ground"], "gpkg has no surface of the ground: dxf, stl, obj have"),
@@ -232,8 +232,8 @@ def test_what_cannot_be_is_refused(folder, capsys, words, said):
     assert re.search(said, capsys.readouterr().err)
 
 
-def test_a_folder_without_phases_is_told_what_makes_them(solved):
-    for name, command in (("phase", "pushbacks"), ("year", "schedule")):
+def test_a_folder_without_pushbacks_is_told_what_makes_them(solved):
+    for name, command in (("pushback", "pushbacks"), ("year", "schedule")):
         with pytest.raises(PlanError, match=f"has no {name}s: run pitplan {command}, and name its folder by --out"):
             pitplan.write_export(solved[1], "dxf", shape=Shape(name))
 

@@ -14,9 +14,9 @@ from pitplan import PlanError
 
 pytestmark = pytest.mark.usefixtures("without_figures")
 ORE = {"cu": lambda i, j, k: {(3, 3, 1): 6, (4, 3, 1): 2.5, (3, 4, 0): 9}.get((i, j, k), 0)}
-CUT = ('region = "region"\n', 'region = "region"\ntopography = "a/ground.csv"\n')
-MINED = ("[shells]", '[fixed]\nsurface = "b/ground.csv"\n[shells]')
-VARIED = ("[slopes]\n", '[sensitivity]\nby = [0.1]\nvary = "price"\n[slopes]\n')
+CUT = ('domain = "region"\n', 'domain = "region"\ntopography = "a/ground.csv"\n')
+MINED = ("[shells]", '[constraints]\nas_mined = "b/ground.csv"\n[shells]')
+VARIED = ("[slopes]\n", '[sensitivity]\nchanges = [0.1]\nparameters = "price"\n[slopes]\n')
 
 
 def sha256(path):

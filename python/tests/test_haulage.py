@@ -18,10 +18,10 @@ MILLION = 1_000_000
 # The exit lies 30 m west and 40 m north of the middle of the column 4, 0, at 30 m.
 SECTION = """
 [haulage]
-exit = [15, 45, 30]
-gradient = 0.1
+pit_exit = [15, 45, 30]
+ramp_gradient = 0.1
 cost = { ore = 0.5, waste = 0.4 }
-beyond = { ore = 1000, waste = 200 }
+ex_pit_distance = { ore = 1000, waste = 200 }
 """
 
 
@@ -37,7 +37,7 @@ def test_roads_and_costs_by_hand(plan_folder):
     """
     plan = pitplan.prepare(hauled(plan_folder, rows(6, 2, 3, cu=lambda i, j, k: 2.0)))
     block = plan.blocks.set_index("name").loc["b4-0-1"]
-    assert (block["road"], block["haulage_cost"], block["ore_haulage_cost"]) == (250, 18, 44.5)
+    assert (block["haul_distance"], block["haulage_cost"], block["ore_haulage_cost"]) == (250, 18, 44.5)
     assert (block["mining_cost"], block["processing_cost"], block["revenue"]) == (218, 1044.5, 8000)
 
 
@@ -46,10 +46,10 @@ def test_roads_are_kept_to_a_millimetre_and_costs_are_exact(plan_folder):
 
     At 0.37 a kilometre 0.37 x 141.231 / 1000 = 0.05225547, of 100.1 t 5.230772547, kept as 5.230773.
     """
-    section = "[haulage]\nexit = [15, 45, 30]\ngradient = 0.1\ncost = 0.37\n"
+    section = "[haulage]\npit_exit = [15, 45, 30]\nramp_gradient = 0.1\ncost = 0.37\n"
     plan = pitplan.prepare(hauled(plan_folder, rows(6, 2, 3, tonnes=lambda i, j, k: 100.1), section))
     block = plan.blocks.set_index("name").loc["b0-0-2"]
-    assert block["road"] == 141.231 and block["haulage_cost"] == 5.230773
+    assert block["haul_distance"] == 141.231 and block["haulage_cost"] == 5.230773
     assert Decimal(str(block["mining_cost"])) == (Decimal("100.1") * 2 + Decimal("5.230772547")).quantize(
         Decimal("1e-6")
     )
@@ -61,17 +61,17 @@ def test_roads_are_kept_to_a_millimetre_and_costs_are_exact(plan_folder):
 
 def test_a_road_is_rounded_once_and_verified(plan_folder, without_figures):
     """28.284271 m in plan and a ramp of 40 / 0.12 = 333.333333 m are 361.617604 m: 361.618, where each part alone would be cut down."""
-    section = "[haulage]\nexit = [25, 25, 40]\ngradient = 0.12\ncost = 0.12\n"
+    section = "[haulage]\npit_exit = [25, 25, 40]\nramp_gradient = 0.12\ncost = 0.12\n"
     path = hauled(plan_folder, rows(6, 4, 4, cu=lambda i, j, k: 4.0), section)
     pitplan.write_shells(path)
-    assert pitplan.prepare(path).blocks.set_index("name").loc["b0-0-0", "road"] == 361.618
+    assert pitplan.prepare(path).blocks.set_index("name").loc["b0-0-0", "haul_distance"] == 361.618
 
 
 def test_blocks_above_the_exit_have_a_ramp_down(plan_folder):
     """The exit at -5 m, below all floors: the top level's floor is 25 m above it, its ramp 250 m."""
-    section = "[haulage]\nexit = [5, 5, -5]\ngradient = 0.1\ncost = 1\n"
+    section = "[haulage]\npit_exit = [5, 5, -5]\nramp_gradient = 0.1\ncost = 1\n"
     plan = pitplan.prepare(hauled(plan_folder, rows(3, 2, 3), section))
-    assert plan.blocks.set_index("name")["road"][["b0-0-2", "b0-0-1", "b0-0-0", "b1-0-0"]].tolist() == [
+    assert plan.blocks.set_index("name")["haul_distance"][["b0-0-2", "b0-0-1", "b0-0-0", "b1-0-0"]].tolist() == [
         250,
         150,
         50,
@@ -103,7 +103,12 @@ def test_an_answer_is_verified_and_a_wrong_road_is_found(plan_folder):
     folder = path.parent / "plan"
     assert [rule.name for rule in verification.verify(folder) if rule.name == "haulage"] == ["haulage"]
     blocks = pd.read_csv(folder / "blocks.csv")
-    for column, by in (("road", 0.002), ("haulage_cost", 0.01), ("ore_haulage_cost", 0.01), ("mining_cost", 0.01)):
+    for column, by in (
+        ("haul_distance", 0.002),
+        ("haulage_cost", 0.01),
+        ("ore_haulage_cost", 0.01),
+        ("mining_cost", 0.01),
+    ):
         blocks.assign(**{column: blocks[column] + by * (blocks.index == 7)}).to_csv(folder / "blocks.csv", index=False)
         differences = [said for rule in verification.verify(folder) for said in rule.differences]
         assert any(column in said for said in differences)
@@ -121,36 +126,36 @@ def test_the_exit_of_a_turned_model_is_the_planners(plan_folder):
         pitplan.write_shells(path)
         found.append(pd.read_csv(path.parent / "plan" / "blocks.csv").set_index("name"))
     assert found[0]["revenue_factor"].nunique() > 2
-    assert np.abs(found[1]["road"] - found[0]["road"]).max() <= 0.0011
+    assert np.abs(found[1]["haul_distance"] - found[0]["haul_distance"]).max() <= 0.0011
     assert (found[1]["revenue_factor"] == found[0]["revenue_factor"]).all()
 
 
 @pytest.mark.usefixtures("without_figures")
 def test_sensitivity_to_haulage(plan_folder):
     """A tenth more a kilometre is a tenth more of all haulage, of what is dug and what is milled in the kept pit."""
-    section = SECTION + '[sensitivity]\nby = [0.1]\nvary = ["haulage"]\n'
-    path = hauled(plan_folder, ore_hill(), section, ("rate = 0.1", "rate = 0.1\nselected = 1.0"))
-    table = pitplan.write_sensitivity(path, path.parent / "hang").set_index("number")
+    section = SECTION + '[sensitivity]\nchanges = [0.1]\nparameters = ["haulage"]\n'
+    path = hauled(plan_folder, ore_hill(), section, ("discount_rate = 0.1", "discount_rate = 0.1\nselected = 1.0"))
+    table = pitplan.write_sensitivity(path, path.parent / "hang").set_index("parameter")
     plan = pitplan.prepare(path)
     entry = pitplan.solve(plan).entry[: plan.grid.count]
     dug = (entry > 0) & (entry <= 1.0)
     cost = plan.values.hauled.waste[dug].sum() + plan.values.hauled.ore_more[dug & plan.values.pays].sum()
-    lost = table["kept_worth"].iloc[0] - table.loc["haulage", "kept_worth"]
+    lost = table["kept_undiscounted_cash_flow"].iloc[0] - table.loc["haulage", "kept_undiscounted_cash_flow"]
     assert cost > 0 and lost == pytest.approx(0.1 * cost / MILLION, rel=1e-6)
 
 
 def test_scenarios_haul_too(plan_folder, tmp_path):
     """Of a model that is turned, at coordinates of seven digits."""
-    (tmp_path / "models").mkdir()
+    (tmp_path / "realisations").mkdir()
     table = turned(ore_hill(), 30)
-    table[["x", "y", "z", "cu"]].to_csv(tmp_path / "models" / "a.csv", index=False)
+    table[["x", "y", "z", "cu"]].to_csv(tmp_path / "realisations" / "a.csv", index=False)
     section = SECTION.replace("[15, 45, 30]", "[600035, 6500031, 30]")
-    path = hauled(plan_folder, table, section + '[scenarios]\nmodels = "models"\n')
+    path = hauled(plan_folder, table, section + '[scenarios]\nrealisations = "realisations"\n')
     assert main(["scenarios", str(path), "--out", str(tmp_path / "many"), "--workers", "1", "--quiet"]) == 0
     likely, plan = pd.read_csv(tmp_path / "many" / "probability.csv"), pitplan.prepare(path)
     assert likely[["x", "y", "z"]].to_numpy().tolist() == plan.blocks[["x", "y", "z"]].to_numpy().tolist()
-    told = pd.read_csv(tmp_path / "many" / "scenarios.csv").set_index("revenue_factor")["worth"]
-    shells = pitplan.shells(plan, pitplan.solve(plan)).set_index("revenue_factor")["worth"]
+    told = pd.read_csv(tmp_path / "many" / "scenarios.csv").set_index("revenue_factor")["undiscounted_cash_flow"]
+    shells = pitplan.shells(plan, pitplan.solve(plan)).set_index("revenue_factor")["undiscounted_cash_flow"]
     assert told.tolist() == pytest.approx(shells.tolist()) and json.loads(
         (tmp_path / "many" / "scenarios.json").read_text()
     )
@@ -159,20 +164,24 @@ def test_scenarios_haul_too(plan_folder, tmp_path):
 @pytest.mark.parametrize(
     ("old", "new", "said"),
     [
-        ("exit = [15, 45, 30]", "exit = [15, 45]", r"\[haulage\] exit: must be a list of 3 numbers, x, y and z"),
         (
-            "exit = [15, 45, 30]",
-            "exit = [1e10, 45, 30]",
-            r"\[haulage\] exit: 1E\+10 is no coordinate in metres: it is beyond 1,000,000,000",
+            "pit_exit = [15, 45, 30]",
+            "pit_exit = [15, 45]",
+            r"\[haulage\] pit_exit: must be a list of 3 numbers, x, y and z",
         ),
         (
-            "gradient = 0.1",
-            "gradient = 10",
-            r"\[haulage\] gradient: 10 is no rise for a metre in plan from above 0 to 0.5, such as 0.1",
+            "pit_exit = [15, 45, 30]",
+            "pit_exit = [1e10, 45, 30]",
+            r"\[haulage\] pit_exit: 1E\+10 is no coordinate in metres: it is beyond 1,000,000,000",
+        ),
+        (
+            "ramp_gradient = 0.1",
+            "ramp_gradient = 10",
+            r"\[haulage\] ramp_gradient: found 10, expected above 0 and at most 0.5 \(0.1 = 10 %\)",
         ),
         ("waste = 0.4 }", "waste = -0.4 }", r"\[haulage.cost\] waste: -0.4 is below 0"),
         ("waste = 0.4 }", "dump = 0.4 }", r"\[haulage.cost\] waste: is missing"),
-        ("gradient = 0.1", "gradient = 0.1\nroute = 3", r"\[haulage\] route: is no key here"),
+        ("ramp_gradient = 0.1", "ramp_gradient = 0.1\nroute = 3", r"\[haulage\] route: is no key here"),
         ("cost = { ore = 0.5, waste = 0.4 }", "", r"\[haulage\] cost: is missing"),
     ],
 )
@@ -192,4 +201,4 @@ def test_ore_that_costs_less_than_nothing_to_mill_is_refused(plan_folder):
 
 def test_a_sensitivity_to_no_haulage_is_refused(plan_folder):
     with pytest.raises(PlanError, match=r"\[sensitivity\] varies haulage, and there is no section \[haulage\]"):
-        load(plan_folder(rows(2, 2, 2), PROJECT + '[sensitivity]\nvary = ["haulage"]\n'))
+        load(plan_folder(rows(2, 2, 2), PROJECT + '[sensitivity]\nparameters = ["haulage"]\n'))

@@ -65,7 +65,7 @@ def test_increments_a_density_and_decimal_commas(tmp_path):
     exported(tmp_path / "m.csv", DATAMINE, ";", ",", **more)
     assert main(["init", str(tmp_path / "m.csv")]) == 0
     _, project = said(tmp_path / "project.toml")
-    assert (project.table.x, project.table.density, project.table.volume, project.table.rock) == (
+    assert (project.table.x, project.table.density, project.table.volume, project.table.rock_type) == (
         "XC",
         "DENSITY",
         None,
@@ -87,8 +87,8 @@ def test_grams_a_tonne_and_regions(tmp_path):
         "gram_per_tonne",
         Decimal("0.009"),
     )
-    assert [wall.regions for wall in project.slopes.walls] == [("NE",), ("SW",)]
-    assert project.table.region == "slope_region" and project.table.tonnes == "tonnage"
+    assert [wall.domains for wall in project.slopes.domains] == [("NE",), ("SW",)]
+    assert project.table.domain == "slope_region" and project.table.tonnes == "tonnage"
 
 
 def test_semicolons_do_not_make_decimals_of_commas(tmp_path):
@@ -111,7 +111,7 @@ def test_ids_and_letters_of_windows(tmp_path):
     exported(tmp_path / "m.csv", DESWIK, encoding="cp1252")
     wizard.write(tmp_path / "m.csv", tmp_path / "project.toml")
     _, project = said(tmp_path / "project.toml")
-    assert (project.table.id, project.table.encoding, project.table.rock) == ("Block ID", "cp1252", None)
+    assert (project.table.id, project.table.encoding, project.table.rock_type) == ("Block ID", "cp1252", None)
     assert (project.table.x, project.table.y, project.table.z) == ("Easting", "Northing", "RL")
 
 
@@ -236,7 +236,7 @@ def test_ore_a_year_is_by_taylors_rule(tmp_path):
     table = rows(8, 8, 4, cu=lambda i, j, k: 0.16 if k == 1 else 0.15, tonnes=lambda i, j, k: 250_000)
     table.to_csv(tmp_path / "m.csv", index=False)
     wizard.write(tmp_path / "m.csv", tmp_path / "project.toml")
-    assert load(tmp_path / "project.toml").schedule.ore_per_year == 1_300_000
+    assert load(tmp_path / "project.toml").schedule.processing_capacity == 1_300_000
 
 
 def test_sub_blocks_and_empty_grades_are_told(tmp_path):

@@ -11,9 +11,9 @@ from conftest import rows
 from hypothesis import given, settings, strategies as st
 from scipy.sparse import csr_matrix
 from test_linear_programme import integer_optimum, limits, small
-from test_pushbacks import pillars, with_phases
+from test_pushbacks import pillars, with_pushbacks
 from test_sequencing import THREE, benches_of, demand_diggable, problem_of, random_benches
-from test_yearly_schedule import PHASES
+from test_yearly_schedule import PUSHBACKS
 
 import pitplan
 from pitplan import PlanError, load
@@ -39,7 +39,7 @@ def test_it_is_the_best_schedule_of_all(in_this_process, pit, limits, lag):
     """Made of the programme's own unknowns, without the help of orders."""
     benches, years = random_benches(pit, lag), 5
     shares, bound = bench_milp.best_diggable(problem_of(benches, limits), years, Effort(0.0, 60.0))
-    best, slack = integer_optimum(benches, limits, years), 2e-6 * max(1.0, np.abs(benches.of("cash")).sum())
+    best, slack = integer_optimum(benches, limits, years), 2e-6 * max(1.0, np.abs(benches.of("cash_flow")).sum())
     assert shares is not None
     demand_diggable(benches, limits, shares)
     assert problem_of(benches, limits).value(shares) == pytest.approx(best, abs=slack) and bound == pytest.approx(
@@ -59,20 +59,20 @@ def test_it_is_the_best_schedule_of_all(in_this_process, pit, limits, lag):
     ],
 )
 def test_what_keeps_to_the_rules_by_hand(shares, is_kept):
-    problem = problem_of(benches_of(*THREE), Limits({"ore_tonnes": 100, "rock_tonnes": 200}))
+    problem = problem_of(benches_of(*THREE), Limits({"feed_tonnes": 100, "total_tonnes": 200}))
     assert bench_milp.keeps(problem, np.array(shares, dtype=float)) == is_kept
 
 
-def test_a_phase_that_sinks_too_fast_does_not_keep_to_the_rules():
-    problem = problem_of(benches_of(*THREE), Limits({"ore_tonnes": 1000}, sinking_rate=1.5))
+def test_a_pushback_that_sinks_too_fast_does_not_keep_to_the_rules():
+    problem = problem_of(benches_of(*THREE), Limits({"feed_tonnes": 1000}, vertical_advance_rate=1.5))
     assert bench_milp.keeps(problem, np.array([[1, 0], [0.5, 0.5], [1, 0]]))
     assert not bench_milp.keeps(problem, np.array([[1, 0], [0.6, 0.4], [1, 0]]))
 
 
-def test_phases_sink_each_by_itself():
-    """Of three phases each digs its one bench in the same year."""
-    benches = benches_of(*((phase, 0, 100, 100, 500) for phase in (1, 2, 3)))
-    problem = problem_of(benches, Limits({"ore_tonnes": 1000}, sinking_rate=1.5))
+def test_pushbacks_sink_each_by_itself():
+    """Of three pushbacks each digs its one bench in the same year."""
+    benches = benches_of(*((pushback, 0, 100, 100, 500) for pushback in (1, 2, 3)))
+    problem = problem_of(benches, Limits({"feed_tonnes": 1000}, vertical_advance_rate=1.5))
     assert bench_milp.keeps(problem, np.ones((3, 1)))
 
 
@@ -93,21 +93,21 @@ def test_a_programme_that_goes_on_when_its_time_is_up_is_ended(monkeypatch, tmp_
     monkeypatch.setattr(bench_milp, "LATE", 0.5)
     monkeypatch.setattr(bench_milp, "solve", highs_process.solve)
     began = time.monotonic()
-    problem = problem_of(benches_of(*THREE), Limits({"ore_tonnes": 100, "rock_tonnes": 200}))
+    problem = problem_of(benches_of(*THREE), Limits({"feed_tonnes": 100, "total_tonnes": 200}))
     assert bench_milp.best_diggable(problem, 3, Effort(0.0, 0.25)) == (None, np.inf)
     assert 1.0 <= time.monotonic() - began < 20
 
 
 def test_it_is_written_as_a_way_of_its_own(plan_folder):
-    project = load(plan_folder(pillars(), PHASES + "[schedule]\nmilp = { gap = 0.001, seconds = 60 }\n"))
-    table = pitplan.write_schedule(project).set_index("way")
+    project = load(plan_folder(pillars(), PUSHBACKS + "[schedule]\nmilp = { gap = 0.001, seconds = 60 }\n"))
+    table = pitplan.write_schedule(project).set_index("method")
     value = 2600 / 1.1 + 1400 / 1.21 + 600 / 1.331
-    assert table.index.tolist() == ["rule", "lp", "milp"] and table["value"]["milp"] == pytest.approx(value, rel=1e-4)
+    assert table.index.tolist() == ["rule", "lp", "milp"] and table["npv"]["milp"] == pytest.approx(value, rel=1e-4)
     folder = project.folder / "schedule"
     told = json.loads((folder / "schedule.json").read_text())
-    assert told["milp_bound"] == pytest.approx(value, rel=1.1e-3) and set(
+    assert told["milp_upper_bound"] == pytest.approx(value, rel=1.1e-3) and set(
         pd.read_csv(folder / "years.csv")["case"]
-    ) == {"best", "worst", *told["ways"]}
+    ) == {"best", "worst", *told["methods"]}
     assert [rule.name for rule in verify(folder) if rule.differences] == []
     notes = read_record(folder)["notes"]
     assert any("upper bound of the integer programme, for the same schedules" in note for note in notes)
@@ -116,13 +116,13 @@ def test_it_is_written_as_a_way_of_its_own(plan_folder):
 @pytest.mark.usefixtures("without_figures")
 def test_where_none_is_found_in_time_the_others_stand(plan_folder, monkeypatch):
     monkeypatch.setattr(bench_milp, "solve", lambda programme, effort, patience: highs.Optimum(None, np.inf))
-    project = load(plan_folder(pillars(), PHASES + "[schedule]\nmilp = { seconds = 1 }\n"))
-    assert pitplan.write_schedule(project)["way"].tolist() == ["rule", "lp"]
+    project = load(plan_folder(pillars(), PUSHBACKS + "[schedule]\nmilp = { seconds = 1 }\n"))
+    assert pitplan.write_schedule(project)["method"].tolist() == ["rule", "lp"]
     assert (
         "WARNING: the integer programme found no schedule in its time"
         in read_record(project.folder / "schedule")["notes"]
     )
-    assert json.loads((project.folder / "schedule" / "schedule.json").read_text())["milp_bound"] is None
+    assert json.loads((project.folder / "schedule" / "schedule.json").read_text())["milp_upper_bound"] is None
 
 
 @pytest.mark.parametrize(
@@ -136,5 +136,5 @@ def test_where_none_is_found_in_time_the_others_stand(plan_folder, monkeypatch):
 )
 def test_what_is_refused(plan_folder, words, said):
     with pytest.raises(PlanError) as error:
-        load(plan_folder(rows(2, 2, 2), with_phases("count = 2") + f"[schedule]\n{words}\n"))
+        load(plan_folder(rows(2, 2, 2), with_pushbacks("count = 2") + f"[schedule]\n{words}\n"))
     assert said in str(error.value)

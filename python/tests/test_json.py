@@ -11,12 +11,12 @@ from pitplan.cli import main
 MORE = """[pushbacks]
 count = 2
 [schedule]
-rock_per_year = 3000
-[fixed]
-forced = "must"
+mining_capacity = 3000
+[constraints]
+must_mine = "must"
 [sensitivity]
-by = [-0.1, 0.1]
-vary = ["price"]
+changes = [-0.1, 0.1]
+parameters = ["price"]
 """
 
 
@@ -32,8 +32,8 @@ def path(plan_folder):
     [
         ("shells", "shells.csv", "report.html"),
         ("pit", "pits.csv", "pits.csv"),
-        ("pushbacks", "phases.csv", "report.html"),
-        ("schedule", "ways.csv", "report.html"),
+        ("pushbacks", "pushbacks.csv", "report.html"),
+        ("schedule", "methods.csv", "report.html"),
         ("sensitivity", "sensitivity.csv", "sensitivity.csv"),
     ],
 )

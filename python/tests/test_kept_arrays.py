@@ -84,7 +84,7 @@ def test_grades_that_have_changed_are_refused(plan_folder):
 
 
 def test_a_case_of_another_change_is_refused(plan_folder):
-    text = PROJECT + '[sensitivity]\nvary = ["price"]\nby = [0.1]\n'
+    text = PROJECT + '[sensitivity]\nparameters = ["price"]\nchanges = [0.1]\n'
     table = pillar().drop(columns=["sim_1", "sim_2", "sim_3"]).assign(cu=[1.5, 0, 0])
     path = plan_folder(table, text, UPRIGHT)
     cases.solve(load(path), path.parent, None)

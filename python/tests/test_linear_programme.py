@@ -27,7 +27,7 @@ def solved(benches, limits, years):
 def test_three_benches_by_hand():
     """Shovels take two benches a year and the mill one. The waste is dug with the rich ore under it, and then the poor ore."""
     benches = benches_of(*THREE)
-    optimum, shares = solved(benches, Limits({"ore_tonnes": 100, "rock_tonnes": 200}), 3)
+    optimum, shares = solved(benches, Limits({"feed_tonnes": 100, "total_tonnes": 200}), 3)
     assert optimum.bound == pytest.approx(800 / 1.1 + 500 / 1.21) and optimum.cash == pytest.approx([800, 500, 0])
     assert shares.tolist() == [[1, 0], [1, 0], [0, 1]]
 
@@ -39,9 +39,9 @@ def test_the_bound_digs_parts_of_benches_together():
     and a half, half of each ore may come in the first year, and for these the bound digs half of the waste, where a schedule digs it whole.
     """
     benches = benches_of((1, 0, 200, 0, -200), (1, 1, 100, 100, 900), (2, 0, 100, 100, 100))
-    optimum, shares = solved(benches, Limits({"ore_tonnes": 1e6, "rock_tonnes": 200}), 2)
+    optimum, shares = solved(benches, Limits({"feed_tonnes": 1e6, "total_tonnes": 200}), 2)
     assert optimum.bound == pytest.approx(-200 / 1.1 + 1000 / 1.21) and shares.tolist() == [[1, 0], [0, 1], [0, 1]]
-    optimum, shares = solved(benches, Limits({"ore_tonnes": 1e6, "rock_tonnes": 250}), 2)
+    optimum, shares = solved(benches, Limits({"feed_tonnes": 1e6, "total_tonnes": 250}), 2)
     assert optimum.bound == pytest.approx(400 / 1.1 + 400 / 1.21)
     assert problem_of(benches, Limits({})).value(shares) == pytest.approx((450 - 200) / 1.1 + 550 / 1.21)
 
@@ -50,15 +50,15 @@ def test_what_does_not_pay_is_left():
     """Waste that costs 100 over ore that yields 105 pays only if both are dug in one year. The bound digs halves of both in each of two
     years, but in the first, which the waste fills."""
     benches = benches_of((1, 0, 100, 0, -100), (1, 1, 100, 100, 105))
-    optimum, shares = solved(benches, Limits({"ore_tonnes": 100, "rock_tonnes": 100}), 3)
+    optimum, shares = solved(benches, Limits({"feed_tonnes": 100, "total_tonnes": 100}), 3)
     assert optimum.bound == pytest.approx(2.5 / 1.21 + 2.5 / 1.331) and shares.shape == (2, 0)
-    optimum, shares = solved(benches, Limits({"ore_tonnes": 100}), 3)
+    optimum, shares = solved(benches, Limits({"feed_tonnes": 100}), 3)
     assert optimum.bound == pytest.approx(5 / 1.1) and shares.tolist() == [[1], [1]]
 
 
 def test_a_mill_that_stands_still_in_all_years():
     """Nothing is dug, since waste alone costs."""
-    optimum, shares = solved(benches_of(*THREE), Limits({"ore_tonnes": 100}, (0.0, 0.0, 1.0)), 2)
+    optimum, shares = solved(benches_of(*THREE), Limits({"feed_tonnes": 100}, (0.0, 0.0, 1.0)), 2)
     assert optimum.bound == pytest.approx(0) and shares.shape == (3, 0)
 
 
@@ -72,9 +72,9 @@ def statement(benches, limits, years):
         [
             other
             for other in range(count)
-            if (benches.phase[other] == benches.phase[bench] and benches.level[other] < benches.level[bench])
+            if (benches.pushback[other] == benches.pushback[bench] and benches.level[other] < benches.level[bench])
             or (
-                benches.phase[other] < benches.phase[bench]
+                benches.pushback[other] < benches.pushback[bench]
                 and benches.level[other] <= benches.level[bench] + benches.lag
             )
         ]
@@ -84,11 +84,13 @@ def statement(benches, limits, years):
     for bench in range(count):
         before[bench] = sorted(set(before[bench]).union(*(before[other] for other in before[bench])))
     gain = {
-        (bench, year): benches.of("cash")[bench] / 1.1 ** (year + 1) for bench in range(count) for year in range(years)
+        (bench, year): benches.of("cash_flow")[bench] / 1.1 ** (year + 1)
+        for bench in range(count)
+        for year in range(years)
     }
     ramp_up = [limits.ramp_up[min(year, len(limits.ramp_up) - 1)] for year in range(years)]
     most = [
-        {name: amount * (ramp if name == "ore_tonnes" else 1) for name, amount in limits.most.items()}
+        {name: amount * (ramp if name == "feed_tonnes" else 1) for name, amount in limits.most.items()}
         for ramp in ramp_up
     ]
     rows = [({(bench, year): 1.0 for year in range(years)}, 1.0) for bench in range(count)]
@@ -97,9 +99,12 @@ def statement(benches, limits, years):
             ({(bench, year): benches.of(name)[bench] for bench in range(count)}, most[year][name])
             for name in limits.most
         ]
-        for phase in set(benches.phase.tolist()) if np.isfinite(limits.sinking_rate) else ():
+        for pushback in set(benches.pushback.tolist()) if np.isfinite(limits.vertical_advance_rate) else ():
             rows.append(
-                ({(bench, year): 1.0 for bench in range(count) if benches.phase[bench] == phase}, limits.sinking_rate)
+                (
+                    {(bench, year): 1.0 for bench in range(count) if benches.pushback[bench] == pushback},
+                    limits.vertical_advance_rate,
+                )
             )
         for bench in range(count):
             for other in before[bench]:
@@ -115,10 +120,13 @@ def statement(benches, limits, years):
                 rows.append(
                     ({(bench, t): 1.0 for t in range(year + 1)}, max(0.0, room / own) if own else float(room >= 0))
                 )
-            if np.isfinite(limits.sinking_rate):
-                above = sum(benches.phase[other] == benches.phase[bench] for other in before[bench])
+            if np.isfinite(limits.vertical_advance_rate):
+                above = sum(benches.pushback[other] == benches.pushback[bench] for other in before[bench])
                 rows.append(
-                    ({(bench, t): 1.0 for t in range(year + 1)}, max(0.0, limits.sinking_rate * (year + 1) - above))
+                    (
+                        {(bench, t): 1.0 for t in range(year + 1)},
+                        max(0.0, limits.vertical_advance_rate * (year + 1) - above),
+                    )
                 )
     return gain, rows, before
 
@@ -157,7 +165,7 @@ def integer_optimum(benches, limits, years):
 
 small = st.lists(st.tuples(st.integers(0, 1), st.lists(amounts, min_size=1, max_size=3)), min_size=1, max_size=2)
 limits = st.builds(
-    lambda ore, rock, sinking, ramp_up: Limits({"ore_tonnes": ore, "rock_tonnes": rock}, ramp_up, sinking),
+    lambda ore, rock, sinking, ramp_up: Limits({"feed_tonnes": ore, "total_tonnes": rock}, ramp_up, sinking),
     st.sampled_from([40.0, 110.0]),
     st.sampled_from([70.0, 200.0, 1e6]),
     st.sampled_from([0.7, 1.5, np.inf]),
@@ -174,7 +182,7 @@ def test_rule_and_programme_are_at_most_the_best_schedule_and_this_at_most_the_b
     problem = problem_of(benches, limits)
     rule, _ = by_rule(problem, years)
     best, value = integer_optimum(benches, limits, years), problem.value(shares)
-    slack = 2e-6 * max(1.0, np.abs(benches.of("cash")).sum())
+    slack = 2e-6 * max(1.0, np.abs(benches.of("cash_flow")).sum())
     assert problem.value(rule) <= value + slack
     assert value <= best + slack and best <= optimum.bound + slack
     # To dig nothing at all earns nothing.
@@ -202,16 +210,16 @@ def test_the_bound_is_that_of_another_solver(pit, limits, lag):
 
 
 def test_orders_have_what_the_optimum_digs_by_its_last_year():
-    """The ore comes in the last year, and the second phase is left; each order has the waste before its ore."""
+    """The ore comes in the last year, and the second pushback is left; each order has the waste before its ore."""
     benches = benches_of(*THREE)
-    optimum = bench_lp.Relaxed(np.array([[1.0, 1], [0, 1], [0, 0]]), 0.0, benches.of("cash"))
+    optimum = bench_lp.Relaxed(np.array([[1.0, 1], [0, 1], [0, 0]]), 0.0, benches.of("cash_flow"))
     orders = [sequence.order.tolist() for sequence in bench_lp.sequences(optimum, benches)]
     assert len(orders) > 3 and all(order == [0, 1] for order in orders)
 
 
 def test_solved_in_a_process_of_its_own_the_same(monkeypatch):
     monkeypatch.setattr(highs_process, "FEW", 0)
-    benches, limits = benches_of(*THREE), Limits({"ore_tonnes": 100, "rock_tonnes": 200})
+    benches, limits = benches_of(*THREE), Limits({"feed_tonnes": 100, "total_tonnes": 200})
     assert bench_lp.relaxed(problem_of(benches, limits), 3).bound == pytest.approx(800 / 1.1 + 500 / 1.21)
 
 
@@ -228,7 +236,7 @@ def test_an_interruption_ends_a_process_of_its_own(monkeypatch):
     monkeypatch.setattr(highs_process.subprocess, "Popen", sleep)
     started = time.monotonic()
     with pytest.raises(KeyboardInterrupt):
-        bench_lp.relaxed(problem_of(benches_of(*THREE), Limits({"ore_tonnes": 100})), 3)
+        bench_lp.relaxed(problem_of(benches_of(*THREE), Limits({"feed_tonnes": 100})), 3)
     assert time.monotonic() - started < 30 and begun[0].wait(5) != 0
 
 
@@ -241,7 +249,7 @@ def test_a_process_that_is_late_is_ended(monkeypatch):
 
     monkeypatch.setattr(highs_process, "FEW", 0)
     monkeypatch.setattr(highs_process.subprocess, "Popen", sleep)
-    programme, _ = bench_lp.programme_of(problem_of(benches_of(*THREE), Limits({"ore_tonnes": 100})), 3)
+    programme, _ = bench_lp.programme_of(problem_of(benches_of(*THREE), Limits({"feed_tonnes": 100})), 3)
     found = highs_process.solve(programme, patience=0.3)
     assert found.unknowns is None and found.bound == np.inf and begun[0].wait(5) != 0
 

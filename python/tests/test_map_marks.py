@@ -138,10 +138,10 @@ def test_a_picture_of_two_maps_has_no_empty_frames():
     assert len(axes) == 3 and [ax.axison for ax in figure.axes] == [True, True, True, False]
 
 
-def phase_scene(rules=PictureRules()):
-    """The scene's pit in two phases, the second of which is the block below."""
+def pushback_scene(rules=PictureRules()):
+    """The scene's pit in two pushbacks, the second of which is the block below."""
     cube = scene().factor
-    return pushbacks.PhaseScene(
+    return pushbacks.PushbackScene(
         grid(), np.where(cube == 500, 1, np.where(cube == 1000, 2, 0)), np.ones(cube.shape, dtype=bool), 2, rules
     )
 
@@ -160,9 +160,10 @@ def likely(rules=PictureRules()):
 
 
 @pytest.mark.parametrize(
-    "plot", [lambda axes: pushbacks.plot_plans(phase_scene(), axes), lambda axes: scenarios.plot_plans(likely(), axes)]
+    "plot",
+    [lambda axes: pushbacks.plot_plans(pushback_scene(), axes), lambda axes: scenarios.plot_plans(likely(), axes)],
 )
-def test_plans_of_phases_and_of_scenarios_are_maps_too(plot):
+def test_plans_of_pushbacks_and_of_scenarios_are_maps_too(plot):
     """Each with the north and a scale; the first with the lines of the sections that the other picture shows."""
     found = plot(Figure().subplots(2, 2))
     for ax in found:
@@ -176,9 +177,9 @@ def test_plans_of_phases_and_of_scenarios_are_maps_too(plot):
     ]
 
 
-def test_sections_of_phases_and_of_scenarios_go_along_these_lines():
+def test_sections_of_pushbacks_and_of_scenarios_go_along_these_lines():
     for found in (
-        pushbacks.plot_sections(phase_scene(), Figure().subplots(2)),
+        pushbacks.plot_sections(pushback_scene(), Figure().subplots(2)),
         scenarios.plot_sections(likely(), Figure().subplots(2)),
     ):
         titles = [ax.get_title(loc="left") or ax.get_title() for ax in found]
@@ -187,8 +188,8 @@ def test_sections_of_phases_and_of_scenarios_go_along_these_lines():
         )
 
 
-@pytest.mark.parametrize(("module", "scene_of"), [(pushbacks, phase_scene), (scenarios, likely)])
-def test_plans_and_sections_of_phases_and_of_scenarios_are_those_asked_for(module, scene_of, tmp_path):
+@pytest.mark.parametrize(("module", "scene_of"), [(pushbacks, pushback_scene), (scenarios, likely)])
+def test_plans_and_sections_of_pushbacks_and_of_scenarios_are_those_asked_for(module, scene_of, tmp_path):
     """Of four levels the second and the last; row 0 has its middle at 6,512,010 m and column 5 at 430,137.5."""
     asked = scene_of(PictureRules(levels=(90.0, 60.0), north=6_512_015.0, east=430_149.0))
     found = module.plot_plans(asked, Figure().subplots(3))
@@ -202,10 +203,12 @@ def test_plans_and_sections_of_phases_and_of_scenarios_are_those_asked_for(modul
     assert (tmp_path / "plans.png").stat().st_size > 5_000
 
 
-def test_phases_at_the_surface_have_contours_of_the_last_floor():
-    """Dotted, beside the two lines round phases: nine columns are dug to 90 m or deeper, and one of them to 80."""
-    axes = drawn(lambda ax: pushbacks.plot_surface(phase_scene(), ax))
-    assert (axes.get_title(loc="left") or axes.get_title()) == "Phases at the surface, contours of the floor each 10 m"
+def test_pushbacks_at_the_surface_have_contours_of_the_last_floor():
+    """Dotted, beside the two lines round pushbacks: nine columns are dug to 90 m or deeper, and one of them to 80."""
+    axes = drawn(lambda ax: pushbacks.plot_surface(pushback_scene(), ax))
+    assert (
+        axes.get_title(loc="left") or axes.get_title()
+    ) == "Pushbacks at the surface, contours of the floor each 10 m"
     dotted = [lines for lines in axes.collections if lines.get_linestyle()[0][1] is not None]
     assert [len(lines.get_segments()) for lines in dotted] == [12, 4] and len(axes.collections) == 4
     assert {"90", "80"} <= {text.get_text() for text in axes.texts}
@@ -215,7 +218,7 @@ def test_phases_at_the_surface_have_contours_of_the_last_floor():
 def project(plan_folder):
     def write(words):
         table = rows(5, 5, 3, cu=lambda i, j, k: 6 if (i, j, k) == (2, 2, 1) else 0, au=lambda i, j, k: i + 1)
-        return plan_folder(table, f"{PROJECT}\n[pictures]\n{words}\n", ("[slopes]\n", METALS))
+        return plan_folder(table, f"{PROJECT}\n[figures]\n{words}\n", ("[slopes]\n", METALS))
 
     return write
 
@@ -247,7 +250,7 @@ def test_pictures_are_written_as_pdf_and_svg_too_the_same_each_time(project):
     ]
 
 
-def test_phases_are_drawn_where_the_project_asks_for(project, monkeypatch):
+def test_pushbacks_are_drawn_where_the_project_asks_for(project, monkeypatch):
     shown = []
     for name in ("write_plans", "write_sections"):
         monkeypatch.setattr(pushbacks, name, lambda scene, path: (shown.append(scene), path.touch()))
@@ -265,7 +268,7 @@ def test_without_a_word_pictures_are_png_alone(solved):
 @pytest.mark.parametrize(
     ("words", "said"),
     [
-        ("levels = []", "[pictures] levels: must be a list of one to 7 elevations in metres"),
+        ("levels = []", "[figures] levels: must be a list of one to 7 elevations in metres"),
         ("levels = [1, 2, 3, 4, 5, 6, 7, 8]", "levels: must be a list of one to 7"),
         ("levels = 5", "levels: must be a list of one to 7"),
         ('levels = ["top"]', "levels: 'top' is not a number"),
@@ -283,7 +286,7 @@ def test_what_is_refused(project, words, said):
 @pytest.mark.parametrize(
     ("words", "said"),
     [
-        ("levels = [5, 30.5]", r"\[pictures\] levels: 30.5 is beyond the model, from 0 to 30 m"),
+        ("levels = [5, 30.5]", r"\[figures\] levels: 30.5 is beyond the model, from 0 to 30 m"),
         ("north = -0.1", "north: -0.1 is beyond the model, from 0 to 50 m"),
         ("east = 50.1", "east: 50.1 is beyond the model, from 0 to 50 m"),
     ],

@@ -47,7 +47,7 @@ def test_nothing_is_said_of_what_the_project_does_not_name(plan_folder):
 def test_by_rock_and_by_region(plan_folder):
     """Rock R loses a tenth, S nothing; of region 1 a fifth comes with it, of 2 nothing. Half of 0.5 t of copper a block, at 8000."""
     table = rows(2, 2, 1, cu=lambda i, j, k: 1, rock=lambda i, j, k: "RS"[i], region=lambda i, j, k: "12"[j])
-    text = "mining_cost = 2\nmining_recovery = { R = 0.9, S = 1 }\ndilution = { region = { 1 = 0.2, 2 = 0 } }\n"
+    text = "mining_cost = 2\nmining_recovery = { R = 0.9, S = 1 }\ndilution = { domain = { 1 = 0.2, 2 = 0 } }\n"
     values = pitplan.prepare(plan_folder(table, PROJECT, ("mining_cost = 2\n", text))).values
     assert (values.revenue / MILLION).tolist() == [3600, 4000, 3600, 4000]
     assert (values.processing / MILLION).tolist() == [1080, 1200, 900, 1000]
@@ -72,15 +72,15 @@ def test_amounts_are_exact_in_decimals(plan_folder):
 @pytest.mark.parametrize(
     ("text", "said"),
     [
-        ("mining_recovery = 1.01", "[money] mining_recovery: must lie from 0 to 1"),
-        ("dilution = -0.1", "[money] dilution: may not be negative"),
-        ("royalty = 5", "[money] royalty: 5 is a share of the revenue, such as 0.03 for 3 %"),
-        ("dilution = { S = 0.1 }", 'blocks.csv row 2 column rock: [money] dilution names no rock "R"'),
+        ("mining_recovery = 1.01", "[economics] mining_recovery: must lie from 0 to 1"),
+        ("dilution = -0.1", "[economics] dilution: may not be negative"),
+        ("royalty = 5", "[economics] royalty: 5 is a share of the revenue, such as 0.03 for 3 %"),
+        ("dilution = { S = 0.1 }", 'blocks.csv row 2 column rock: [economics] dilution names no rock "R"'),
         (
-            "mining_recovery = { region = { 2 = 0.1 } }",
-            'blocks.csv row 2 column region: [money] mining_recovery names no region "1"',
+            "mining_recovery = { domain = { 2 = 0.1 } }",
+            'blocks.csv row 2 column region: [economics] mining_recovery names no domain "1"',
         ),
-        ("dilution = { region = { 1 = 0.1 }, rock = 1 }", "[money.dilution] rock: is no key here"),
+        ("dilution = { domain = { 1 = 0.1 }, rock = 1 }", "[economics.dilution] rock: is no key here"),
     ],
 )
 def test_what_is_wrong_is_named(plan_folder, text, said):
@@ -91,29 +91,31 @@ def test_what_is_wrong_is_named(plan_folder, text, said):
 
 def test_by_region_needs_a_column_of_regions(plan_folder):
     changes = [
-        ("mining_cost = 2\n", "mining_cost = 2\ndilution = { region = { 1 = 0.1 } }\n"),
-        ('region = "region"\n', ""),
+        ("mining_cost = 2\n", "mining_cost = 2\ndilution = { domain = { 1 = 0.1 } }\n"),
+        ('domain = "region"\n', ""),
     ]
     with pytest.raises(
-        PlanError, match=r"\[table\] region: is missing, and mining recovery or dilution is given by region"
+        PlanError, match=r"\[table\] domain: is missing, and mining recovery or dilution is given by domain"
     ):
         pitplan.prepare(plan_folder(one_block(), PROJECT, *changes))
 
 
 def test_a_shell_by_hand(plan_folder):
     """Both blocks are dug: 200 t, of which one of 100 t is ore in situ, and 99 come to the mill, in 99 / 33 years; 90 t of 0.8 % in these."""
-    path = plan_folder(one_block(), PROJECT, ("mining_cost = 2\n", TEXT), ("ore_per_year = 100", "ore_per_year = 33"))
+    path = plan_folder(
+        one_block(), PROJECT, ("mining_cost = 2\n", TEXT), ("processing_capacity = 100", "processing_capacity = 33")
+    )
     table = pitplan.write_shells(path).set_index("revenue_factor").loc[1.0]
     expected = {
         "tonnes": 200,
-        "ore_tonnes": 99,
+        "feed_tonnes": 99,
         "in_situ_ore_tonnes": 100,
         "waste_tonnes": 100,
         "strip_ratio": 1,
-        "processed_tonnes": 99,
+        "processed_at_revenue_factor": 99,
         "years": 3,
     }
-    expected |= {"grade_copper": 72 / 99, "metal_copper": 0.36, "worth": 2736 - 1039.5 - 400}
+    expected |= {"head_grade_copper": 72 / 99, "recovered_copper": 0.36, "undiscounted_cash_flow": 2736 - 1039.5 - 400}
     assert {name: table[name] for name in expected} == pytest.approx(expected)
 
 
@@ -123,7 +125,7 @@ def test_waste_is_never_negative(plan_folder, without_figures):
         rows(2, 2, 1, cu=lambda i, j, k: 3), PROJECT, ("mining_cost = 2\n", "mining_cost = 2\ndilution = 0.1\n")
     )
     table = pitplan.write_shells(path).set_index("revenue_factor").loc[1.0]
-    assert (table["ore_tonnes"], table["in_situ_ore_tonnes"], table["waste_tonnes"], table["strip_ratio"]) == (
+    assert (table["feed_tonnes"], table["in_situ_ore_tonnes"], table["waste_tonnes"], table["strip_ratio"]) == (
         pytest.approx(440),
         400,
         0,
@@ -133,7 +135,7 @@ def test_waste_is_never_negative(plan_folder, without_figures):
 
 SCHEDULED = (
     ("mining_cost = 2\n", TEXT),
-    ("ore_per_year = 100", "ore_per_year = 150\nrock_per_year = 900"),
+    ("processing_capacity = 100", "processing_capacity = 150\nmining_capacity = 900"),
     ("[shells]", "[pushbacks]\nrevenue_factors = [0.5, 1.0]\n[schedule]\nyears = 20\nbins = 2\n[shells]"),
 )
 
@@ -142,11 +144,11 @@ def deposit():
     return rows(9, 9, 4, cu=lambda i, j, k: {(4, 4, 0): 9, (4, 4, 1): 3, (3, 4, 1): 0.6}.get((i, j, k), 0))
 
 
-def test_phases_and_schedules_count_what_comes_to_the_mill(plan_folder, without_figures):
+def test_pushbacks_and_schedules_count_what_comes_to_the_mill(plan_folder, without_figures):
     """Three blocks of ore in all, and both looks agree."""
     path = plan_folder(deposit(), PROJECT, *SCHEDULED)
-    assert write_pushbacks(path)["ore_tonnes"].sum() == pytest.approx(3 * 99)
-    assert write_schedule(path).set_index("way")["ore_tonnes"]["rule"] == pytest.approx(3 * 99)
+    assert write_pushbacks(path)["feed_tonnes"].sum() == pytest.approx(3 * 99)
+    assert write_schedule(path).set_index("method")["feed_tonnes"]["rule"] == pytest.approx(3 * 99)
 
 
 def passed_over(**changed):
@@ -184,7 +186,7 @@ def test_scenarios_count_what_comes_to_the_mill_by_region(plan_folder):
         .drop(columns="cu")
         .assign(cu_a=[3, 0, 0, 0], cu_b=[0, 3, 0, 2])
     )
-    text = "mining_cost = 2\ndilution = { region = { 1 = 0, 2 = 0.2 } }\n"
+    text = "mining_cost = 2\ndilution = { domain = { 1 = 0, 2 = 0.2 } }\n"
     path = plan_folder(table, PROJECT + '[scenarios]\ncolumns = { copper = "cu_*" }\n', ("mining_cost = 2\n", text))
     found = pitplan.write_scenarios(path, request=pitplan.Request(workers=1)).table
-    assert found[found["revenue_factor"] == 1.0]["ore_tonnes"].tolist() == [100, 240]
+    assert found[found["revenue_factor"] == 1.0]["feed_tonnes"].tolist() == [100, 240]

@@ -29,7 +29,10 @@ def test_values_of_a_block_by_hand(plan_folder):
     assert values.metal["copper"][5] == pytest.approx(0.4)
 
 
-@pytest.mark.parametrize(("cutoff", "second"), [("moving", [-200, -200, 0, 400]), ("fixed", [-200, -200, -200, -200])])
+@pytest.mark.parametrize(
+    ("cutoff", "second"),
+    [("per_revenue_factor", [-200, -200, 0, 400]), ("base_price", [-200, -200, -200, -200])],
+)
 def test_the_most_that_a_block_can_be_worth_by_hand(plan_folder, cutoff, second):
     """100 t: mining 200, processing 1000; the metal of 0.8 % sells for 3200 at the price as given, that of 0.2 % for 800."""
     table = rows(3, 1, 1, cu=lambda i, j, k: [0.8, 0.2, 0][i])
@@ -43,12 +46,12 @@ def test_the_most_that_a_block_can_be_worth_by_hand(plan_folder, cutoff, second)
 
 def test_cost_rises_with_the_level_from_the_top(plan_folder):
     plan = pitplan.prepare(
-        plan_folder(rows(2, 1, 3), PROJECT, ("mining_cost = 2", "mining_cost = 2\nmining_cost_per_level = 0.25"))
+        plan_folder(rows(2, 1, 3), PROJECT, ("mining_cost = 2", "mining_cost = 2\nmining_cost_per_bench = 0.25"))
     )
     assert (plan.values.mining / MILLION).tolist() == [200, 200, 225, 225, 250, 250]
 
 
-PER_LEVEL = "mining_cost = 2\nmining_cost_per_level = 0.25"
+PER_LEVEL = "mining_cost = 2\nmining_cost_per_bench = 0.25"
 
 
 @pytest.mark.parametrize(
@@ -73,8 +76,8 @@ def test_cost_rises_with_the_level_from_a_reference(plan_folder, reference, cost
     ("text", "is_told"),
     [
         ("", False),
-        ("mining_cost_per_level = 0.25\nmining_cost_reference = 30\n", False),
-        ("mining_cost_per_level = 0.25\n", True),
+        ("mining_cost_per_bench = 0.25\nmining_cost_reference = 30\n", False),
+        ("mining_cost_per_bench = 0.25\n", True),
     ],
 )
 def test_the_level_from_which_mining_costs_more_is_told_where_it_was_chosen(plan_folder, text, is_told):
@@ -88,7 +91,7 @@ def test_one_far_block_above_changes_no_cost(plan_folder):
     """Ore at the floor; a block of a tonne ten levels up, in a column of its own, is not needed."""
     table = rows(7, 1, 3, cu=lambda i, j, k: 9 if (i, k) == (3, 0) else 0)
     far = table.iloc[[0]].assign(name="far", x=205.0, z=125.0, tonnes=1)
-    changes = [("mining_cost = 2", PER_LEVEL), ('file = "blocks.csv"', 'file = "blocks.csv"\nabsent = "air"')]
+    changes = [("mining_cost = 2", PER_LEVEL), ('file = "blocks.csv"', 'file = "blocks.csv"\nmissing_blocks = "air"')]
     near, both = (
         pitplan.prepare(plan_folder(it, PROJECT, *changes))
         for it in (table, pd.concat([table, far], ignore_index=True))
@@ -117,7 +120,10 @@ def test_cost_by_elevation_at_half_a_millionth(plan_folder, without_figures):
         assert verified_money.between(pairs, Fraction(at)) == added_cost(money_rules, at)
     text = "mining_cost = 2\nmining_cost_by_elevation = [[0, 0.37], [240, 0]]"
     table = rows(2, 2, 8, cu=lambda i, j, k: 4.0, tonnes=lambda i, j, k: 15_900).assign(z=lambda it: it["z"] * 1.5 - 6)
-    changes = [("size = [10, 10, 10]", "size = [10, 10, 15]"), ("ore_per_year = 100", "ore_per_year = 100_000")]
+    changes = [
+        ("size = [10, 10, 10]", "size = [10, 10, 15]"),
+        ("processing_capacity = 100", "processing_capacity = 100_000"),
+    ]
     pitplan.write_shells(plan_folder(table, PROJECT, ("mining_cost = 2", text), *changes))
 
 
@@ -178,7 +184,7 @@ def test_an_ore_block_has_a_node_for_processing(plan_folder, tmp_path):
 
 def test_a_fixed_cutoff_settles_ore_at_the_price_as_given(plan_folder, tmp_path):
     table = rows(2, 1, 2, cu=lambda i, j, k: 0.2 if (i, k) == (1, 0) else 0.5 if (i, k) == (0, 0) else 0)
-    plan = pitplan.prepare(plan_folder(table, PROJECT, ("mining_cost = 2", 'mining_cost = 2\ncutoff = "fixed"')))
+    plan = pitplan.prepare(plan_folder(table, PROJECT, ("mining_cost = 2", 'mining_cost = 2\ncutoff = "base_price"')))
     mine_files.write(plan, tmp_path)
     lines = (tmp_path / mine_files.BLOCKS).read_text().splitlines()
     assert lines == ["0 0 0 1 0 200", "1 1 0 1 0 200", "2 0 0 0 2000 1200", "3 1 0 0 0 200"]
@@ -187,10 +193,13 @@ def test_a_fixed_cutoff_settles_ore_at_the_price_as_given(plan_folder, tmp_path)
 @pytest.mark.parametrize(
     "change, words",
     [
-        (("mining_cost = 2", "mining_cost = { S = 2 }"), r'row 2 column rock: \[money\] mining_cost names no rock "R"'),
+        (
+            ("mining_cost = 2", "mining_cost = { S = 2 }"),
+            r'row 2 column rock: \[economics\] mining_cost names no rock "R"',
+        ),
         (
             ("processing_cost = 10", "processing_cost = { S = 2 }"),
-            r'row 3 column rock: \[money\] processing_cost names no rock "R"',
+            r'row 3 column rock: \[economics\] processing_cost names no rock "R"',
         ),
         (("price = 8000", "price = 3_000_000_000_000"), "row 3 column revenue: the amount is 10\\^11 or more"),
     ],
@@ -203,7 +212,7 @@ def test_missing_prices_and_huge_amounts_are_refused(plan_folder, change, words)
 
 def test_a_single_tonne_of_a_rock_without_a_cost_is_refused(plan_folder):
     table = rows(2, 1, 1, tonnes=lambda i, j, k: i, rock=lambda i, j, k: "RS"[i])
-    with pytest.raises(PlanError, match=r'row 3 column rock: \[money\] mining_cost names no rock "S"'):
+    with pytest.raises(PlanError, match=r'row 3 column rock: \[economics\] mining_cost names no rock "S"'):
         pitplan.prepare(plan_folder(table, PROJECT, ("mining_cost = 2", "mining_cost = { T = 2 }")))
 
 

@@ -1,4 +1,4 @@
-"""Fixed costs, capital and prices of years against sums done by hand."""
+"""Fixed costs, capex and prices of years against sums done by hand."""
 
 import math
 from dataclasses import replace
@@ -17,17 +17,17 @@ from pitplan import PlanError, write_schedule
 from pitplan.config.schedule import Effort
 from pitplan.economics import period_costs
 from pitplan.economics.period_costs import YearlyMoney
-from pitplan.pushbacks.bench_table import PhaseBenches
+from pitplan.pushbacks.bench_table import PushbackBenches
 from pitplan.scheduling import bench_lp, bench_milp, cutoff_lp, value_bins
 from pitplan.scheduling.bench_sequencing import Limits, Problem, by_rule
 from pitplan.verification import verify
 
-MONEY = ("mining_cost = 2\n", "mining_cost = 2\nfixed_cost_per_year = 100\ncapital = [[3, 1000], [1, 300], [2, 50]]\n")
+MONEY = ("mining_cost = 2\n", "mining_cost = 2\nfixed_cost_per_year = 100\ncapex = [[3, 1000], [1, 300], [2, 50]]\n")
 PRICES = ("price = 8000", "price = 8000\nprices = [8000, 9000]")
 
 
-def of_years(discounting, ore_per_year=50):
-    return ("ore_per_year = 100", f'ore_per_year = {ore_per_year}\ndiscounting = "{discounting}"')
+def of_years(discounting, processing_capacity=50):
+    return ("processing_capacity = 100", f'processing_capacity = {processing_capacity}\ndiscounting = "{discounting}"')
 
 
 def mean(start, end):
@@ -58,10 +58,10 @@ def test_two_years_by_hand(mine):
     spent. At the ends 700 and 1100 flow, and 300 at once and 50 after a year: 700 / 1.1 + 1100 / 1.21 - 300 - 50 / 1.1 = 1200.
     """
     shell, years = solved(mine(MONEY, PRICES, of_years("end_of_year")))
-    assert years["fixed_cost"].tolist() == [100, 100] and years["capital"].tolist() == [300, 50]
-    assert years["cash"].tolist() == [400, 1050]
-    assert years["discounted"].tolist() == pytest.approx([700 / 1.1 - 300, 1100 / 1.21 - 50 / 1.1], abs=1e-3)
-    assert (shell["worth"], shell["npv_best"], shell["npv_worst"]) == pytest.approx((1800, 1200, 1200))
+    assert years["fixed_cost"].tolist() == [100, 100] and years["capex"].tolist() == [300, 50]
+    assert years["cash_flow"].tolist() == [400, 1050]
+    assert years["discounted_cash_flow"].tolist() == pytest.approx([700 / 1.1 - 300, 1100 / 1.21 - 50 / 1.1], abs=1e-3)
+    assert (shell["undiscounted_cash_flow"], shell["npv_best"], shell["npv_worst"]) == pytest.approx((1800, 1200, 1200))
 
 
 def test_as_cash_flows(mine):
@@ -72,7 +72,7 @@ def test_as_cash_flows(mine):
 def test_the_last_year_costs_what_is_left_of_it(mine):
     """100 t at 80 a year: a quarter of the second year."""
     shell, years = solved(mine(MONEY, of_years("continuous", 80)))
-    assert years["fixed_cost"].tolist() == [100, 25] and years["capital"].tolist() == [300, 50]
+    assert years["fixed_cost"].tolist() == [100, 25] and years["capex"].tolist() == [300, 50]
     assert shell["npv_best"] == pytest.approx(-300 + 1300 * mean(0, 1) + 375 * mean(1, 1.25) - 50 / 1.1)
 
 
@@ -80,7 +80,7 @@ def test_a_royalty_is_owed_on_the_years_prices_too(mine):
     """A tenth of 1600 in the first year and of 1800 in the second; half of the ore costs 600 to dig and to process."""
     text = MONEY[1] + "royalty = 0.1\n"
     shell, years = solved(mine((MONEY[0], text), PRICES, of_years("mid_year")))
-    assert years["cash"].tolist() == [-200 + 0.9 * 1600 - 600 - 100 - 300, 0.9 * 1800 - 600 - 100 - 50]
+    assert years["cash_flow"].tolist() == [-200 + 0.9 * 1600 - 600 - 100 - 300, 0.9 * 1800 - 600 - 100 - 50]
 
 
 def test_shells_and_ore_keep_the_one_price(mine):
@@ -91,8 +91,8 @@ def test_shells_and_ore_keep_the_one_price(mine):
     )
     (note,) = [note for note in other.notes if note.startswith("years have")]
     assert note == (
-        "years have a fixed cost of 100 USD a year and capital and prices of their own: in years, net present values and schedules, not in "
-        "the worth of blocks, shells and phases"
+        "years have a fixed cost of 100 USD a year and capex and prices of their own: in years, net present values and schedules, not in "
+        "the worth of blocks, shells and pushbacks"
     )
 
 
@@ -100,14 +100,14 @@ def test_shells_and_ore_keep_the_one_price(mine):
     ("change", "said"),
     [
         (
-            ("mining_cost = 2\n", "mining_cost = 2\ncapital = [[0, 5]]\n"),
-            r"\[money\] capital: years are whole, from 1 to 1,000",
+            ("mining_cost = 2\n", "mining_cost = 2\ncapex = [[0, 5]]\n"),
+            r"\[economics\] capex: years are whole, from 1 to 1,000",
         ),
-        (("mining_cost = 2\n", "mining_cost = 2\ncapital = [[1.5, 5]]\n"), r"\[money\] capital: years are whole"),
-        (("mining_cost = 2\n", "mining_cost = 2\ncapital = [[1, -5]]\n"), "amounts may not be negative"),
+        (("mining_cost = 2\n", "mining_cost = 2\ncapex = [[1.5, 5]]\n"), r"\[economics\] capex: years are whole"),
+        (("mining_cost = 2\n", "mining_cost = 2\ncapex = [[1, -5]]\n"), "amounts may not be negative"),
         (
             ("mining_cost = 2\n", "mining_cost = 2\nfixed_cost_per_year = -1\n"),
-            r"\[money\] fixed_cost_per_year: -1 is below 0",
+            r"\[economics\] fixed_cost_per_year: -1 is below 0",
         ),
         (("price = 8000", "price = 8000\nprices = []"), r"\[metals 1\] prices: must be a list of prices, one a year"),
         (("price = 8000", "price = 8000\nprices = [-1]"), r"\[metals 1\] prices: may not be negative"),
@@ -119,14 +119,16 @@ def test_what_is_wrong_is_named(mine, change, said):
         pitplan.load(mine(change))
 
 
-NAMES = ("rock_tonnes", "ore_tonnes", "metal_copper", "cash")
+NAMES = ("total_tonnes", "feed_tonnes", "recovered_copper", "cash_flow")
 
 
 def two_benches(money):
     """One bench under another, which each take the mill a year: of 100, and of 10 with 5 t of copper. Money keeps its worth."""
     amounts = np.array([[10, 10, 0, 100], [10, 10, 5, 10]], dtype=float)
-    benches = PhaseBenches(np.array([1, 1]), np.array([0, 1]), NAMES, amounts)
-    return Problem(benches, Limits({"ore_tonnes": 10}), SimpleNamespace(rate=0.0, discounting="end_of_year"), money)
+    benches = PushbackBenches(np.array([1, 1]), np.array([0, 1]), NAMES, amounts)
+    return Problem(
+        benches, Limits({"feed_tonnes": 10}), SimpleNamespace(discount_rate=0.0, discounting="end_of_year"), money
+    )
 
 
 COSTS = YearlyMoney(30, ((1, 5), (2, 8)))
@@ -137,7 +139,7 @@ COSTS = YearlyMoney(30, ((1, 5), (2, 8)))
     [
         (YearlyMoney(), 110, 110),
         (COSTS, 110 - 60 - 13, 100 - 30 - 5),  # the second year costs more than it earns
-        (replace(COSTS, premiums={"metal_copper": (0, 10)}), 110 + 50 - 60 - 13, 110 + 50 - 60 - 13),
+        (replace(COSTS, premiums={"recovered_copper": (0, 10)}), 110 + 50 - 60 - 13, 110 + 50 - 60 - 13),
     ],
 )
 def test_a_schedule_by_hand(money, by_rules, best):
@@ -151,7 +153,7 @@ def test_a_schedule_by_hand(money, by_rules, best):
 
 
 def test_a_mine_that_costs_more_than_it_earns_is_left():
-    """110 in two years, for a capital of 500 and 30 a year."""
+    """110 in two years, for a capex of 500 and 30 a year."""
     problem = two_benches(YearlyMoney(30, ((1, 500),)))
     optimum = bench_lp.relaxed(problem, 2)
     assert optimum.bound == 0 and not optimum.cash.any() and not optimum.cumulative.any()
@@ -162,24 +164,24 @@ def test_bins_end_before_capital_that_does_not_pay(plan_folder, without_figures)
     """Capital of year 4 is more than all ore that is left then: the mine ends with year 3, worth as much as where there are no more years."""
     table = rows(5, 4, 3, cu=lambda i, j, k: [[0.5, 1.4, 0.9, 2.0, 0.7], [1.1, 0.4, 1.9, 0.8, 1.3]][(j + k) % 2][i])
     changes = [
-        ("ore_per_year = 100", "ore_per_year = 900\nrock_per_year = 1200"),
-        ("mining_cost = 2\n", "mining_cost = 2\ncapital = [[4, 200_000]]\n"),
+        ("processing_capacity = 100", "processing_capacity = 900\nmining_capacity = 1200"),
+        ("mining_cost = 2\n", "mining_cost = 2\ncapex = [[4, 200_000]]\n"),
     ]
-    text = "[pushbacks]\nrevenue_factors = [0.6, 1.0]\n[schedule]\nyears = {}\nbins = 3\nstockpile = {{ rehandling_cost = 1 }}\n[shells]"
+    text = "[pushbacks]\nrevenue_factors = [0.6, 1.0]\n[schedule]\nyears = {}\nbins = 3\nstockpile = {{ reclaim_cost = 1 }}\n[shells]"
     ended, short = (
         write_schedule(plan_folder(table, PROJECT, *changes, ("[shells]", text.format(years)))) for years in (7, 3)
     )
-    found = ended.set_index("way").loc["lp"]
-    assert found["years"] == 3 and found["value"] >= short.set_index("way").loc["lp", "value"] * (1 - 1e-9)
+    found = ended.set_index("method").loc["lp"]
+    assert found["years"] == 3 and found["npv"] >= short.set_index("method").loc["lp", "npv"] * (1 - 1e-9)
 
 
-@pytest.mark.parametrize(("money", "best"), [(COSTS, 65), (replace(COSTS, premiums={"metal_copper": (0, 10)}), 87)])
+@pytest.mark.parametrize(("money", "best"), [(COSTS, 65), (replace(COSTS, premiums={"recovered_copper": (0, 10)}), 87)])
 def test_a_schedule_of_bins_by_hand(money, best):
     """The ore of each bench is one bin, and digging costs nothing."""
     problem = two_benches(money)
     amounts = np.array([[10, 0, 100], [10, 5, 10]], dtype=float)
     parcels = value_bins.Parcels(
-        np.array([0, 1]), np.array([2, 1]), ("ore_tonnes", "metal_copper", "gain"), amounts, np.array([5.0])
+        np.array([0, 1]), np.array([2, 1]), ("feed_tonnes", "recovered_copper", "gain"), amounts, np.array([5.0])
     )
     milled = cutoff_lp.MillingProblem(problem, parcels, 2, None)
     optimum = milled.relaxed()
@@ -204,9 +206,9 @@ def padded(pair):
     st.sampled_from([(), ((1, 50),), ((2, 200), (3, 10))]),
     st.sampled_from([(), (0, 900, -400)]),
 )
-def test_no_schedule_is_above_the_bound(pit, limits, fixed, capital, premiums):
+def test_no_schedule_is_above_the_bound(pit, limits, fixed, capex, premiums):
     """Nor is the rule's above the programme's, of as many years."""
-    money = YearlyMoney(fixed, capital, {"metal_copper": premiums} if premiums else {})
+    money = YearlyMoney(fixed, capex, {"recovered_copper": premiums} if premiums else {})
     problem = replace(problem_of(random_benches(pit, 0), limits), money=money)
     by_rules = by_rule(problem, 5)[0]
     optimum = bench_lp.relaxed(problem, 5)
@@ -219,7 +221,7 @@ def test_no_schedule_is_above_the_bound(pit, limits, fixed, capital, premiums):
 SCHEDULED = (
     (
         "mining_cost = 2\n",
-        "mining_cost = 2\nfixed_cost_per_year = 900\ncapital = [[1, 3000], [3, 800]]\nroyalty = 0.1\n",
+        "mining_cost = 2\nfixed_cost_per_year = 900\ncapex = [[1, 3000], [3, 800]]\nroyalty = 0.1\n",
     ),
     ("price = 8000", "price = 8000\nprices = [8000, 9000, 7500]"),
 )
@@ -231,20 +233,24 @@ def scheduled(plan_folder, way):
         9, 9, 4, cu=lambda i, j, k: {(4, 4, 0): 9, (4, 4, 1): 3, (3, 4, 1): 1.6, (5, 5, 1): 1.2}.get((i, j, k), 0)
     )
     return plan_folder(
-        table, PROJECT, *SCHEDULED, ("ore_per_year = 100", "ore_per_year = 70\nrock_per_year = 900"), ("[shells]", text)
+        table,
+        PROJECT,
+        *SCHEDULED,
+        ("processing_capacity = 100", "processing_capacity = 70\nmining_capacity = 900"),
+        ("[shells]", text),
     )
 
 
 @pytest.mark.parametrize(
-    "way", ["", "milp = { seconds = 60 }", "bins = 3", "bins = 3\nstockpile = { rehandling_cost = 1 }"]
+    "way", ["", "milp = { seconds = 60 }", "bins = 3", "bins = 3\nstockpile = { reclaim_cost = 1 }"]
 )
 def test_the_second_look_at_schedules_agrees(plan_folder, without_figures, way):
     ways = write_schedule(scheduled(plan_folder, way))
-    assert (ways["below_bound"] >= -1e-9).all()
+    assert (ways["optimality_gap"] >= -1e-9).all()
 
 
 @pytest.mark.parametrize(
-    ("name", "without", "rule"), [("fixed_cost", 0.0, "value"), ("capital", (), "value"), ("premiums", {}, "amounts")]
+    ("name", "without", "rule"), [("fixed_cost", 0.0, "npv"), ("capex", (), "npv"), ("premiums", {}, "amounts")]
 )
 def test_money_that_is_passed_over_is_found(plan_folder, monkeypatch, without_figures, name, without, rule):
     path, of_project = scheduled(plan_folder, ""), period_costs.of_project
@@ -260,7 +266,7 @@ def test_costs_of_a_year_that_are_bent_are_found(mine):
     file = path.parent / "plan" / "years.csv"
     table = pd.read_csv(file)
     table.loc[table.index[-1], "fixed_cost"] += 1
-    table.loc[table.index[-1], "cash"] -= 1
+    table.loc[table.index[-1], "cash_flow"] -= 1
     table.to_csv(file, index=False)
     (rule,) = [rule for rule in verify(path.parent / "plan") if rule.differences]
     assert rule.name == "years"

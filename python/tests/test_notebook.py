@@ -45,7 +45,7 @@ def plan(plan_folder):
 
 def test_shells_are_written_and_given_as_a_frame(plan):
     table = pitplan.write_shells(plan)
-    # The ore of 6 % is dug from 500 on, with three blocks above it; the block at the floor that must be dug needs the two above it.
+    # The ore of 6 % is mined from 0.5 on, with three blocks above it; the block at the floor that must be dug needs the two above it.
     assert table["revenue_factor"].tolist() == [0.5, 1.0, 1.5]
     assert table["value_at_revenue_factor"].tolist() == [
         Decimal(12_000 - 1000 - 800 - 600),
@@ -93,7 +93,7 @@ def test_a_page_exports_and_a_folder_for_auditors_are_told_by_their_paths(solved
         ),
         (lambda folder: pitplan.gather(folder), "scenarios.json: cannot be read: run pitplan scenarios first"),
         (lambda folder: pitplan.write_scenarios(folder.parent / "project.toml"), r"\[scenarios\] is missing"),
-        (lambda folder: pitplan.write_pit(folder.parent / "project.toml"), r"\[fixed\] is missing"),
+        (lambda folder: pitplan.write_pit(folder.parent / "project.toml"), r"\[constraints\] is missing"),
     ],
 )
 def test_what_cannot_be_is_refused_in_words(solved, call, said):
@@ -122,7 +122,7 @@ def test_a_pit_with_fixed_blocks_and_without_them(plan):
 
 
 def test_scenarios_are_given_as_frames(plan_folder):
-    """Three blocks above each other: at 8000 a tonne one of three models pays at 500 and 1000, at 12,000 two do at 1000."""
+    """Three blocks above each other: at 8000 a tonne one of three models pays at 0.5 and 1.0, at 12,000 two do at 1.0."""
     pytest.importorskip("distributed", reason="needs the Debian package python3-distributed")
     path = plan_folder(pillar(), PRICES, UPRIGHT)
     found = pitplan.write_scenarios(path, request=Request(workers=1))
@@ -132,9 +132,9 @@ def test_scenarios_are_given_as_frames(plan_folder):
     assert found.table["value_at_revenue_factor"].tolist()[:3] == [Decimal(1400), Decimal(4400), Decimal(7400)]
     assert found.quantiles.set_index(["price_copper", "revenue_factor"])["tonnes_greatest"][8000, 500] == 300
     assert [rule.count for rule in pitplan.verify(found.folder)] == [0] * 10
-    likely = found.likely(500)
+    likely = found.likely(0.5)
     assert (likely.factor, likely.count, likely.shown.ravel().tolist()) == (
-        500,
+        0.5,
         6,
         [pytest.approx(1 / 3, abs=1e-6)] * 3,
     )
@@ -150,7 +150,7 @@ def test_scenarios_are_given_as_frames(plan_folder):
 
 
 def test_the_notebook_from_a_frame_to_a_schedule_runs(monkeypatch):
-    """examples/schedule.ipynb: each block of the phases is dug once, within the limits of the project, and no way is above the bound."""
+    """examples/schedule.ipynb: each block of the pushbacks is dug once, within the limits of the project, and no way is above the bound."""
     monkeypatch.chdir(ROOT / "examples")
     cells = json.loads((ROOT / "examples" / "schedule.ipynb").read_text())["cells"]
     code = ["".join(cell["source"]) for cell in cells if cell["cell_type"] == "code"]
@@ -164,16 +164,16 @@ def test_the_notebook_from_a_frame_to_a_schedule_runs(monkeypatch):
     given = pd.read_csv("plan/blocks.csv").set_index("id")
     blocks = names["plan"].blocks.set_index("planner_id")
     assert blocks["cu_pct"].to_numpy() == pytest.approx(0.9 * given["cu_pct"][blocks.index].to_numpy())
-    inside = names["divided"].phase[blocks["id"]] > 0
-    ways = names["phase_schedule"].ways(names["schedule"])
-    assert (ways["tonnes"] + ways["left_tonnes"]).tolist() == pytest.approx(
+    inside = names["divided"].pushback[blocks["id"]] > 0
+    ways = names["pushback_schedule"].ways(names["schedule"])
+    assert (ways["tonnes"] + ways["unmined_tonnes"]).tolist() == pytest.approx(
         [given["tonnes"][blocks.index[inside]].sum()] * len(ways)
     )
-    years = names["phase_schedule"].years(names["schedule"])
-    assert (years["ore_tonnes"] <= 800_000 * (1 + 1e-9)).all() and (
-        years["rock_tonnes"] <= 2_000_000 * (1 + 1e-9)
+    years = names["pushback_schedule"].years(names["schedule"])
+    assert (years["feed_tonnes"] <= 800_000 * (1 + 1e-9)).all() and (
+        years["total_tonnes"] <= 2_000_000 * (1 + 1e-9)
     ).all()
-    assert (ways["below_bound"] >= 0).all() and len(names["figure"].axes) == len(ways) >= 1
+    assert (ways["optimality_gap"] >= 0).all() and len(names["figure"].axes) == len(ways) >= 1
 
 
 def test_lists_of_jobs_are_told_by_what_to_start(plan_folder):
@@ -187,7 +187,7 @@ def test_lists_of_jobs_are_told_by_what_to_start(plan_folder):
 
 
 def test_the_lines_of_the_help_run(plan_folder, monkeypatch):
-    """In a folder whose project has fixed blocks, phases, scenarios and the help's factor."""
+    """In a folder whose project has fixed blocks, pushbacks, scenarios and the help's factor."""
     pytest.importorskip("distributed", reason="needs the Debian package python3-distributed")
     table = ores_and_fixed().assign(sim_1=lambda it: it["cu"], sim_2=lambda it: it["cu"] / 2)
     more = '[pushbacks]\nrevenue_factors = [0.5, 1.0]\n[scenarios]\ncolumns = { copper = "sim_*" }\n'
@@ -201,5 +201,5 @@ def test_the_lines_of_the_help_run(plan_folder, monkeypatch):
     )
     assert (path.parent / "out" / "audit-0.80" / "check.sh").exists()
     assert names["found"].quantiles["revenue_factor"].tolist() == [0.5, 0.8, 1.0]
-    assert names["each"].schedules["model"].tolist() == ["sim_1", "sim_2"]
-    assert names["phases"]["revenue_factor"].tolist() == [0.5, 1.0]
+    assert names["each"].schedules["realisation"].tolist() == ["sim_1", "sim_2"]
+    assert names["pushbacks"]["revenue_factor"].tolist() == [0.5, 1.0]

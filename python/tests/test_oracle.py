@@ -25,13 +25,13 @@ PROJECT = """
 [table]
 file = "blocks.csv"
 id = "name"
-rock = "rock"
-region = "region"
+rock_type = "rock"
+domain = "region"
 [grid]
 size = [10, 12, 8]
-[money]
+[economics]
 mining_cost = {{ R = 2, S = 3 }}
-mining_cost_per_level = 0.5
+mining_cost_per_bench = 0.5
 mining_cost_reference = 48
 processing_cost = {{ R = 4, S = 5 }}
 decimals = 0
@@ -44,23 +44,23 @@ price = 900
 selling_cost = 20
 recovery = {{ R = 0.8, S = 0.5 }}
 [slopes]
-levels = {levels}
+precedence_benches = {levels}
 {walls}
 [shells]
 revenue_factors = [0.6, 1.0, 1.4]
-rate = 0.1
-ore_per_year = 100
-[fixed]
-forced = "must"
-barred = "never"
+discount_rate = 0.1
+processing_capacity = 100
+[constraints]
+must_mine = "must"
+exclude = "never"
 """
 
 
 def text_of_wall(region, wall):
     if isinstance(wall, str):
-        return f'[[slopes.walls]]\nregion = "{region}"\npattern = "{wall}"\n'
+        return f'[[slopes.domains]]\ndomain = "{region}"\npattern = "{wall}"\n'
     azimuths = ", ".join(f"[{azimuth}, {angle}]" for azimuth, angle in wall)
-    return f'[[slopes.walls]]\nregion = "{region}"\nazimuths = [{azimuths}]\n'
+    return f'[[slopes.domains]]\ndomain = "{region}"\nazimuths = [{azimuths}]\n'
 
 
 def cells():
@@ -129,7 +129,7 @@ def value_at(row, k, factor, cutoff):
     """What a block is worth once it is dug, in thousandths."""
     revenue, processing, mining = amounts_of(row, k)
     gain = round(1000 * factor) * revenue - 1000 * processing
-    pays = gain > 0 if cutoff == "moving" else revenue > processing
+    pays = gain > 0 if cutoff == "per_revenue_factor" else revenue > processing
     return (gain if pays else 0) - 1000 * mining
 
 
@@ -192,7 +192,7 @@ wall = st.one_of(
     st.integers(0, 10**6),
     st.lists(wall, min_size=3, max_size=3),
     st.integers(1, 6),
-    st.sampled_from(["moving", "fixed"]),
+    st.sampled_from(["per_revenue_factor", "base_price"]),
     st.booleans(),
 )
 def test_plans_are_those_of_the_oracle(tmp_path, seed, three, levels, cutoff, is_fixed):

@@ -7,7 +7,7 @@ import pitplan
 from pitplan.cli import main
 from pitplan.config.project import load
 
-MORE = '[[slopes.walls]]\nregion = "hard"\nangle = 60\n[shells]'
+MORE = '[[slopes.domains]]\ndomain = "hard"\nangle = 60\n[shells]'
 
 
 @pytest.fixture
@@ -19,14 +19,14 @@ def path(plan_folder):
 @pytest.mark.parametrize(
     ("assignment", "text"),
     [
-        ("money.mining_cost=2.6", ("mining_cost = 2\n", "mining_cost = 2.6\n")),
-        ("money.currency=AUD", ("mining_cost = 2\n", 'mining_cost = 2\ncurrency = "AUD"\n')),
+        ("economics.mining_cost=2.6", ("mining_cost = 2\n", "mining_cost = 2.6\n")),
+        ("economics.currency=AUD", ("mining_cost = 2\n", 'mining_cost = 2\ncurrency = "AUD"\n')),
         ('title = "High price"', ('title = "Test hill"', 'title = "High price"')),
         ("metals.copper.price=9000", ("price = 8000", "price = 9000")),
         ("metals.1.recovery={ R = 0.75 }", ("recovery = 0.5", "recovery = { R = 0.75 }")),
-        ("slopes.walls.2.angle=45", ("angle = 60", "angle = 45")),
+        ("slopes.domains.2.angle=45", ("angle = 60", "angle = 45")),
         ("shells.revenue_factors=[0.7, 0.9]", ("[0.5, 1.0, 1.5]", "[0.7, 0.9]")),
-        ("schedule.rock_per_year=2000", ("[shells]", "[schedule]\nrock_per_year = 2000\n[shells]")),
+        ("schedule.mining_capacity=2000", ("[shells]", "[schedule]\nmining_capacity = 2000\n[shells]")),
     ],
 )
 def test_a_set_key_is_as_if_the_file_had_it(path, assignment, text):
@@ -40,7 +40,7 @@ def test_a_set_key_is_as_if_the_file_had_it(path, assignment, text):
 
 def test_a_run_records_the_project_with_the_set_keys(path):
     out = path.parent / "high"
-    options = ["--set", "metals.copper.price=9000", "--set", "money.mining_cost=2.6", "--no-figures", "--quiet"]
+    options = ["--set", "metals.copper.price=9000", "--set", "economics.mining_cost=2.6", "--no-figures", "--quiet"]
     before = path.read_bytes()
     assert main(["shells", str(path), "--out", str(out), *options]) == 0
     recorded = load(out / "project-as-run.toml")
@@ -51,16 +51,19 @@ def test_a_run_records_the_project_with_the_set_keys(path):
 @pytest.mark.parametrize(
     ("assignment", "said"),
     [
-        ("money.mining_cost", r"--set money.mining_cost: expected KEY=VALUE, such as money.mining_cost=2.6"),
+        (
+            "economics.mining_cost",
+            r"--set economics.mining_cost: expected KEY=VALUE, such as economics.mining_cost=2.6",
+        ),
         ("=3", r"--set =3: expected KEY=VALUE"),
         ("metals.gold.price=1", r"--set metals.gold.price=1: no entry gold: expected one of copper$"),
         ("metals.2.price=1", r"no entry 2: expected one of copper$"),
         ("title.more=1", r"title is 'Test hill', and no section"),
         (
-            "money.minning_cost=3",
-            r"project.toml with --set money.minning_cost=3: \[money\] minning_cost: is no key here; mining_cost is",
+            "economics.minning_cost=3",
+            r"project.toml with --set economics.minning_cost=3: \[economics\] minning_cost: is no key here; mining_cost is",
         ),
-        ("money.mining_cost=two", r"with --set money.mining_cost=two: \[money\] mining_cost: "),
+        ("economics.mining_cost=two", r"with --set economics.mining_cost=two: \[economics\] mining_cost: "),
     ],
 )
 def test_what_cannot_be_set_is_refused(path, capsys, assignment, said):

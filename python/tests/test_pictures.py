@@ -25,9 +25,9 @@ YEARS = pd.DataFrame(
         ("worst", 1.0, 3, 1e6, 0, -1e6, -0.5e6),
         ("best", 0.5, 1, 1e6, 1e6, 3e6, 2e6),
     ],
-    columns=["case", "revenue_factor", "year", "rock_tonnes", "ore_tonnes", "cash", "discounted"],
+    columns=["case", "revenue_factor", "year", "total_tonnes", "feed_tonnes", "cash_flow", "discounted_cash_flow"],
 )
-CAPACITIES = ("ore_per_year = 100", "ore_per_year = 3_000_000\nrock_per_year = 10_000_000")
+CAPACITIES = ("processing_capacity = 100", "processing_capacity = 3_000_000\nmining_capacity = 10_000_000")
 
 
 @pytest.fixture
@@ -83,7 +83,7 @@ def test_a_capacity_far_above_all_years_is_told_and_not_drawn_to(plan_folder, pa
 def test_years_that_earn_nothing_are_drawn_too(plan_folder, panels, cash):
     figure, axes = panels
     project = pitplan.load(plan_folder(rows(2, 2, 2), PROJECT, CAPACITIES))
-    years = YEARS[(YEARS["revenue_factor"] == 1.0) & (YEARS["case"] == "best")].assign(cash=cash)
+    years = YEARS[(YEARS["revenue_factor"] == 1.0) & (YEARS["case"] == "best")].assign(cash_flow=cash)
     annual.plot_years(pd.concat([years, years.assign(case="worst")]), project, 1.0, axes)
     low, high = figure.axes[2].get_ylim()
     assert np.isfinite([low, high]).all() and high > 0
@@ -102,7 +102,7 @@ def scenarios_at(*prices):
                 records.append(
                     (11 * number + model + 1, f"m{model}", float(price), factor, tonnes, f"{10 * tonnes:.9f}")
                 )
-    names = ["scenario", "model", "price_copper", "revenue_factor", "tonnes", "value_at_revenue_factor"]
+    names = ["scenario", "realisation", "price_copper", "revenue_factor", "tonnes", "value_at_revenue_factor"]
     return pd.DataFrame(records, columns=names)
 
 
@@ -207,8 +207,8 @@ def test_plans_and_sections_have_coordinates_in_full(monkeypatch):
 
 
 @pytest.mark.parametrize("draw", [pushbacks.write_plans, pushbacks.write_sections])
-def test_phases_have_coordinates_in_full_and_nothing_overlaps(monkeypatch, draw):
-    figure = drawn_of(monkeypatch, pushbacks, lambda: draw(phase_scene(), None))
+def test_pushbacks_have_coordinates_in_full_and_nothing_overlaps(monkeypatch, draw):
+    figure = drawn_of(monkeypatch, pushbacks, lambda: draw(pushback_scene(), None))
     demand_plain_coordinates(figure)
     boxes = [axis.get_tightbbox() for axis in figure.axes]
     assert not any(one.overlaps(other) for k, one in enumerate(boxes) for other in boxes[:k])
@@ -216,35 +216,35 @@ def test_phases_have_coordinates_in_full_and_nothing_overlaps(monkeypatch, draw)
 
 
 @pytest.mark.parametrize(("count", "ticks"), [(2, [1, 2]), (11, list(range(1, 12))), (12, [1, 3, 5, 7, 9, 11])])
-def test_the_bar_of_phases_has_eleven_numbers_at_most(count, ticks):
+def test_the_bar_of_pushbacks_has_eleven_numbers_at_most(count, ticks):
     figure = plt.figure()
-    pushbacks.plot_level(dataclasses.replace(phase_scene(), count=count), 2, figure.subplots())
+    pushbacks.plot_level(dataclasses.replace(pushback_scene(), count=count), 2, figure.subplots())
     assert figure.axes[-1].get_yticks().tolist() == ticks
     plt.close(figure)
 
 
-def test_what_is_dug_of_phases_is_rock_that_is_in_one():
-    shown = phase_scene()
+def test_what_is_dug_of_pushbacks_is_rock_that_is_in_one():
+    shown = pushback_scene()
     assert np.array_equal(shown.dug, at_a_zone()[1] > 0)
     assert not dataclasses.replace(shown, solid=np.zeros_like(shown.solid)).dug.any()
 
 
-def test_sections_of_phases_are_as_high_as_the_ground_is_deep(monkeypatch):
+def test_sections_of_pushbacks_are_as_high_as_the_ground_is_deep(monkeypatch):
     """150 m of the lesser side, 480 m: each of two maps 5.2 inches wide is so much less high, with 1.6 inches for what is written."""
-    figure = drawn_of(monkeypatch, pushbacks, lambda: pushbacks.write_sections(phase_scene(), None))
+    figure = drawn_of(monkeypatch, pushbacks, lambda: pushbacks.write_sections(pushback_scene(), None))
     assert figure.get_size_inches().tolist() == pytest.approx([12, 5.2 * 150 / 480 + 1.6])
 
 
-def test_what_plans_and_sections_show_of_phases(panels):
+def test_what_plans_and_sections_show_of_pushbacks(panels):
     """On the level 1 below the top the pit reaches nine blocks each way along a row and a column together."""
-    scene = phase_scene()
+    scene = pushback_scene()
     level, west_east = panels[1]
     drawn = pushbacks.plot_level(scene, 1, level).images[1].get_array()
     rows, columns = np.indices((20, 24))
     inside = abs(rows - 10) + abs(columns - 12) < 10
     expected = np.where(abs(rows - 10) < 2, 1, 2)
     assert (np.ma.getmaskarray(drawn) == ~inside).all() and (drawn[inside] == expected[inside]).all()
-    assert level.get_title(loc="left") + level.get_title() == "Phases on the level 787.5 to 800 m"
+    assert level.get_title(loc="left") + level.get_title() == "Pushbacks on the level 787.5 to 800 m"
     # Shown from the bottom up: the deepest of the row's blocks has 6 levels, of which the sixth is one block wide and more.
     drawn = pushbacks.plot_from_west_to_east(scene, 14, west_east).images[1].get_array()
     assert [int(np.ma.count(line)) for line in drawn[::-1]] == [max(0, 2 * (12 - 4 - 2 * k) - 1) for k in range(12)]
@@ -267,7 +267,7 @@ SHELLS = pd.DataFrame(
         "tonnes": [20e6, 40e6, 60e6],
         "in_situ_ore_tonnes": [12e6, 15e6, 20e6],
         "waste_tonnes": [8e6, 25e6, 40e6],
-        "worth": [100.0, 300.0, 200.0],
+        "undiscounted_cash_flow": [100.0, 300.0, 200.0],
         "npv_best": [90.0, 250.0, 180.0],
         "npv_worst": [80.0, 150.0, -50.0],
     }
@@ -280,12 +280,12 @@ def scene():
     return plans_sections.Scene(grid, factor, np.ones(grid.shape, dtype=bool), np.ones(grid.shape), metal, 1.0)
 
 
-def phase_scene():
-    """Two phases of the hill: the middle four rows of its pit, and the rest."""
+def pushback_scene():
+    """Two pushbacks of the hill: the middle four rows of its pit, and the rest."""
     grid, factor = at_a_zone()
     row = np.indices(grid.shape)[1]
-    phase = np.where(factor > 0, np.where(abs(row - 10) < 2, 1, 2), 0)
-    return pushbacks.PhaseScene(grid, phase, np.ones(grid.shape, dtype=bool), 2)
+    pushback = np.where(factor > 0, np.where(abs(row - 10) < 2, 1, 2), 0)
+    return pushbacks.PushbackScene(grid, pushback, np.ones(grid.shape, dtype=bool), 2)
 
 
 def likely():
@@ -302,18 +302,18 @@ EACH = {
         1,
         lambda axes, project: [plans_sections.plot_grades(scene(), scene().from_south_to_north(12), axes[0])],
     ),
-    "phases on the ground": (1, lambda axes, project: [pushbacks.plot_surface(phase_scene(), axes[0])]),
-    "phases on a level": (1, lambda axes, project: [pushbacks.plot_level(phase_scene(), 2, axes[0])]),
-    "phases along a row": (
+    "pushbacks on the ground": (1, lambda axes, project: [pushbacks.plot_surface(pushback_scene(), axes[0])]),
+    "pushbacks on a level": (1, lambda axes, project: [pushbacks.plot_level(pushback_scene(), 2, axes[0])]),
+    "pushbacks along a row": (
         1,
-        lambda axes, project: [pushbacks.plot_from_west_to_east(phase_scene(), 10, axes[0])],
+        lambda axes, project: [pushbacks.plot_from_west_to_east(pushback_scene(), 10, axes[0])],
     ),
-    "phases along a column": (
+    "pushbacks along a column": (
         1,
-        lambda axes, project: [pushbacks.plot_from_south_to_north(phase_scene(), 12, axes[0])],
+        lambda axes, project: [pushbacks.plot_from_south_to_north(pushback_scene(), 12, axes[0])],
     ),
-    "plans of phases": (4, lambda axes, project: pushbacks.plot_plans(phase_scene(), axes)),
-    "sections of phases": (2, lambda axes, project: pushbacks.plot_sections(phase_scene(), axes)),
+    "plans of pushbacks": (4, lambda axes, project: pushbacks.plot_plans(pushback_scene(), axes)),
+    "sections of pushbacks": (2, lambda axes, project: pushbacks.plot_sections(pushback_scene(), axes)),
     "plans": (4, lambda axes, project: plans_sections.plot_plans(scene(), axes)),
     "sections": (4, lambda axes, project: plans_sections.plot_sections(scene(), axes)),
     "years": (2, lambda axes, project: annual.plot_years(YEARS, project, 1.0, axes)),
@@ -397,5 +397,5 @@ def test_what_plans_show_of_a_solved_plan(solved):
     assert {(row, column): drawn[int(row), int(column)] for row, column in deepest.index} == (deepest - 5).to_dict()
     assert np.ma.count(np.ma.masked_invalid(drawn)) == len(deepest)
     plt.close(figure)
-    chosen = plans_sections.scene_of(plan, pitplan.solve(plan)).chosen
+    chosen = plans_sections.scene_of(plan, pitplan.solve(plan)).selected
     assert chosen == json.loads((solved[1] / "prepare.json").read_text())["shells"]["selected"]

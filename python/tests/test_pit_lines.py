@@ -24,7 +24,7 @@ def area_of(points):
 
 
 def expected(folder, name):
-    """By phase or year, kind, bench's floor and height the area that is dug on the level, of blocks of 10 m."""
+    """By pushback or year, kind, bench's floor and height the area that is dug on the level, of blocks of 10 m."""
     blocks, areas = pd.read_csv(folder / "blocks.csv"), {}
     for number in range(1, int(blocks[name].max()) + 1):
         for z, level in blocks[(blocks[name] > 0) & (blocks[name] <= number)].groupby("z"):
@@ -47,7 +47,7 @@ def strings_of(path):
     return strings
 
 
-@pytest.mark.parametrize("name", ["phase", "year"])
+@pytest.mark.parametrize("name", ["pushback", "year"])
 def test_strings_go_round_what_is_dug_on_each_bench(folder, name):
     path = pitplan.write_export(folder, "str", shape=Shape(name))
     assert path == folder / f"lines-{name}s.str"
@@ -64,20 +64,20 @@ def test_strings_go_round_what_is_dug_on_each_bench(folder, name):
 
 
 def test_a_table_has_the_same_lines(folder):
-    table = pd.read_csv(pitplan.write_export(folder, "lines", shape=Shape("phase")))
-    assert table.columns.tolist() == ["phase", "line", "kind", "bench", "x", "y", "z"]
+    table = pd.read_csv(pitplan.write_export(folder, "lines", shape=Shape("pushback")))
+    assert table.columns.tolist() == ["pushback", "line", "kind", "bench", "x", "y", "z"]
     areas = defaultdict(float)
-    for (number, _, kind, bench), line in table.groupby(["phase", "line", "kind", "bench"]):
+    for (number, _, kind, bench), line in table.groupby(["pushback", "line", "kind", "bench"]):
         assert line[["x", "y", "z"]].iloc[0].tolist() == line[["x", "y", "z"]].iloc[-1].tolist()
         areas[number, kind, bench, line["z"].iloc[0]] += area_of(line[["x", "y"]])
-    assert areas == pytest.approx(expected(folder, "phase"))
+    assert areas == pytest.approx(expected(folder, "pushback"))
 
 
 def test_a_geopackage_is_read_by_gdal_and_is_the_same_each_time(folder):
     ogr = pytest.importorskip("osgeo.ogr", reason="needs the Debian package python3-gdal")
-    path = pitplan.write_export(folder, "gpkg", shape=Shape("phase"))
+    path = pitplan.write_export(folder, "gpkg", shape=Shape("pushback"))
     before = path.read_bytes()
-    assert pitplan.write_export(folder, "gpkg", shape=Shape("phase")).read_bytes() == before
+    assert pitplan.write_export(folder, "gpkg", shape=Shape("pushback")).read_bytes() == before
     source, areas = ogr.Open(str(path)), defaultdict(float)
     layer = source.GetLayerByName("lines")
     assert (
@@ -88,8 +88,8 @@ def test_a_geopackage_is_read_by_gdal_and_is_the_same_each_time(folder):
     for feature in layer:
         points = np.array(feature.GetGeometryRef().GetPoints())
         assert points.shape[1] == 3 and (points[0] == points[-1]).all()
-        areas[feature["phase"], feature["kind"], feature["bench"], points[0, 2]] += area_of(points)
-    assert areas == pytest.approx(expected(folder, "phase"))
+        areas[feature["pushback"], feature["kind"], feature["bench"], points[0, 2]] += area_of(points)
+    assert areas == pytest.approx(expected(folder, "pushback"))
 
 
 def test_a_geopackage_is_one_for_those_who_read_its_tables(folder):

@@ -30,11 +30,11 @@ def wrong(folder):
 
 @pytest.fixture(scope="module")
 def scheduled(tmp_path_factory, without_figures):
-    """Two pillars of ore, the richer in phase 1, scheduled by years; rows from last to first."""
+    """Two pillars of ore, the richer in pushback 1, scheduled by years; rows from last to first."""
     place = tmp_path_factory.mktemp("scheduled")
     table = rows(9, 5, 3, cu=lambda i, j, k: {(2, 2, 1): 6, (6, 2, 1): 0.8}.get((i, j, k), 0))
     table.iloc[::-1].to_csv(place / "blocks.csv", index=False)
-    words = "\n[pushbacks]\nrevenue_factors = [0.5, 1.0]\n[schedule]\nlag = 1\n"
+    words = "\n[pushbacks]\nrevenue_factors = [0.5, 1.0]\n[schedule]\nbench_lag = 1\n"
     (place / "project.toml").write_text(PROJECT + words)
     pitplan.write_schedule(place / "project.toml")
     return place
@@ -50,16 +50,16 @@ def test_rows_and_fields_are_the_planners_and_numbers_those_of_their_block(solve
     assert wrong(folder) == set()
 
 
-def test_a_schedule_gives_each_row_its_phase_and_year(scheduled):
-    """Both ores have their phase and year from the first to the last row of the table, which runs from the top down."""
+def test_a_schedule_gives_each_row_its_pushback_and_year(scheduled):
+    """Both ores have their pushback and year from the first to the last row of the table, which runs from the top down."""
     path = scheduled / "plan" / "schedule"
     after = pd.read_csv(pitplan.write_export(path, "table")).set_index("name")
-    assert list(after.columns[-4:]) == [*FOUND, "phase", "year"]
+    assert list(after.columns[-4:]) == [*FOUND, "pushback", "year"]
     assert after.index[0] == "b8-4-2" and after.index[-1] == "b0-0-0"
-    assert after.loc["b2-2-1", "phase"] == 1 and after.loc["b6-2-1", "phase"] == 2
+    assert after.loc["b2-2-1", "pushback"] == 1 and after.loc["b6-2-1", "pushback"] == 2
     # 100 t of ore fill the mill of 100 t a year: the poorer pillar's ore is milled in the second.
     assert after.loc["b2-2-1", "year"] == 1 and after.loc["b6-2-1", "year"] == 2
-    assert after.loc["b0-0-0", ["phase", "year"]].tolist() == [0, 0]
+    assert after.loc["b0-0-0", ["pushback", "year"]].tolist() == [0, 0]
 
 
 def test_the_tables_own_format_stays(plan_folder):
@@ -108,7 +108,10 @@ def test_rock_of_cells_without_rows_has_none(plan_folder):
     """A block of the project's rock is dug, which the table has no row of."""
     table = rows(5, 5, 3, cu=lambda i, j, k: 6 if (i, j, k) == (2, 2, 0) else 0)
     table = table[table["name"] != "b2-2-1"]
-    words = ('file = "blocks.csv"', 'file = "blocks.csv"\nabsent = { tonnes = 100, rock = "R", region = "1" }')
+    words = (
+        'file = "blocks.csv"',
+        'file = "blocks.csv"\nmissing_blocks = { tonnes = 100, rock_type = "R", domain = "1" }',
+    )
     path = plan_folder(table, PROJECT, words)
     pitplan.write_shells(path)
     after = pd.read_csv(pitplan.write_export(path.parent / "plan", "table"))

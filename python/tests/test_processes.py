@@ -21,18 +21,18 @@ LEACH_AND_MILL = """
 name = "leach"
 cost = 3
 recovery = { copper = 0.4 }
-per_year = 300
+capacity = 300
 [[processes]]
 name = "mill"
 cost = 13
 recovery = { copper = { R = 0.9, S = 0.65 } }
-per_year = 100
+capacity = 100
 [slopes]
 """
 WITH = [
     ("processing_cost = 10\n", ""),
     ("recovery = 0.5\n", ""),
-    ("ore_per_year = 100\n", ""),
+    ("processing_capacity = 100\n", ""),
     ("[slopes]\n", LEACH_AND_MILL),
 ]
 
@@ -133,13 +133,13 @@ def test_nodes_by_hand(plan_folder, tmp_path):
         "1 blocks have a node for processing: the cut-off moves with the price, and 1 nodes more for processes that are better from a greater price on"
         in plan.notes
     )
-    assert plan.project.schedule.ore_per_year == 400
+    assert plan.project.schedule.processing_capacity == 400
 
 
 def test_nodes_of_a_block_that_must_be_dug_by_hand(plan_folder, tmp_path):
     """Its first step needs nothing more, the second still the first."""
     table = one_column().assign(must=[1, 0])
-    plan = pitplan.prepare(plan_folder(table, PROJECT + '[fixed]\nforced = "must"\n', *WITH))
+    plan = pitplan.prepare(plan_folder(table, PROJECT + '[constraints]\nmust_mine = "must"\n', *WITH))
     mine_files.write(plan, tmp_path)
     assert (tmp_path / mine_files.REST_BLOCKS).read_text().splitlines()[2:] == ["2 0 0 0 2560 300", "3 0 0 0 3200 1000"]
     assert (tmp_path / mine_files.REST_PREC).read_text().splitlines() == ["3 1 2"]
@@ -149,11 +149,11 @@ def test_nodes_of_a_block_that_must_be_dug_by_hand(plan_folder, tmp_path):
 def test_the_process_of_a_block_by_hand(plan_folder, without_figures, grade, process, ore):
     """Of 0.2 % leach gains 640 - 300, the mill 1440 - 1300; 0.05 % pay nowhere. Digging is demanded."""
     table = rows(1, 1, 2, cu=lambda i, j, k: 0 if k else grade, must=lambda i, j, k: 1 - k)
-    path = plan_folder(table, PROJECT + '[fixed]\nforced = "must"\n', *WITH)
+    path = plan_folder(table, PROJECT + '[constraints]\nmust_mine = "must"\n', *WITH)
     shell = pitplan.write_shells(path).set_index("revenue_factor").loc[1.0]
     blocks = pd.read_csv(path.parent / "plan" / "blocks.csv", keep_default_na=False).set_index("name")
-    assert blocks["process"].tolist() == ["", process] and shell["ore_tonnes"] == ore
-    assert {name: shell[f"ore_tonnes_{name}"] for name in ("leach", "mill")} == {
+    assert blocks["process"].tolist() == ["", process] and shell["feed_tonnes"] == ore
+    assert {name: shell[f"feed_tonnes_{name}"] for name in ("leach", "mill")} == {
         name: ore * (name == process) for name in ("leach", "mill")
     }
 
@@ -163,7 +163,9 @@ def test_worth_by_hand_at_each_factor(plan_folder, without_figures):
     path = plan_folder(one_column(), PROJECT, *WITH, ("[0.5, 1.0, 1.5]", "[0.27, 0.3, 0.5, 1.0]"))
     shells = pitplan.write_shells(path).set_index("revenue_factor")
     assert [float(worth) for worth in shells["value_at_revenue_factor"]] == [0, 768 - 700, 2880 - 1700, 5760 - 1700]
-    assert shells["worth"].tolist() == [0, 4060, 4060, 4060] and shells["processed_tonnes"].tolist() == [
+    assert shells["undiscounted_cash_flow"].tolist() == [0, 4060, 4060, 4060] and shells[
+        "processed_at_revenue_factor"
+    ].tolist() == [
         0,
         100,
         100,
@@ -201,9 +203,9 @@ def test_the_second_look_agrees_and_each_process_has_ore(plan_folder, without_fi
     folder = solved(plan_folder)
     assert wrong(folder) == set()
     shells = pd.read_csv(folder / "shells.csv").set_index("revenue_factor")
-    assert (shells.loc[1.0, ["ore_tonnes_leach", "ore_tonnes_mill"]] > 100).all()
-    assert shells["ore_tonnes"].tolist() == pytest.approx(
-        (shells["ore_tonnes_leach"] + shells["ore_tonnes_mill"]).tolist()
+    assert (shells.loc[1.0, ["feed_tonnes_leach", "feed_tonnes_mill"]] > 100).all()
+    assert shells["feed_tonnes"].tolist() == pytest.approx(
+        (shells["feed_tonnes_leach"] + shells["feed_tonnes_mill"]).tolist()
     )
     # Some blocks are leached at a low price and milled at the given one.
     plan = pitplan.prepare(folder.parent / "project.toml")
@@ -213,17 +215,17 @@ def test_the_second_look_agrees_and_each_process_has_ore(plan_folder, without_fi
 def test_each_process_keeps_its_capacity(plan_folder, without_figures):
     folder = solved(plan_folder)
     years = pd.read_csv(folder / "years.csv")
-    assert years["ore_tonnes_mill"].max() == pytest.approx(100) and years["ore_tonnes_leach"].max() <= 300 + 1e-6
+    assert years["feed_tonnes_mill"].max() == pytest.approx(100) and years["feed_tonnes_leach"].max() <= 300 + 1e-6
 
 
-@pytest.mark.parametrize("cutoff", ["moving", "fixed"])
+@pytest.mark.parametrize("cutoff", ["per_revenue_factor", "base_price"])
 def test_shells_are_those_of_the_best_process_at_each_factor(plan_folder, cutoff):
     """One factor after the other, each block with one node that has what its best process is worth there."""
     path = plan_folder(deposit(), PROJECT, *MORE, ("decimals = 2\n", f'decimals = 2\ncutoff = "{cutoff}"\n'))
     plan = pitplan.prepare(path)
     entry = shell_tables.cells_of(plan, pitplan.solve(plan)).factor
     for factor in plan.project.schedule.revenue_factors:
-        best = best_way(plan.values.ways, factor if cutoff == "moving" else 1.0)
+        best = best_way(plan.values.ways, factor if cutoff == "per_revenue_factor" else 1.0)
         alone = tuple(
             replace(
                 way,
@@ -266,7 +268,9 @@ def both(ways):
     )
 
 
-@pytest.mark.parametrize(("name", "planted", "rule"), [("best_way", worst_way, "money"), ("steps_of", both, "worth")])
+@pytest.mark.parametrize(
+    ("name", "planted", "rule"), [("best_way", worst_way, "money"), ("steps_of", both, "undiscounted_cash_flow")]
+)
 def test_other_processes_and_blocks_that_are_processed_twice_are_found(
     plan_folder, monkeypatch, without_figures, name, planted, rule
 ):
@@ -284,21 +288,24 @@ def test_a_capacity_that_is_passed_over_is_found(plan_folder, monkeypatch, witho
     assert "years" in wrong(solved(plan_folder))
 
 
-def test_phases_and_schedules_keep_to_the_capacities(plan_folder, without_figures):
-    text = "[pushbacks]\ncount = 2\n[schedule]\nlag = 1\nramp_up = [0.5, 1.0]\n[shells]"
+def test_pushbacks_and_schedules_keep_to_the_capacities(plan_folder, without_figures):
+    text = "[pushbacks]\ncount = 2\n[schedule]\nbench_lag = 1\nramp_up = [0.5, 1.0]\n[shells]"
     ways = write_schedule(plan_folder(deposit(), PROJECT, *MORE, ("[shells]", text)))
-    assert ways["way"].tolist() == ["rule", "lp"] and (ways["below_bound"] >= -1e-9).all()
+    assert ways["method"].tolist() == ["rule", "lp"] and (ways["optimality_gap"] >= -1e-9).all()
 
 
 @pytest.mark.parametrize(
     ("changes", "said"),
     [
-        (WITH[1:], r"\[money\] processing_cost: give the cost of each of the \[\[processes\]\], not this"),
+        (WITH[1:], r"\[economics\] processing_cost: give the cost of each of the \[\[processes\]\], not this"),
         (
             [WITH[0], *WITH[2:]],
             r"\[metals 1\] recovery: give the recoveries of each of the \[\[processes\]\], not this",
         ),
-        ([*WITH[:2], WITH[3]], r"\[shells\] ore_per_year: give per_year of each of the \[\[processes\]\], not this"),
+        (
+            [*WITH[:2], WITH[3]],
+            r"\[shells\] processing_capacity: give capacity of each of the \[\[processes\]\], not this",
+        ),
         ([*WITH, ('name = "mill"', 'name = "leach"')], r"two \[\[processes\]\] have one name"),
         ([*WITH, ('name = "mill"', 'name = "the mill"')], '"the mill" is not one word'),
         (
@@ -307,7 +314,7 @@ def test_phases_and_schedules_keep_to_the_capacities(plan_folder, without_figure
         ),
         (
             [*WITH, ("[shells]", "[pushbacks]\ncount = 2\n[schedule]\nbins = 2\n[shells]")],
-            r"\[schedule\] bins and ore_per_year are of one process",
+            r"\[schedule\] bins and processing_capacity are of one process",
         ),
     ],
 )

@@ -24,11 +24,11 @@ def test_a_byte_order_mark_is_passed_over_and_another_encoding_is_refused(plan_f
 @pytest.mark.parametrize(
     "old, new, words",
     [
-        ("mining_cost = 2", "minning_cost = 2", "[money] mining_cost: is missing"),
+        ("mining_cost = 2", "minning_cost = 2", "[economics] mining_cost: is missing"),
         (
             "mining_cost = 2",
             "mining_cost = 2\nminning_cost = 2",
-            "[money] minning_cost: is no key here; mining_cost is",
+            "[economics] minning_cost: is no key here; mining_cost is",
         ),
         ('title = "Test hill"', 'title = """Test\nhill"""', "title: must be one line of plain text"),
         (
@@ -37,82 +37,98 @@ def test_a_byte_order_mark_is_passed_over_and_another_encoding_is_refused(plan_f
             '[table] encoding: "utf-9" is no encoding: such are utf-8, cp1252',
         ),
         ('id = "name"', 'id = "name"\ndecimal = ";"', '[table] decimal: ";" is none of ., ,'),
-        ("mining_cost = 2", "mining_cost = true", "[money] mining_cost: True is not a number"),
-        ("mining_cost = 2", "mining_cost = nan", "[money] mining_cost: NaN is not a number"),
-        ("mining_cost = 2", "mining_cost = 2026-11-27", "[money] mining_cost: 2026-11-27 is not a number"),
-        ("mining_cost = 2", "mining_cost = -2", "[money] mining_cost: may not be negative"),
-        ("mining_cost = 2", "mining_cost = 1e300", "[money] mining_cost: 1E+300 is beyond 10^18"),
+        ("mining_cost = 2", "mining_cost = true", "[economics] mining_cost: True is not a number"),
+        ("mining_cost = 2", "mining_cost = nan", "[economics] mining_cost: NaN is not a number"),
+        ("mining_cost = 2", "mining_cost = 2026-11-27", "[economics] mining_cost: 2026-11-27 is not a number"),
+        ("mining_cost = 2", "mining_cost = -2", "[economics] mining_cost: may not be negative"),
+        ("mining_cost = 2", "mining_cost = 1e300", "[economics] mining_cost: 1E+300 is beyond 10^18"),
         (
             "mining_cost = 2",
             "mining_cost = 2\nmining_cost_by_elevation = [[10, 1e30], [20, 0]]",
-            "[money] mining_cost_by_elevation: 1E+30 is beyond 10^18",
+            "[economics] mining_cost_by_elevation: 1E+30 is beyond 10^18",
         ),
-        ("mining_cost = 2", "mining_cost = 2\ndecimals = 7", "[money] decimals: must be a whole number from 0 to 6"),
-        ("mining_cost = 2", 'mining_cost = 2\ncutoff = "loose"', '[money] cutoff: "loose" is none of moving, fixed'),
+        (
+            "mining_cost = 2",
+            "mining_cost = 2\ndecimals = 7",
+            "[economics] decimals: must be a whole number from 0 to 6",
+        ),
+        (
+            "mining_cost = 2",
+            'mining_cost = 2\ncutoff = "loose"',
+            '[economics] cutoff: "loose" is none of per_revenue_factor, base_price',
+        ),
         (
             "mining_cost = 2",
             "mining_cost = 2\nmining_cost_reference = 100",
-            "[money] mining_cost_reference: says from where on mining_cost_per_level is added, which is missing",
+            "[economics] mining_cost_reference: says from where on mining_cost_per_bench is added, which is missing",
         ),
         (
             "mining_cost = 2",
-            "mining_cost = 2\nmining_cost_per_level = 1\nmining_cost_by_elevation = [[10, 1]]",
-            "[money] mining_cost_by_elevation: give it or mining_cost_per_level, not both",
+            "mining_cost = 2\nmining_cost_per_bench = 1\nmining_cost_by_elevation = [[10, 1]]",
+            "[economics] mining_cost_by_elevation: give it or mining_cost_per_bench, not both",
         ),
         (
             "mining_cost = 2",
             "mining_cost = 2\nmining_cost_by_elevation = [[10, 1], [10, 2]]",
-            "[money] mining_cost_by_elevation: an elevation is named twice",
+            "[economics] mining_cost_by_elevation: an elevation is named twice",
         ),
         (
             "mining_cost = 2",
             "mining_cost = 2\nmining_cost_by_elevation = [10, 1]",
-            "[money] mining_cost_by_elevation: must be a list of pairs [elevation, cost a tonne]",
+            "[economics] mining_cost_by_elevation: must be a list of pairs [elevation, cost a tonne]",
         ),
         ("recovery = 0.5", "recovery = 50", "[metals 1] recovery: must lie from 0 to 1"),
         ('unit = "percent"', 'unit = "ppm"', '[metals 1] unit: "ppm" is none of percent, fraction, gram_per_tonne'),
         ("[10, 10, 10]", "[10, 10]", "[grid] size: must be a list of 3 numbers"),
         ("[10, 10, 10]", "[10, 10, 0]", "[grid] size: a block's size is above 0"),
-        ("levels = 3", "levels = 0", "[slopes] levels: must be a whole number from 1 to 40"),
-        ('pattern = "1:5"', 'pattern = "1:7"', '[slopes.walls 1] pattern: "1:7" is none of 1:5, 1:9'),
+        (
+            "precedence_benches = 3",
+            "precedence_benches = 0",
+            "[slopes] precedence_benches: must be a whole number from 1 to 40",
+        ),
+        ('pattern = "1:5"', 'pattern = "1:7"', '[slopes.domains 1] pattern: "1:7" is none of 1:5, 1:9'),
         (
             'pattern = "1:5"',
             "",
-            "[slopes.walls 1] angle: give exactly one of angle, azimuths, bench, pattern and steps",
+            "[slopes.domains 1] angle: give exactly one of angle, azimuths, bench, pattern and offsets",
         ),
-        ('pattern = "1:5"', "angle = 95", "[slopes.walls 1] angle: a wall angle is from 1 to 90 degrees"),
+        ('pattern = "1:5"', "angle = 95", "[slopes.domains 1] angle: a wall angle is from 1 to 90 degrees"),
         (
             'pattern = "1:5"',
             "azimuths = [[0, 40], [0, 50]]",
-            "[slopes.walls 1] azimuths: azimuths are from 0 to below 360",
+            "[slopes.domains 1] azimuths: azimuths are from 0 to below 360",
         ),
         (
             'pattern = "1:5"',
             "azimuths = [0, 40]",
-            "[slopes.walls 1] azimuths: must be a list of pairs [azimuth, angle]",
+            "[slopes.domains 1] azimuths: must be a list of pairs [azimuth, angle]",
         ),
         (
             'pattern = "1:5"',
-            'pattern = "1:5"\nregion = 1.5',
-            "[slopes.walls 1] region: must be a code or a list of codes",
+            'pattern = "1:5"\ndomain = 1.5',
+            "[slopes.domains 1] domain: must be a code or a list of codes",
         ),
         (
             'pattern = "1:5"',
-            'pattern = "1:5"\nregion = []',
-            "[slopes.walls 1] region: must be a code or a list of codes",
+            'pattern = "1:5"\ndomain = []',
+            "[slopes.domains 1] domain: must be a code or a list of codes",
         ),
         (
             'pattern = "1:5"',
-            'pattern = "1:5"\nregion = true',
-            "[slopes.walls 1] region: must be a code or a list of codes",
+            'pattern = "1:5"\ndomain = true',
+            "[slopes.domains 1] domain: must be a code or a list of codes",
         ),
-        ("levels = 3", "levels = 3\nnever_steeper = 1", "[slopes] never_steeper: must be true or false"),
-        ('pattern = "1:5"', "azimuths = []", "[slopes.walls 1] azimuths: must be a list of pairs [azimuth, angle]"),
-        ('pattern = "1:5"', "azimuths = 40", "[slopes.walls 1] azimuths: must be a list of pairs [azimuth, angle]"),
+        (
+            "precedence_benches = 3",
+            "precedence_benches = 3\nnever_steeper = 1",
+            "[slopes] never_steeper: must be true or false",
+        ),
+        ('pattern = "1:5"', "azimuths = []", "[slopes.domains 1] azimuths: must be a list of pairs [azimuth, angle]"),
+        ('pattern = "1:5"', "azimuths = 40", "[slopes.domains 1] azimuths: must be a list of pairs [azimuth, angle]"),
         (
             'pattern = "1:5"',
             "azimuths = [[0, 40, 1]]",
-            "[slopes.walls 1] azimuths: must be a list of pairs [azimuth, angle]",
+            "[slopes.domains 1] azimuths: must be a list of pairs [azimuth, angle]",
         ),
         (
             "[0.5, 1.0, 1.5]",
@@ -141,15 +157,23 @@ def test_a_byte_order_mark_is_passed_over_and_another_encoding_is_refused(plan_f
             "{ from = 0.3, to = 0.5, step = 0 }",
             "[shells.revenue_factors] step: found 0, expected 0.001 or more",
         ),
-        ("rate = 0.1", "rate = 8", "[shells] rate: 8 is above 1: it is a yearly rate, such as 0.08 for 8 % a year"),
+        (
+            "discount_rate = 0.1",
+            "discount_rate = 8",
+            "[shells] discount_rate: 8 is above 1: it is a yearly rate, such as 0.08 for 8 % a year",
+        ),
         ("[0.5, 1.0, 1.5]", "[]", "[shells] revenue_factors: must be a list of revenue factors, or { from, to, step }"),
-        ("rate = 0.1", "rate = 0.1\nselected = 0.9", "[shells] selected: 0.90 is not among the revenue_factors"),
-        ("ore_per_year = 100", "", "[shells] ore_per_year: is missing"),
-        ("[money]", "[[money]]", "[money] must be a section of its own"),
+        (
+            "discount_rate = 0.1",
+            "discount_rate = 0.1\nselected = 0.9",
+            "[shells] selected: 0.90 is not among the revenue_factors",
+        ),
+        ("processing_capacity = 100", "", "[shells] processing_capacity: is missing"),
+        ("[economics]", "[[economics]]", "[economics] must be a section of its own"),
         ("[[metals]]", "[metals]", "metals: write at least one [[metals]]"),
-        ("[[slopes.walls]]", "[slopes.walls]", "[slopes] walls: write at least one [[slopes.walls]]"),
-        ('rock = "rock"\n', "", "[table] rock: is missing, and prices or recoveries are given by rock"),
-        ("[slopes]\n", "", "[metals 1] levels: is no key here"),
+        ("[[slopes.domains]]", "[slopes.domains]", "[slopes] domains: write at least one [[slopes.domains]]"),
+        ('rock_type = "rock"\n', "", "[table] rock_type: is missing, and prices or recoveries are given by rock type"),
+        ("[slopes]\n", "", "[metals 1] precedence_benches: is no key here"),
         ("[shells]\n", "[shell]\n", "shells: is missing"),
         ('title = "Test hill"', "title = 3", "title: must be a text in quotes"),
     ],
@@ -169,7 +193,7 @@ def test_a_number_that_is_no_revenue_factor_is_refused(plan_folder, item):
 
 
 def test_broken_toml_is_named_by_its_line(plan_folder):
-    path = plan_folder(rows(2, 2, 2), PROJECT, ("[money]", "[money"))
+    path = plan_folder(rows(2, 2, 2), PROJECT, ("[economics]", "[money"))
     with pytest.raises(PlanError, match=r"project.toml: .*\(at line 10, column 7\)"):
         pitplan.load(path)
 
@@ -186,12 +210,12 @@ def test_factors_by_steps(plan_folder):
 
 
 def test_regions_are_codes_and_named_once(plan_folder):
-    two = 'region = 1\npattern = "1:5"\n[[slopes.walls]]\nregion = ["1"]\nangle = 40'
-    with pytest.raises(PlanError, match=r"\[slopes\] walls: a region is named twice"):
+    two = 'domain = 1\npattern = "1:5"\n[[slopes.domains]]\ndomain = ["1"]\nangle = 40'
+    with pytest.raises(PlanError, match=r"\[slopes\] domains: a domain is named twice"):
         pitplan.load(plan_folder(rows(2, 2, 2), PROJECT, ('pattern = "1:5"', two)))
 
 
-LEVEL = "mining_cost_per_level = 0.5\n"
+LEVEL = "mining_cost_per_bench = 0.5\n"
 
 
 @pytest.mark.parametrize(
@@ -199,7 +223,7 @@ LEVEL = "mining_cost_per_level = 0.5\n"
     [
         ("mining_cost = 2\n", "mining_cost = {}\n", ("0", "0.5"), ("-0.5",)),
         ("mining_cost = 2\n", "mining_cost = 2\ndecimals = {}\n", ("0", "6"), ("-1", "7", "true")),
-        ("mining_cost = 2\n", "mining_cost = 2\nmining_cost_per_level = {}\n", ("0", "0.5"), ("-0.5",)),
+        ("mining_cost = 2\n", "mining_cost = 2\nmining_cost_per_bench = {}\n", ("0", "0.5"), ("-0.5",)),
         (
             "mining_cost = 2\n",
             f"mining_cost = 2\n{LEVEL}mining_cost_reference = {{}}\n",
@@ -219,19 +243,29 @@ LEVEL = "mining_cost_per_level = 0.5\n"
         ("size = [10, 10, 10]", "size = [10, {}, 10]", ("0.5",), ("0", "-0.5")),
         ("size = [10, 10, 10]", "size = [{}]", ("10, 10, 10",), ("10, 10", "10, 10, 10, 10")),
         ("size = [10, 10, 10]", "size = [10, 10, 10]\ntolerance = {}", ("0", "0.5"), ("-0.5",)),
-        ('id = "name"', 'id = "name"\nabsent = {{ tonnes = {}, rock = "R", region = "1" }}', ("0", "0.5"), ("-0.5",)),
-        ("levels = 3", "levels = {}", ("1", "40"), ("0", "41")),
+        (
+            'id = "name"',
+            'id = "name"\nmissing_blocks = {{ tonnes = {}, rock_type = "R", domain = "1" }}',
+            ("0", "0.5"),
+            ("-0.5",),
+        ),
+        ("precedence_benches = 3", "precedence_benches = {}", ("1", "40"), ("0", "41")),
         ('pattern = "1:5"', "angle = {}", ("1", "90"), ("0.5", "90.5")),
         ('pattern = "1:5"', "azimuths = [[0, 40], [{}, 50]]", ("1", "359.5"), ("-1", "0", "360")),
-        ("rate = 0.1", "rate = {}", ("0", "1"), ("-0.1", "1.5")),
-        ("ore_per_year = 100", "ore_per_year = {}", ("1", "1.5"), ("0", "0.5")),
-        ("ore_per_year = 100", "ore_per_year = 100\nrock_per_year = {}", ("1", "1.5"), ("0", "0.5")),
+        ("discount_rate = 0.1", "discount_rate = {}", ("0", "1"), ("-0.1", "1.5")),
+        ("processing_capacity = 100", "processing_capacity = {}", ("1", "1.5"), ("0", "0.5")),
+        ("processing_capacity = 100", "processing_capacity = 100\nmining_capacity = {}", ("1", "1.5"), ("0", "0.5")),
         ("[0.5, 1.0, 1.5]", "[{}, 1.0]", ("0", "0.001", "1", "100"), ("-0.1", "100.001", "0.0001")),
         ("[0.5, 1.0, 1.5]", "{{ from = 0.5, to = 1.5, step = {} }}", ("0.002", "1"), ("0", "-1", "0.0005")),
         ("[0.5, 1.0, 1.5]", "{{ from = {}, to = 1.5, step = 0.5 }}", ("0", "1.5"), ("1.501", "-1")),
         ("[0.5, 1.0, 1.5]", "{{ from = 0.001, to = {}, step = 0.001 }}", ("0.999", "1"), ("1.001",)),
-        ("rate = 0.1", "rate = 0.1\nselected = {}", ("0.5", "1.5"), ("0.501", "-1")),
-        ("[shells]", "[scenarios]\nmodels = 'm'\n[[scenarios.prices]]\ncopper = {}\n[shells]", ("0", "0.5"), ("-0.5",)),
+        ("discount_rate = 0.1", "discount_rate = 0.1\nselected = {}", ("0.5", "1.5"), ("0.501", "-1")),
+        (
+            "[shells]",
+            "[scenarios]\nrealisations = 'm'\n[[scenarios.prices]]\ncopper = {}\n[shells]",
+            ("0", "0.5"),
+            ("-0.5",),
+        ),
     ],
 )
 def test_numbers_have_their_limits(plan_folder, old, new, allowed, refused):
@@ -248,14 +282,14 @@ def test_what_is_left_out(tmp_path):
     folder.mkdir()
     path = folder / "project.toml"
     path.write_text(
-        '[table]\nfile = "blocks.csv"\n[money]\nmining_cost = 2\nprocessing_cost = 10\n[[metals]]\nname = "copper"\ncolumn = "cu"\n'
-        'unit = "percent"\nprice = 8000\nrecovery = 1\n[slopes]\n[[slopes.walls]]\nangle = 45\n[shells]\nrevenue_factors = [1]\nrate = 0\n'
-        "ore_per_year = 100\n"
+        '[table]\nfile = "blocks.csv"\n[economics]\nmining_cost = 2\nprocessing_cost = 10\n[[metals]]\nname = "copper"\ncolumn = "cu"\n'
+        'unit = "percent"\nprice = 8000\nrecovery = 1\n[slopes]\n[[slopes.domains]]\nangle = 45\n[shells]\nrevenue_factors = [1]\ndiscount_rate = 0\n'
+        "processing_capacity = 100\n"
     )
     project = pitplan.load(path)
     assert (project.title, project.folder, project.scenarios, project.fixed) == ("hill", folder / "plan", None, None)
     table, money, slopes, schedule = project.table, project.money, project.slopes, project.schedule
-    assert (table.x, table.y, table.z, table.tonnes, table.id, table.rock, table.region) == (
+    assert (table.x, table.y, table.z, table.tonnes, table.id, table.rock_type, table.domain) == (
         "x",
         "y",
         "z",
@@ -264,7 +298,7 @@ def test_what_is_left_out(tmp_path):
         None,
         None,
     )
-    assert (table.separator, table.decimal, table.encoding, table.empty, table.absent) == (
+    assert (table.separator, table.decimal, table.encoding, table.empty, table.missing_blocks) == (
         None,
         None,
         "utf-8-sig",
@@ -272,22 +306,22 @@ def test_what_is_left_out(tmp_path):
         "refuse",
     )
     assert (project.grid.size, project.grid.tolerance) == (None, 0.01)
-    assert (money.currency, money.decimals, money.cutoff) == ("USD", 6, "moving")
-    assert (money.mining_cost_per_level, money.mining_cost_reference, money.mining_cost_by_elevation) == (0, None, ())
+    assert (money.currency, money.decimals, money.cutoff) == ("USD", 6, "per_revenue_factor")
+    assert (money.mining_cost_per_bench, money.mining_cost_reference, money.mining_cost_by_elevation) == (0, None, ())
     assert project.metals[0].selling_cost == 0
-    assert (slopes.levels, slopes.never_steeper, slopes.walls[0].regions, slopes.walls[0].angles) == (
+    assert (slopes.precedence_benches, slopes.never_steeper, slopes.domains[0].domains, slopes.domains[0].angles) == (
         None,
         False,
         None,
         ((0, 45),),
     )
-    assert (schedule.selected, schedule.rock_per_year, schedule.discounting) == (None, None, "end_of_year")
+    assert (schedule.selected, schedule.mining_capacity, schedule.discounting) == (None, None, "end_of_year")
     assert (schedule.revenue_factors, schedule.base_price_added) == ((1.0,), False)
 
 
 def test_two_entries_for_all_other_regions_are_refused(plan_folder):
-    two = 'pattern = "1:5"\n[[slopes.walls]]\nangle = 40'
-    with pytest.raises(PlanError, match=r"\[slopes\] walls: more than one entry names no region"):
+    two = 'pattern = "1:5"\n[[slopes.domains]]\nangle = 40'
+    with pytest.raises(PlanError, match=r"\[slopes\] domains: more than one entry names no domain"):
         pitplan.load(plan_folder(rows(2, 2, 2), PROJECT, ('pattern = "1:5"', two)))
 
 
@@ -308,7 +342,7 @@ def test_the_example_names_each_key_of_its_sections_and_no_other(monkeypatch):
     asked, finish = {}, Section.finish
 
     def noting(section):
-        asked.setdefault(section.name.partition(" ")[0], set()).update(section.asked - {"walls"})
+        asked.setdefault(section.name.partition(" ")[0], set()).update(section.asked - {"domains"})
         finish(section)
 
     monkeypatch.setattr(Section, "finish", noting)
@@ -318,5 +352,5 @@ def test_the_example_names_each_key_of_its_sections_and_no_other(monkeypatch):
         head, key = re.match(r"(?:# )?\[+([\w.]+)\]", line), re.match(r"(?:# )?(\w+) = ", line)
         section = head[1] if head else section
         named.setdefault(section, set()).update({key[1]} if key else ())
-    sections = ("table", "grid", "money", "metals", "slopes", "slopes.walls", "shells")
+    sections = ("table", "grid", "economics", "metals", "slopes", "slopes.domains", "shells")
     assert {name: named[name] for name in sections} == {name: asked[name] for name in sections}

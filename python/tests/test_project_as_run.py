@@ -16,8 +16,8 @@ from pitplan.core.atomic_files import hash_of
 
 pytestmark = pytest.mark.usefixtures("without_figures")
 ORE = {"cu": lambda i, j, k: {(3, 3, 1): 6, (4, 3, 1): 2.5, (3, 4, 0): 9}.get((i, j, k), 0)}
-MORE = '[pushbacks]\ncount = 2\n[schedule]\nrock_per_year = 2000\n[sensitivity]\nby = [0.1]\nvary = ["price", "mining_cost"]\n'
-FIXED = '[fixed]\nforced = "due"\n'
+MORE = '[pushbacks]\ncount = 2\n[schedule]\nmining_capacity = 2000\n[sensitivity]\nchanges = [0.1]\nparameters = ["price", "mining_cost"]\n'
+FIXED = '[constraints]\nmust_mine = "due"\n'
 RUNS = {
     "shells": pitplan.write_shells,
     "pit": lambda project, folder: pitplan.write_pit(project, 0.5, folder),
@@ -112,7 +112,7 @@ def test_a_text_of_a_run_that_has_changed_is_refused(mine):
 def test_a_sensitivity_of_another_project_takes_no_answer_of_the_first(mine):
     path = mine()
     first, second = (pitplan.write_sensitivity(project) for project in (path, dearer(load(path))))
-    assert (first["worth"] < second["worth"]).all()
+    assert (first["undiscounted_cash_flow"] < second["undiscounted_cash_flow"]).all()
     shutil.rmtree(path.parent / "plan")
     assert pitplan.write_sensitivity(dearer(load(path))).equals(second)
 

@@ -50,32 +50,43 @@ def test_the_examples_read_back_as_themselves(path, tmp_path):
 
 def sections_of(rng):
     """Sections besides those of `project_of`, each with some of its keys."""
-    area = '[[fixed.areas]]\npolygon = { file = "b/lease.dxf", layer = ["A*", "B"] }\nbarred = "outside"\n'
+    area = '[[constraints.areas]]\npolygon = { file = "b/lease.dxf", layer = ["A*", "B"] }\nexclude = "outside"\n'
     fixed = pick(
         rng,
-        'forced = "must"\n',
-        'surface = "mined.csv"\ntopography = "blocks"\n',
-        'surface = "mined.csv"\n',
-        'surface = { file = "m.shp", height = "Z" }\ntopography = "was.csv"\n',
+        'must_mine = "must"\n',
+        'as_mined = "mined.csv"\ntopography = "blocks"\n',
+        'as_mined = "mined.csv"\n',
+        'as_mined = { file = "m.shp", height = "Z" }\ntopography = "was.csv"\n',
     )
     texts = {
-        "fixed": pick(rng, "", f"[fixed]\n{fixed}", f'[fixed]\nbarred = "never"\n{area}', f"[fixed]\n{area}{area}"),
+        "fixed": pick(
+            rng,
+            "",
+            f"[constraints]\n{fixed}",
+            f'[constraints]\nexclude = "never"\n{area}',
+            f"[constraints]\n{area}{area}",
+        ),
         "pushbacks": pick(
             rng,
             "",
             "[pushbacks]\ncount = 3\nultimate_pit = 1.0\n",
-            "[pushbacks]\ntonnes = 1234.5\nwidth = 30\nmining_cost_added = [0, 0.15]\n",
+            "[pushbacks]\ntonnes = 1234.5\nmin_mining_width = 30\nmining_cost_added = [0, 0.15]\n",
         )
-        or pick(rng, "", "[pushbacks]\nrevenue_factors = { from = 0.1, to = 0.5, step = 0.1 }\nbottom = 17.25\n"),
+        or pick(
+            rng, "", "[pushbacks]\nrevenue_factors = { from = 0.1, to = 0.5, step = 0.1 }\nmin_bottom_width = 17.25\n"
+        ),
         "sensitivity": pick(
-            rng, "", "[sensitivity]\n", '[sensitivity]\nby = [-0.15, 0.3]\nvary = ["price copper", "slopes"]\n'
+            rng,
+            "",
+            "[sensitivity]\n",
+            '[sensitivity]\nchanges = [-0.15, 0.3]\nparameters = ["price copper", "slopes"]\n',
         )
         or pick(rng, "", '[sensitivity]\npairs = [["price", "mining_cost"]]\nskin = 0.1\n'),
         "pictures": pick(
             rng,
             "",
-            '[pictures]\nlevels = [5, 15.5]\nnorth = 40\nformats = ["svg", "pdf"]\nmetal = "gold"\n',
-            "[pictures]\neast = -3.5\n",
+            '[figures]\nlevels = [5, 15.5]\nnorth = 40\nformats = ["svg", "pdf"]\nmetal = "gold"\n',
+            "[figures]\neast = -3.5\n",
         ),
         "schedule": pick(rng, "", "[schedule]\n", "[schedule]\n" + schedule(rng)),
     }
@@ -84,21 +95,23 @@ def sections_of(rng):
 
 def schedule(rng):
     text = (
-        pick(rng, "", "metal_per_year = { copper = 12.5 }\n")
-        + pick(rng, "", "sinking_rate = 2.5\n")
+        pick(rng, "", "max_metal_per_year = { copper = 12.5 }\n")
+        + pick(rng, "", "vertical_advance_rate = 2.5\n")
         + pick(rng, "", "ramp_up = [0.5, 1]\n")
     )
     text += (
-        pick(rng, "", "lag = 2\n")
-        + pick(rng, "", "rock_per_year = 1700\n")
+        pick(rng, "", "bench_lag = 2\n")
+        + pick(rng, "", "mining_capacity = 1700\n")
         + pick(rng, "", "milp = { gap = 0.01, seconds = 60 }\n")
     )
-    least = '[schedule.least]\nore = 20\ncopper = 0.5\n[[schedule.sums]]\ncolumn = "as"\nof = "ore"\na_tonne = true\nmost = 99.5\n'
-    return text + pick(rng, "", f'years = 7\n{least}[[schedule.sums]]\nname = "bolts"\ncolumn = "b"\nleast = 3\n')
+    least = '[schedule.minimum]\nfeed = 20\ncopper = 0.5\n[[schedule.limits]]\ncolumn = "as"\nof = "feed"\nper_tonne = true\nmax = 99.5\n'
+    return text + pick(rng, "", f'years = 7\n{least}[[schedule.limits]]\nname = "bolts"\ncolumn = "b"\nmin = 3\n')
 
 
 def table_keys(rng):
-    text = pick(rng, "", 'absent = { tonnes = 99.5, rock = "R", region = "2" }\n', 'absent = "air"\n')
+    text = pick(
+        rng, "", 'missing_blocks = { tonnes = 99.5, rock_type = "R", domain = "2" }\n', 'missing_blocks = "air"\n'
+    )
     text += pick(
         rng,
         "",
@@ -138,7 +151,10 @@ def test_random_projects_read_back_as_themselves(plan_folder, tmp_path, seed):
             project = load(path)
         except PlanError as error:
             assert (
-                "[table]" in str(error) or "[schedule" in str(error) or "milp" in str(error) or "[fixed]" in str(error)
+                "[table]" in str(error)
+                or "[schedule" in str(error)
+                or "milp" in str(error)
+                or "[constraints]" in str(error)
             ), error
             continue
         demand_same(project, tmp_path / pick(rng, "plan", "far/away", "."))
@@ -148,7 +164,7 @@ def test_random_projects_read_back_as_themselves(plan_folder, tmp_path, seed):
 @pytest.mark.parametrize(
     "text",
     [
-        'models = "models"\n',
+        'realisations = "realisations"\n',
         'columns = { copper = "cu*" }\n[[scenarios.prices]]\ncopper = 7000\n[[scenarios.prices]]\ncopper = 8000.5\n',
         'columns = { copper = ["cu", "cu 2"] }\n',
     ],
@@ -164,26 +180,28 @@ def test_scenarios_read_back_as_themselves(plan_folder, tmp_path, text):
         "azimuths = [[45, 50]]",
         "azimuths = [[0, 50]]",
         "angle = 33.333333333333336",
-        "angle = 45\nregion = [1, 'A \"b\"']",
+        "angle = 45\ndomain = [1, 'A \"b\"']",
     ],
 )
 def test_walls_read_back_as_themselves(plan_folder, tmp_path, wall):
-    more = "" if "region" not in wall else '\n[[slopes.walls]]\npattern = "1:9"'
+    more = "" if "region" not in wall else '\n[[slopes.domains]]\npattern = "1:9"'
     demand_same(load(plan_folder("", PROJECT, ('pattern = "1:5"', wall + more))), tmp_path / "plan")
 
 
 @pytest.mark.parametrize("ground", ["blocks", "./blocks", "was.csv"])
 def test_a_ground_that_is_a_word_or_a_file_reads_back_as_itself(plan_folder, tmp_path, ground):
-    demand_same(load(plan_folder("", PROJECT + f'[fixed]\nsurface = "mined.csv"\ntopography = "{ground}"\n')), tmp_path)
+    demand_same(
+        load(plan_folder("", PROJECT + f'[constraints]\nas_mined = "mined.csv"\ntopography = "{ground}"\n')), tmp_path
+    )
 
 
 def test_keys_that_few_projects_have_read_back_as_themselves(plan_folder, tmp_path):
-    road = "[haulage]\nexit = [1, 2.5, -3]\ngradient = 0.1\ncost = { ore = 0.12, waste = 0.11 }\nbeyond = { ore = 900, waste = 0.5 }\n"
+    road = "[haulage]\npit_exit = [1, 2.5, -3]\nramp_gradient = 0.1\ncost = { ore = 0.12, waste = 0.11 }\nex_pit_distance = { ore = 900, waste = 0.5 }\n"
     changes = ('id = "name"', 'id = "name"\nx = "east"\ny = "north"\nz = "up"'), (
         "mining_cost = 2",
         'mining_cost = 2\ncurrency = "CLP"',
     )
-    changes += (("levels = 3\n", "never_steeper = true\n"), ('pattern = "1:5"', "angle = 40"))
+    changes += (("precedence_benches = 3\n", "never_steeper = true\n"), ('pattern = "1:5"', "angle = 40"))
     demand_same(load(plan_folder("", PROJECT + road, *changes)), tmp_path / "plan")
 
 
@@ -191,7 +209,7 @@ def test_keys_that_few_projects_have_read_back_as_themselves(plan_folder, tmp_pa
 def test_odd_names_read_back_as_themselves(plan_folder, tmp_path, odd):
     name = project_writer.shown(odd)
     changes = (
-        ('rock = "rock"', f"rock = {name}"),
+        ('rock_type = "rock"', f"rock_type = {name}"),
         ("mining_cost = 2", f"mining_cost = {{ {name} = 2, R = 2.50 }}"),
         ('name = "copper"', f"name = {name}"),
     )

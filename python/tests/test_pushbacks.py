@@ -1,4 +1,4 @@
-"""Phases against sums and cones worked by hand, and the second look at them."""
+"""Pushbacks against sums and cones worked by hand, and the second look at them."""
 
 import shutil
 
@@ -11,13 +11,15 @@ from hypothesis import given, settings, strategies as st
 import pitplan
 from pitplan import PlanError, load
 from pitplan.cli import main
-from pitplan.config.pushbacks import PhaseRules
+from pitplan.config.pushbacks import PushbackRules
 from pitplan.pushbacks import nested
 from pitplan.results.folder import read_record
 from pitplan.verification import verify
 
 pytestmark = pytest.mark.usefixtures("without_figures")
-UPRIGHT = PROJECT.replace('pattern = "1:5"', "angle = 90").replace("levels = 3\n", "levels = 1\n")
+UPRIGHT = PROJECT.replace('pattern = "1:5"', "angle = 90").replace(
+    "precedence_benches = 3\n", "precedence_benches = 1\n"
+)
 GRADES = [1, 0.7, 0.5]
 
 
@@ -27,7 +29,7 @@ def pillars(**more):
     return rows(3, 1, 2, cu=lambda i, j, k: 0 if k else GRADES[i], **more)
 
 
-def with_phases(words, text=UPRIGHT):
+def with_pushbacks(words, text=UPRIGHT):
     return text + f"\n[pushbacks]\n{words}\n"
 
 
@@ -35,21 +37,21 @@ def blocks_of(folder):
     return pd.read_csv(folder / "blocks.csv").set_index("name")
 
 
-def test_three_shells_of_like_tonnage_are_three_phases(plan_folder):
+def test_three_shells_of_like_tonnage_are_three_pushbacks(plan_folder):
     """The greatest factors whose shells have 200 and 400 of 600 t are 0.5 and 0.7."""
-    project = load(plan_folder(pillars(), with_phases("count = 3")))
-    table = pitplan.write_pushbacks(project).set_index("phase")
+    project = load(plan_folder(pillars(), with_pushbacks("count = 3")))
+    table = pitplan.write_pushbacks(project).set_index("pushback")
     assert table.index.tolist() == [1, 2, 3] and table["revenue_factor"].tolist() == [0.5, 0.7, 1.0]
     assert table["blocks"].tolist() == [2, 2, 2] and table["tonnes"].tolist() == [200, 200, 200]
-    assert table["ore_tonnes"].tolist() == [100, 100, 100] and table["strip_ratio"].tolist() == [1, 1, 1]
-    assert table["grade_copper"].tolist() == pytest.approx(GRADES) and table["metal_copper"].tolist() == pytest.approx(
-        [0.5, 0.35, 0.25]
-    )
-    assert table["worth"].tolist() == [2600, 1400, 600]
+    assert table["feed_tonnes"].tolist() == [100, 100, 100] and table["strip_ratio"].tolist() == [1, 1, 1]
+    assert table["head_grade_copper"].tolist() == pytest.approx(GRADES) and table[
+        "recovered_copper"
+    ].tolist() == pytest.approx([0.5, 0.35, 0.25])
+    assert table["undiscounted_cash_flow"].tolist() == [2600, 1400, 600]
     folder = project.folder / "pushbacks"
-    assert blocks_of(folder)["phase"].to_dict() == {f"b{i}-0-{k}": i + 1 for i in range(3) for k in range(2)}
-    pd.testing.assert_frame_equal(pd.read_csv(folder / "phases.csv").set_index("phase"), table, check_dtype=False)
-    assert not [note for note in read_record(folder)["notes"] if "phases are asked" in note or "no factor" in note]
+    assert blocks_of(folder)["pushback"].to_dict() == {f"b{i}-0-{k}": i + 1 for i in range(3) for k in range(2)}
+    pd.testing.assert_frame_equal(pd.read_csv(folder / "pushbacks.csv").set_index("pushback"), table, check_dtype=False)
+    assert not [note for note in read_record(folder)["notes"] if "pushbacks are asked" in note or "no factor" in note]
 
 
 @pytest.mark.parametrize(
@@ -62,8 +64,8 @@ def test_three_shells_of_like_tonnage_are_three_phases(plan_folder):
         ),
         ("tonnes = 200", [0.5, 0.7, 1.0], None),
         ("tonnes = 1e6", [1.0], None),
-        ("count = 5", [0.351, 0.501, 1.0], "5 phases are asked for, and the shells make 3"),
-        ("count = 7", [0.351, 0.501, 1.0], "7 phases are asked for, and the shells make 3"),
+        ("count = 5", [0.351, 0.501, 1.0], "5 pushbacks are asked for, and the shells make 3"),
+        ("count = 7", [0.351, 0.501, 1.0], "7 pushbacks are asked for, and the shells make 3"),
         ("count = 1", [1.0], None),
         ("count = 2\nultimate_pit = 0.6", [0.5, 0.6], None),
         (
@@ -79,14 +81,14 @@ def test_three_shells_of_like_tonnage_are_three_phases(plan_folder):
     ],
 )
 def test_what_is_asked_for_by_count_tonnes_and_factors(plan_folder, words, factors, told):
-    project = load(plan_folder(pillars(), with_phases(words)))
+    project = load(plan_folder(pillars(), with_pushbacks(words)))
     assert pitplan.write_pushbacks(project)["revenue_factor"].tolist() == factors
     notes = read_record(project.folder / "pushbacks")["notes"]
     found = [
         note
         for note in notes
         if note.startswith(("between the revenue factors", "the shell of revenue factor"))
-        or "phases are asked for" in note
+        or "pushbacks are asked for" in note
     ]
     assert [told] == [note[: len(told)] for note in found if told in note] if told else found == []
 
@@ -99,8 +101,8 @@ def test_a_jump_is_named_with_its_tonnes(plan_folder):
         asked.extend(factors)
         return {factor: 0.0 if factor < 0.613 else 900.0 if factor < 0.8 else 1000.0 for factor in factors}
 
-    project = load(plan_folder(pillars(), with_phases("count = 2")))
-    found, notes = nested.even_shells(PhaseRules(2, None, None, None), 1.0, tonnes_at, project)
+    project = load(plan_folder(pillars(), with_pushbacks("count = 2")))
+    found, notes = nested.even_shells(PushbackRules(2, None, None, None), 1.0, tonnes_at, project)
     assert found == {0.613: 900, 1.0: 1000} and len(set(asked)) == len(asked) < 40
     assert notes == [
         "between the revenue factors 0.612 and 0.613 the shells grow by 900 t at once, from 0 to 900: no factor divides this rock"
@@ -116,7 +118,10 @@ def test_even_shells_are_the_nearest_of_all_factors(steps, count, last):
     }
     last /= 1000
     found, notes = nested.even_shells(
-        PhaseRules(count, None, None, None), last, lambda factors: {factor: grown[factor] for factor in factors}, None
+        PushbackRules(count, None, None, None),
+        last,
+        lambda factors: {factor: grown[factor] for factor in factors},
+        None,
     )
     whole = grown[last]
     assert max(found) == last and all(grown[factor] == rock for factor, rock in found.items())
@@ -129,30 +134,30 @@ def test_even_shells_are_the_nearest_of_all_factors(steps, count, last):
         assert bool(notes) or nearest <= 0.1 * whole / count
 
 
-def test_fixed_blocks_are_in_the_first_phase_and_in_none(plan_folder):
+def test_fixed_blocks_are_in_the_first_pushback_and_in_none(plan_folder):
     """The pillar of the poorest ore must be dug, and the richest's may not be: its lower block is left with the upper."""
     table = pillars(must=lambda i, j, k: int((i, k) == (2, 0)), never=lambda i, j, k: int((i, k) == (0, 1)))
-    text = with_phases("count = 2") + '[fixed]\nforced = "must"\nbarred = "never"\n'
+    text = with_pushbacks("count = 2") + '[constraints]\nmust_mine = "must"\nexclude = "never"\n'
     project = load(plan_folder(table, text))
     assert pitplan.write_pushbacks(project)["blocks"].tolist() == [2, 2]
-    said = blocks_of(project.folder / "pushbacks")["phase"]
+    said = blocks_of(project.folder / "pushbacks")["pushback"]
     assert said.to_dict() == {f"b{i}-0-{k}": [0, 2, 1][i] for i in range(3) for k in range(2)}
 
 
 def test_rows_without_rock_join_no_pieces(plan_folder):
     """Two blocks of ore whose cones meet where the table has rows of no tonnes."""
     table = rows(7, 1, 2, cu=lambda i, j, k: 6 * ((i, k) in ((1, 0), (4, 0))), tonnes=lambda i, j, k: 100 * (k == 0))
-    project = load(plan_folder(table, with_phases("revenue_factors = [1.0]", PROJECT)))
+    project = load(plan_folder(table, with_pushbacks("revenue_factors = [1.0]", PROJECT)))
     found = pitplan.write_pushbacks(project)
     assert found[["blocks", "pieces"]].values.tolist() == [[2, 2]]
     assert wrong(project.folder / "pushbacks") == {}
 
 
-def test_the_last_phase_ends_with_the_shell_that_is_selected(plan_folder):
+def test_the_last_pushback_ends_with_the_shell_that_is_selected(plan_folder):
     """At revenue factor 1.00 the third pillar yields 1420 - 1000 - 2 x 200 = 20: 220 a year after its waste costs 200 at a rate of 10 %. So the mean
     of best and worst case falls, and shells selects the two pillars of a lesser factor."""
     table = rows(3, 1, 2, cu=lambda i, j, k: 0 if k else [1, 0.7, 0.355][i])
-    path = plan_folder(table, with_phases("count = 2", UPRIGHT.replace("[0.5, 1.0, 1.5]", "[0.5, 0.8, 1.0, 1.5]")))
+    path = plan_folder(table, with_pushbacks("count = 2", UPRIGHT.replace("[0.5, 1.0, 1.5]", "[0.5, 0.8, 1.0, 1.5]")))
     pitplan.write_shells(path)
     selected = read_record(path.parent / "plan")["shells"]["selected"]
     assert selected == 0.8
@@ -160,37 +165,35 @@ def test_the_last_phase_ends_with_the_shell_that_is_selected(plan_folder):
     record = read_record(path.parent / "plan" / "pushbacks")
     assert record["shells"]["selected"] == 0.8
     assert (
-        "the last phase ends with the shell of revenue factor 0.80, which shells selects: [pushbacks] ultimate_pit names another"
+        "the last pushback ends with the shell of revenue factor 0.80, which shells selects: [pushbacks] ultimate_pit names another"
         in record["notes"]
     )
-    # The project may name another, by the phases' key or the shells'.
+    # The project may name another, by the pushbacks' key or the shells'.
     for change in (
-        with_phases("count = 3\nultimate_pit = 1.0"),
-        with_phases("count = 3").replace("rate = 0.1", "rate = 0.1\nselected = 1.0"),
+        with_pushbacks("count = 3\nultimate_pit = 1.0"),
+        with_pushbacks("count = 3").replace("discount_rate = 0.1", "discount_rate = 0.1\nselected = 1.0"),
     ):
         assert pitplan.write_pushbacks(plan_folder(table, change))["revenue_factor"].iloc[-1] == 1.0
 
 
-def test_where_no_shell_pays_the_last_phase_is_that_of_the_price_as_given(plan_folder):
+def test_where_no_shell_pays_the_last_pushback_is_that_of_the_price_as_given(plan_folder):
     """Each year costs more than all ore earns. A schedule that mines nothing is then the best, and an answer."""
     costs = UPRIGHT.replace("mining_cost = 2\n", "mining_cost = 2\nfixed_cost_per_year = 100_000\n").replace(
         "[0.5, 1.0, 1.5]", "[0.1, 0.5, 1.0, 1.5]"
     )
-    path = plan_folder(pillars(), with_phases("count = 2", costs))
+    path = plan_folder(pillars(), with_pushbacks("count = 2", costs))
     assert pitplan.write_pushbacks(path)["revenue_factor"].iloc[-1] == 1.0
-    told = (
-        "WARNING: no shell has a net present value above 0: the last phase ends with the shell of revenue factor 1.00"
-    )
+    told = "WARNING: no shell has a net present value above 0: the last pushback ends with the shell of revenue factor 1.00"
     assert told in read_record(path.parent / "plan" / "pushbacks")["notes"]
-    ways = pitplan.write_schedule(path).set_index("way")
-    assert ways.loc["lp", ["value", "tonnes", "years"]].tolist() == [0, 0, 0]
+    ways = pitplan.write_schedule(path).set_index("method")
+    assert ways.loc["lp", ["npv", "tonnes", "years"]].tolist() == [0, 0, 0]
 
 
 def test_an_empty_pit_is_refused(plan_folder, capsys):
-    path = plan_folder(pillars(), with_phases("count = 2\nultimate_pit = 0.3"))
+    path = plan_folder(pillars(), with_pushbacks("count = 2\nultimate_pit = 0.3"))
     assert main(["pushbacks", str(path), "--quiet"]) == 1
     assert "[pushbacks] the pit of revenue factor 0.30 is empty: there is nothing to divide" in capsys.readouterr().err
-    assert not (path.parent / "plan" / "pushbacks" / "phases.csv").exists()
+    assert not (path.parent / "plan" / "pushbacks" / "pushbacks.csv").exists()
 
 
 @pytest.mark.parametrize(
@@ -199,8 +202,11 @@ def test_an_empty_pit_is_refused(plan_folder, capsys):
         ("", "[pushbacks] count: give exactly one of count, tonnes, revenue_factors"),
         ("count = 2\ntonnes = 3", "[pushbacks] tonnes: give exactly one of count, tonnes, revenue_factors"),
         ("count = 0", "[pushbacks] count: must be a whole number from 1 to 100"),
-        ("tonnes = 0", "[pushbacks] tonnes: a phase has more than 0 tonnes"),
-        ("tonnes = 1", "[pushbacks] tonnes: the pit of 600 t would have 600 phases of 1 t, and there are at most 100"),
+        ("tonnes = 0", "[pushbacks] tonnes: a pushback has more than 0 tonnes"),
+        (
+            "tonnes = 1",
+            "[pushbacks] tonnes: the pit of 600 t would have 600 pushbacks of 1 t, and there are at most 100",
+        ),
         (
             "revenue_factors = [0.0, 0.5]",
             "[pushbacks] revenue_factors: found 0, expected 0.001 or more for each pushback",
@@ -216,11 +222,11 @@ def test_an_empty_pit_is_refused(plan_folder, capsys):
 )
 def test_what_is_refused(plan_folder, words, said):
     with pytest.raises(PlanError) as error:
-        pitplan.write_pushbacks(plan_folder(pillars(), with_phases(words)))
+        pitplan.write_pushbacks(plan_folder(pillars(), with_pushbacks(words)))
     assert said in str(error.value) and "project.toml" in str(error.value)
 
 
-def test_a_project_that_asks_for_no_phases_is_told_so(plan_folder):
+def test_a_project_that_asks_for_no_pushbacks_is_told_so(plan_folder):
     with pytest.raises(PlanError, match="project.toml: .pushbacks. is missing"):
         pitplan.write_pushbacks(plan_folder(pillars(), UPRIGHT))
 
@@ -234,10 +240,10 @@ def random_table(seed):
 
 @settings(max_examples=10)
 @given(st.integers(0, 10**6))
-def test_phases_of_random_mines_are_closed_nested_and_even(tmp_path_factory, seed):
+def test_pushbacks_of_random_mines_are_closed_nested_and_even(tmp_path_factory, seed):
     place = tmp_path_factory.mktemp("random")
     random_table(seed).to_csv(place / "blocks.csv", index=False)
-    (place / "project.toml").write_text(with_phases("count = 3\nultimate_pit = 1.5", PROJECT))
+    (place / "project.toml").write_text(with_pushbacks("count = 3\nultimate_pit = 1.5", PROJECT))
     project = load(place / "project.toml")
     try:
         table = pitplan.write_pushbacks(project)
@@ -245,15 +251,15 @@ def test_phases_of_random_mines_are_closed_nested_and_even(tmp_path_factory, see
         assert "is empty" in str(error)
         return
     blocks = blocks_of(project.folder / "pushbacks")
-    phase = {tuple(map(int, name[1:].split("-"))): number for name, number in blocks["phase"].items()}
-    for (i, j, k), number in phase.items():
+    pushback = {tuple(map(int, name[1:].split("-"))): number for name, number in blocks["pushback"].items()}
+    for (i, j, k), number in pushback.items():
         above = [(i + a, j + b, k + 1) for a, b in ((0, 0), (1, 0), (-1, 0), (0, 1), (0, -1))]
-        assert number == 0 or all(0 < phase[cell] <= number for cell in above if cell in phase)
-    for number, row in table.set_index("phase").iterrows():
-        mine = blocks[blocks["phase"] == number]
+        assert number == 0 or all(0 < pushback[cell] <= number for cell in above if cell in pushback)
+    for number, row in table.set_index("pushback").iterrows():
+        mine = blocks[blocks["pushback"] == number]
         assert (row["blocks"], row["tonnes"]) == (len(mine), mine["tonnes"].sum())
         gain = (mine["revenue"] - mine["processing_cost"]).clip(lower=0) - mine["mining_cost"]
-        assert row["worth"] == pytest.approx(gain.sum())
+        assert row["undiscounted_cash_flow"] == pytest.approx(gain.sum())
 
 
 @pytest.fixture(scope="module")
@@ -263,7 +269,7 @@ def divided(without_figures, tmp_path_factory):
     table["must"], table["never"] = (table["name"] == "b1-1-3").astype(int), (table["x"] > 100).astype(int)
     table.to_csv(place / "blocks.csv", index=False)
     (place / "project.toml").write_text(
-        with_phases("count = 3", PROJECT) + '[fixed]\nforced = "must"\nbarred = "never"\n'
+        with_pushbacks("count = 3", PROJECT) + '[constraints]\nmust_mine = "must"\nexclude = "never"\n'
     )
     pitplan.write_pushbacks(place / "project.toml")
     return place
@@ -283,97 +289,97 @@ def test_what_is_right_passes(copied, capsys):
     assert main(["verify", str(copied)]) == 0
     told = capsys.readouterr().out.splitlines()
     assert [line.split(":")[0] for line in told][-5:] == [
-        "phase of blocks",
-        "phase walls",
-        "phase fixed",
-        "phases",
-        "phase widths",
+        "pushback of blocks",
+        "pushback walls",
+        "pushback fixed",
+        "pushbacks",
+        "pushback widths",
     ]
     page = (copied / "report.html").read_text()
     assert (
-        "<h3>Phase by phase</h3>" in page
-        and "how phases were made of shells, the other numbers" in page
+        "<h3>Pushback by pushback</h3>" in page
+        and "how pushbacks were made of shells, the other numbers" in page
         and "data:image/png" not in page
     )
 
 
-NUMBERS = "blocks tonnes ore_tonnes waste_tonnes strip_ratio grade_copper metal_copper worth"
+NUMBERS = "blocks tonnes feed_tonnes waste_tonnes strip_ratio head_grade_copper recovered_copper undiscounted_cash_flow"
 
 
 @pytest.mark.parametrize(
-    ("column", "rule"), [*((name, "phases") for name in NUMBERS.split()), ("revenue_factor", "phase of blocks")]
+    ("column", "rule"), [*((name, "pushbacks") for name in NUMBERS.split()), ("revenue_factor", "pushback of blocks")]
 )
-def test_each_number_of_a_phase_that_is_bent_is_found(copied, column, rule):
-    table = pd.read_csv(copied / "phases.csv")
+def test_each_number_of_a_pushback_that_is_bent_is_found(copied, column, rule):
+    table = pd.read_csv(copied / "pushbacks.csv")
     table[column] = table[column].astype(float)
     table.loc[table.index[-1], column] += 1 if column in ("blocks", "revenue_factor") else 0.02
-    table.to_csv(copied / "phases.csv", index=False)
+    table.to_csv(copied / "pushbacks.csv", index=False)
     assert set(wrong(copied)) == {rule}
 
 
 @pytest.mark.parametrize(
     ("where", "number", "rules"),
     [
-        (lambda it: it["phase"] == 2, 1, {"phase of blocks", "phases"}),
+        (lambda it: it["pushback"] == 2, 1, {"pushback of blocks", "pushbacks"}),
         (
-            lambda it: (it["phase"] == 1) & (it["z"] == 35) & (it["must"] == 0),
+            lambda it: (it["pushback"] == 1) & (it["z"] == 35) & (it["must"] == 0),
             3,
-            {"phase of blocks", "phase walls", "phases"},
+            {"pushback of blocks", "pushback walls", "pushbacks"},
         ),
-        (lambda it: it["must"] == 1, 2, {"phase of blocks", "phase fixed", "phases"}),
-        (lambda it: it["never"] == 1, 1, {"phase of blocks", "phase fixed", "phases"}),
-        (lambda it: (it["phase"] == 2) & (it["z"] == 35), 0, {"phase of blocks", "phase walls", "phases"}),
+        (lambda it: it["must"] == 1, 2, {"pushback of blocks", "pushback fixed", "pushbacks"}),
+        (lambda it: it["never"] == 1, 1, {"pushback of blocks", "pushback fixed", "pushbacks"}),
+        (lambda it: (it["pushback"] == 2) & (it["z"] == 35), 0, {"pushback of blocks", "pushback walls", "pushbacks"}),
     ],
 )
-def test_a_block_in_another_phase_is_found(copied, where, number, rules):
+def test_a_block_in_another_pushback_is_found(copied, where, number, rules):
     table = pd.read_csv(copied / "blocks.csv")
-    table.loc[table.index[where(table)][0], "phase"] = number
+    table.loc[table.index[where(table)][0], "pushback"] = number
     table.to_csv(copied / "blocks.csv", index=False)
     assert rules <= set(wrong(copied))
 
 
-def test_a_phase_of_a_factor_that_was_not_asked_for_is_found(divided, copied):
+def test_a_pushback_of_a_factor_that_was_not_asked_for_is_found(divided, copied):
     path = copied.parent.parent / "project.toml"
     path.write_text(path.read_text().replace("count = 3", "revenue_factors = [0.4, 1.0]"))
     (rule,) = wrong(copied).values()
-    assert rule.name == "phase of blocks" and "was not asked for" in rule.differences[0]
+    assert rule.name == "pushback of blocks" and "was not asked for" in rule.differences[0]
 
 
 @pytest.mark.parametrize(
     ("asked", "said"),
     [
-        ("count = 3\nultimate_pit = 0.4", "the last phase is of revenue factor {last:.2f} for 0.40"),
-        ("count = 2", "3 phases for 2"),
-        ("revenue_factors = [0.001, 0.4]", "the last phase is of revenue factor {last:.2f} for 0.40"),
+        ("count = 3\nultimate_pit = 0.4", "the last pushback is of revenue factor {last:.2f} for 0.40"),
+        ("count = 2", "3 pushbacks for 2"),
+        ("revenue_factors = [0.001, 0.4]", "the last pushback is of revenue factor {last:.2f} for 0.40"),
     ],
 )
-def test_phases_that_the_project_does_not_ask_for_are_found(copied, asked, said):
+def test_pushbacks_that_the_project_does_not_ask_for_are_found(copied, asked, said):
     path = copied.parent.parent / "project.toml"
     path.write_text(path.read_text().replace("count = 3", asked))
     (rule,) = wrong(copied).values()
-    last = pd.read_csv(copied / "phases.csv")["revenue_factor"].max()
-    assert rule.name == "phase of blocks" and said.format(last=last) in rule.differences
+    last = pd.read_csv(copied / "pushbacks.csv")["revenue_factor"].max()
+    assert rule.name == "pushback of blocks" and said.format(last=last) in rule.differences
 
 
-def test_phases_of_a_project_that_asks_for_none_are_found(copied):
+def test_pushbacks_of_a_project_that_asks_for_none_are_found(copied):
     path = copied.parent.parent / "project.toml"
     path.write_text(path.read_text().replace("[pushbacks]\ncount = 3\n", ""))
-    assert wrong(copied)["phase of blocks"].differences == ("the project asks for no phases",)
+    assert wrong(copied)["pushback of blocks"].differences == ("the project asks for no pushbacks",)
 
 
-def test_nothing_is_written_where_a_phase_is_wrong(plan_folder, monkeypatch):
-    """All blocks of the last phase in the first."""
+def test_nothing_is_written_where_a_pushback_is_wrong(plan_folder, monkeypatch):
+    """All blocks of the last pushback in the first."""
     whole = nested.blocks
-    monkeypatch.setattr(nested, "blocks", lambda it: whole(it).replace({"phase": {3: 1}}))
-    project = load(plan_folder(pillars(), with_phases("count = 3")))
+    monkeypatch.setattr(nested, "blocks", lambda it: whole(it).replace({"pushback": {3: 1}}))
+    project = load(plan_folder(pillars(), with_pushbacks("count = 3")))
     with pytest.raises(PlanError, match="what was written is not right"):
         pitplan.write_pushbacks(project)
-    assert not (project.folder / "pushbacks" / "phases.csv").exists()
+    assert not (project.folder / "pushbacks" / "pushbacks.csv").exists()
 
 
-def test_a_column_that_is_called_phase_is_kept(plan_folder):
-    text = with_phases("count = 3").replace('rock = "rock"', 'rock = "phase"')
-    project = load(plan_folder(pillars().rename(columns={"rock": "phase"}), text))
+def test_a_column_that_is_called_pushback_is_kept(plan_folder):
+    text = with_pushbacks("count = 3").replace('rock_type = "rock"', 'rock_type = "pushback"')
+    project = load(plan_folder(pillars().rename(columns={"rock": "pushback"}), text))
     pitplan.write_pushbacks(project)
     blocks = blocks_of(project.folder / "pushbacks")
-    assert sorted(set(blocks["phase"])) == [1, 2, 3] and set(blocks["planner_phase"]) == {"R"}
+    assert sorted(set(blocks["pushback"])) == [1, 2, 3] and set(blocks["planner_pushback"]) == {"R"}

@@ -29,10 +29,13 @@ WRONG = {
     "recovery of 500 %": (lambda it: with_metal(it, recovery=Decimal(5)), r"\[metals 1\] recovery: "),
     "negative price": (lambda it: with_metal(it, price=Decimal(-9000)), r"\[metals 1\] price: "),
     "unknown unit": (lambda it: with_metal(it, unit="pct"), r"\[metals 1\] unit: "),
-    "rate of 800 %": (lambda it: with_shells(it, rate=8.0), r"\[shells\] rate: "),
+    "rate of 800 %": (lambda it: with_shells(it, discount_rate=8.0), r"\[shells\] discount_rate: "),
     "a factor beyond all": (lambda it: with_shells(it, revenue_factors=(1.0, 200.0)), r"\[shells\] revenue_factors: "),
-    "cost that is a text": (lambda it: with_money(it, mining_cost="2"), r"\[money\] mining_cost: "),
-    "levels beyond all": (lambda it: replace(it, slopes=replace(it.slopes, levels=0)), r"\[slopes\] levels: "),
+    "cost that is a text": (lambda it: with_money(it, mining_cost="2"), r"\[economics\] mining_cost: "),
+    "levels beyond all": (
+        lambda it: replace(it, slopes=replace(it.slopes, precedence_benches=0)),
+        r"\[slopes\] precedence_benches: ",
+    ),
 }
 
 

@@ -66,7 +66,7 @@ def test_no_shell_touches_a_side_that_is_none_of_the_model(plan_folder, few):
 
 
 def test_costs_that_rise_from_the_highest_block_that_ore_needs(plan_folder, monkeypatch):
-    change = ("mining_cost = 2\n", "mining_cost = 2\nmining_cost_per_level = 0.25\n")
+    change = ("mining_cost = 2\n", "mining_cost = 2\nmining_cost_per_bench = 0.25\n")
     path = plan_folder(deposit(), PROJECT, ANGLES, change)
     whole, factors = solved(path)
     monkeypatch.setattr(pitplan.blockmodel.grid, "MOST_BLOCKS", 3000)
@@ -105,7 +105,7 @@ def test_the_box_by_hand(absent, levels):
 
 def test_what_must_be_dug_is_kept(plan_folder, few):
     table = deposit(must=lambda i, j, k: int((i, j, k) == (16, 8, 6)))
-    path = plan_folder(table, PROJECT + '[fixed]\nforced = "must"\n', ANGLES)
+    path = plan_folder(table, PROJECT + '[constraints]\nmust_mine = "must"\n', ANGLES)
     plan, factors = solved(path)
     assert factors["b16-8-6"] == 0.5
 
@@ -180,7 +180,7 @@ def test_a_table_that_has_changed_where_it_was_left_out_is_found(plan_folder, fe
         verify(path.parent / "plan")
 
 
-ABSENT = ('file = "blocks.csv"', 'file = "blocks.csv"\nabsent = { tonnes = 90, rock = "R", region = "1" }')
+ABSENT = ('file = "blocks.csv"', 'file = "blocks.csv"\nmissing_blocks = { tonnes = 90, rock_type = "R", domain = "1" }')
 
 
 @pytest.mark.parametrize("change", [('file = "blocks.csv"', 'file = "blocks.csv"\nreblock = [2, 1, 1]'), ABSENT])

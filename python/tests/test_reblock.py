@@ -44,17 +44,18 @@ def test_four_blocks_in_one_by_hand(plan_folder):
 def test_columns_that_a_schedule_sums(plan_folder):
     """Of the four blocks arsenic is 10, 20, 30 and 40 ppm, 100 t x 10 + .. = 29,000 in 1000 t; power is of whole blocks."""
     table = four(as_ppm=lambda i, j, k: 10 + 10 * (i + 2 * j), kwh=lambda i, j, k: 1.5 + i + 2 * j)
-    sums = '[[schedule.sums]]\ncolumn = "{}"\nmost = 1\n{}'
-    text = PROJECT + sums.format("as_ppm", "a_tonne = true\n") + sums.format("kwh", "")
+    sums = '[[schedule.limits]]\ncolumn = "{}"\nmax = 1\n{}'
+    text = PROJECT + sums.format("as_ppm", "per_tonne = true\n") + sums.format("kwh", "")
     plan = pitplan.prepare(plan_folder(table, text, TWOS))
     assert plan.table[["as_ppm", "kwh", "cu"]].values.tolist() == [[29, 12, 0.7]]
-    text = PROJECT + sums.format("as_ppm", "a_tonne = true\n") + sums.format("as_ppm", 'name = "whole"\n')
+    text = PROJECT + sums.format("as_ppm", "per_tonne = true\n") + sums.format("as_ppm", 'name = "whole"\n')
     with pytest.raises(
-        PlanError, match=r"\[schedule.sums\] whole: as_ppm is of a tonne too, and \[table\] reblock makes means of that"
+        PlanError,
+        match=r"\[schedule.limits\] whole: as_ppm is of a tonne too, and \[table\] reblock makes means of that",
     ):
         pitplan.load(plan_folder(table, text, TWOS))
     with pytest.raises(
-        PlanError, match=r"\[schedule.sums\] cu: cu is of a tonne too, and \[table\] reblock makes means of that"
+        PlanError, match=r"\[schedule.limits\] cu: cu is of a tonne too, and \[table\] reblock makes means of that"
     ):
         pitplan.load(plan_folder(table, PROJECT + sums.format("cu", ""), TWOS))
 
@@ -63,7 +64,7 @@ def test_sides_that_are_not_full_and_fixed_blocks(plan_folder):
     """Five blocks from the west: the third of the new ones holds one. A block is fixed where a part of it is."""
     table = rows(5, 1, 3, must=lambda i, j, k: int((i, k) == (1, 2)), cu=lambda i, j, k: i)
     change = ('file = "blocks.csv"', 'file = "blocks.csv"\nreblock = [2, 1, 2]')
-    plan = pitplan.prepare(plan_folder(table, PROJECT + '[fixed]\nforced = "must"\n', change))
+    plan = pitplan.prepare(plan_folder(table, PROJECT + '[constraints]\nmust_mine = "must"\n', change))
     table = plan.table
     assert (
         table["x"].tolist() == [10, 30, 50] * 2
@@ -139,7 +140,7 @@ def hill():
     return table[(table["z"] < 50) | (table["x"] < 70)].assign(must=0, never=lambda it: (it["x"] > 120).astype(int))
 
 
-FIXED = '[fixed]\nforced = "must"\nbarred = "never"\n'
+FIXED = '[constraints]\nmust_mine = "must"\nexclude = "never"\n'
 
 
 @pytest.fixture

@@ -165,7 +165,7 @@ def bends():
     yield ("shells", "solver", "version"), ""
     yield ("project",), "nowhere.toml"
     yield ("project",), "."
-    yield ("phases",), 3
+    yield ("pushbacks",), 3
     yield ("schedule",), "rule"
     yield ("by_block",), True
     yield ("inputs",), {}
@@ -190,7 +190,7 @@ def test_records_that_do_not_fit_what_stands_beside_them(solved):
     assert refusals > 25
 
 
-@pytest.mark.parametrize("text", ["", "[]", "{}", '{"ways": 3}', '{"ways": {}, "bins": 3}', None])
+@pytest.mark.parametrize("text", ["", "[]", "{}", '{"methods": 3}', '{"methods": {}, "bins": 3}', None])
 def test_a_bent_record_of_a_schedule_is_named(folder, text):
     file = folder / "schedule.json"
     if text is None:

@@ -51,7 +51,7 @@ def test_a_fixed_tail_by_hand(plan_folder):
     """Of 125 t that come to the mill 0.0625 t of copper are lost, of what is left half; of 0.06 % nothing is left."""
     text = "mining_cost = 2\ndilution = 0.25\n"
     path = plan_folder(
-        row_of(0.5, 0.06), PROJECT, ("recovery = 0.5", "recovery = 0.5\nfixed_tail = 0.05"), ("mining_cost = 2\n", text)
+        row_of(0.5, 0.06), PROJECT, ("recovery = 0.5", "recovery = 0.5\ntail_grade = 0.05"), ("mining_cost = 2\n", text)
     )
     assert revenues(path) == [1750, 0]
     assert (
@@ -63,7 +63,7 @@ def test_a_fixed_tail_by_hand(plan_folder):
 def test_by_rock(plan_folder):
     """R by grade with a tail of 0.1 %, S by one number without."""
     table = rows(2, 1, 1, cu=lambda i, j, k: 0.4, rock=lambda i, j, k: "RS"[i])
-    by_rock = "recovery = { R = [[0.2, 0.5], [0.6, 0.9]], S = 0.8125 }\nfixed_tail = { R = 0.1 }"
+    by_rock = "recovery = { R = [[0.2, 0.5], [0.6, 0.9]], S = 0.8125 }\ntail_grade = { R = 0.1 }"
     assert revenues(plan_folder(table, PROJECT, ("recovery = 0.5", by_rock))) == [1680, 2600]
 
 
@@ -120,7 +120,7 @@ def test_what_is_wrong_is_named(plan_folder, recovery, said):
 
 
 TEXT = (
-    ("recovery = 0.5", "recovery = { R = [[0, 0.4], [7, 0.95]], S = 0.9 }\nfixed_tail = { R = 0.03 }"),
+    ("recovery = 0.5", "recovery = { R = [[0, 0.4], [7, 0.95]], S = 0.9 }\ntail_grade = { R = 0.03 }"),
     ("mining_cost = 2\n", "mining_cost = 2\ndilution = 0.3\n"),
 )
 
@@ -165,7 +165,7 @@ def test_a_tail_that_is_passed_over_is_found(plan_folder, monkeypatch, without_f
         return weigh(
             frame,
             grid,
-            replace(project, metals=tuple(replace(metal, fixed_tail=Decimal(0)) for metal in project.metals)),
+            replace(project, metals=tuple(replace(metal, tail_grade=Decimal(0)) for metal in project.metals)),
             *more,
         )
 

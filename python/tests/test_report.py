@@ -27,11 +27,11 @@ PARTS = ["The answer", "How sure it is", "Pictures", "Tables", "Inputs"]
 MORE = """[pushbacks]
 count = 2
 [schedule]
-rock_per_year = 700
+mining_capacity = 700
 ramp_up = [0.5, 1]
 [sensitivity]
-by = [-0.1, 0.1]
-vary = ["price", "mining_cost"]
+changes = [-0.1, 0.1]
+parameters = ["price", "mining_cost"]
 pairs = [["price", "mining_cost"]]
 """
 GOLD = '[[metals]]\nname = "gold"\ncolumn = "au"\nunit = "gram_per_tonne"\nprice = 60\nrecovery = 0.9\n[slopes]\n'
@@ -80,7 +80,7 @@ def written(tmp_path_factory):
     grades = {(3, 4, 1): 6, (7, 4, 1): 2, (5, 2, 2): 0.9, (3, 3, 2): 1.5}
     table = rows(11, 9, 4, cu=lambda i, j, k: grades.get((i, j, k), 0), au=lambda i, j, k: 0.005 * (i + k))
     table.to_csv(place / "blocks.csv", index=False)
-    text = PROJECT.replace("[slopes]\n", GOLD).replace("[money]", '[money]\ncurrency = "EUR"') + MORE
+    text = PROJECT.replace("[slopes]\n", GOLD).replace("[economics]", '[economics]\ncurrency = "EUR"') + MORE
     (place / "project.toml").write_text(text)
     pitplan.write_sensitivity(place / "project.toml")
     pitplan.write_schedule(place / "project.toml")
@@ -100,9 +100,9 @@ def cells_of(folder):
 def size_of(heading, column):
     """The unit of a heading such as "rock, kt" or a figure such as "12.4 M EUR"."""
     unit = heading.partition(", ")[2] if ", " in heading and not heading[0].isdigit() else heading.partition(" ")[2]
-    if column == "below_bound":
+    if column == "optimality_gap":
         return Decimal("0.01")
-    if column.startswith("grade_") or not unit:
+    if column.startswith("head_grade_") or not unit:
         return 1
     first = unit.split()[0]
     return SIZES.get(first) or (SIZES[first[0]] if re.fullmatch("[Mk]t", first) else 1)
@@ -120,23 +120,23 @@ def test_each_number_of_the_page_is_one_of_a_written_table(written, place):
         found.add((file, column))
         number = text.split()[0].replace(",", "")
         if not re.fullmatch(r"-?[\d.]+", number):
-            assert text in ("–", written_as) or column == "number" and written_as.replace("_", " ") in text
+            assert text in ("–", written_as) or column == "parameter" and written_as.replace("_", " ") in text
             continue
         shown = Decimal(number) * size_of(heading, column)
         half = Decimal(1).scaleb(Decimal(number).as_tuple().exponent) * size_of(heading, column) / 2
         assert abs(shown - Decimal(written_as)) <= half, f"{source}: {text} for {written_as}"
     assert {
         ("shells.csv", "npv_best"),
-        ("shells.csv", "grade_gold"),
-        ("years.csv", "discounted"),
+        ("shells.csv", "head_grade_gold"),
+        ("years.csv", "discounted_cash_flow"),
         ("sensitivity.csv", "npv"),
     } <= found
     if place == "plan/schedule":
         assert {
-            ("ways.csv", "value"),
-            ("ways.csv", "bound"),
-            ("ways.csv", "metal_gold"),
-            ("phases.csv", "worth"),
+            ("methods.csv", "npv"),
+            ("methods.csv", "upper_bound"),
+            ("methods.csv", "recovered_gold"),
+            ("pushbacks.csv", "undiscounted_cash_flow"),
         } <= found
     assert page.parts == PARTS and page.bare == []
 
@@ -144,48 +144,63 @@ def test_each_number_of_the_page_is_one_of_a_written_table(written, place):
 def test_the_answer_is_the_first_that_is_told(written):
     """The schedule's value, bound, rock and life, by the table of its ways; the pit's grades, by the last shell."""
     page = Page((written / "plan" / "schedule" / "report.html").read_text())
-    ways = pd.read_csv(written / "plan" / "schedule" / "ways.csv")
-    row = 2 + int(ways["value"].round(2).argmax())
-    names = ["value", "bound", "tonnes", "ore_tonnes", "left_tonnes", "metal_copper", "metal_gold", "years"]
-    assert [source for source, _, _ in page.shown[:8]] == [f"ways.csv row {row} column {name}" for name in names]
+    ways = pd.read_csv(written / "plan" / "schedule" / "methods.csv")
+    row = 2 + int(ways["npv"].round(2).argmax())
+    names = [
+        "npv",
+        "upper_bound",
+        "tonnes",
+        "feed_tonnes",
+        "unmined_tonnes",
+        "recovered_copper",
+        "recovered_gold",
+        "years",
+    ]
+    assert [source for source, _, _ in page.shown[:8]] == [f"methods.csv row {row} column {name}" for name in names]
     assert page.shown[7][1] == f"{ways['years'][row - 2]} years"
-    assert [source.partition(" column ")[2] for source, _, _ in page.shown[8:10]] == ["grade_copper", "grade_gold"]
+    assert [source.partition(" column ")[2] for source, _, _ in page.shown[8:10]] == [
+        "head_grade_copper",
+        "head_grade_gold",
+    ]
 
 
 def test_ways_are_the_sums_of_their_years(written):
     """Anew, from schedule.csv and schedule.json."""
     folder = written / "plan" / "schedule"
-    rows_of, told = pd.read_csv(folder / "schedule.csv").groupby("way"), read_json(folder / "schedule.json")
-    for way in pd.read_csv(folder / "ways.csv").itertuples():
+    rows_of, told = pd.read_csv(folder / "schedule.csv").groupby("method"), read_json(folder / "schedule.json")
+    for way in pd.read_csv(folder / "methods.csv").itertuples():
         dug = rows_of.get_group(way.way)
-        assert (way.tonnes, way.ore_tonnes) == (
-            pytest.approx(dug["rock_tonnes"].sum()),
-            pytest.approx(dug["ore_tonnes"].sum()),
+        assert (way.tonnes, way.feed_tonnes) == (
+            pytest.approx(dug["total_tonnes"].sum()),
+            pytest.approx(dug["feed_tonnes"].sum()),
         )
-        assert way.metal_gold == pytest.approx(dug["metal_gold"].sum(), abs=0.05)
-        assert (way.value, way.years, way.left_tonnes) == tuple(
-            told["ways"][way.way][name] for name in ("value", "years", "left_tonnes")
+        assert way.metal_gold == pytest.approx(dug["recovered_gold"].sum(), abs=0.05)
+        assert (way.value, way.years, way.unmined_tonnes) == tuple(
+            told["methods"][way.way][name] for name in ("npv", "years", "unmined_tonnes")
         )
-        assert way.bound == told["bound"] and way.below_bound == pytest.approx(1 - way.value / told["bound"], abs=1e-6)
+        assert way.bound == told["upper_bound"] and way.optimality_gap == pytest.approx(
+            1 - way.value / told["upper_bound"], abs=1e-6
+        )
 
 
 @pytest.mark.parametrize(
-    "name", ["value", "bound", "below_bound", "years", "tonnes", "ore_tonnes", "left_tonnes", "metal_copper"]
+    "name",
+    ["npv", "upper_bound", "optimality_gap", "years", "tonnes", "feed_tonnes", "unmined_tonnes", "recovered_copper"],
 )
 def test_a_way_that_is_bent_is_found(copied, name):
     folder = copied / "plan" / "schedule"
-    table = pd.read_csv(folder / "ways.csv")
-    table.loc[0, name] += 1 if name != "below_bound" else 1e-4
-    table.to_csv(folder / "ways.csv", index=False)
+    table = pd.read_csv(folder / "methods.csv")
+    table.loc[0, name] += 1 if name != "optimality_gap" else 1e-4
+    table.to_csv(folder / "methods.csv", index=False)
     assert {rule.name for rule in verify(folder) if rule.differences} == {"schedule value"}
 
 
 def test_ways_that_are_missing_or_others_are_found(copied):
-    path = copied / "plan" / "schedule" / "ways.csv"
+    path = copied / "plan" / "schedule" / "methods.csv"
     text = path.read_text()
     for bent, said in (
-        (text.replace("rule", "hand"), "ways.csv has the ways ['hand', 'lp'] for ['rule', 'lp']"),
-        (None, "ways.csv is missing"),
+        (text.replace("rule", "hand"), "methods.csv has the ways ['hand', 'lp'] for ['rule', 'lp']"),
+        (None, "methods.csv is missing"),
     ):
         path.unlink() if bent is None else path.write_text(bent)
         found = {rule.name: rule.differences for rule in verify(path.parent) if rule.differences}
@@ -256,11 +271,13 @@ def test_a_table_that_is_too_wide_stands_in_parts(count):
 
 
 def test_a_bound_that_was_not_found_is_a_dash_without_a_unit():
-    ways = html.Written("ways.csv", pd.DataFrame({"way": ["rule"], "value": [2.5e7], "bound": [float("nan")]}))
-    told = [ways.figure("NPV", 0, (name, "NPV, M EUR", 1e6, 1)) for name in ("value", "bound")]
+    ways = html.Written(
+        "methods.csv", pd.DataFrame({"method": ["rule"], "npv": [2.5e7], "upper_bound": [float("nan")]})
+    )
+    told = [ways.figure("NPV", 0, (name, "NPV, M EUR", 1e6, 1)) for name in ("npv", "upper_bound")]
     assert [(it.text, it.source) for it in told] == [
-        ("25.0 M EUR", "ways.csv row 2 column value"),
-        ("–", "ways.csv row 2 column bound"),
+        ("25.0 M EUR", "methods.csv row 2 column npv"),
+        ("–", "methods.csv row 2 column upper_bound"),
     ]
 
 
@@ -314,10 +331,10 @@ def test_on_a_telephone_nothing_is_cut_off(written, tmp_path):
 def test_the_way_of_a_schedule_is_told_in_words(written):
     folder, project = written / "plan" / "schedule", pitplan.load(written / "project.toml")
     record = read_record(folder)
-    told = [html.of_answer(folder, project, record | {"schedule": way})["way"] for way in ("rule", "lp")]
+    told = [html.of_answer(folder, project, record | {"schedule": way})["method"] for way in ("rule", "lp")]
     assert told == ["rule", "linear programme"]
     assert (
-        f"A yearly schedule, by {told[record['schedule'] == 'lp']}, of the phases"
+        f"A yearly schedule, by {told[record['schedule'] == 'lp']}, of the pushbacks"
         in (folder / "report.html").read_text()
     )
 

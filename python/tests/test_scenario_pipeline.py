@@ -27,13 +27,13 @@ pytestmark = pytest.mark.usefixtures("without_figures")
 SOME = settings(max_examples=12, suppress_health_check=[HealthCheck.function_scoped_fixture])
 COLUMNS = '[scenarios]\ncolumns = { copper = "cu_*" }\n'
 SETS = COLUMNS + "[[scenarios.prices]]\ncopper = 4000\n[[scenarios.prices]]\ncopper = 11_000\ngold = 80\n"
-MODELS = '[scenarios]\nmodels = "models"\n'
+MODELS = '[scenarios]\nrealisations = "realisations"\n'
 GOLD = '[[metals]]\nname = "gold"\ncolumn = "au"\nunit = "gram_per_tonne"\nprice = 40\nrecovery = 0.5\n[slopes]\n'
 REBLOCK = ('file = "blocks.csv"', 'file = "blocks.csv"\nreblock = [2, 2, 1]')
 CORNER = ('file = "blocks.csv"', 'file = "blocks.csv"\nreblock = { size = [20, 20, 20], corner = [-10, 0, 0] }')
 TOPOGRAPHY = ('file = "blocks.csv"', 'file = "blocks.csv"\ntopography = "ground.csv"')
 ANY_SIZE = ("size = [10, 10, 10]\n", "tolerance = 0.01\n")
-MINED = '[fixed]\nforced = "must"\nbarred = "never"\nsurface = "mined.csv"\n'
+MINED = '[constraints]\nmust_mine = "must"\nexclude = "never"\nas_mined = "mined.csv"\n'
 WHOLE = MINED + 'topography = "blocks"\n'
 
 
@@ -54,18 +54,18 @@ def mine(seed, shape=(6, 4, 3)):
     return table
 
 
-def with_processes(seed, count, cutoff="moving"):
+def with_processes(seed, count, cutoff="per_revenue_factor"):
     """Changes of a project to several processes with random costs and recoveries."""
     random = np.random.default_rng(seed)
     text = ""
     for number in range(count):
         copper, other, gold = (random.integers(0, 11, 3) / 10).tolist()
-        text += f'[[processes]]\nname = "p{number}"\ncost = {random.integers(0, 25)}\nper_year = 1000\n'
+        text += f'[[processes]]\nname = "p{number}"\ncost = {random.integers(0, 25)}\ncapacity = 1000\n'
         text += f"recovery = {{ copper = {{ R = {copper}, S = {other} }}, gold = {gold} }}\n"
     return [
-        ("processing_cost = 10\n", f'cutoff = "{cutoff}"\nmining_cost_per_level = 0.1\nmining_cost_reference = 20\n'),
+        ("processing_cost = 10\n", f'cutoff = "{cutoff}"\nmining_cost_per_bench = 0.1\nmining_cost_reference = 20\n'),
         ("recovery = 0.5\n[slopes]\n", "recovery = 0.5\n" + GOLD),
-        ("ore_per_year = 100\n", ""),
+        ("processing_capacity = 100\n", ""),
         ("[slopes]\nlevels", text + "[slopes]\nlevels"),
     ]
 
@@ -114,10 +114,10 @@ def demand_plans_of_their_own(path, table, grades, solver=None):
 
         assert worker.solve(str(shared.folder), scenario.number).status == 0, scenario.label
         places, answer = pit_probability.read_answer(shared, scenario)
-        assert [0, *own.project.schedule.factors] == [0, *shared.record["factors"]]
-        factors = np.array([0, *own.project.schedule.factors])
+        assert [0, *own.project.schedule.revenue_factors] == [0, *shared.record["revenue_factors"]]
+        factors = np.array([0, *own.project.schedule.revenue_factors])
         assert (factors[places] == cells.factor[own.grid.rows]).all(), scenario.label
-        assert [Decimal(it) for it in answer["worth_at_factor"]] == expected.worth.tolist()
+        assert [Decimal(it) for it in answer["value_at_revenue_factor"]] == expected.worth.tolist()
         amounts = shell_tables.amounts(own, cells)
         pd.testing.assert_frame_equal(answer[list(amounts)].astype(float), amounts.astype(float), check_exact=True)
 
@@ -131,7 +131,7 @@ def demand_plans_of_their_own(path, table, grades, solver=None):
 def demand_same_steps(plan, found, own, expected):
     """The steps of a plan and the factors at which they pay are those of its own; other nodes are in no pit."""
     count, is_step = plan.grid.count, plan.values.steps.way >= 0
-    for name in ("block", "way", "revenue", "cost"):
+    for name in ("block", "method", "revenue", "cost"):
         assert (getattr(plan.values.steps, name)[is_step] == getattr(own.values.steps, name)).all()
     assert (found.entry[count:][is_step] == expected.entry[count:]).all()
     assert (found.entry[count:][~is_step] == 0).all()
@@ -192,7 +192,7 @@ def test_scenarios_of_mines_with_an_as_mined_surface_are_plans_of_their_own(plan
 def test_all_together_with_missing_blocks(plan_folder, tmp_path, solver):
     """Reblocked, cut by the ground and by an as-mined surface, in three processes, with rock where rows are missing."""
     write_surfaces(tmp_path)
-    rock = 'absent = { tonnes = 300, rock = "R", region = "1" }\n'
+    rock = 'missing_blocks = { tonnes = 300, rock_type = "R", domain = "1" }\n'
     both = ('file = "blocks.csv"\n', f'file = "blocks.csv"\nreblock = [2, 2, 1]\ntopography = "ground.csv"\n{rock}')
     table = mine(5)
     table = table[~((table["x"] < 20) & (table["y"] > 20) & (table["z"] < 20))].reset_index(drop=True)
@@ -201,16 +201,18 @@ def test_all_together_with_missing_blocks(plan_folder, tmp_path, solver):
     pitplan.gather(shared.folder)
     assert len(shared.frame) == 18
     said = {rule.name: rule.differences for rule in verify(shared.folder)}
-    assert {"reblocked", "as mined", "worth", "fixed", "absent"} <= set(said) and not any(said.values())
+    assert {"reblocked", "as mined", "undiscounted_cash_flow", "fixed", "absent"} <= set(said) and not any(
+        said.values()
+    )
 
 
 def write_models(path, table):
     """Three tables of grades with rows in orders of their own: by id, by centre, and by both."""
-    (path.parent / "models").mkdir()
+    (path.parent / "realisations").mkdir()
     for number, name in enumerate(("cu_a", "cu_b", "cu_c")):
         model = table[["name", "x", "y", "z"]].assign(cu=table[name], au=table["au"])
         model = model.drop(columns=[["x", "y", "z"], ["name"], []][number]).sample(frac=1, random_state=number)
-        model.to_csv(path.parent / "models" / f"{name}.csv", index=False)
+        model.to_csv(path.parent / "realisations" / f"{name}.csv", index=False)
 
 
 @pytest.mark.parametrize("change", [REBLOCK, CORNER])
@@ -234,9 +236,9 @@ def test_rows_of_models_are_those_of_the_table_before_reblocking(plan_folder, ch
 def test_a_model_that_does_not_fit_the_rows_before_reblocking_is_named(plan_folder, bend, said):
     table = mine(11)
     path = plan_folder(table, PROJECT + MODELS, REBLOCK, ANY_SIZE)
-    (path.parent / "models").mkdir()
+    (path.parent / "realisations").mkdir()
     model = table[["name", "x", "y", "z"]].assign(cu=1)
-    bend(model).to_csv(path.parent / "models" / "cu_a.csv", index=False)
+    bend(model).to_csv(path.parent / "realisations" / "cu_a.csv", index=False)
     with pytest.raises(PlanError) as error:
         prepared(path)
     assert said in str(error.value) and "reblocked" not in str(error.value)
@@ -255,9 +257,9 @@ def test_reblocked_grades_by_hand(plan_folder):
 def test_shared_nodes_by_hand(plan_folder):
     """Two processes and a block that is rich in one realisation, poor in another and barren in the third."""
     table = rows(1, 1, 2).drop(columns="cu").assign(cu_a=[0.8, 0], cu_b=[0.06, 0], cu_c=[0.0, 0])
-    two = '[[processes]]\nname = "leach"\ncost = 3\nper_year = 9\nrecovery = { copper = 0.4 }\n'
-    two += '[[processes]]\nname = "mill"\ncost = 13\nper_year = 9\nrecovery = { copper = 0.9 }\n[slopes]\n'
-    changes = [("processing_cost = 10\n", ""), ("recovery = 0.5\n", ""), ("ore_per_year = 100\n", "")]
+    two = '[[processes]]\nname = "leach"\ncost = 3\ncapacity = 9\nrecovery = { copper = 0.4 }\n'
+    two += '[[processes]]\nname = "mill"\ncost = 13\ncapacity = 9\nrecovery = { copper = 0.9 }\n[slopes]\n'
+    changes = [("processing_cost = 10\n", ""), ("recovery = 0.5\n", ""), ("processing_capacity = 100\n", "")]
     shared = prepared(plan_folder(table, PROJECT + COLUMNS, *changes, ("[slopes]\n", two)))
     assert shared.ore.tolist() == [1, 1]
     steps = [worker.plan_of(shared, it).values.steps for it in shared.scenarios]
@@ -288,7 +290,7 @@ def test_each_input_is_part_of_the_key(plan_folder, tmp_path):
         return tuple(it.key for it in prepared(path).scenarios)
 
     first = keys()
-    assert keys() == first and keys("per_year = 1000", "per_year = 2000") == first
+    assert keys() == first and keys("capacity = 1000", "capacity = 2000") == first
     text = of_processes_text(3, 2, "moving", COLUMNS + MINED, both, ANY_SIZE)
     cost = next(line for line in text.split("\n") if line.startswith("cost = "))
     recovery = next(line for line in text.split("\n") if line.startswith("recovery = { copper"))
@@ -297,7 +299,7 @@ def test_each_input_is_part_of_the_key(plan_folder, tmp_path):
         keys("reblock = [2, 2, 1]", "reblock = { size = [20, 20, 10], corner = [0, 0, 0] }"),
         keys(cost, cost + ".5"),
         keys(recovery, "recovery = { copper = 0.31 }"),
-        keys('surface = "mined.csv"\n', ""),
+        keys('as_mined = "mined.csv"\n', ""),
         keys('name = "p0"', 'name = "q0"'),
     ]
     write_surface(tmp_path / "ground.csv", lambda x, y: ground(x, y) - 1)
@@ -322,13 +324,13 @@ def test_a_fixed_cutoff_keeps_the_precedences_of_blocks_that_pay_in_another_proc
     table = rows(3, 1, 2, rock=lambda i, j, k: "R" if k else "S").drop(columns="cu")
     ore = (table["name"] == "b1-0-0").astype(float)
     table = table.assign(cu_a=ore, cu_b=0.0, cu_c=0.0, au_a=0.0, au_b=ore, au_c=0.0)
-    two = '[[processes]]\nname = "flotation"\ncost = 0.9\nper_year = 9\nrecovery = { copper = 1 }\n'
-    two += '[[processes]]\nname = "leach"\ncost = 0.4\nper_year = 9\nrecovery = { gold = 1 }\n[slopes]\n'
+    two = '[[processes]]\nname = "flotation"\ncost = 0.9\ncapacity = 9\nrecovery = { copper = 1 }\n'
+    two += '[[processes]]\nname = "leach"\ncost = 0.4\ncapacity = 9\nrecovery = { gold = 1 }\n[slopes]\n'
     changes = [
-        ("mining_cost = 2\nprocessing_cost = 10\n", 'mining_cost = { R = 0.01, S = 1 }\ncutoff = "fixed"\n'),
+        ("mining_cost = 2\nprocessing_cost = 10\n", 'mining_cost = { R = 0.01, S = 1 }\ncutoff = "base_price"\n'),
         ("price = 8000\nrecovery = 0.5\n", "price = 100\n"),
-        ("ore_per_year = 100\n", ""),
-        ("[500, 1000, 1500]", "[1000, 2000]"),
+        ("processing_capacity = 100\n", ""),
+        ("[0.5, 1.0, 1.5]", "[1000, 2000]"),
         ("[slopes]\n", GOLD.replace("price = 40\nrecovery = 0.5\n", "price = 0.6\n").replace("[slopes]\n", two)),
     ]
     models = '[scenarios]\ncolumns = { copper = "cu_*", gold = "au_*" }\n'
@@ -336,13 +338,16 @@ def test_a_fixed_cutoff_keeps_the_precedences_of_blocks_that_pay_in_another_proc
     for scenario in shared.scenarios:
         assert worker.solve(str(shared.folder), scenario.number).status == 0
     worth = [
-        pit_probability.read_answer(shared, it)[1]["worth_at_factor"].map(Decimal).tolist() for it in shared.scenarios
+        pit_probability.read_answer(shared, it)[1]["value_at_revenue_factor"].map(Decimal).tolist()
+        for it in shared.scenarios
     ]
     assert worth == [[0, 7], [0, 0], [0, 0]]
 
 
 def test_schedules_by_block_refuse_processes_before_anything_is_read(plan_folder):
-    text = of_processes_text(1, 2, "moving", COLUMNS).replace("rate = 0.1", "rate = 0.1\nrock_per_year = 5000")
+    text = of_processes_text(1, 2, "moving", COLUMNS).replace(
+        "discount_rate = 0.1", "discount_rate = 0.1\nmining_capacity = 5000"
+    )
     path = plan_folder("no table", text)
     with pytest.raises(PlanError, match=r"\[\[processes\]\]: a schedule over scenarios sends a block to one mill"):
         prepare.prepare(load(path), path.parent / "by_block", silent, "block")
@@ -357,7 +362,7 @@ def test_schedules_by_block_of_reblocked_and_mined_models_are_right(plan_folder,
     write_surfaces(tmp_path)
     table, (file, reblocked) = mine(4), change
     changes = [(file + "\n", reblocked + '\ntopography = "ground.csv"\n'), ANY_SIZE]
-    years = ("ore_per_year = 100", "ore_per_year = 2000\nrock_per_year = 4000")
+    years = ("processing_capacity = 100", "processing_capacity = 2000\nmining_capacity = 4000")
     path = plan_folder(table, PROJECT + COLUMNS + MINED, *changes, years)
     project = load(path)
     shared = prepare.prepare(project, tmp_path / "by_block", silent, "block")
@@ -391,12 +396,12 @@ def one_step_a_block(steps, block):
             reblock.Parts,
             "grades",
             lambda parts, grades: pd.DataFrame(grades).groupby(parts.block).mean().round(9).to_numpy(),
-            {"reblocked", "shells", "worth"},
+            {"reblocked", "shells", "undiscounted_cash_flow"},
         ),
         # Rows that are cut by nothing.
         (topography_cut, "cut", lambda frame, grid, project, file: (frame, []), {"topography"}),
         # Steps without the last one of each block.
-        (process_routing.Steps, "on", one_step_a_block, {"worth"}),
+        (process_routing.Steps, "on", one_step_a_block, {"undiscounted_cash_flow"}),
     ],
 )
 def test_what_is_prepared_wrongly_is_found(plan_folder, tmp_path, monkeypatch, place, name, wrong, found):
@@ -421,7 +426,7 @@ def test_grades_that_are_kept_of_other_blocks_are_found(plan_folder):
     for scenario in shared.scenarios:
         assert worker.solve(str(shared.folder), scenario.number).status == 0
     pitplan.gather(shared.folder)
-    file = shared.folder / "models" / f"{shared.scenarios[1].grades}.npy"
+    file = shared.folder / "realisations" / f"{shared.scenarios[1].grades}.npy"
     grades = np.load(file)
     row = int(np.flatnonzero(grades[:, 0] == 0)[0]) if (grades[:, 0] == 0).any() else 0
     np.save(file, grades + 2e-9 * (np.arange(len(grades)) == row)[:, None])

@@ -28,7 +28,7 @@ from pitplan.studies.scenarios import batch_scripts, pit_probability, prepare, s
 UPRIGHT = ('pattern = "1:5"', "angle = 90")
 COLUMNS = PROJECT + '[scenarios]\ncolumns = { copper = "sim_*" }\n'
 PRICES = COLUMNS + "[[scenarios.prices]]\ncopper = 8000\n[[scenarios.prices]]\ncopper = 12_000\n"
-MODELS = PROJECT + '[scenarios]\nmodels = "models"\n'
+MODELS = PROJECT + '[scenarios]\nrealisations = "realisations"\n'
 
 
 def pillar():
@@ -53,7 +53,7 @@ def test_probabilities_by_hand(plan_folder):
     # Mining costs 200 a block, processing 1000. At revenue factor 0.50 the first model's metal yields 3000, and the pit 1400; at
     # 1.0 the second yields 1600, and the pit nothing; at 1.5 2400, and the pit 800.
     assert gathered.share.tolist() == [[1 / 3, 1 / 3, 2 / 3]] * 3
-    table = gathered.table.set_index(["model", "revenue_factor"])
+    table = gathered.table.set_index(["realisation", "revenue_factor"])
     assert table["value_at_revenue_factor"]["sim_1"].map(Decimal).tolist() == [1400, 4400, 7400]
     assert table["value_at_revenue_factor"]["sim_2"].map(Decimal).tolist() == [0, 0, 800]
     assert table["tonnes"]["sim_2"].tolist() == [0, 0, 300] and table["blocks"]["sim_3"].tolist() == [0, 0, 0]
@@ -64,7 +64,7 @@ def test_the_least_factor_of_all_is_a_factor(plan_folder):
     changes = [UPRIGHT, ("price = 8000", "price = 8_000_000"), ("[0.5, 1.0, 1.5]", "[0.001, 0.002, 1.0]")]
     gathered = solved_in_turn(prepared(plan_folder(pillar(), COLUMNS, *changes)))
     assert gathered.share.tolist() == [[1 / 3, 2 / 3, 2 / 3]] * 3
-    assert gathered.table.set_index(["model", "revenue_factor"])["blocks"]["sim_1"].tolist() == [3, 3, 3]
+    assert gathered.table.set_index(["realisation", "revenue_factor"])["blocks"]["sim_1"].tolist() == [3, 3, 3]
 
 
 def test_prices_make_scenarios_and_quantiles_by_hand(plan_folder):
@@ -73,7 +73,7 @@ def test_prices_make_scenarios_and_quantiles_by_hand(plan_folder):
     assert gathered.share[:, 1].tolist() == [3 / 6] * 3
     table = pit_probability.quantiles(gathered.table).set_index(["price_copper", "revenue_factor"])
     tonnes = table.loc[(12000, 1.0)]
-    assert tonnes["models"] == 3 and tonnes["tonnes_mean"] == 200 and tonnes["tonnes_quantile_0.5"] == 300
+    assert tonnes["realisations"] == 3 and tonnes["tonnes_mean"] == 200 and tonnes["tonnes_quantile_0.5"] == 300
     # Tonnes 0, 300, 300: a tenth lies a fifth of the way from the first to the second.
     assert tonnes["tonnes_quantile_0.1"] == pytest.approx(60) and tonnes["tonnes_greatest"] == 300
     assert table.loc[(8000, 1.0), "value_at_revenue_factor_greatest"] == 4400
@@ -110,7 +110,7 @@ def test_every_scenario_is_the_best_of_all_closed_sets(tmp_path_factory, one, ot
     for name, grades in (("sim_a", one), ("sim_b", other)):
         table[name] = [grades[(2 - k) * 3 + i] for k in range(3) for i in range(3)]
     text = PRICES.replace("12_000", str(price)).replace("price = 8000", f"price = 8000\nselling_cost = {selling}")
-    text = text.replace("[[metals]]", 'cutoff = "fixed"\n[[metals]]') if fixed else text
+    text = text.replace("[[metals]]", 'cutoff = "base_price"\n[[metals]]') if fixed else text
     place = tmp_path_factory.mktemp("box")
     (place / "project.toml").write_text(text)
     table.to_csv(place / "blocks.csv", index=False)
@@ -129,9 +129,9 @@ def test_every_scenario_is_the_best_of_all_closed_sets(tmp_path_factory, one, ot
 
 
 def write_models(path, **models):
-    (path.parent / "models").mkdir(exist_ok=True)
+    (path.parent / "realisations").mkdir(exist_ok=True)
     for name, frame in models.items():
-        frame.to_csv(path.parent / "models" / f"{name}.csv", index=False)
+        frame.to_csv(path.parent / "realisations" / f"{name}.csv", index=False)
 
 
 def hill():
@@ -156,7 +156,7 @@ def test_models_are_named_by_their_whole_files_and_no_two_alike(plan_folder):
     path = plan_folder(table, MODELS)
     write_models(path, **{name: model[["name", "cu"]] for name in ("sim.1", "sim.2", "sim")})
     assert [scenario.model for scenario in prepared(path).scenarios] == ["sim.1", "sim.2", "sim"]
-    model[["name", "cu"]].to_csv(path.parent / "models" / "sim.2.csv.gz", index=False)
+    model[["name", "cu"]].to_csv(path.parent / "realisations" / "sim.2.csv.gz", index=False)
     with pytest.raises(
         PlanError, match="models/sim.2.csv.gz: is a model of the same name as sim.2.csv: remove or rename one of them"
     ):
@@ -332,7 +332,7 @@ def test_pictures_of_scenarios_are_those_that_the_project_asks_for(plan_folder, 
     """Three blocks over each other: of the three levels the lowest is asked for."""
     shown = []
     monkeypatch.setattr(scenarios, "write_plans", lambda likely, path: shown.append(likely))
-    shared = prepared(plan_folder(pillar(), COLUMNS + '[pictures]\nlevels = [5]\nformats = ["svg"]\n', UPRIGHT))
+    shared = prepared(plan_folder(pillar(), COLUMNS + '[figures]\nlevels = [5]\nformats = ["svg"]\n', UPRIGHT))
     solved_in_turn(shared)
     pitplan.gather(shared.folder)
     assert scenarios.levels_to_show(shown[0]) == [2]
@@ -340,10 +340,10 @@ def test_pictures_of_scenarios_are_those_that_the_project_asks_for(plan_folder, 
 
 
 def test_a_picture_beyond_the_model_is_refused_before_a_model_is_read(plan_folder):
-    path = plan_folder(pillar(), COLUMNS + "[pictures]\nnorth = 11\n", UPRIGHT)
-    with pytest.raises(PlanError, match=r"\[pictures\] north: 11 is beyond the model, from 0 to 10 m"):
+    path = plan_folder(pillar(), COLUMNS + "[figures]\nnorth = 11\n", UPRIGHT)
+    with pytest.raises(PlanError, match=r"\[figures\] north: 11 is beyond the model, from 0 to 10 m"):
         prepared(path)
-    assert not (load(path).folder / "models").exists()
+    assert not (load(path).folder / "realisations").exists()
 
 
 def test_the_image_has_the_probabilities_of_all_cells(plan_folder):
@@ -498,9 +498,9 @@ def test_no_lists_of_jobs_are_written_where_all_is_answered(plan_folder, kind):
 
 def test_cost_that_rises_with_the_level_is_one_for_all_scenarios(plan_folder):
     """Mining costs 200, 225 and 250 from the top down, in every model, though in the third nothing is ore."""
-    change = ("mining_cost = 2", "mining_cost = 2\nmining_cost_per_level = 0.25")
+    change = ("mining_cost = 2", "mining_cost = 2\nmining_cost_per_bench = 0.25")
     gathered = solved_in_turn(prepared(plan_folder(pillar(), COLUMNS, UPRIGHT, change)))
-    worth = gathered.table.set_index(["model", "revenue_factor"])["value_at_revenue_factor"].map(Decimal)
+    worth = gathered.table.set_index(["realisation", "revenue_factor"])["value_at_revenue_factor"].map(Decimal)
     assert worth["sim_1"].tolist() == [3000 - 1675, 6000 - 1675, 9000 - 1675]
     assert worth["sim_2"].tolist() == [0, 0, 2400 - 1675] and worth["sim_3"].tolist() == [0, 0, 0]
 

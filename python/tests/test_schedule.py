@@ -26,21 +26,25 @@ from pitplan.solver.program import Solution
 FACTORS = (0.4, 0.7, 1.0)
 BOX = (3, 2, 4)
 CELLS = BOX[0] * BOX[1] * BOX[2]
-AMOUNTS = ["rock_tonnes", "ore_tonnes", "metal_copper", "cash", "discounted"]
+AMOUNTS = ["total_tonnes", "feed_tonnes", "recovered_copper", "cash_flow", "discounted_cash_flow"]
 
 
 def project_of(rate="0.1", ore=100, rock=None, discounting=None):
     """Mining costs 2 a tonne, processing 10, and each per cent of copper yields 40."""
     metal = {"name": "copper", "column": "cu", "unit": "percent", "price": 8000, "recovery": Decimal("0.5")}
-    shells = {"revenue_factors": [Decimal(str(it)) for it in FACTORS], "rate": Decimal(rate), "ore_per_year": ore}
-    shells |= {} if rock is None else {"rock_per_year": rock}
+    shells = {
+        "revenue_factors": [Decimal(str(it)) for it in FACTORS],
+        "discount_rate": Decimal(rate),
+        "processing_capacity": ore,
+    }
+    shells |= {} if rock is None else {"mining_capacity": rock}
     shells |= {"discounting": discounting or "continuous"}
     data = {
         "table": {"file": "blocks.csv"},
         "grid": {"size": [10, 10, 10]},
-        "money": {"mining_cost": 2, "processing_cost": 10, "cutoff": "fixed"},
+        "economics": {"mining_cost": 2, "processing_cost": 10, "cutoff": "base_price"},
         "metals": [metal],
-        "slopes": {"walls": [{"angle": 90}]},
+        "slopes": {"domains": [{"angle": 90}]},
         "shells": shells,
     }
     return of_data(data, Path("project.toml"))
@@ -97,8 +101,8 @@ def walked(pieces, project):
     """The life, and by year the amounts and the present worth: each piece fills what the years have left of both capacities."""
     settings = project.schedule
     most = [
-        Fraction(settings.ore_per_year),
-        None if settings.rock_per_year is None else Fraction(settings.rock_per_year),
+        Fraction(settings.processing_capacity),
+        None if settings.mining_capacity is None else Fraction(settings.mining_capacity),
     ]
     years, used = [[Fraction(0)] * 4], [Fraction(0), Fraction(0)]
     for amounts in pieces:
@@ -113,7 +117,8 @@ def walked(pieces, project):
     life = len(years) - 1 + max(used)
     ends = [min(Fraction(number), life) for number in range(1, len(years) + 1)]
     discounted = [
-        present(year[3], number, end, str(settings.rate)) for number, (year, end) in enumerate(zip(years, ends))
+        present(year[3], number, end, str(settings.discount_rate))
+        for number, (year, end) in enumerate(zip(years, ends))
     ]
     return life, {number: [*year, worth] for number, (year, worth) in enumerate(zip(years, discounted), 1)}
 
@@ -169,17 +174,22 @@ def test_years_keep_the_capacities_and_add_up_to_the_shell(mine, capacity, disco
     project = project_of(*capacity, discounting)
     solved = plan_of(mine, project)
     table, shells = pitplan.years(*solved), pitplan.shells(*solved).set_index("revenue_factor")
-    assert (table["ore_tonnes"] <= capacity[1] * (1 + 1e-6)).all()
+    assert (table["feed_tonnes"] <= capacity[1] * (1 + 1e-6)).all()
     if capacity[2] is not None:
-        assert (table["rock_tonnes"] <= capacity[2] * (1 + 1e-6)).all()
-    named = {"rock_tonnes": "tonnes", "ore_tonnes": "ore_tonnes", "metal_copper": "metal_copper", "cash": "worth"}
+        assert (table["total_tonnes"] <= capacity[2] * (1 + 1e-6)).all()
+    named = {
+        "total_tonnes": "tonnes",
+        "feed_tonnes": "feed_tonnes",
+        "recovered_copper": "recovered_copper",
+        "cash_flow": "undiscounted_cash_flow",
+    }
     for (case, factor), years in table.groupby(["case", "revenue_factor"]):
         for column, name in named.items():
             assert years[column].sum() == pytest.approx(shells[name][factor], abs=1e-6)
-        assert years["discounted"].sum() == pytest.approx(shells[f"npv_{case}"][factor], abs=0.01)
+        assert years["discounted_cash_flow"].sum() == pytest.approx(shells[f"npv_{case}"][factor], abs=0.01)
     # A year ends when a capacity is used up, so that all but the last of a pit use one of them whole.
-    is_full = table["ore_tonnes"] >= capacity[1] * (1 - 1e-6)
-    is_full |= False if capacity[2] is None else table["rock_tonnes"] >= capacity[2] * (1 - 1e-6)
+    is_full = table["feed_tonnes"] >= capacity[1] * (1 - 1e-6)
+    is_full |= False if capacity[2] is None else table["total_tonnes"] >= capacity[2] * (1 - 1e-6)
     assert (is_full | ~table.duplicated(["case", "revenue_factor"], keep="last")).all()
 
 
@@ -203,8 +213,8 @@ def test_capacity_lost_while_stripping_is_not_caught_up():
     npv = (-1800 * (1 - 1.1**-9) + 90 * 188 * (1.1**-9 - 1.1**-19)) / log(1.1)
     assert shell["npv_best"] == pytest.approx(npv) and shell["npv_worst"] == pytest.approx(npv)
     years = pitplan.years(plan, solution)
-    assert years["ore_tonnes"].round(6).tolist() == ([0] * 9 + [90] * 10) * 2
-    assert years["rock_tonnes"].round(6).tolist() == ([900] * 9 + [90] * 10) * 2
+    assert years["feed_tonnes"].round(6).tolist() == ([0] * 9 + [90] * 10) * 2
+    assert years["total_tonnes"].round(6).tolist() == ([900] * 9 + [90] * 10) * 2
 
 
 def test_a_year_of_several_pieces_by_hand():
@@ -213,18 +223,18 @@ def test_a_year_of_several_pieces_by_hand():
     table = pitplan.years(plan, solution)
     best = table[table["case"] == "best"]
     # The waste costs 200; the ore yields 4000 - 1000 - 200, half of it in each year. The second ends when the mill is half used.
-    assert best["rock_tonnes"].tolist() == [150, 50] and best["ore_tonnes"].tolist() == [50, 50]
-    assert best["metal_copper"].tolist() == [0.25, 0.25] and best["cash"].tolist() == [1200, 1400]
+    assert best["total_tonnes"].tolist() == [150, 50] and best["feed_tonnes"].tolist() == [50, 50]
+    assert best["recovered_copper"].tolist() == [0.25, 0.25] and best["cash_flow"].tolist() == [1200, 1400]
     assert pitplan.shells(plan, solution)["years"].tolist() == [0, 0, 1.5]
     first, second = 1200 * (1 - 1.1**-1) / log(1.1), 1400 * (1.1**-1 - 1.1**-1.5) / (0.5 * log(1.1))
-    assert best["discounted"].tolist() == pytest.approx([first, second])
+    assert best["discounted_cash_flow"].tolist() == pytest.approx([first, second])
 
 
 def test_waste_is_mined_in_the_years_in_which_the_mill_works():
     """A bench of ore and one of waste: the shovels do both in the year in which the mill does the ore. No bench waits for the mill."""
     plan, solution = pillar(project_of(rock=200), [(1, 1.0)], [(0, 1.0)])
     years = pitplan.years(plan, solution)
-    assert years["rock_tonnes"].tolist() == [200, 200] and years["ore_tonnes"].tolist() == [100, 100]
+    assert years["total_tonnes"].tolist() == [200, 200] and years["feed_tonnes"].tolist() == [100, 100]
     assert pitplan.shells(plan, solution)["years"].tolist() == [0, 0, 1]
 
 
@@ -234,13 +244,13 @@ def test_years_discounted_as_spreadsheets_do(discounting, before):
     expected = [1200 / 1.1 ** (1 - before), 1400 / 1.1 ** (2 - before)]
     table, shells = pitplan.years(plan, solution), pitplan.shells(plan, solution).set_index("revenue_factor")
     for case in ("best", "worst"):
-        assert table["discounted"][table["case"] == case].tolist() == pytest.approx(expected)
+        assert table["discounted_cash_flow"][table["case"] == case].tolist() == pytest.approx(expected)
         assert shells[f"npv_{case}"][1.0] == pytest.approx(sum(expected))
 
 
 def test_cash_is_discounted_from_the_end_of_its_year_by_default():
     """As the function NPV of spreadsheets does it."""
-    data = {"revenue_factors": [1], "rate": Decimal("0.1"), "ore_per_year": 100}
+    data = {"revenue_factors": [1], "discount_rate": Decimal("0.1"), "processing_capacity": 100}
     assert read_schedule(Section("project.toml", "shells", data), ()).discounting == "end_of_year"
 
 
@@ -252,17 +262,17 @@ def test_the_worst_case_can_be_worth_more_than_the_best():
     assert shells["years"][1.0] == pytest.approx(4.5)
     years = pitplan.years(plan, solution).set_index(["case", "revenue_factor"])
     best, worst = years.loc[("best", 1.0)], years.loc[("worst", 1.0)]
-    assert best["rock_tonnes"].tolist() == [50, 100, 100, 100, 50] and best["ore_tonnes"].tolist() == [
+    assert best["total_tonnes"].tolist() == [50, 100, 100, 100, 50] and best["feed_tonnes"].tolist() == [
         50,
         50,
         25,
         50,
         25,
     ]
-    assert worst["rock_tonnes"].tolist() == [100] * 4 and worst["ore_tonnes"].tolist() == [50] * 4
+    assert worst["total_tonnes"].tolist() == [100] * 4 and worst["feed_tonnes"].tolist() == [50] * 4
     # The benches earn 2800 and 14800, and each has 100 t of waste that costs 200.
-    assert best["cash"].tolist() == pytest.approx([1400, 1300, 3550, 7300, 3650])
-    assert worst["cash"].tolist() == pytest.approx([1300, 1300, 7300, 7300])
+    assert best["cash_flow"].tolist() == pytest.approx([1400, 1300, 3550, 7300, 3650])
+    assert worst["cash_flow"].tolist() == pytest.approx([1300, 1300, 7300, 7300])
     assert shells["npv_worst"][1.0] > shells["npv_best"][1.0]
 
 
@@ -271,13 +281,13 @@ def test_waste_takes_no_time_where_rock_has_no_limit():
     plan, solution = pillar(project_of(), [(0, 1.0)], [(1, 1.0)], [(0, 1.0)], [(1, 1.0)])
     years = pitplan.years(plan, solution)
     best = years[years["case"] == "best"]
-    assert best["rock_tonnes"].tolist() == [300, 100] and best["cash"].tolist() == [2400, 2800]
+    assert best["total_tonnes"].tolist() == [300, 100] and best["cash_flow"].tolist() == [2400, 2800]
     npv = (2400 * (1 - 1.1**-1) + 2800 * (1.1**-1 - 1.1**-2)) / log(1.1)
-    assert best["discounted"].sum() == pytest.approx(npv)
+    assert best["discounted_cash_flow"].sum() == pytest.approx(npv)
     # A pit of waste alone is dug in no time.
     plan, solution = pillar(project_of(), [(0, 1.0)])
     years, shells = pitplan.years(plan, solution), pitplan.shells(plan, solution)
-    assert years[["year", "cash", "discounted"]].to_numpy().tolist() == [[1, -200, -200]] * 2
+    assert years[["year", "cash_flow", "discounted_cash_flow"]].to_numpy().tolist() == [[1, -200, -200]] * 2
     assert shells["years"].tolist() == [0, 0, 0]
 
 
@@ -285,7 +295,7 @@ def test_nine_ninths_of_a_year_are_a_year():
     """Binary fractions add up to a hair more, which is no second year."""
     plan, solution = pillar(project_of(ore=900), *[[(1, 1.0)]] * 9)
     years = pitplan.years(plan, solution)
-    assert years["year"].tolist() == [1, 1] and years["rock_tonnes"].tolist() == pytest.approx([900, 900])
+    assert years["year"].tolist() == [1, 1] and years["total_tonnes"].tolist() == pytest.approx([900, 900])
     assert pitplan.shells(plan, solution)["years"].tolist() == [0, 0, 1]
 
 
@@ -294,10 +304,10 @@ def test_years_that_could_not_be_counted_are_refused():
     with pytest.raises(PlanError) as said:
         pitplan.shells(plan, solution)
     assert str(said.value) == (
-        "project.toml: [shells] ore_per_year, rock_per_year: the greatest pit would take at least 1,100 years, and at most 1,000 "
+        "project.toml: [shells] processing_capacity, mining_capacity: the greatest pit would take at least 1,100 years, and at most 1,000 "
         "are counted: are the capacities in tonnes a year?"
     )
-    plan.project = replace(plan.project, schedule=replace(plan.project.schedule, ore_per_year=1.1))
+    plan.project = replace(plan.project, schedule=replace(plan.project.schedule, processing_capacity=1.1))
     assert len(pitplan.years(plan, solution)) == 2 * 2 * 1000
 
 
@@ -316,13 +326,13 @@ def test_the_file_of_years_stands_beside_the_shells(solved):
     expected = shown(shell_tables.years(plan, pitplan.solve(plan))).assign(discounting="end_of_year")
     pd.testing.assert_frame_equal(table, expected, check_dtype=False)
     shells = pd.read_csv(folder / "shells.csv").set_index("revenue_factor")
-    sums = table.groupby(["case", "revenue_factor"])["discounted"].sum()
+    sums = table.groupby(["case", "revenue_factor"])["discounted_cash_flow"].sum()
     for case in ("best", "worst"):
         assert sums[case].tolist() == pytest.approx(shells[f"npv_{case}"].tolist(), abs=0.01)
 
 
 def test_discounting_is_one_of_three(plan_folder):
-    path = plan_folder(rows(2, 2, 2), PROJECT, ("rate = 0.1", 'rate = 0.1\ndiscounting = "yearly"'))
+    path = plan_folder(rows(2, 2, 2), PROJECT, ("discount_rate = 0.1", 'discount_rate = 0.1\ndiscounting = "yearly"'))
     with pytest.raises(PlanError, match='discounting: "yearly" is none of end_of_year, mid_year, continuous'):
         pitplan.load(path)
 

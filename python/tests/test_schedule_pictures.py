@@ -18,7 +18,7 @@ from pitplan.export import xlsx
 from pitplan.figures import schedule as schedule_figures
 from pitplan.report import viewer3d
 from pitplan.results.folder import Folder, read_folder
-from pitplan.scheduling import phase_schedule
+from pitplan.scheduling import pushback_schedule
 from pitplan.scheduling.bench_lp import Relaxed
 from pitplan.scheduling.bench_sequencing import Limits
 from pitplan.scheduling.cutoff_lp import Milling
@@ -30,16 +30,16 @@ METAL = Metal("copper", "cu", "percent", 8000, 0, 0.5)
 @pytest.fixture
 def schedule():
     """Three benches under a mill that begins at a half: by rule in three years, and by the programme the same in other shares."""
-    problem = problem_of(benches_of(*THREE), Limits({"ore_tonnes": 100, "rock_tonnes": 200}, (0.5, 1.0)))
+    problem = problem_of(benches_of(*THREE), Limits({"feed_tonnes": 100, "total_tonnes": 200}, (0.5, 1.0)))
     shares = {
         "rule": np.array([[1, 0, 0], [0.5, 0.5, 0], [0, 0.5, 0.5]]),
         "lp": np.array([[1, 0, 0], [0.25, 0.75, 0], [0, 0.25, 0.75]]),
     }
     grid = SimpleNamespace(elevations=lambda: np.array([15.0, 5.0]))
     project = SimpleNamespace(money=SimpleNamespace(currency="USD"), metals=(METAL,))
-    phases = SimpleNamespace(plan=SimpleNamespace(grid=grid, project=project), factors=(0.5, 1.0))
+    pushbacks = SimpleNamespace(plan=SimpleNamespace(grid=grid, project=project), factors=(0.5, 1.0))
     optimum = Relaxed(np.array([[1.0, 1, 1], [0.5, 1, 1], [0, 0.5, 1]]), 990.0, np.array([300.0, 700, 300]))
-    return phase_schedule.YearlySchedule(phases, problem, shares, 1, 3, optimum)
+    return pushback_schedule.YearlySchedule(pushbacks, problem, shares, 1, 3, optimum)
 
 
 def test_a_gantt_has_a_bar_for_each_share(schedule):
@@ -49,12 +49,12 @@ def test_a_gantt_has_a_bar_for_each_share(schedule):
         shares = schedule.shares[way]
         bench, year = np.nonzero(shares)
         boxes = [path.get_extents() for path in bars.get_paths()]
-        # A phase's first bench stands two places below the last of the one before.
+        # A pushback's first bench stands two places below the last of the one before.
         rows = np.array([1, 2, 5])[bench]
         assert [(box.x0, box.y0) for box in boxes] == [(t + 0.5, r - 0.5) for t, r in zip(year, rows)]
         assert bars.get_facecolors()[:, 3] == pytest.approx(0.25 + 0.75 * shares[bench, year])
         assert len({tuple(colour[:3]) for colour in bars.get_facecolors()}) == 2
-        assert [text.get_text() for text in ax.texts] == ["phase 1", "phase 2"]
+        assert [text.get_text() for text in ax.texts] == ["pushback 1", "pushback 2"]
         assert [tick.get_text() for tick in ax.get_yticklabels()] == ["15", "5", "15"]
         low, high = ax.get_ylim()
         assert low > 5.5 and high < 0 and ax.get_xlim() == (0.5, 3.5)
@@ -76,16 +76,16 @@ def test_the_bars_of_years_are_the_ore_and_the_waste_beside_their_limits(schedul
 
 
 def test_what_is_recovered_of_a_year_without_ore_is_not_drawn(schedule):
-    table = pd.DataFrame({"ore_tonnes": [0.0, 50.0], "metal_copper": [0.0, 1.0]})
+    table = pd.DataFrame({"feed_tonnes": [0.0, 50.0], "recovered_copper": [0.0, 1.0]})
     assert np.isnan(schedule_figures.recovered(table, METAL)[0]) and schedule_figures.recovered(table, METAL)[
         1
     ] == pytest.approx(2)
 
 
 def test_curves_end_at_what_each_case_earns(schedule):
-    years = phase_schedule.years(schedule)
+    years = pushback_schedule.years(schedule)
     best = pd.DataFrame(
-        {"case": "best", "revenue_factor": [1.0, 1.0, 0.9], "year": [1, 2, 1], "discounted": [700.0, 300, 5]}
+        {"case": "best", "revenue_factor": [1.0, 1.0, 0.9], "year": [1, 2, 1], "discounted_cash_flow": [700.0, 300, 5]}
     )
     ax = schedule_figures.plot_cumulative(schedule, pd.concat([years, best]), Figure().subplots())
     curves = {line.get_label().partition(":")[0]: line.get_ydata() for line in ax.lines if ":" in str(line.get_label())}
@@ -106,7 +106,7 @@ def test_ore_from_a_stockpile_is_a_bar_of_its_own(schedule):
     parcels = Parcels(
         np.array([1, 2]),
         np.array([1, 1]),
-        ("ore_tonnes", "metal_copper", "gain"),
+        ("feed_tonnes", "recovered_copper", "gain"),
         np.array([[100, 1, 1100.0], [100, 1, 600]]),
         np.zeros(0),
     )
@@ -139,16 +139,18 @@ def test_axes_that_are_too_few_are_refused(schedule):
 def test_a_workbook_has_a_sheet_a_table(tmp_path):
     openpyxl = pytest.importorskip("openpyxl")
     tables = {
-        "ways": pd.DataFrame({"way": ["rule", "lp"], "value": [1234567.891, -5.0], "below_bound": [0.25, np.nan]}),
+        "methods": pd.DataFrame(
+            {"method": ["rule", "lp"], "npv": [1234567.891, -5.0], "optimality_gap": [0.25, np.nan]}
+        ),
         "schedule": pd.DataFrame(
-            {"year": np.array([1, 2], dtype=np.int16), "share": [0.123456789, 1.0], "metal_copper": [1.5, 2.0]}
+            {"year": np.array([1, 2], dtype=np.int16), "share": [0.123456789, 1.0], "recovered_copper": [1.5, 2.0]}
         ),
     }
     xlsx.write(tmp_path / "book.xlsx", tables)
     book = openpyxl.load_workbook(tmp_path / "book.xlsx")
-    assert book.sheetnames == ["ways", "schedule"]
-    assert [[cell.value for cell in row] for row in book["ways"]] == [
-        ["way", "value", "below_bound"],
+    assert book.sheetnames == ["methods", "schedule"]
+    assert [[cell.value for cell in row] for row in book["methods"]] == [
+        ["method", "npv", "optimality_gap"],
         ["rule", 1234567.891, 0.25],
         ["lp", -5, None],
     ]
@@ -177,7 +179,7 @@ def test_the_page_has_a_colour_a_year(solved):
 
 @pytest.mark.parametrize(("bound", "told"), [(1234.56789, 1234.568), (np.inf, None), (None, None)])
 def test_a_bound_is_told_to_a_thousandth_where_there_is_one(schedule, bound, told):
-    assert phase_schedule.record(replace(schedule, milp_bound=bound))["milp_bound"] == told
+    assert pushback_schedule.record(replace(schedule, milp_upper_bound=bound))["milp_upper_bound"] == told
 
 
 @pytest.mark.parametrize("way", ["rule", "lp"])
@@ -192,5 +194,5 @@ def test_a_way_that_mines_nothing_is_drawn_with_a_sentence(schedule, way):
     assert [text.get_text() for text in legend.get_texts()][:2] == ["ore", "waste"]
     axes = schedule_figures.plot_gantt(empty, Figure().subplots(1, 2))
     assert "nothing is mined" in [text.get_text() for text in axes[place].texts]
-    (note,) = [note for note in phase_schedule.notes(empty) if "mines nothing" in note]
+    (note,) = [note for note in pushback_schedule.notes(empty) if "mines nothing" in note]
     assert note.startswith(f"{way} mines nothing: at these prices and costs")

@@ -20,7 +20,7 @@ from pitplan.verification import verify_folder
 # Two blocks of ore at the surface, each with 1,000 for processing and 200 for mining: one of 24,000, and one of 1,200, which just does not pay.
 ORE = {"cu": lambda i, j, k: {(1, 1): 6, (3, 1): 0.3}.get((i, j), 0)}
 pytestmark = pytest.mark.usefixtures("without_figures")
-KEPT = ["kept_worth", "kept_npv_best", "kept_npv_worst", "kept_years"]
+KEPT = ["kept_undiscounted_cash_flow", "kept_npv_best", "kept_npv_worst", "kept_years"]
 
 
 def mean_discount(years, rate=0.1):
@@ -28,7 +28,7 @@ def mean_discount(years, rate=0.1):
 
 
 def by_case(table):
-    return table.set_index(["number", "share", "second", "second_share"])
+    return table.set_index(["parameter", "change", "second_parameter", "second_change"])
 
 
 @pytest.fixture
@@ -36,7 +36,9 @@ def small(plan_folder):
     """Writes the project with a section of its own; gives its path."""
 
     def write(words="", *changes):
-        text = PROJECT.replace("ore_per_year = 100", 'ore_per_year = 100\nselected = 1.0\ndiscounting = "continuous"')
+        text = PROJECT.replace(
+            "processing_capacity = 100", 'processing_capacity = 100\nselected = 1.0\ndiscounting = "continuous"'
+        )
         return plan_folder(rows(5, 3, 1, **ORE), f"{text}\n[sensitivity]\n{words}\n", *changes)
 
     return write
@@ -44,7 +46,7 @@ def small(plan_folder):
 
 def test_each_number_by_hand(small):
     """What 100 t of the rich block earn in their year, and with the poor one where it pays, in two."""
-    table = by_case(pitplan.write_sensitivity(small("by = [-0.1, 0.1]")))
+    table = by_case(pitplan.write_sensitivity(small("changes = [-0.1, 0.1]")))
     assert list(table.index.get_level_values(0)) == [
         "",
         *np.repeat(["price", "mining_cost", "processing_cost", "recovery", "capacity"], 2),
@@ -62,7 +64,7 @@ def test_each_number_by_hand(small):
         ("capacity", -0.1): 22_800,
         ("capacity", 0.1): 22_800,
     }
-    assert {key[:2]: row.worth for key, row in table.iterrows()} == pytest.approx(worth)
+    assert {key[:2]: row.undiscounted_cash_flow for key, row in table.iterrows()} == pytest.approx(worth)
     years = {key: 2.0 if extra % 100 == 20 or key == ("processing_cost", -0.1) else 1.0 for key, extra in worth.items()}
     years |= {
         ("mining_cost", -0.1): 2.0,
@@ -78,15 +80,15 @@ def test_each_number_by_hand(small):
 
 def test_what_the_pit_as_given_earns_stands_beside_it(small):
     """The rich block alone, at the case's numbers."""
-    table = by_case(pitplan.write_sensitivity(small("by = [-0.1, 0.1]")))
-    kept = table.xs(("", 0.0), level=("second", "second_share"))["kept_worth"]
+    table = by_case(pitplan.write_sensitivity(small("changes = [-0.1, 0.1]")))
+    kept = table.xs(("", 0.0), level=("second_parameter", "second_change"))["kept_undiscounted_cash_flow"]
     assert kept["price"].tolist() == pytest.approx([20_400, 25_200]) and kept["mining_cost"].tolist() == pytest.approx(
         [22_820, 22_780]
     )
     assert kept["processing_cost"].tolist() == pytest.approx([22_900, 22_700]) and kept[
         "recovery"
     ].tolist() == pytest.approx([20_400, 25_200])
-    assert (table["worth"] >= table["kept_worth"] - 1e-6).all()
+    assert (table["undiscounted_cash_flow"] >= table["kept_undiscounted_cash_flow"] - 1e-6).all()
     earns = table.loc[("capacity", -0.1, "", 0.0), KEPT[1:]].tolist()
     assert earns == pytest.approx([22_800 * mean_discount(1 / 0.9)] * 2 + [1 / 0.9])
 
@@ -94,9 +96,11 @@ def test_what_the_pit_as_given_earns_stands_beside_it(small):
 def test_pairs_by_hand(small):
     """Both numbers at once; and each of a pair alone too, though it is not named by itself."""
     table = by_case(
-        pitplan.write_sensitivity(small('by = [-0.1, 0.1]\nvary = "price"\npairs = [["price", "mining_cost"]]'))
+        pitplan.write_sensitivity(
+            small('changes = [-0.1, 0.1]\nparameters = "price"\npairs = [["price", "mining_cost"]]')
+        )
     )
-    worth = table["worth"].to_dict()
+    worth = table["undiscounted_cash_flow"].to_dict()
     assert len(worth) == 9
     assert worth[("price", 0.1, "mining_cost", 0.1)] == pytest.approx(26_400 - 1000 - 220 + 1320 - 1220)
     assert worth[("price", -0.1, "mining_cost", 0.1)] == pytest.approx(21_600 - 1000 - 220)
@@ -120,12 +124,12 @@ RICH = {
     "au": lambda i, j, k: 0.9 if (j, k) == (3, 1) else 0,
 }
 GOLD = '[[metals]]\nname = "gold"\ncolumn = "au"\nunit = "gram_per_tonne"\nprice = 60\nselling_cost = 1.5\nrecovery = 0.6\n[slopes]\n'
-WALLS = ("[slopes]\nlevels = 3\n", GOLD + "levels = 3\n"), ('pattern = "1:5"', "angle = 45")
+WALLS = ("[slopes]\nprecedence_benches = 3\n", GOLD + "precedence_benches = 3\n"), ('pattern = "1:5"', "angle = 45")
 MORE = (
     *WALLS,
-    ("mining_cost = 2\n", "mining_cost = { R = 2, S = 2.5 }\nmining_cost_per_level = 0.25\n"),
+    ("mining_cost = 2\n", "mining_cost = { R = 2, S = 2.5 }\nmining_cost_per_bench = 0.25\n"),
     ("recovery = 0.5\n", "recovery = { R = 0.95, S = 0.5 }\nselling_cost = 200\n"),
-    ("ore_per_year = 100", "ore_per_year = 150\nrock_per_year = 900\nselected = 1.0"),
+    ("processing_capacity = 100", "processing_capacity = 150\nmining_capacity = 900\nselected = 1.0"),
 )
 
 
@@ -149,20 +153,23 @@ MORE = (
         (
             "mining_cost",
             "0.2",
-            (("R = 2, S = 2.5 }", "R = 2.4, S = 3 }"), ("mining_cost_per_level = 0.25", "mining_cost_per_level = 0.3")),
+            (("R = 2, S = 2.5 }", "R = 2.4, S = 3 }"), ("mining_cost_per_bench = 0.25", "mining_cost_per_bench = 0.3")),
         ),
         ("processing_cost", "0.3", (("processing_cost = 10", "processing_cost = 13"),)),
         ("slopes", "0.2", (("angle = 45", "angle = 54"),)),
         (
             "capacity",
             "-0.2",
-            (("ore_per_year = 150", "ore_per_year = 120"), ("rock_per_year = 900", "rock_per_year = 720")),
+            (
+                ("processing_capacity = 150", "processing_capacity = 120"),
+                ("mining_capacity = 900", "mining_capacity = 720"),
+            ),
         ),
     ],
 )
 def test_a_case_is_the_project_with_this_number_written_there(plan_folder, tmp_path, number, share, changes):
     path = plan_folder(
-        rows(9, 8, 4, **RICH), PROJECT + f'\n[sensitivity]\nby = [{share}]\nvary = ["{number}"]\n', *MORE
+        rows(9, 8, 4, **RICH), PROJECT + f'\n[sensitivity]\nchanges = [{share}]\nparameters = ["{number}"]\n', *MORE
     )
     demand_as_written(path, tmp_path / "other", number, changes)
 
@@ -184,7 +191,7 @@ def demand_as_written(path, other, number, changes):
             .drop("value_at_revenue_factor")
         )
         assert table.iloc[row][shells.index].astype(float).to_dict() == pytest.approx(shells.astype(float).to_dict())
-    assert table["kept_worth"].isna().tolist() == [False, number == "slopes"]
+    assert table["kept_undiscounted_cash_flow"].isna().tolist() == [False, number == "slopes"]
     assert table.loc[1, "npv"] != table.loc[0, "npv"]
 
 
@@ -197,12 +204,12 @@ def demand_as_written(path, other, number, changes):
 )
 def test_recovery_by_grade_and_prices_of_years_vary(plan_folder, tmp_path, number, share, changes):
     by_grade = ("recovery = 0.5\n", "recovery = [[0.2, 0.4], [1.0, 0.9]]\nprices = [6000, 10000]\n")
-    project = PROJECT + f'\n[sensitivity]\nby = [{share}]\nvary = ["{number}"]\n'
+    project = PROJECT + f'\n[sensitivity]\nchanges = [{share}]\nparameters = ["{number}"]\n'
     path = plan_folder(
         rows(9, 8, 4, **RICH),
         project,
         by_grade,
-        ("ore_per_year = 100", 'ore_per_year = 100\nselected = 1.0\ndiscounting = "continuous"'),
+        ("processing_capacity = 100", 'processing_capacity = 100\nselected = 1.0\ndiscounting = "continuous"'),
     )
     demand_as_written(path, tmp_path / "other", number, changes)
 
@@ -210,13 +217,15 @@ def test_recovery_by_grade_and_prices_of_years_vary(plan_folder, tmp_path, numbe
 def test_fixed_blocks_hold_in_every_case_and_ore_may_be_settled(plan_folder):
     """A block at the corner must be dug and the last column may not be; with ore as it is at the price as given of each case."""
     table = rows(9, 8, 4, **RICH, must=lambda i, j, k: int((i, j, k) == (0, 0, 3)), never=lambda i, j, k: int(i == 8))
-    words = '\n[fixed]\nforced = "must"\nbarred = "never"\n[sensitivity]\nby = [-0.1]\n'
+    words = '\n[constraints]\nmust_mine = "must"\nexclude = "never"\n[sensitivity]\nchanges = [-0.1]\n'
     path = plan_folder(
-        table, PROJECT + words, *MORE, ("processing_cost = 10\n", 'processing_cost = 10\ncutoff = "fixed"\n')
+        table, PROJECT + words, *MORE, ("processing_cost = 10\n", 'processing_cost = 10\ncutoff = "base_price"\n')
     )
     found = pitplan.write_sensitivity(path)
     shells = pitplan.write_shells(path, writing=pitplan.Writing(verifies=False)).set_index("revenue_factor")
-    assert found.loc[0, ["blocks", "worth"]].tolist() == pytest.approx(shells.loc[1.0, ["blocks", "worth"]].tolist())
+    assert found.loc[0, ["blocks", "undiscounted_cash_flow"]].tolist() == pytest.approx(
+        shells.loc[1.0, ["blocks", "undiscounted_cash_flow"]].tolist()
+    )
     folder = path.parent / "plan" / "sensitivity"
     blocks, record = pd.read_csv(folder / "blocks.csv"), json.loads((folder / "sensitivity.json").read_text())
     for case in record["cases"]:
@@ -229,21 +238,26 @@ def test_rows_that_are_put_together_are_varied_as_blocks(plan_folder):
     table = rows(8, 8, 3, cu=lambda i, j, k: 6 if (i // 2, j // 2, k) == (2, 2, 1) else 0)
     change = ('file = "blocks.csv"', 'file = "blocks.csv"\nreblock = [2, 2, 1]')
     found = pitplan.write_sensitivity(
-        plan_folder(table, PROJECT + '\n[sensitivity]\nby = [0.1]\nvary = "price"\n', change)
+        plan_folder(table, PROJECT + '\n[sensitivity]\nchanges = [0.1]\nparameters = "price"\n', change)
     )
     # Four times 24,000 and 1000 for processing, and of five blocks of 400 t, of which one is over the ore, 800 each.
-    assert found["worth"].tolist() == pytest.approx([4 * 24_000 - 4000 - 6 * 800, 4 * 26_400 - 4000 - 6 * 800])
+    assert found["undiscounted_cash_flow"].tolist() == pytest.approx(
+        [4 * 24_000 - 4000 - 6 * 800, 4 * 26_400 - 4000 - 6 * 800]
+    )
 
 
 def test_costs_by_elevation_and_walls_by_azimuth(plan_folder, tmp_path):
-    walls = ("[slopes]\nlevels = 3\n", "[slopes]\nlevels = 3\n"), ('pattern = "1:5"', "azimuths = [[0, 40], [180, 50]]")
+    walls = ("[slopes]\nprecedence_benches = 3\n", "[slopes]\nprecedence_benches = 3\n"), (
+        'pattern = "1:5"',
+        "azimuths = [[0, 40], [180, 50]]",
+    )
     money = ("mining_cost = 2\n", "mining_cost = 2\nmining_cost_by_elevation = [[5, 2], [35, 0]]\n"), (
-        "rate = 0.1",
-        "rate = 0.1\nselected = 1.0",
+        "discount_rate = 0.1",
+        "discount_rate = 0.1\nselected = 1.0",
     )
     path = plan_folder(
         rows(9, 8, 4, **RICH),
-        PROJECT + '\n[sensitivity]\nby = [0.1]\nvary = ["mining_cost", "slopes"]\n',
+        PROJECT + '\n[sensitivity]\nchanges = [0.1]\nparameters = ["mining_cost", "slopes"]\n',
         *walls,
         *money,
     )
@@ -251,21 +265,21 @@ def test_costs_by_elevation_and_walls_by_azimuth(plan_folder, tmp_path):
     text = path.read_text().replace("mining_cost = 2\n", "mining_cost = 2.2\n").replace("[5, 2]", "[5, 2.2]")
     for row, changed in ((1, text), (2, path.read_text().replace("[[0, 40], [180, 50]]", "[[0, 44], [180, 55]]"))):
         path.write_text(changed)
-        assert pitplan.write_shells(path, writing=pitplan.Writing(verifies=False))["worth"].iloc[1] == pytest.approx(
-            table.loc[row, "worth"]
-        )
+        assert pitplan.write_shells(path, writing=pitplan.Writing(verifies=False))["undiscounted_cash_flow"].iloc[
+            1
+        ] == pytest.approx(table.loc[row, "undiscounted_cash_flow"])
 
 
 def test_a_lower_price_of_all_is_a_lesser_factor(plan_folder):
     """Where nothing is paid for selling, the pit as given at 20 % less is worth what the program said at revenue factor 0.80."""
     path = plan_folder(
         rows(9, 8, 4, **RICH),
-        PROJECT + '\n[sensitivity]\nby = [-0.2]\nvary = "price"\n',
+        PROJECT + '\n[sensitivity]\nchanges = [-0.2]\nparameters = "price"\n',
         ("revenue_factors = [0.5, 1.0, 1.5]", "revenue_factors = [0.64, 0.8]\nselected = 0.8"),
     )
     table = pitplan.write_sensitivity(path)
     shells = pitplan.write_shells(path, writing=pitplan.Writing(verifies=False)).set_index("revenue_factor")
-    assert table.loc[1, "revenue_factor"] == 0.8 and table.loc[1, "kept_worth"] == pytest.approx(
+    assert table.loc[1, "revenue_factor"] == 0.8 and table.loc[1, "kept_undiscounted_cash_flow"] == pytest.approx(
         float(shells["value_at_revenue_factor"][0.8])
     )
     assert (
@@ -275,7 +289,7 @@ def test_a_lower_price_of_all_is_a_lesser_factor(plan_folder):
 
 
 def test_what_has_an_answer_is_not_solved_again(small, monkeypatch):
-    path, solved = small("by = [0.1]"), []
+    path, solved = small("changes = [0.1]"), []
     find = cases.find
     monkeypatch.setattr(cases, "find", lambda *words: solved.append(words) or find(*words))
     first = pitplan.write_sensitivity(path)
@@ -283,14 +297,14 @@ def test_what_has_an_answer_is_not_solved_again(small, monkeypatch):
     monkeypatch.chdir(path.parent)
     second = pitplan.write_sensitivity("project.toml")
     assert len(solved) == 6 and first.astype(str).equals(second.astype(str))
-    path.write_text(path.read_text().replace("by = [0.1]", "by = [0.1, 0.2]"))
+    path.write_text(path.read_text().replace("changes = [0.1]", "changes = [0.1, 0.2]"))
     pitplan.write_sensitivity(path)
     assert len(solved) == 6 + 11, "the project's text is another"
 
 
 def test_files_and_what_the_command_line_tells(small, capsys, monkeypatch):
     monkeypatch.setattr(Writing, "figures", True)
-    path = small('vary = ["price", "mining_cost"]\npairs = [["price", "mining_cost"]]')
+    path = small('parameters = ["price", "mining_cost"]\npairs = [["price", "mining_cost"]]')
     assert main(["sensitivity", str(path), "--quiet"]) == 0
     out = capsys.readouterr().out.splitlines()
     assert out[2].split() == ["as", "given", "21.75", "0.00", "100.00", "100.00", "22.80", "1.0"]
@@ -319,7 +333,7 @@ def test_files_and_what_the_command_line_tells(small, capsys, monkeypatch):
 
 def test_cases_over_dask_are_those_of_one_after_the_other(small, capsys):
     pytest.importorskip("distributed")
-    path = small('by = [-0.1, 0.1]\nvary = ["price", "capacity"]')
+    path = small('changes = [-0.1, 0.1]\nparameters = ["price", "capacity"]')
     assert (
         main(
             ["sensitivity", str(path), "--quiet", "--on", "local", "--workers", "1", "--out", str(path.parent / "dask")]
@@ -345,20 +359,20 @@ def test_cases_are_solved_here_or_over_dask_alone(small, capsys):
 @pytest.mark.parametrize(
     ("words", "said"),
     [
-        ("by = []", "[sensitivity] by: must be a list of up to 20 shares"),
-        ("by = 0.1", "[sensitivity] by: must be a list of up to 20 shares"),
-        ("by = [0.1, 0]", "by: shares are above -1 and up to 10, none is 0, and each stands once"),
-        ("by = [-1]", "by: shares are above -1"),
-        ("by = [10.5]", "by: shares are above -1"),
-        ("by = [0.1, 0.10]", "by: shares are above -1"),
-        ('by = ["much"]', "by: 'much' is not a number"),
+        ("changes = []", "[sensitivity] changes: must be a list of up to 20 shares"),
+        ("changes = 0.1", "[sensitivity] changes: must be a list of up to 20 shares"),
+        ("changes = [0.1, 0]", "changes: shares are above -1 and up to 10, none is 0, and each stands once"),
+        ("changes = [-1]", "changes: shares are above -1"),
+        ("changes = [10.5]", "changes: shares are above -1"),
+        ("changes = [0.1, 0.10]", "changes: shares are above -1"),
+        ('changes = ["much"]', "changes: 'much' is not a number"),
         (
-            'vary = "rent"',
-            'vary: "rent" is none of price, mining_cost, processing_cost, selling_cost, recovery, slopes, capacity, haulage; price, selling_cost',
+            'parameters = "rent"',
+            'parameters: "rent" is none of price, mining_cost, processing_cost, selling_cost, recovery, slopes, capacity, haulage; price, selling_cost',
         ),
-        ('vary = "slopes copper"', 'vary: "slopes copper" is none of'),
-        ('vary = "price tin"', 'vary: "price tin" is none of'),
-        ('vary = ["price", "price"]', "vary: names a number twice"),
+        ('parameters = "slopes copper"', 'parameters: "slopes copper" is none of'),
+        ('parameters = "price tin"', 'parameters: "price tin" is none of'),
+        ('parameters = ["price", "price"]', "parameters: names a parameter twice"),
         ('pairs = ["price"]', "pairs: must be a list of pairs of names"),
         ('pairs = [["price", "rent"]]', 'pairs: "rent" is none of'),
         ('pairs = [["price", "price copper"]]', "pairs: price and price copper are not two numbers"),
@@ -375,22 +389,22 @@ def test_what_is_refused(small, words, said):
 def test_walls_that_no_share_allows_are_refused(plan_folder):
     path = plan_folder(
         rows(5, 3, 1, **ORE),
-        PROJECT + "\n[sensitivity]\nby = [1.1]\nvary = 'slopes'\n",
+        PROJECT + "\n[sensitivity]\nchanges = [1.1]\nparameters = 'slopes'\n",
         ('pattern = "1:5"', "angle = 45"),
     )
-    with pytest.raises(PlanError, match="by: slopes times 2.1 leave 1 to 90 degrees"):
+    with pytest.raises(PlanError, match="changes: slopes times 2.1 leave 1 to 90 degrees"):
         pitplan.write_sensitivity(path)
 
 
 def test_shares_have_their_ends(small):
-    asked = load(small("by = [10, -0.99]\nvary = 'price'")).sensitivity
-    assert [float(share) for share in asked.by] == [-0.99, 10.0] and asked.vary == ("price",)
+    asked = load(small("changes = [10, -0.99]\nparameters = 'price'")).sensitivity
+    assert [float(share) for share in asked.changes] == [-0.99, 10.0] and asked.parameters == ("price",)
 
 
 @pytest.fixture(scope="module")
 def answered(tmp_path_factory, without_figures):
     place = tmp_path_factory.mktemp("varied")
-    text = PROJECT + '\n[sensitivity]\nby = [-0.2, 0.2]\npairs = [["price", "capacity"]]\n'
+    text = PROJECT + '\n[sensitivity]\nchanges = [-0.2, 0.2]\npairs = [["price", "capacity"]]\n'
     for old, new in MORE:
         text = text.replace(old, new)
     (place / "project.toml").write_text(text)
@@ -415,7 +429,7 @@ def test_what_is_right_passes(copied):
 def test_grades_ratios_and_years_have_six_decimals_and_amounts_three(copied):
     table = pd.read_csv(copied / "sensitivity.csv", dtype=str)
     decimals = {name: table[name].dropna().str.partition(".")[2].str.len().max() for name in table}
-    fine = ("grade_copper", "grade_gold", "strip_ratio", "years", "kept_years")
+    fine = ("head_grade_copper", "head_grade_gold", "strip_ratio", "years", "kept_years")
     assert max(decimals.pop(name) for name in fine) == 6 and decimals.pop("value_at_revenue_factor") == 9
     assert max(decimals.values()) == 3
 
@@ -429,15 +443,17 @@ def test_what_blocks_have_as_given_and_is_bent_is_found(copied, column):
     assert list(wrong(copied)) == ["as given"]
 
 
-@pytest.mark.parametrize("column", ["kept_worth", "kept_npv_best", "kept_npv_worst", "kept_years", "skin_worth"])
+@pytest.mark.parametrize(
+    "column", ["kept_undiscounted_cash_flow", "kept_npv_best", "kept_npv_worst", "kept_years", "skin_value"]
+)
 def test_what_is_not_told_of_the_pit_as_given_is_found(copied, column):
     table = pd.read_csv(copied / "sensitivity.csv", dtype=str, keep_default_na=False)
     table.loc[1, column] = ""
     table.to_csv(copied / "sensitivity.csv", index=False)
-    assert set(wrong(copied)) == {"skin" if column == "skin_worth" else "kept"}
+    assert set(wrong(copied)) == {"skin" if column == "skin_value" else "kept"}
 
 
-AMOUNTS = "blocks tonnes ore_tonnes waste_tonnes strip_ratio processed_tonnes grade_copper metal_copper grade_gold metal_gold worth".split()
+AMOUNTS = "blocks tonnes feed_tonnes waste_tonnes strip_ratio processed_at_revenue_factor head_grade_copper recovered_copper head_grade_gold recovered_gold undiscounted_cash_flow".split()
 
 
 @pytest.mark.parametrize(
@@ -445,12 +461,12 @@ AMOUNTS = "blocks tonnes ore_tonnes waste_tonnes strip_ratio processed_tonnes gr
     [
         *((column, "shells") for column in AMOUNTS),
         *((column, "years") for column in ("npv", "npv_best", "npv_worst", "years")),
-        ("value_at_revenue_factor", "worth"),
+        ("value_at_revenue_factor", "undiscounted_cash_flow"),
         *((column, "kept") for column in KEPT),
-        ("skin_worth", "skin"),
+        ("skin_value", "skin"),
         ("revenue_factor", "cases"),
-        ("share", "cases"),
-        ("second_share", "cases"),
+        ("change", "cases"),
+        ("second_change", "cases"),
     ],
 )
 def test_each_number_that_is_bent_is_found(copied, column, name):
@@ -486,7 +502,7 @@ def test_the_pit_of_another_case_is_found(copied):
     one, other = (record["cases"][k] for k in (1, 2))
     one["key"], other["key"] = other["key"], one["key"]
     (copied / "sensitivity.json").write_text(json.dumps(record))
-    assert {"shells", "worth"} <= set(wrong(copied))
+    assert {"shells", "undiscounted_cash_flow"} <= set(wrong(copied))
 
 
 def test_a_block_that_is_left_standing_is_found(copied):
@@ -500,8 +516,8 @@ def test_a_block_that_is_left_standing_is_found(copied):
 
 
 def test_walls_of_patterns_that_move_not_are_as_given(plan_folder):
-    path = plan_folder(rows(5, 3, 1, **ORE), PROJECT + "\n[sensitivity]\nby = [0.2]\nvary = 'slopes'\n")
-    assert cases.rules_of(load(path)).vary == ("slopes",)
+    path = plan_folder(rows(5, 3, 1, **ORE), PROJECT + "\n[sensitivity]\nchanges = [0.2]\nparameters = 'slopes'\n")
+    assert cases.rules_of(load(path)).parameters == ("slopes",)
     assert "slopes" not in perturb.given(load(path)) and "selling_cost" not in perturb.given(load(path))
 
 
@@ -531,7 +547,9 @@ def test_walls_of_patterns_that_move_not_are_as_given(plan_folder):
             "capacity",
             lambda project, by, metal: perturb.replace(
                 project,
-                schedule=perturb.replace(project.schedule, ore_per_year=project.schedule.ore_per_year * float(by)),
+                schedule=perturb.replace(
+                    project.schedule, processing_capacity=project.schedule.processing_capacity * float(by)
+                ),
             ),
         ),
         ("selling_cost", lambda project, by, metal: project),
@@ -570,8 +588,8 @@ def table():
         ("price", one, "mining_cost", other, 70 + 10 * k)
         for k, (one, other) in enumerate([(-0.1, -0.1), (-0.1, 0.2), (0.2, -0.1), (0.2, 0.2)])
     ]
-    return pd.DataFrame(lines, columns=["number", "share", "second", "second_share", "npv"]).astype(
-        {"share": float, "second_share": float}
+    return pd.DataFrame(lines, columns=["parameter", "change", "second_parameter", "second_change", "npv"]).astype(
+        {"change": float, "second_change": float}
     )
 
 

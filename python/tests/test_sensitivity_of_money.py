@@ -14,8 +14,8 @@ from pitplan.config.economics import Curve
 from pitplan.studies.sensitivity import perturb
 
 pytestmark = pytest.mark.usefixtures("without_figures")
-BY = "ore_per_year = 100", "ore_per_year = 100\nselected = 1.0"
-RULES = "\n[sensitivity]\nby = [-0.1, 0.2]\n"
+BY = "processing_capacity = 100", "processing_capacity = 100\nselected = 1.0"
+RULES = "\n[sensitivity]\nchanges = [-0.1, 0.2]\n"
 
 
 def two_blocks():
@@ -25,13 +25,15 @@ def two_blocks():
 
 def worths(path):
     """By number and share."""
-    return pitplan.write_sensitivity(path).set_index(["number", "share"])["worth"]
+    return pitplan.write_sensitivity(path).set_index(["parameter", "change"])["undiscounted_cash_flow"]
 
 
 def test_several_processes(plan_folder):
     """In the mill the blocks sell for 43,200 and 2,160 and cost 1,300 each; leaching the poor one gains less, 960 - 300. Of the recovery of
     0.9 no more than all can be more: 1 is a ninth more."""
-    path = plan_folder(two_blocks(), PROJECT + RULES, *WITH, ("rate = 0.1", "rate = 0.1\nselected = 1.0"))
+    path = plan_folder(
+        two_blocks(), PROJECT + RULES, *WITH, ("discount_rate = 0.1", "discount_rate = 0.1\nselected = 1.0")
+    )
     worth = worths(path)
     assert worth[("", 0.0)] == pytest.approx(43_200 + 2_160 - 2 * 1_500)
     assert worth[("processing_cost", 0.2)] == pytest.approx(45_360 - 2 * 1_760)
@@ -47,7 +49,7 @@ def test_recoveries_by_grade_and_prices_of_years(plan_folder):
         ("price = 8000", "price = 8000\nprices = [8000, 9000]"),
         BY,
     ]
-    fixed = ("mining_cost = 2\n", "mining_cost = 2\nfixed_cost_per_year = 70\ncapital = [[1, 500]]\n")
+    fixed = ("mining_cost = 2\n", "mining_cost = 2\nfixed_cost_per_year = 70\ncapex = [[1, 500]]\n")
     worth = worths(plan_folder(two_blocks(), PROJECT + RULES, *changes, fixed))
     assert worth[("", 0.0)] == pytest.approx(38_400 - 1_200)  # the poor block sells for 1,200 and costs as much
     assert worth[("recovery", 0.2)] == pytest.approx(46_080 + 1_440 - 2 * 1_200)
@@ -69,9 +71,12 @@ def test_recoveries_by_grade_end_at_all():
 
 def test_walls_of_benches(plan_folder):
     """Both looks agree of walls that are a fifth steeper and a tenth flatter than the benches' own."""
-    wall = ('[[slopes.walls]]\npattern = "1:5"', "[[slopes.walls]]\nbench = { height = 20, face = 65, berm = 9 }")
+    wall = (
+        '[[slopes.domains]]\npattern = "1:5"',
+        "[[slopes.domains]]\nbench = { height = 20, face_angle = 65, berm_width = 9 }",
+    )
     table = rows(9, 9, 3, cu=lambda i, j, k: 30 if (i, j, k) == (4, 4, 0) else 0)
-    found = pitplan.write_sensitivity(plan_folder(table, PROJECT + RULES, wall, BY)).set_index(["number", "share"])[
+    found = pitplan.write_sensitivity(plan_folder(table, PROJECT + RULES, wall, BY)).set_index(["parameter", "change"])[
         "blocks"
     ]
     assert found[("slopes", 0.2)] < found[("", 0.0)] <= found[("slopes", -0.1)]

@@ -19,19 +19,19 @@ from pitplan.slopes.slope_patterns import FIVE
 SMALL = settings(max_examples=25, suppress_health_check=[HealthCheck.function_scoped_fixture])
 
 
-def project_of(tmp_path, metal_price=8000, factors=(0.3, 0.7, 1.0, 1.6), cutoff="moving"):
+def project_of(tmp_path, metal_price=8000, factors=(0.3, 0.7, 1.0, 1.6), cutoff="per_revenue_factor"):
     money = {"mining_cost": 2, "processing_cost": 10, "cutoff": cutoff}
     metal = {"name": "copper", "column": "cu", "unit": "percent", "price": metal_price, "recovery": Decimal("0.5")}
     data = {
         "table": {"file": "blocks.csv", "id": "name"},
         "grid": {"size": [10, 10, 10]},
-        "money": money,
+        "economics": money,
         "metals": [metal],
-        "slopes": {"walls": [{"pattern": "1:5"}]},
+        "slopes": {"domains": [{"pattern": "1:5"}]},
         "shells": {
             "revenue_factors": [Decimal(str(factor)) for factor in factors],
-            "rate": Decimal("0.1"),
-            "ore_per_year": 100,
+            "discount_rate": Decimal("0.1"),
+            "processing_capacity": 100,
         },
     }
     return of_data(data, tmp_path / "project.toml")
@@ -87,7 +87,7 @@ def test_shells_are_the_best_of_all_closed_sets(tmp_path, by_id):
 @given(grades)
 def test_a_fixed_cutoff_is_the_best_with_ore_settled_at_1000(tmp_path, by_id):
     table = rows(*BOX, cu=lambda i, j, k: by_id[(2 - k) * 3 + i])
-    plan = pitplan.prepare(project_of(tmp_path, cutoff="fixed"), table=table)
+    plan = pitplan.prepare(project_of(tmp_path, cutoff="base_price"), table=table)
     solution = pitplan.solve(plan)
     for factor in plan.project.schedule.revenue_factors:
         yields = [Decimal(str(grade)) * 4000 for grade in by_id]
@@ -98,14 +98,18 @@ def test_a_fixed_cutoff_is_the_best_with_ore_settled_at_1000(tmp_path, by_id):
 
 
 @settings(max_examples=15)
-@given(st.integers(0, 10**6), st.sampled_from(["1:5", "1:9", "40"]), st.sampled_from(["moving", "fixed"]))
+@given(
+    st.integers(0, 10**6),
+    st.sampled_from(["1:5", "1:9", "40"]),
+    st.sampled_from(["per_revenue_factor", "base_price"]),
+)
 def test_trimmed_needs_give_the_same_shells(seed, walls, cutoff):
     rng = np.random.default_rng(seed)
     table = rows(9, 8, 5, tonnes=lambda i, j, k: 100 if k < 4 or i % 3 else 0)
     table["cu"] = np.where(rng.random(len(table)) < 0.06, rng.random(len(table)).round(3) * 8, 0.0)
     project = project_of(Path("."), cutoff=cutoff)
     wall = {"angle": Decimal(walls)} if walls.isdigit() else {"pattern": walls}
-    slopes = read_slopes(Section("test", "slopes", {"levels": 3, "walls": [wall]}))
+    slopes = read_slopes(Section("test", "slopes", {"precedence_benches": 3, "domains": [wall]}))
     plan = pitplan.prepare(replace(project, slopes=slopes), table=table)
     trimmed = pitplan.solve(plan)
     assert plan.used.sum() < plan.grid.count
@@ -123,11 +127,13 @@ def test_the_table_of_shells_by_hand(tmp_path):
     # is mined and thrown away: 800 does not pay its processing. At 0.2 the rich one gains 200, and mining costs 600.
     assert shells["blocks"].tolist() == [0, 3, 3]
     assert shells["tonnes"].tolist() == [0, 300, 300]
-    assert shells["ore_tonnes"].tolist() == [0, 200, 200] and shells["waste_tonnes"].tolist() == [0, 100, 100]
-    assert shells["processed_tonnes"].tolist() == [0, 100, 200]
+    assert shells["feed_tonnes"].tolist() == [0, 200, 200] and shells["waste_tonnes"].tolist() == [0, 100, 100]
+    assert shells["processed_at_revenue_factor"].tolist() == [0, 100, 200]
     assert shells["strip_ratio"][1.0] == 0.5 and np.isnan(shells["strip_ratio"][0.2])
-    assert shells["grade_copper"][1.0] == pytest.approx(0.95) and shells["metal_copper"][1.0] == pytest.approx(0.95)
-    assert shells["worth"].tolist() == [0, 5000, 5000]
+    assert shells["head_grade_copper"][1.0] == pytest.approx(0.95) and shells["recovered_copper"][1.0] == pytest.approx(
+        0.95
+    )
+    assert shells["undiscounted_cash_flow"].tolist() == [0, 5000, 5000]
     assert shells["value_at_revenue_factor"].tolist() == [Decimal(0), Decimal(1400), Decimal(5000)]
     # At 100 t of ore a year the waste and the poor block, -200 + 400, are the first year's and the rich one's 4800 the second's.
     npv = 200 / 1.1 + 4800 / 1.1**2
@@ -139,7 +145,7 @@ def test_best_and_worst_case_by_hand(plan_folder):
     """Two pillars: the east one is so poor that it comes in at 1.0 alone. Rock is dug at 100 t a year."""
     table = rows(2, 1, 2, cu=lambda i, j, k: 0 if k else [4, 0.4][i])
     upright = ('pattern = "1:5"', "angle = 90")
-    changes = [upright, ("ore_per_year = 100", "ore_per_year = 100\nrock_per_year = 100")]
+    changes = [upright, ("processing_capacity = 100", "processing_capacity = 100\nmining_capacity = 100")]
     plan = pitplan.prepare(plan_folder(table, PROJECT, *changes))
     shells = pitplan.shells(plan, pitplan.solve(plan)).set_index("revenue_factor")
     assert shells["blocks"].to_dict() == {0.5: 2, 1.0: 4, 1.5: 4}

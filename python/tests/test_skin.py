@@ -19,7 +19,7 @@ ORE = {"cu": lambda i, j, k: {(1, 1): 6, (3, 1): 0.5}.get((i, j), 0)}
 @pytest.fixture
 def project(plan_folder):
     def write(words=""):
-        text = PROJECT.replace("ore_per_year = 100", "ore_per_year = 100\nselected = 1.0")
+        text = PROJECT.replace("processing_capacity = 100", "processing_capacity = 100\nselected = 1.0")
         return plan_folder(rows(5, 3, 1, **ORE), f"{text}\n[sensitivity]\n{words}\n")
 
     return write
@@ -30,8 +30,8 @@ def record_of(path):
 
 
 def test_what_the_skin_earns_in_each_case(project):
-    path = project("by = [-0.1, 0.1]")
-    table = pitplan.write_sensitivity(path).set_index(["number", "share"])["skin_worth"]
+    path = project("changes = [-0.1, 0.1]")
+    table = pitplan.write_sensitivity(path).set_index(["parameter", "change"])["skin_value"]
     due = {
         ("", 0.0): 800,
         ("price", -0.1): 600,
@@ -46,38 +46,48 @@ def test_what_the_skin_earns_in_each_case(project):
         ("recovery", 0.1): 1000,
     }
     assert table.to_dict() == pytest.approx(due | {("capacity", -0.1): 800, ("capacity", 0.1): 800})
-    assert record_of(path)["skin"] == {"revenue_factor": 0.6, "tonnes": 100, "share": 0.5, "worth": 800}
+    assert record_of(path)["skin"] == {
+        "revenue_factor": 0.6,
+        "tonnes": 100,
+        "share": 0.5,
+        "undiscounted_cash_flow": 800,
+    }
 
 
 def test_a_greater_share_reaches_a_lesser_shell(project):
     """A shell of at most 80 of 200 t has neither block; the rich one breaks even at 1,200 / 24,000."""
-    path = project('by = [0.1]\nvary = "price"\nskin = 0.6')
-    assert pitplan.write_sensitivity(path)["skin_worth"].tolist() == pytest.approx([23_600, 23_600 + 2_600])
-    assert record_of(path)["skin"] == {"revenue_factor": 0.05, "tonnes": 200, "share": 1.0, "worth": 23_600}
+    path = project('changes = [0.1]\nparameters = "price"\nskin = 0.6')
+    assert pitplan.write_sensitivity(path)["skin_value"].tolist() == pytest.approx([23_600, 23_600 + 2_600])
+    assert record_of(path)["skin"] == {
+        "revenue_factor": 0.05,
+        "tonnes": 200,
+        "share": 1.0,
+        "undiscounted_cash_flow": 23_600,
+    }
 
 
 def test_a_pit_that_no_lesser_factor_divides_is_all_skin(plan_folder):
     """The one block of ore pays at every factor."""
-    text = PROJECT.replace("ore_per_year = 100", "ore_per_year = 100\nselected = 1.0").replace(
+    text = PROJECT.replace("processing_capacity = 100", "processing_capacity = 100\nselected = 1.0").replace(
         "price = 8000", "price = 80000000"
     )
-    path = plan_folder(rows(5, 3, 1, **ORE), text + '\n[sensitivity]\nby = [0.1]\nvary = "mining_cost"\n')
+    path = plan_folder(rows(5, 3, 1, **ORE), text + '\n[sensitivity]\nchanges = [0.1]\nparameters = "mining_cost"\n')
     pitplan.write_sensitivity(path)
     assert (record_of(path)["skin"]["revenue_factor"], record_of(path)["skin"]["tonnes"]) == (0, 200)
 
 
 def test_where_walls_move_nothing_is_told_of_it(plan_folder):
-    text = PROJECT.replace("ore_per_year = 100", "ore_per_year = 100\nselected = 1.0")
+    text = PROJECT.replace("processing_capacity = 100", "processing_capacity = 100\nselected = 1.0")
     path = plan_folder(
         rows(5, 3, 1, **ORE),
-        text.replace('pattern = "1:5"', "angle = 45") + '\n[sensitivity]\nby = [0.2]\nvary = "slopes"\n',
+        text.replace('pattern = "1:5"', "angle = 45") + '\n[sensitivity]\nchanges = [0.2]\nparameters = "slopes"\n',
     )
-    worth = pitplan.write_sensitivity(path)["skin_worth"]
+    worth = pitplan.write_sensitivity(path)["skin_value"]
     assert worth[0] == pytest.approx(800) and np.isnan(worth[1])
 
 
 def test_the_command_line_tells_of_it(project, capsys):
-    path = project('by = [0.1]\nvary = "price"')
+    path = project('changes = [0.1]\nparameters = "price"')
     for words in ([], ["--quiet"]):
         assert main(["sensitivity", str(path), *words]) == 0
         told = capsys.readouterr().err.splitlines()
@@ -98,13 +108,17 @@ def wrong(folder):
 
 def test_the_second_look_finds_another_skin(project):
     """One that lacks a block, one that takes more than it may, and one whose tonnes are others."""
-    path = project("by = [0.1]")
+    path = project("changes = [0.1]")
     pitplan.write_sensitivity(path)
     folder = load(path).folder / "sensitivity"
     assert wrong(folder) == set()
     record = folder / "sensitivity.json"
     said = json.loads(record.read_text())
-    for bent in ({"tonnes": 90}, {"share": said["skin"]["share"] + 0.001}, {"worth": said["skin"]["worth"] + 0.01}):
+    for bent in (
+        {"tonnes": 90},
+        {"share": said["skin"]["share"] + 0.001},
+        {"undiscounted_cash_flow": said["skin"]["undiscounted_cash_flow"] + 0.01},
+    ):
         record.write_text(json.dumps(said | {"skin": said["skin"] | bent}))
         assert wrong(folder) == {"skin's shell"}
     record.write_text(json.dumps(said))
@@ -118,10 +132,10 @@ def test_the_second_look_finds_another_skin(project):
 
 def test_the_second_look_finds_a_skin_that_others_need(plan_folder):
     """A block above one that stays may not be the skin's."""
-    text = PROJECT.replace("ore_per_year = 100", "ore_per_year = 100\nselected = 1.0")
+    text = PROJECT.replace("processing_capacity = 100", "processing_capacity = 100\nselected = 1.0")
     path = plan_folder(
         rows(5, 5, 2, cu=lambda i, j, k: {(2, 2, 0): 9}.get((i, j, k), 0)),
-        text + '\n[sensitivity]\nby = [0.1]\nvary = "price"\n',
+        text + '\n[sensitivity]\nchanges = [0.1]\nparameters = "price"\n',
     )
     pitplan.write_sensitivity(path)
     folder = load(path).folder / "sensitivity"

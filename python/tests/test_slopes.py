@@ -214,8 +214,8 @@ def test_never_steeper_widens_the_cone_of_the_levels_that_are_chosen():
 def test_each_wall_entry_takes_its_own_levels_and_the_record_names_them(plan_folder, tmp_path):
     table = rows(4, 3, 2, region=lambda i, j, k: "soft" if i < 2 else "hard")
     steep = f"angle = {math.degrees(math.atan(10)):.9f}"
-    entries = f'region = "hard"\n{steep}\n[[slopes.walls]]\nregion = "soft"\npattern = "1:9"'
-    plan = pitplan.prepare(plan_folder(table, PROJECT, ("levels = 3\n", ""), ('pattern = "1:5"', entries)))
+    entries = f'domain = "hard"\n{steep}\n[[slopes.domains]]\ndomain = "soft"\npattern = "1:9"'
+    plan = pitplan.prepare(plan_folder(table, PROJECT, ("precedence_benches = 3\n", ""), ('pattern = "1:5"', entries)))
     assert [walls["levels"] for walls in plan.record(mine_files.write(plan, tmp_path))["walls"]] == [23, 1]
     assert any("needs a block over 23 levels make walls" in note for note in plan.notes)
     assert any("9 needs a block over 1 level make walls" in note for note in plan.notes)
@@ -254,7 +254,7 @@ def test_azimuth_of_needs_azimuths(plan_folder):
 
 def test_each_region_has_its_walls(plan_folder, tmp_path):
     table = rows(4, 3, 2, region=lambda i, j, k: "soft" if i < 2 else "hard")
-    walls = 'region = "hard"\npattern = "1:5"\n[[slopes.walls]]\nregion = ["soft", "clay"]\npattern = "1:9"'
+    walls = 'domain = "hard"\npattern = "1:5"\n[[slopes.domains]]\ndomain = ["soft", "clay"]\npattern = "1:9"'
     plan = pitplan.prepare(plan_folder(table, PROJECT, ('pattern = "1:5"', walls)))
     plan.used[:] = True
     mine_files.write(plan, tmp_path)
@@ -266,34 +266,34 @@ def test_each_region_has_its_walls(plan_folder, tmp_path):
 
 def test_air_takes_the_walls_of_the_ground_below(plan_folder):
     table = rows(3, 3, 3, region=lambda i, j, k: "a" if i == 0 else "b")
-    walls = 'region = "a"\npattern = "1:5"\n[[slopes.walls]]\nregion = "b"\npattern = "1:9"'
+    walls = 'domain = "a"\npattern = "1:5"\n[[slopes.domains]]\ndomain = "b"\npattern = "1:9"'
     plan = pitplan.prepare(
         plan_folder(
-            table[table["z"] < 20], PROJECT, ('[[slopes.walls]]\npattern = "1:5"', f"[[slopes.walls]]\n{walls}")
+            table[table["z"] < 20], PROJECT, ('[[slopes.domains]]\npattern = "1:5"', f"[[slopes.domains]]\n{walls}")
         )
     )
     assert plan.grid.shape == (2, 3, 3)
     top = table[(table["z"] < 20) | ((table["x"] == 5) & (table["y"] == 5))]
     plan = pitplan.prepare(
-        plan_folder(top, PROJECT, ('[[slopes.walls]]\npattern = "1:5"', f"[[slopes.walls]]\n{walls}"))
+        plan_folder(top, PROJECT, ('[[slopes.domains]]\npattern = "1:5"', f"[[slopes.domains]]\n{walls}"))
     )
     assert plan.walls.code[:9].tolist() == [0, 1, 1] * 3
 
 
 def test_a_region_without_walls_is_refused(plan_folder):
-    walls = 'region = "2"\npattern = "1:5"'
+    walls = 'domain = "2"\npattern = "1:5"'
     with pytest.raises(
-        PlanError, match=r"\[slopes\] no \[\[slopes.walls\]\] is for region 1, and none is without a region"
+        PlanError, match=r"\[slopes\] no \[\[slopes.domains\]\] is for region 1, and none is without a region"
     ):
         pitplan.prepare(plan_folder(rows(2, 2, 2), PROJECT, ('pattern = "1:5"', walls)))
 
 
 def test_walls_for_regions_alone_need_a_region_column(plan_folder):
     path = plan_folder(
-        rows(2, 2, 2), PROJECT, ('region = "region"\n', ""), ('pattern = "1:5"', 'region = 1\npattern = "1:5"')
+        rows(2, 2, 2), PROJECT, ('domain = "region"\n', ""), ('pattern = "1:5"', 'domain = 1\npattern = "1:5"')
     )
     with pytest.raises(
-        PlanError, match=r"all \[\[slopes.walls\]\] are for regions, and \[table\] names no column as region"
+        PlanError, match=r"all \[\[slopes.domains\]\] are for regions, and \[table\] names no column as region"
     ):
         pitplan.prepare(path)
 
@@ -328,7 +328,12 @@ def test_steps_to_a_cell_of_a_cone_and_beside_it():
 )
 def test_walls_are_told_with_their_levels(plan_folder, levels, said):
     plan = pitplan.prepare(
-        plan_folder(rows(3, 3, 4), PROJECT, ("levels = 3", f"levels = {levels}"), ('pattern = "1:5"', "angle = 45"))
+        plan_folder(
+            rows(3, 3, 4),
+            PROJECT,
+            ("precedence_benches = 3", f"precedence_benches = {levels}"),
+            ('pattern = "1:5"', "angle = 45"),
+        )
     )
     assert any(said in note for note in plan.notes)
 
@@ -336,7 +341,7 @@ def test_walls_are_told_with_their_levels(plan_folder, levels, said):
 def test_no_more_than_forty_levels_are_chosen(plan_folder):
     """Walls of 88.6 degrees step back by a block within 41 levels, and not within 40."""
     plan = pitplan.prepare(
-        plan_folder(rows(2, 2, 2), PROJECT, ("levels = 3\n", ""), ('pattern = "1:5"', "angle = 88.6"))
+        plan_folder(rows(2, 2, 2), PROJECT, ("precedence_benches = 3\n", ""), ('pattern = "1:5"', "angle = 88.6"))
     )
     assert plan.walls.patterns[0].levels == 40
 

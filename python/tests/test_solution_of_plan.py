@@ -20,7 +20,7 @@ PAIRS = {
     "edge_notes": shell_tables.edge_notes,
     "scene_of": plans_sections.scene_of,
 }
-FIXED = ("[shells]", '[fixed]\nforced = "due"\n[shells]')
+FIXED = ("[shells]", '[constraints]\nmust_mine = "due"\n[shells]')
 OTHERS = {
     "price": (("price = 8000", "price = 9000"),),
     "recovery of one block": (("recovery = 0.5", "recovery = { R = 0.5, S = 0.6 }"),),
@@ -28,7 +28,7 @@ OTHERS = {
     "revenue_factors": (("[0.5, 1.0, 1.5]", "[0.6, 1.0, 1.5]"),),
     "more factors": (("[0.5, 1.0, 1.5]", "[0.5, 1.0, 1.5, 1.6]"),),
     "fixed blocks": (FIXED,),
-    "cutoff": (("processing_cost = 10", 'processing_cost = 10\ncutoff = "fixed"'),),
+    "cutoff": (("processing_cost = 10", 'processing_cost = 10\ncutoff = "base_price"'),),
 }
 
 
@@ -71,7 +71,7 @@ def test_what_shells_do_not_depend_on_makes_no_other_plan(mine):
     """A plan prepared again, and another rate, which is of years alone."""
     plan, solution = mine(), pitplan.solve(mine())
     assert pitplan.shells(plan, solution).equals(pitplan.shells(plan, pitplan.solve(plan)))
-    later = mine(("rate = 0.1", "rate = 0.2"))
+    later = mine(("discount_rate = 0.1", "discount_rate = 0.2"))
     assert pitplan.shells(later, solution)["npv_best"].iloc[-1] < pitplan.shells(plan, solution)["npv_best"].iloc[-1]
 
 
@@ -83,10 +83,10 @@ def test_a_plan_by_the_program_has_the_key_of_that_by_the_library(mine):
     )
 
 
-def test_phases_have_a_solution_of_their_own_factors(plan_folder):
+def test_pushbacks_have_a_solution_of_their_own_factors(plan_folder):
     path = plan_folder(rows(8, 7, 3, **ORE), PROJECT + "[pushbacks]\ncount = 2\n")
     whole = pitplan.prepare(load(path))
-    phases = pitplan.pushbacks.nested.divide(whole)
-    assert len(pitplan.shells(phases.plan, phases.solution)) != len(whole.project.schedule.revenue_factors)
+    pushbacks = pitplan.pushbacks.nested.divide(whole)
+    assert len(pitplan.shells(pushbacks.plan, pushbacks.solution)) != len(whole.project.schedule.revenue_factors)
     with pytest.raises(PlanError, match="the solution is of another plan"):
-        pitplan.shells(whole, phases.solution)
+        pitplan.shells(whole, pushbacks.solution)

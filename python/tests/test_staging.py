@@ -19,7 +19,7 @@ from pitplan.export import registry
 
 pytestmark = pytest.mark.usefixtures("without_figures")
 ORE = {"cu": lambda i, j, k: {(3, 3, 1): 6, (4, 3, 1): 2.5, (3, 4, 0): 9}.get((i, j, k), 0)}
-MORE = '[pushbacks]\ncount = 2\n[schedule]\nrock_per_year = 2000\n[sensitivity]\nby = [0.1]\nvary = "price"\n[fixed]\nforced = "due"\n'
+MORE = '[pushbacks]\ncount = 2\n[schedule]\nmining_capacity = 2000\n[sensitivity]\nchanges = [0.1]\nparameters = "price"\n[constraints]\nmust_mine = "due"\n'
 SCENARIOS = '[scenarios]\ncolumns = { copper = ["cu", "cu2"] }\n'
 OTHER = "another run of pitplan writes into this folder"
 
@@ -73,7 +73,7 @@ def leave(folder):
 @pytest.mark.parametrize("name", RUNS)
 def test_a_run_removes_what_killed_runs_have_left(mine, name):
     folder = mine.parent / "out"
-    places = {"sensitivity": ["cases"], "scenarios": ["done", "models", "failed"]}.get(name, [])
+    places = {"sensitivity": ["cases"], "scenarios": ["done", "realisations", "failed"]}.get(name, [])
     for place in (folder, *(folder / it for it in places)):
         leave(place)
     RUNS[name](mine, folder)
@@ -144,7 +144,7 @@ def test_commands_that_only_read_work_beside_a_run_and_each_other(mine):
     with staging.alone(folder):
         assert not any(rule.differences for rule in pitplan.verify(folder))
         for write in (pitplan.write_report, pitplan.audit, pitplan.view):
-            assert write(folder, *([500] if write is pitplan.audit else [])).exists()
+            assert write(folder, *([0.5] if write is pitplan.audit else [])).exists()
         assert (
             pitplan.write_export(folder, "csv", 0.5).exists()
             and pitplan.write_export(folder, "obj", shape=Shape("year")).exists()

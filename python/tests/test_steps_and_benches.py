@@ -15,11 +15,11 @@ from pitplan.pits import shell_tables
 from pitplan.slopes import slope_patterns
 from pitplan.verification import verify
 
-WALL = '[[slopes.walls]]\npattern = "1:5"'
+WALL = '[[slopes.domains]]\npattern = "1:5"'
 
 
 def walls(text):
-    return (WALL, f"[[slopes.walls]]\n{text}")
+    return (WALL, f"[[slopes.domains]]\n{text}")
 
 
 def deposit():
@@ -29,7 +29,7 @@ def deposit():
 def dug(path):
     """The places, by columns, rows and levels from the floor, that are dug at revenue factor 1.00."""
     plan = pitplan.prepare(path)
-    inside = np.flatnonzero(shell_tables.cells_of(plan, pitplan.solve(plan)).factor[:] == 500)
+    inside = np.flatnonzero(shell_tables.cells_of(plan, pitplan.solve(plan)).factor[:] == 0.5)
     column, row, level = plan.grid.indices(inside)
     return set(zip(column.tolist(), row.tolist(), (4 - level).tolist()))
 
@@ -53,18 +53,18 @@ KNIGHT = [(0, 0, 1), (2, 1, 1)]
 
 @pytest.mark.parametrize("steps", [LEANING, KNIGHT, [(0, 0, 1)], [(0, 0, 1), (0, 0, 2), (1, 0, 2), (1, 0, 3)]])
 def test_steps_are_those_of_the_project(plan_folder, steps):
-    path = plan_folder(deposit(), PROJECT, walls(f"steps = {[list(step) for step in steps]}"))
+    path = plan_folder(deposit(), PROJECT, walls(f"offsets = {[list(step) for step in steps]}"))
     assert dug(path) == reached(lambda i: steps)
 
 
 def test_steps_by_region(plan_folder):
-    text = f'region = "1"\nsteps = {[list(step) for step in LEANING]}\n[[slopes.walls]]\nregion = "2"\nsteps = {[list(step) for step in KNIGHT]}'
+    text = f'domain = "1"\noffsets = {[list(step) for step in LEANING]}\n[[slopes.domains]]\ndomain = "2"\noffsets = {[list(step) for step in KNIGHT]}'
     assert dug(plan_folder(deposit(), PROJECT, walls(text))) == reached(lambda i: KNIGHT if i > 6 else LEANING)
 
 
 def test_what_is_told_of_steps(plan_folder):
     """To the east by a block of 10 m a level of 10 m: 45 degrees, and upright to the west."""
-    plan = pitplan.prepare(plan_folder(deposit(), PROJECT, walls("steps = [[0, 0, 1], [1, 0, 1], [1, 0, 2]]")))
+    plan = pitplan.prepare(plan_folder(deposit(), PROJECT, walls("offsets = [[0, 0, 1], [1, 0, 1], [1, 0, 2]]")))
     (pattern,) = plan.walls.patterns
     assert (pattern.angles[90], pattern.angles[270]) == pytest.approx((45, 90))
     assert (
@@ -81,7 +81,7 @@ def test_the_angle_of_benches_by_hand(bench, angle):
     assert bench.angle == pytest.approx(angle)
 
 
-BENCH = "bench = { height = 20, face = 63.43494882292201, berm = 10 }"
+BENCH = "bench = { height = 20, face_angle = 63.43494882292201, berm_width = 10 }"
 
 
 def test_benches_are_as_their_overall_angle(plan_folder):
@@ -95,15 +95,18 @@ def test_benches_are_as_their_overall_angle(plan_folder):
 @pytest.mark.parametrize(
     ("text", "said"),
     [
-        ("angle = 45\nsteps = [[0, 0, 1]]", "angle: give exactly one of angle, azimuths, bench, pattern and steps"),
-        ("steps = []", "steps: must be a list of steps"),
-        ("steps = [[0, 0]]", "steps: must be a list of steps"),
-        ("steps = [[0, 0.5, 1]]", "steps: must be a list of steps"),
-        ("steps = [[0, 0, 0]]", "steps: go up by 1 to 40 blocks, and by at most 200 to a side"),
-        ("steps = [[201, 0, 1]]", "steps: go up by 1 to 40 blocks, and by at most 200 to a side"),
-        ("bench = { height = 0, face = 70, berm = 5 }", "height: is above 0 metres"),
-        ("bench = { height = 10, face = 95, berm = 5 }", "face: an angle of a face is from 1 to 90 degrees"),
-        ("bench = { height = 10, face = 70, berm = -5 }", "berm: -5 is below 0"),
+        ("angle = 45\noffsets = [[0, 0, 1]]", "angle: give exactly one of angle, azimuths, bench, pattern and offsets"),
+        ("offsets = []", "offsets: must be a list of offsets"),
+        ("offsets = [[0, 0]]", "offsets: must be a list of offsets"),
+        ("offsets = [[0, 0.5, 1]]", "offsets: must be a list of offsets"),
+        ("offsets = [[0, 0, 0]]", "offsets: go up by 1 to 40 blocks, and by at most 200 to a side"),
+        ("offsets = [[201, 0, 1]]", "offsets: go up by 1 to 40 blocks, and by at most 200 to a side"),
+        ("bench = { height = 0, face_angle = 70, berm_width = 5 }", "height: is above 0 metres"),
+        (
+            "bench = { height = 10, face_angle = 95, berm_width = 5 }",
+            "face_angle: a face angle is from 1 to 90 degrees",
+        ),
+        ("bench = { height = 10, face_angle = 70, berm_width = -5 }", "berm_width: -5 is below 0"),
     ],
 )
 def test_what_is_wrong_is_named(plan_folder, text, said):
@@ -115,7 +118,7 @@ def wrong(path):
     return {rule.name for rule in verify(path.parent / "plan") if rule.differences}
 
 
-@pytest.mark.parametrize("text", [f"steps = {[list(step) for step in LEANING]}", BENCH])
+@pytest.mark.parametrize("text", [f"offsets = {[list(step) for step in LEANING]}", BENCH])
 def test_the_second_look_agrees(plan_folder, without_figures, text):
     path = plan_folder(deposit(), PROJECT, walls(text))
     pitplan.write_shells(path)
@@ -125,18 +128,19 @@ def test_the_second_look_agrees(plan_folder, without_figures, text):
 
 def test_a_step_that_is_passed_over_is_found(plan_folder, monkeypatch, without_figures):
     path, pattern_of = (
-        plan_folder(deposit(), PROJECT, walls(f"steps = {[list(step) for step in LEANING]}")),
+        plan_folder(deposit(), PROJECT, walls(f"offsets = {[list(step) for step in LEANING]}")),
         slope_patterns.pattern_of,
     )
     monkeypatch.setattr(
-        "pitplan.slopes.domains.pattern_of", lambda wall, *more: pattern_of(replace(wall, steps=wall.steps[1:]), *more)
+        "pitplan.slopes.domains.pattern_of",
+        lambda wall, *more: pattern_of(replace(wall, offsets=wall.offsets[1:]), *more),
     )
     pitplan.write_shells(path, writing=pitplan.Writing(verifies=False))
     assert "walls" in wrong(path)
 
 
 def test_berms_that_are_passed_over_are_found(plan_folder, monkeypatch, without_figures):
-    monkeypatch.setattr(Bench, "angle", property(lambda bench: bench.face))
+    monkeypatch.setattr(Bench, "angle", property(lambda bench: bench.face_angle))
     path = plan_folder(deposit(), PROJECT, walls(BENCH))
     pitplan.write_shells(path, writing=pitplan.Writing(verifies=False))
     assert "walls" in wrong(path)

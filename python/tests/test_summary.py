@@ -51,7 +51,7 @@ def test_quiet_tells_none(plan_folder, capsys):
 @pytest.mark.parametrize("words", SOLVES)
 def test_solving_tells_them(plan_folder, tmp_path, capsys, words):
     path = box(plan_folder)
-    path.write_text(path.read_text() + '[fixed]\nforced = "cu"\n')
+    path.write_text(path.read_text() + '[constraints]\nmust_mine = "cu"\n')
     assert main([words[0], str(path), *words[1:]]) == 0
     assert first_lines(capsys.readouterr().err) == expected(tmp_path)
 
@@ -65,7 +65,7 @@ def test_the_report_has_them(solved):
 
 
 def test_columns_that_are_not_used_or_not_named(plan_folder, tmp_path):
-    changes = [('id = "name"\nrock = "rock"\nregion = "region"\n', "")]
+    changes = [('id = "name"\nrock_type = "rock"\ndomain = "region"\n', "")]
     lines = prepare(box(plan_folder, *changes, notes=lambda i, j, k: "core")).summary
     assert lines == [
         *expected(tmp_path)[:4],
@@ -154,10 +154,10 @@ def test_scenarios_tell_the_grades_of_all_models(plan_folder, tmp_path, capsys):
 
 def test_scenarios_of_a_folder_tell_its_models(plan_folder, tmp_path, capsys):
     path = box(plan_folder)
-    path.write_text(path.read_text() + '[scenarios]\nmodels = "models"\n')
-    (tmp_path / "models").mkdir()
+    path.write_text(path.read_text() + '[scenarios]\nrealisations = "realisations"\n')
+    (tmp_path / "realisations").mkdir()
     for number in (1, 2, 3):
         table = rows(4, 3, 2, cu=lambda i, j, k: 1.0 * number)[["name", "cu"]]
-        table.to_csv(tmp_path / "models" / f"m{number}.csv", index=False)
+        table.to_csv(tmp_path / "realisations" / f"m{number}.csv", index=False)
     assert load(path).scenarios is not None and main(["scenarios", str(path), "--on", "parallel"]) == 0
     assert "copper: cu and so on, of 3 models, mean 2 and at most 3 %, priced by the tonne" in capsys.readouterr().err

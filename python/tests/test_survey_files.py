@@ -129,7 +129,7 @@ def plane_by_lines(space):
         space.add_line(one, other, **layer("TOPO"))
 
 
-SURFACE = '\n[fixed]\ntopography = "blocks"\nsurface = '
+SURFACE = '\n[constraints]\ntopography = "blocks"\nas_mined = '
 
 
 @pytest.mark.parametrize(
@@ -245,7 +245,7 @@ def test_layers_are_chosen_by_name_list_and_star(tmp_path):
             space.add_point((number, 0, number), **layer(name))
 
     path = drawing(tmp_path / "mined.dxf", spots)
-    assert read(path, "road").points.tolist() == [[2, 0, 2]]
+    assert read(path, "haul_distance").points.tolist() == [[2, 0, 2]]
     assert read(path, "BENCH_*").points.tolist() == [[0, 0, 0], [1, 0, 1]]
     assert read(path, "BENCH_20", "ROAD").points.tolist() == [[1, 0, 1], [2, 0, 2]]
     assert len(read(path, "*").points) == 3
@@ -401,7 +401,7 @@ def test_heights_over_triangles_at_random(tmp_path):
 
 
 LEASE = [(-1, -1), (31, -1), (31, 11), (-1, 11)]
-AREA = "\n[[fixed.areas]]\npolygon = "
+AREA = "\n[[constraints.areas]]\npolygon = "
 
 
 def closed_lease(space):
@@ -424,7 +424,7 @@ def plain_lease(space):
 def test_a_lease_of_a_drawing(plan_folder, tmp_path, shape):
     """Round the first three of four columns of blocks."""
     drawing(tmp_path / "lease.dxf", shape)
-    path = plan_folder(rows(4, 1, 2), PROJECT + AREA + '"lease.dxf"\nbarred = "outside"\n')
+    path = plan_folder(rows(4, 1, 2), PROJECT + AREA + '"lease.dxf"\nexclude = "outside"\n')
     plan = prepare(load(path))
     assert plan.fixed.barred.tolist() == [3, 7]
     assert any(
@@ -440,7 +440,7 @@ def test_several_polygons_of_a_drawing_are_one_area(plan_folder, tmp_path):
             space.add_lwpolyline([(x, 0), (x + 10, 0), (x + 10, 10), (x, 10)], close=True, **layer("LEASE"))
 
     drawing(tmp_path / "lease.dxf", two)
-    text = PROJECT + AREA + '{ file = "lease.dxf", layer = "LEASE" }\nbarred = "inside"\n'
+    text = PROJECT + AREA + '{ file = "lease.dxf", layer = "LEASE" }\nexclude = "inside"\n'
     assert prepare(load(plan_folder(rows(4, 1, 1), text))).fixed.barred.tolist() == [0, 2]
 
 
@@ -452,7 +452,7 @@ def test_a_polyline_in_another_is_no_hole(plan_folder, tmp_path):
             space.add_lwpolyline([(west, -1), (east, -1), (east, 11), (west, 11)], close=True, **layer("LEASE"))
 
     drawing(tmp_path / "lease.dxf", two)
-    plan = prepare(load(plan_folder(rows(5, 1, 1), PROJECT + AREA + '"lease.dxf"\nbarred = "inside"\n')))
+    plan = prepare(load(plan_folder(rows(5, 1, 1), PROJECT + AREA + '"lease.dxf"\nexclude = "inside"\n')))
     assert plan.fixed.barred.tolist() == [0, 1, 2, 3]
     said = "1 columns of blocks lie in several of its polygons, and none of these is a hole"
     assert f"WARNING: {tmp_path / 'lease.dxf'}: {said}" in plan.notes
@@ -494,7 +494,7 @@ def test_a_polygon_with_a_hole_and_one_beside_it(plan_folder, tmp_path, driver, 
         named = json.loads((tmp_path / "lease.geojson").read_text())
         named["crs"] = {"type": "name", "properties": {"name": "urn:ogc:def:crs:EPSG::32719"}}
         (tmp_path / "lease.geojson").write_text(json.dumps(named))
-    path = plan_folder(rows(6, 4, 1), PROJECT + AREA + f'"lease.{ending}"\nbarred = "inside"\n')
+    path = plan_folder(rows(6, 4, 1), PROJECT + AREA + f'"lease.{ending}"\nexclude = "inside"\n')
     plan = prepare(load(path))
     assert plan.fixed.barred.tolist() == [0, 1, 2, 3, 4, 6, 8, 9, 12, 13, 14, 15]
     assert any("2 polygons of the layer lease were read by GDAL" in note for note in plan.notes)
@@ -527,7 +527,7 @@ def test_two_layers_of_a_map(tmp_path):
 def test_areas_that_are_passed_over_are_found(plan_folder, tmp_path, monkeypatch):
     """Of a map with a hole, when all of the outline is barred, the one block in the hole is no less right; when none is, all others are not."""
     gis(tmp_path / "lease.gpkg", "GPKG", {"lease": [(HOLED, 0)]})
-    path = plan_folder(rows(5, 4, 1, cu=lambda i, j, k: 6), PROJECT + AREA + '"lease.gpkg"\nbarred = "inside"\n')
+    path = plan_folder(rows(5, 4, 1, cu=lambda i, j, k: 6), PROJECT + AREA + '"lease.gpkg"\nexclude = "inside"\n')
     monkeypatch.setattr(constraints, "of_table", lambda *_: constraints.NOTHING)
     (rule,) = [rule for rule in looked_at(prepare(path)) if rule.differences]
     assert (rule.name, rule.count) == ("fixed", 11)

@@ -118,13 +118,16 @@ def test_what_has_no_layers_or_heights(tmp_path):
     ("text", "said"),
     [
         (
-            AREA + '"lease.dxf"\nlayer = "LEASE"\nbarred = "inside"\n',
+            AREA + '"lease.dxf"\nlayer = "LEASE"\nexclude = "inside"\n',
             'layer: stands beside its file: polygon = { file = "..", layer = ".." }',
         ),
-        (SURFACE + '{ layer = "TOPO" }\n', r"\[fixed.surface\] file: is missing"),
-        (SURFACE + '{ file = "a.dxf", layers = "TOPO" }\n', r"\[fixed.surface\] layers: is no key here; layer is"),
-        (SURFACE + "5\n", r"\[fixed\] surface: must be a text in quotes"),
-        (AREA + '{ file = "a.gpkg", height = "ELEV" }\nbarred = "inside"\n', "height: is no key here"),
+        (SURFACE + '{ layer = "TOPO" }\n', r"\[constraints.as_mined\] file: is missing"),
+        (
+            SURFACE + '{ file = "a.dxf", layers = "TOPO" }\n',
+            r"\[constraints.as_mined\] layers: is no key here; layer is",
+        ),
+        (SURFACE + "5\n", r"\[constraints\] as_mined: must be a text in quotes"),
+        (AREA + '{ file = "a.gpkg", height = "ELEV" }\nexclude = "inside"\n', "height: is no key here"),
     ],
 )
 def test_keys_that_are_wrong(plan_folder, text, said):
@@ -154,8 +157,8 @@ def test_what_lies_beside_the_model(plan_folder, tmp_path):
     drawing(tmp_path / "lease.dxf", far_lease)
     said = "lease.dxf: no block lies in it: its x go from 599999 to 600031 and y from -1 to 11, and those of the blocks from 5 to 35 and 5 to 5: are"
     with pytest.raises(PlanError, match=said):
-        prepare(load(plan_folder(rows(4, 1, 1), PROJECT + AREA + '"lease.dxf"\nbarred = "outside"\n')))
-    plan = prepare(load(plan_folder(rows(4, 1, 1), PROJECT + AREA + '"lease.dxf"\nbarred = "inside"\n')))
+        prepare(load(plan_folder(rows(4, 1, 1), PROJECT + AREA + '"lease.dxf"\nexclude = "outside"\n')))
+    plan = prepare(load(plan_folder(rows(4, 1, 1), PROJECT + AREA + '"lease.dxf"\nexclude = "inside"\n')))
     assert any(note.startswith("WARNING: ") and said in note for note in plan.notes)
     (tmp_path / "mined.csv").write_text(f"x,y,z\n{EAST},0,5\n{EAST},9,5\n{EAST + 9},9,5\n")
     with pytest.raises(

@@ -233,10 +233,10 @@ def test_a_spreadsheets_mark_at_the_beginning_is_passed_over(plan_folder):
     "change, key, name",
     [
         (('column = "cu"', 'column = "rock"'), "rock", "rock"),
-        (('rock = "rock"', 'rock = "cu"'), "rock", "cu"),
+        (('rock_type = "rock"', 'rock_type = "cu"'), "rock", "cu"),
         (('id = "name"', 'id = "tonnes"'), "id", "tonnes"),
-        (("[shells]", '[fixed]\nforced = "region"\n[shells]'), "region", "region"),
-        (("[shells]", '[[schedule.sums]]\ncolumn = "name"\nmost = 1\n[shells]'), "id", "name"),
+        (("[shells]", '[constraints]\nmust_mine = "region"\n[shells]'), "region", "region"),
+        (("[shells]", '[[schedule.limits]]\ncolumn = "name"\nmax = 1\n[shells]'), "id", "name"),
     ],
 )
 def test_a_column_of_codes_that_is_named_as_one_of_numbers_is_refused(plan_folder, change, key, name):
@@ -248,7 +248,7 @@ def test_a_column_of_codes_that_is_named_as_one_of_numbers_is_refused(plan_folde
 
 
 def test_rock_and_region_may_be_one_column(plan_folder):
-    path = plan_folder(rows(3, 2, 2), PROJECT, ('region = "region"', 'region = "rock"'))
+    path = plan_folder(rows(3, 2, 2), PROJECT, ('domain = "region"', 'domain = "rock"'))
     assert set(pitplan.prepare(path).blocks["rock"]) == {"R"}
 
 

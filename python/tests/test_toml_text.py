@@ -41,9 +41,9 @@ def refused(tmp_path):
         "0." + "0" * 70,
     ],
 )
-@pytest.mark.parametrize("key", ["recovery", "price", "rate"])
+@pytest.mark.parametrize("key", ["recovery", "price", "discount_rate"])
 def test_an_absurd_exponent(refused, key, number):
-    old = {"recovery": RECOVERY, "price": "price = 8000", "rate": "rate = 0.1"}[key]
+    old = {"recovery": RECOVERY, "price": "price = 8000", "discount_rate": "discount_rate = 0.1"}[key]
     shown = number if len(number) <= 40 else f"{number[:40]}.."
     assert refused(PROJECT.replace(old, f"{key} = {number}")).endswith(
         f"{key}: {shown} is no amount: amounts end at 10^18 and have at most 60 decimals"
@@ -54,8 +54,8 @@ def test_an_absurd_exponent(refused, key, number):
     "number", ["[1e999999999]", "[1e-999999999]", "[0.5]", "1e999999999", "[0x" + "f" * 5000 + "]"]
 )
 def test_an_absurd_factor(refused, number):
-    assert refused(PROJECT.replace("revenue_factors = [0.5, 1.0, 1.5]", f"factors = {number}")).startswith(
-        "[shells] factors: "
+    assert refused(PROJECT.replace("revenue_factors = [0.5, 1.0, 1.5]", f"revenue_factors = {number}")).startswith(
+        "[shells] revenue_factors: "
     )
 
 
@@ -126,7 +126,7 @@ def test_what_parts_no_fields(refused, sign):
             ("[shells]", '[scenarios]\ncolumns = { copper = ["a", ""] }\n[shells]'),
             "[scenarios.columns] copper: a code may not be empty, nor have a NUL byte",
         ),
-        (("[money]", '"a\\nb" = 1\n[money]'), "[grid] a\\nb: is no key here"),
+        (("[economics]", '"a\\nb" = 1\n[economics]'), "[grid] a\\nb: is no key here"),
     ],
 )
 def test_names_that_are_none(refused, change, sentence):

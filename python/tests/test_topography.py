@@ -123,7 +123,7 @@ def test_cells_without_rows_are_cut_too(plan_folder, tmp_path):
     """The middle column has no rows and is rock of 80 t a cell: one whole, one half, and air."""
     plane(tmp_path, lambda x, y: x)
     table = rows(3, 1, 3)
-    absent = (CUT[0], f'{CUT[1]}\nabsent = {{ tonnes = 80, rock = "R", region = "1" }}')
+    absent = (CUT[0], f'{CUT[1]}\nmissing_blocks = {{ tonnes = 80, rock_type = "R", domain = "1" }}')
     plan = pitplan.prepare(plan_folder(table[table["x"] != 15], PROJECT, absent))
     blocks = plan.blocks
     assert blocks.loc[blocks["x"] == 15, "tonnes"].tolist() == [0, 40, 80]
@@ -304,9 +304,9 @@ def test_two_surfaces_are_refused(plan_folder, tmp_path):
 
 
 def test_sums_of_whole_blocks_do_not_go_with_it(plan_folder):
-    said = r"\[schedule.sums\] cu: is of whole blocks, and \[table\] topography cuts some: give it a_tonne"
+    said = r"\[schedule.limits\] cu: is of whole blocks, and \[table\] topography cuts some: give it per_tonne"
     with pytest.raises(PlanError, match=said):
-        pitplan.load(plan_folder(rows(3, 1, 3), PROJECT + '[[schedule.sums]]\ncolumn = "cu"\nmost = 1\n', CUT))
+        pitplan.load(plan_folder(rows(3, 1, 3), PROJECT + '[[schedule.limits]]\ncolumn = "cu"\nmost = 1\n', CUT))
 
 
 def hill():
@@ -414,13 +414,13 @@ def test_a_model_too_large_for_the_program(plan_folder, tmp_path, monkeypatch):
 def test_a_sensitivity_of_blocks_that_are_cut(plan_folder, tmp_path):
     plane(tmp_path, lambda x, y: 5)
     text = (
-        PROJECT.replace("ore_per_year = 100", "ore_per_year = 100\nselected = 1.0")
-        + '[sensitivity]\nby = [0.1]\nvary = ["price"]\n'
+        PROJECT.replace("processing_capacity = 100", "processing_capacity = 100\nselected = 1.0")
+        + '[sensitivity]\nchanges = [0.1]\nparameters = ["price"]\n'
     )
     path = plan_folder(rows(5, 3, 1, cu=lambda i, j, k: 6 * ((i, j) == (1, 1))), text, CUT)
     table = pitplan.write_sensitivity(path)
     # 50 t of 6 % with a recovery of a half at 8000 a tonne, with 10 for processing and 2 for mining.
-    assert table["worth"].tolist() == pytest.approx([50 * (240 - 12), 50 * (264 - 12)])
+    assert table["undiscounted_cash_flow"].tolist() == pytest.approx([50 * (240 - 12), 50 * (264 - 12)])
     folder = path.parent / "plan" / "sensitivity"
     blocks = pd.read_csv(folder / "blocks.csv", dtype={"region": str})
     assert main(["verify", str(folder)]) == 0

@@ -267,9 +267,9 @@ def test_maps_and_sections_say_along_which_axes_they_go():
 
 def test_a_section_of_a_turned_model_is_asked_for_along_its_axes(one_block, plan_folder):
     table = pd.read_csv(one_block.parent / "blocks.csv")
-    path = plan_folder(table, PROJECT + "[pictures]\nnorth = 5002\n")
+    path = plan_folder(table, PROJECT + "[figures]\nnorth = 5002\n")
     with pytest.raises(
-        PlanError, match=r"\[pictures\] north: 5002 is beyond the model, from 0 to 40 m along azimuth 36.8\d*°"
+        PlanError, match=r"\[figures\] north: 5002 is beyond the model, from 0 to 40 m along azimuth 36.8\d*°"
     ):
         pitplan.write_shells(path)
 
@@ -287,7 +287,7 @@ def test_surfaces_and_areas_are_the_planners(plan_folder, tmp_path):
     lease = [(-1, -1), (91, -1), (91, 111), (-1, 111)]
     text = (
         PROJECT
-        + '[fixed]\nsurface = "mined.csv"\ntopography = "blocks"\n[[fixed.areas]]\npolygon = "lease.csv"\nbarred = "outside"\n'
+        + '[constraints]\nas_mined = "mined.csv"\ntopography = "blocks"\n[[constraints.areas]]\npolygon = "lease.csv"\nexclude = "outside"\n'
     )
     found = []
     for degrees in (0, 30):
@@ -300,9 +300,10 @@ def test_surfaces_and_areas_are_the_planners(plan_folder, tmp_path):
 
 
 @pytest.mark.usefixtures("without_figures")
-def test_phases_widths_and_schedules_are_those_of_the_straight_model(plan_folder):
+def test_pushbacks_widths_and_schedules_are_those_of_the_straight_model(plan_folder):
     text = (
-        PROJECT + "[pushbacks]\ncount = 2\nultimate_pit = 1.0\nwidth = 20\n[schedule]\nore_per_year = 100\nyears = 8\n"
+        PROJECT
+        + "[pushbacks]\ncount = 2\nultimate_pit = 1.0\nmin_mining_width = 20\n[schedule]\nprocessing_capacity = 100\nyears = 8\n"
     )
     ore = hill().assign(cu=lambda it: it["cu"] + 0.3 * (it["z"] < 40))
     tables = []
@@ -310,14 +311,14 @@ def test_phases_widths_and_schedules_are_those_of_the_straight_model(plan_folder
         path = plan_folder(turned(ore, degrees), text, walls_at(degrees), NO_SIZE)
         folder = path.parent / f"schedule{degrees}"
         pitplan.write_schedule(path, folder)
-        blocks = pd.read_csv(folder / "blocks.csv").set_index("name")[["phase", "year", "revenue_factor"]]
+        blocks = pd.read_csv(folder / "blocks.csv").set_index("name")[["pushback", "year", "revenue_factor"]]
         tables.append(
             [
                 blocks,
-                *(pd.read_csv(folder / name) for name in ("shells.csv", "phases.csv", "schedule.csv", "years.csv")),
+                *(pd.read_csv(folder / name) for name in ("shells.csv", "pushbacks.csv", "schedule.csv", "years.csv")),
             ]
         )
-    assert tables[0][0]["phase"].nunique() == 3
+    assert tables[0][0]["pushback"].nunique() == 3
     for straight, other in zip(*tables):
         pd.testing.assert_frame_equal(other, straight)
 
@@ -327,23 +328,23 @@ def test_rows_are_put_together_along_the_grids_axes(plan_folder, one_block):
     table = pd.read_csv(one_block.parent / "blocks.csv")
     table = table[~table["name"].str.startswith("b4")]
     counts = pitplan.prepare(
-        plan_folder(table, PROJECT, ('region = "region"', 'region = "region"\nreblock = [2, 2, 1]'))
+        plan_folder(table, PROJECT, ('domain = "region"', 'domain = "region"\nreblock = [2, 2, 1]'))
     )
     rules = f"reblock = {{ size = [20, 20, 10], corner = [1000, 5000, 0] }}\n[grid]\nazimuth = {THREE_FOUR_FIVE:.6f}"
     corner = pitplan.prepare(
-        plan_folder(table, PROJECT, ('region = "region"\n[grid]\nsize = [10, 10, 10]', 'region = "region"\n' + rules))
+        plan_folder(table, PROJECT, ('domain = "region"\n[grid]\nsize = [10, 10, 10]', 'domain = "region"\n' + rules))
     )
     for plan in (counts, corner):
         assert plan.grid.shape == (2, 2, 2) and np.allclose(plan.grid.origin, (1014, 5002, 15), atol=0.002)
         assert plan.table["tonnes"].tolist() == [400] * 8 and plan.table["cu"].max() == 1.5
-    pitplan.write_shells(plan_folder(table, PROJECT, ('region = "region"', 'region = "region"\nreblock = [2, 2, 1]')))
+    pitplan.write_shells(plan_folder(table, PROJECT, ('domain = "region"', 'domain = "region"\nreblock = [2, 2, 1]')))
 
 
 def test_blocks_of_cells_without_a_row_have_the_planners_centres(plan_folder, one_block):
     """The lower block of column 3 and row 2: 35, 25 along the axes are 1000 + 28 + 15, 5000 - 21 + 20."""
     table = pd.read_csv(one_block.parent / "blocks.csv")
-    rock = 'region = "region"\nabsent = { tonnes = 90, rock = "R", region = "1" }'
-    path = plan_folder(table[table["name"] != "b3-2-0"], PROJECT, ('region = "region"', rock))
+    rock = 'domain = "region"\nmissing_blocks = { tonnes = 90, rock_type = "R", domain = "1" }'
+    path = plan_folder(table[table["name"] != "b3-2-0"], PROJECT, ('domain = "region"', rock))
     pitplan.write_shells(path)
     blocks = pd.read_csv(path.parent / "plan" / "blocks.csv").set_index("name")
     added = blocks.loc[[name for name in blocks.index if name.startswith("absent-")]]
@@ -352,9 +353,9 @@ def test_blocks_of_cells_without_a_row_have_the_planners_centres(plan_folder, on
 
 def test_a_simulated_model_is_matched_by_the_planners_centres(plan_folder, tmp_path):
     table = turned(rows(6, 5, 2, cu=lambda i, j, k: i + 10 * j + 100 * k), 30)
-    (tmp_path / "models").mkdir()
-    table.sample(frac=1, random_state=3)[["x", "y", "z", "cu"]].to_csv(tmp_path / "models" / "a.csv", index=False)
-    path = plan_folder(table.assign(cu=0.0), PROJECT + '[scenarios]\nmodels = "models"\n')
+    (tmp_path / "realisations").mkdir()
+    table.sample(frac=1, random_state=3)[["x", "y", "z", "cu"]].to_csv(tmp_path / "realisations" / "a.csv", index=False)
+    path = plan_folder(table.assign(cu=0.0), PROJECT + '[scenarios]\nrealisations = "realisations"\n')
     base = realisations.read_base(pitplan.load(path))
     assert next(iter(realisations.models(base))).grades[:, 0].tolist() == table["cu"].tolist()
 

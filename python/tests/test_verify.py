@@ -30,14 +30,14 @@ from pitplan.verification.walls import flatness, high_walls
 
 TEXT = (
     PROJECT.replace(
-        "mining_cost = 2\n", "mining_cost = { R = 2, S = 2.5 }\nmining_cost_per_level = 0.25\ndecimals = 2\n"
+        "mining_cost = 2\n", "mining_cost = { R = 2, S = 2.5 }\nmining_cost_per_bench = 0.25\ndecimals = 2\n"
     )
     .replace(
         "[slopes]\n",
         '[[metals]]\nname = "gold"\ncolumn = "au"\nunit = "gram_per_tonne"\nprice = 60\nselling_cost = 1.5\nrecovery = { R = 0.9, S = 0.4 }\n[slopes]\n',
     )
-    .replace("ore_per_year = 100", "ore_per_year = 150\nrock_per_year = 1000")
-    + '\n[fixed]\nforced = "must"\nbarred = "never"\n'
+    .replace("processing_capacity = 100", "processing_capacity = 150\nmining_capacity = 1000")
+    + '\n[constraints]\nmust_mine = "must"\nexclude = "never"\n'
 )
 
 
@@ -88,7 +88,7 @@ def test_what_is_right_is_told_rule_by_rule(answered, copied, capsys):
         "fixed",
         "money",
         "shells",
-        "worth",
+        "undiscounted_cash_flow",
         "years",
         "conventions",
     ]
@@ -104,7 +104,7 @@ def test_a_run_may_leave_it_out_and_says_so(plan_folder):
     assert main(["verify", str(path.parent / "plan")]) == 0
 
 
-SHELLS = "blocks tonnes ore_tonnes waste_tonnes strip_ratio processed_tonnes grade_copper metal_copper grade_gold metal_gold worth"
+SHELLS = "blocks tonnes feed_tonnes waste_tonnes strip_ratio processed_at_revenue_factor head_grade_copper recovered_copper grade_gold metal_gold worth"
 
 
 @pytest.mark.parametrize(
@@ -112,10 +112,17 @@ SHELLS = "blocks tonnes ore_tonnes waste_tonnes strip_ratio processed_tonnes gra
     [
         *(("shells.csv", name, "shells") for name in SHELLS.split()),
         *(("shells.csv", name, "years") for name in ("npv_best", "npv_worst", "years")),
-        ("shells.csv", "value_at_revenue_factor", "worth"),
+        ("shells.csv", "value_at_revenue_factor", "undiscounted_cash_flow"),
         *(
             ("years.csv", name, "years")
-            for name in ("rock_tonnes", "ore_tonnes", "metal_copper", "metal_gold", "cash", "discounted")
+            for name in (
+                "total_tonnes",
+                "feed_tonnes",
+                "recovered_copper",
+                "recovered_gold",
+                "cash_flow",
+                "discounted_cash_flow",
+            )
         ),
         *(("blocks.csv", name, "money") for name in ("mining_cost", "revenue", "processing_cost")),
         ("blocks.csv", "id", "blocks"),
@@ -135,8 +142,8 @@ def test_each_number_that_is_bent_is_found(copied, file, column, rule):
     ("column", "rule"),
     [
         ("revenue_factor", "shells"),
-        ("process_revenue_factor", "worth"),
-        ("revenue_factor", "worth"),
+        ("process_revenue_factor", "undiscounted_cash_flow"),
+        ("revenue_factor", "undiscounted_cash_flow"),
         ("revenue_factor", "years"),
     ],
 )
@@ -167,28 +174,28 @@ def test_a_barred_block_that_is_dug_is_found(copied):
 def test_a_year_above_its_capacity_is_found(copied):
     """Half a tonne is dug a year earlier, so that all sums stay."""
     years = pd.read_csv(copied / "years.csv")
-    full = years.index[(years["rock_tonnes"] > 999.99) & years.duplicated(["case", "revenue_factor"], keep="last")][0]
-    years.loc[full, "rock_tonnes"] += 0.5
-    years.loc[full + 1, "rock_tonnes"] -= 0.5
+    full = years.index[(years["total_tonnes"] > 999.99) & years.duplicated(["case", "revenue_factor"], keep="last")][0]
+    years.loc[full, "total_tonnes"] += 0.5
+    years.loc[full + 1, "total_tonnes"] -= 0.5
     years.to_csv(copied / "years.csv", index=False)
     (rule,) = [rule for rule in verify(copied) if rule.differences]
     case, factor, year = years.loc[full, ["case", "revenue_factor", "year"]]
-    last = years.loc[full + 1, "rock_tonnes"]
+    last = years.loc[full + 1, "total_tonnes"]
     said = [
-        f"{year}: rock_tonnes 1000.5 above 1000",
-        f"{year}: rock_tonnes 1000.5 for 1000",
-        f"{year + 1}: rock_tonnes {last:g} for {last + 0.5:g}",
+        f"{year}: total_tonnes 1000.5 above 1000",
+        f"{year}: total_tonnes 1000.5 for 1000",
+        f"{year + 1}: total_tonnes {last:g} for {last + 0.5:g}",
     ]
     assert rule.differences == tuple(f"{case} case of revenue factor {factor:.2f}, year {it}" for it in said)
 
 
 YEARLY = [
-    ("rock_tonnes", 1),
-    ("ore_tonnes", 1),
-    ("metal_copper", 0.1),
-    ("metal_gold", 1),
-    ("cash", 1),
-    ("discounted", 1),
+    ("total_tonnes", 1),
+    ("feed_tonnes", 1),
+    ("recovered_copper", 0.1),
+    ("recovered_gold", 1),
+    ("cash_flow", 1),
+    ("discounted_cash_flow", 1),
 ]
 
 
@@ -217,7 +224,7 @@ def test_what_flows_a_year_later_is_found(copied, case, column, less):
             "years of the worst case of revenue factor 1.40, which is none",
         ),
         (lambda it: it[it["case"] == "best"], "worst case of revenue factor 1.50: has no years"),
-        (lambda it: it.drop(columns="metal_gold"), "metal_gold nan for"),
+        (lambda it: it.drop(columns="recovered_gold"), "recovered_gold nan for"),
     ],
 )
 def test_years_that_are_missing_or_too_many_are_found(copied, bend, said):
@@ -251,7 +258,7 @@ def test_a_field_of_the_planners_that_is_another_is_found(copied, column, value)
 
 @pytest.mark.parametrize(
     ("file", "column"),
-    [("blocks.csv", "revenue"), ("blocks.csv", "cu"), ("shells.csv", "npv_best"), ("years.csv", "cash")],
+    [("blocks.csv", "revenue"), ("blocks.csv", "cu"), ("shells.csv", "npv_best"), ("years.csv", "cash_flow")],
 )
 @pytest.mark.parametrize(("field", "said"), [("", "is empty"), ("n/a", '"n/a" is not a number')])
 def test_a_field_that_is_no_number_is_named(copied, capsys, file, column, field, said):
@@ -294,7 +301,7 @@ def plus_one(table, column):
             "comes in at 0.501",
         ),
         (
-            "worth",
+            "undiscounted_cash_flow",
             lambda it: plus_one(it, "process_revenue_factor"),
             459,
             "block b0-0-0: process_revenue_factor 1.00 for 0.00",
@@ -391,14 +398,14 @@ def two_regions():
     )
 
 
-LEVELS = ("levels = 3", "levels = 5")
-STEEP_ABOVE = '[[slopes.walls]]\nregion = "1"\nangle = 35\n[[slopes.walls]]\nregion = "2"\nangle = 65'
-MIXED = [('[[slopes.walls]]\npattern = "1:5"', STEEP_ABOVE)]
+LEVELS = ("precedence_benches = 3", "precedence_benches = 5")
+STEEP_ABOVE = '[[slopes.domains]]\ndomain = "1"\nangle = 35\n[[slopes.domains]]\ndomain = "2"\nangle = 65'
+MIXED = [('[[slopes.domains]]\npattern = "1:5"', STEEP_ABOVE)]
 
 
 def test_cost_by_elevation_is_looked_at(plan_folder, monkeypatch):
     """Levels with centres 5, 15, .., 45 m, of which the lowest and the highest lie beyond the elevations that are named."""
-    change = ("mining_cost_per_level = 0.25", "mining_cost_by_elevation = [[10, 0.7], [20, 0.3], [40, 0.1]]")
+    change = ("mining_cost_per_bench = 0.25", "mining_cost_by_elevation = [[10, 0.7], [20, 0.3], [40, 0.1]]")
     path = plan_folder(deposit(), TEXT, change)
     assert [rule.differences for rule in looked_at(prepare(path))] == [()] * 10
     monkeypatch.setattr("pitplan.economics.weighing.added_cost", lambda *_: Decimal(0))
@@ -409,7 +416,11 @@ def test_cost_by_elevation_is_looked_at(plan_folder, monkeypatch):
 
 @pytest.mark.parametrize("discounting", ["continuous", "mid_year", "end_of_year"])
 def test_a_mine_in_which_nothing_pays_is_right(plan_folder, discounting):
-    plan = prepare(plan_folder(rows(3, 3, 2), PROJECT, ("rate = 0.1", f'rate = 0.1\ndiscounting = "{discounting}"')))
+    plan = prepare(
+        plan_folder(
+            rows(3, 3, 2), PROJECT, ("discount_rate = 0.1", f'discount_rate = 0.1\ndiscounting = "{discounting}"')
+        )
+    )
     assert [rule.differences for rule in looked_at(plan)] == [()] * 10
 
 
@@ -418,13 +429,13 @@ def test_a_mine_in_which_nothing_pays_is_right(plan_folder, discounting):
 )
 def test_waste_that_takes_no_time_is_the_first_years(plan_folder, discounting, npv):
     """The mill alone has a capacity: a block of waste that must be dug, which costs 200, and a deposit under waste."""
-    changes = ("rate = 0.1", f'rate = 0.1\ndiscounting = "{discounting}"')
+    changes = ("discount_rate = 0.1", f'discount_rate = 0.1\ndiscounting = "{discounting}"')
     table = rows(3, 3, 2, must=lambda i, j, k: int((i, j, k) == (1, 1, 1)))
-    plan = prepare(plan_folder(table, PROJECT + '\n[fixed]\nforced = "must"\n', changes))
+    plan = prepare(plan_folder(table, PROJECT + '\n[constraints]\nmust_mine = "must"\n', changes))
     assert [rule.differences for rule in looked_at(plan)] == [()] * 10
     shells = pd.read_csv(plan.project.folder / "shells.csv")
     assert shells["npv_best"].tolist() == shells["npv_worst"].tolist() == [pytest.approx(npv, abs=1e-3)] * 3
-    plan = prepare(plan_folder(deposit(), TEXT, changes, ("rock_per_year = 1000\n", "")))
+    plan = prepare(plan_folder(deposit(), TEXT, changes, ("mining_capacity = 1000\n", "")))
     assert [rule.differences for rule in looked_at(plan)] == [()] * 10
 
 
@@ -497,7 +508,7 @@ def test_needs_that_steeper_walls_on_the_way_do_not_lead_to_are_found(plan_folde
 
 def test_too_few_levels_are_found(plan_folder, monkeypatch):
     monkeypatch.setattr("pitplan.slopes.slope_patterns.levels_of", lambda *_: 3)
-    said = refused(plan_folder, two_regions(), PROJECT, ("levels = 3\n", ""), *MIXED)
+    said = refused(plan_folder, two_regions(), PROJECT, ("precedence_benches = 3\n", ""), *MIXED)
     assert "levels: wall entry 1: over 3 levels it comes out" in said and "degrees steeper than asked" in said
 
 
@@ -522,12 +533,12 @@ def test_what_is_left_of_great_amounts_is_as_uncertain_as_they_are(plan_folder, 
         ("price = 8000", "price = 20_000_000_000"),
         ("mining_cost = 2", "mining_cost = { R = 2, S = 99_999_987.99 }"),
     ]
-    plan = prepare(plan_folder(table, PROJECT + '\n[fixed]\nforced = "must"\n', *changes))
+    plan = prepare(plan_folder(table, PROJECT + '\n[constraints]\nmust_mine = "must"\n', *changes))
     assert {rule.name for rule in looked_at(plan) if rule.differences} == set()
     path = plan.project.folder / "shells.csv"
     shells = pd.read_csv(path, dtype={"value_at_revenue_factor": str})
-    assert shells["worth"].tolist() == [1.0] * 3
-    shells.assign(worth=shells["worth"] + float(more)).to_csv(path, index=False)
+    assert shells["undiscounted_cash_flow"].tolist() == [1.0] * 3
+    shells.assign(undiscounted_cash_flow=shells["undiscounted_cash_flow"] + float(more)).to_csv(path, index=False)
     (rule,) = [rule for rule in verify(plan.project.folder, plan.project) if rule.name == "shells"]
     assert bool(rule.differences) == differs
 
@@ -537,7 +548,7 @@ def test_capacity_that_is_caught_up_is_found(plan_folder, monkeypatch):
 
     def cumulative(amounts, settings_):
         ore, rock = np.cumsum(amounts[:, best_worst_case.ORE]), np.cumsum(amounts[:, best_worst_case.ROCK])
-        ends = np.maximum(ore / settings_.ore_per_year, rock / settings_.rock_per_year)
+        ends = np.maximum(ore / settings_.processing_capacity, rock / settings_.mining_capacity)
         return best_worst_case.Course(amounts, np.concatenate([[0.0], ends])[:, None])
 
     monkeypatch.setattr(best_worst_case, "course_of", cumulative)
@@ -556,7 +567,7 @@ def ore_everywhere():
     return table.assign(x=table["x"] + 600_000, y=table["y"] + 6_512_000)
 
 
-AREA = '[[fixed.areas]]\npolygon = "map.csv"\nbarred = '
+AREA = '[[constraints.areas]]\npolygon = "map.csv"\nexclude = '
 
 
 @pytest.mark.parametrize(
@@ -590,7 +601,7 @@ def test_a_surface_that_is_passed_over_is_found(plan_folder, tmp_path, monkeypat
         tmp_path / "mined.csv", index=False
     )
     path = plan_folder(
-        ore_everywhere().assign(cu=0), PROJECT + '\n[fixed]\nsurface = "mined.csv"\ntopography = "blocks"\n'
+        ore_everywhere().assign(cu=0), PROJECT + '\n[constraints]\nas_mined = "mined.csv"\ntopography = "blocks"\n'
     )
     plan = prepare(path)
     assert len(plan.fixed.forced) == 7 + 2 * 7
@@ -612,7 +623,7 @@ def test_a_cost_that_is_counted_from_the_tables_highest_block_is_found(plan_fold
     monkeypatch.setattr(block_values, "first_level", lambda *_: 0)
     far = deposit().iloc[[0]].assign(name="far", x=205.0, z=125.0, tonnes=1, must=0, never=0)
     table = pd.concat([deposit(), far], ignore_index=True)
-    said = refused(plan_folder, table, TEXT, ('file = "blocks.csv"', 'file = "blocks.csv"\nabsent = "air"'))
+    said = refused(plan_folder, table, TEXT, ('file = "blocks.csv"', 'file = "blocks.csv"\nmissing_blocks = "air"'))
     assert "money: " in said and "mining_cost" in said
 
 
@@ -620,15 +631,15 @@ def test_a_shell_of_other_blocks_is_found(plan_folder, monkeypatch):
     """The needs are left out of what the solver is given; what it answers is right for that and wrong for the mine."""
     for module in ("solver.mine_files", "precedences"):
         monkeypatch.setattr(f"pitplan.{module}.slices", lambda *_: iter(()))
-    assert "walls: " in refused(plan_folder, None, TEXT, ('[fixed]\nforced = "must"\nbarred = "never"\n', ""))
+    assert "walls: " in refused(plan_folder, None, TEXT, ('[constraints]\nmust_mine = "must"\nexclude = "never"\n', ""))
 
 
 @settings(max_examples=12, suppress_health_check=[HealthCheck.function_scoped_fixture])
 @given(
     st.integers(0, 10**6),
-    st.sampled_from(["moving", "fixed"]),
+    st.sampled_from(["per_revenue_factor", "base_price"]),
     st.sampled_from(["continuous", "mid_year", "end_of_year"]),
-    st.sampled_from(["", "rock_per_year = 1000\n"]),
+    st.sampled_from(["", "mining_capacity = 1000\n"]),
 )
 def test_random_plans_are_right(plan_folder, seed, cutoff, discounting, shovels):
     """Uneven ground, two regions of other walls, rocks, fixed blocks, with and without a capacity of shovels."""
@@ -642,14 +653,12 @@ def test_random_plans_are_right(plan_folder, seed, cutoff, discounting, shovels)
         must=(rng.random(len(table)) < 0.01).astype(int),
         never=0,
     )[table["z"] < 10 * height]
-    walls = (
-        '[[slopes.walls]]\nregion = "1"\nangle = 42\n[[slopes.walls]]\nregion = "2"\nazimuths = [[0, 60], [180, 35]]'
-    )
+    walls = '[[slopes.domains]]\ndomain = "1"\nangle = 42\n[[slopes.domains]]\ndomain = "2"\nazimuths = [[0, 60], [180, 35]]'
     changes = [
-        ('[[slopes.walls]]\npattern = "1:5"', walls),
+        ('[[slopes.domains]]\npattern = "1:5"', walls),
         ("decimals = 2", f'decimals = 2\ncutoff = "{cutoff}"'),
-        ("rate = 0.1", f'rate = 0.1\ndiscounting = "{discounting}"'),
-        ("rock_per_year = 1000\n", shovels),
+        ("discount_rate = 0.1", f'discount_rate = 0.1\ndiscounting = "{discounting}"'),
+        ("mining_capacity = 1000\n", shovels),
     ]
     plan = prepare(plan_folder(table, TEXT, *changes))
     assert [rule.differences for rule in looked_at(plan)] == [()] * 10
@@ -671,7 +680,9 @@ def test_each_rows_own_columns_alone_are_read(plan_folder, tmp_path):
     few = read_blocks(tmp_path / "written.csv", load(path), ("id", "revenue_factor", "free_revenue_factor"))
     assert list(few.columns) == ["x", "y", "z", "id", "revenue_factor"]
     path.write_text(
-        path.read_text().replace('id = "name"', 'id = "name"\nabsent = { tonnes = 1, rock = "R", region = "1" }')
+        path.read_text().replace(
+            'id = "name"', 'id = "name"\nmissing_blocks = { tonnes = 1, rock_type = "R", domain = "1" }'
+        )
     )
     whole = read_blocks(tmp_path / "written.csv", load(path), ("id", "revenue_factor", "free_revenue_factor"))
     assert (

@@ -20,8 +20,8 @@ from pitplan.studies.scenarios.blocks import common_schedule, problem, worker
 from pitplan.verification import verify_folder
 from pitplan.verification.best_ore import most_earned
 
-LIMITS = ("ore_per_year = 150\nrock_per_year = 1000", "ore_per_year = 300\nrock_per_year = 9000")
-YEARLY = TEXT.replace("rate = 0.1", 'rate = 0.1\ndiscounting = "mid_year"').replace(*LIMITS)
+LIMITS = ("processing_capacity = 150\nmining_capacity = 1000", "processing_capacity = 300\nmining_capacity = 9000")
+YEARLY = TEXT.replace("discount_rate = 0.1", 'discount_rate = 0.1\ndiscounting = "mid_year"').replace(*LIMITS)
 pytestmark = pytest.mark.usefixtures("without_figures")
 RULES = ["blocks", "absent", "levels", "scenarios", "block order", "block value", "one schedule", "tables"]
 
@@ -31,7 +31,7 @@ def gathered(tmp_path_factory, without_figures):
     """Three models of a hill at two sets of prices, with fixed blocks, two metals, a ramp-up and a limit of metal."""
     place = tmp_path_factory.mktemp("scheduled")
     simulated().to_csv(place / "blocks.csv", index=False)
-    text = YEARLY + "[schedule]\nramp_up = [0.5, 1.0]\nyears = 4\nmetal_per_year = { gold = 60 }\n"
+    text = YEARLY + "[schedule]\nramp_up = [0.5, 1.0]\nyears = 4\nmax_metal_per_year = { gold = 60 }\n"
     (place / "project.toml").write_text(text + '[scenarios]\ncolumns = { copper = "cu_*" }\n' + SETS)
     solved_in_turn(prepared(place / "project.toml"))
     return place
@@ -57,7 +57,7 @@ def test_what_is_right_is_told_rule_by_rule(copied, capsys):
     said = json.loads((copied / "gathered.json").read_text())
     assert said["answers"] == [1, 2, 3, 4, 5, 6] and said["verified"] == lines
     table = pd.read_csv(copied / "schedules.csv")
-    assert (table["one_ore_left_tonnes"] > 0).all() and (table["value"] > 0).sum() == 4
+    assert (table["common_unprocessed_tonnes"] > 0).all() and (table["npv"] > 0).sum() == 4
     assert "in the one schedule and 6 of 6 others no block is dug before its whole cone is" in lines[4]
 
 
@@ -111,7 +111,9 @@ def test_a_wrong_schedule_for_all_is_found(copied, changed):
     assert {"block value", "tables"} <= wrong(copied)
 
 
-@pytest.mark.parametrize(("old", "new"), [("rock_per_year = 9000", "rock_per_year = 3000"), ("gold = 60", "gold = 20")])
+@pytest.mark.parametrize(
+    ("old", "new"), [("mining_capacity = 9000", "mining_capacity = 3000"), ("gold = 60", "gold = 20")]
+)
 def test_a_year_above_a_limit_is_found(copied, old, new):
     """By a project whose limit is less than that by which schedules were made."""
     path = copied / "project.toml"
@@ -119,7 +121,7 @@ def test_a_year_above_a_limit_is_found(copied, old, new):
     assert text.count(old) == 1
     path.write_text(text.replace(old, new))
     (rule,) = [rule for rule in verify_folder(copied) if rule.name == "block value"]
-    name = "rock_tonnes" if "rock" in old else "metal_gold"
+    name = "total_tonnes" if "rock" in old else "recovered_gold"
     assert any(f": {name} " in said and f"above {new.split()[-1]}" in said for said in rule.differences)
 
 
@@ -145,26 +147,29 @@ def test_the_schedule_of_another_scenario_is_found(copied):
 @pytest.mark.parametrize(
     ("file", "column", "rule"),
     [
-        ("one_schedule.csv", "id", "blocks"),
-        ("one_schedule.csv", "year", "tables"),
-        ("one_schedule.csv", "share_mill", "tables"),
+        ("common_schedule.csv", "id", "blocks"),
+        ("common_schedule.csv", "year", "tables"),
+        ("common_schedule.csv", "share_mill", "tables"),
         *(
             ("schedules.csv", name, "tables")
-            for name in ("price_gold", "value", "bound", "below_bound", "years", "blocks", "tonnes")
+            for name in ("price_gold", "npv", "upper_bound", "optimality_gap", "years", "blocks", "tonnes")
         ),
         *(
             ("schedules.csv", name, "tables")
-            for name in ("ore_tonnes", "metal_gold", "one_value", "one_ore_tonnes", "one_years_short")
+            for name in ("feed_tonnes", "recovered_gold", "common_npv", "common_feed_tonnes", "common_years_short")
         ),
-        ("schedules.csv", "one_ore_left_tonnes", "tables"),
+        ("schedules.csv", "common_unprocessed_tonnes", "tables"),
         *(
-            ("one_schedule_years.csv", name, "one schedule")
-            for name in ("rock_tonnes", "ore_tonnes", "planned_ore_tonnes", "cash")
+            ("common_schedule_years.csv", name, "one schedule")
+            for name in ("total_tonnes", "feed_tonnes", "planned_feed_tonnes", "cash_flow")
         ),
-        ("one_schedule_years.csv", "discounted", "one schedule"),
-        ("one_schedule_years.csv", "price_copper", "tables"),
-        *(("quantiles.csv", name, "tables") for name in ("models", "value_mean", "bound_least", "one_value_greatest")),
-        *(("quantiles.csv", f"one_value_quantile_{share}", "tables") for share in (0.1, 0.5, 0.9)),
+        ("common_schedule_years.csv", "discounted_cash_flow", "one schedule"),
+        ("common_schedule_years.csv", "price_copper", "tables"),
+        *(
+            ("quantiles.csv", name, "tables")
+            for name in ("realisations", "npv_mean", "upper_bound_least", "common_npv_greatest")
+        ),
+        *(("quantiles.csv", f"common_npv_quantile_{share}", "tables") for share in (0.1, 0.5, 0.9)),
     ],
 )
 def test_each_number_that_is_bent_is_found(copied, file, column, rule):
@@ -172,7 +177,7 @@ def test_each_number_that_is_bent_is_found(copied, file, column, rule):
     table = pd.read_csv(copied / file)
     at = table.index[table[column] > 0][-1]
     bent = table.loc[at, column] + (
-        1 if column in ("blocks", "id", "models", "years", "year", "one_years_short") else 0.05
+        1 if column in ("blocks", "id", "realisations", "years", "year", "common_years_short") else 0.05
     )
     table[column] = table[column].where(table.index != at, bent)
     table.to_csv(copied / file, index=False)
@@ -188,7 +193,7 @@ def test_statuses_none_of_which_is_so_are_found(copied):
 
 def test_a_status_and_a_model_that_are_not_so_are_found(copied):
     table = pd.read_csv(copied / "schedules.csv", dtype=str)
-    for column in ("status", "model"):
+    for column in ("status", "realisation"):
         table.assign(**{column: table[column].where(table.index != 2, "other")}).to_csv(
             copied / "schedules.csv", index=False
         )
@@ -199,18 +204,18 @@ def test_a_status_and_a_model_that_are_not_so_are_found(copied):
     ("name", "change"),
     [
         ("perfect_information", lambda it: it + 1),
-        ("value_as_planned", lambda it: it + 1),
-        ("bound_as_planned", lambda it: it + 1),
+        ("npv_as_planned", lambda it: it + 1),
+        ("upper_bound_as_planned", lambda it: it + 1),
         ("years", lambda it: it + 1),
         ("answered", lambda it: it - 1),
         ("ramp_up", lambda it: [1.0]),
-        ("limits", lambda it: it | {"ore_tonnes": 5.0}),
-        *((name, lambda it: it | {"mean": it["mean"] + 1}) for name in ("value", "bound", "one_value")),
+        ("limits", lambda it: it | {"feed_tonnes": 5.0}),
+        *((name, lambda it: it | {"mean": it["mean"] + 1}) for name in ("npv", "upper_bound", "common_npv")),
     ],
 )
 def test_each_number_of_the_record_that_is_bent_is_found(copied, name, change):
-    told = json.loads((copied / "one_schedule.json").read_text())
-    (copied / "one_schedule.json").write_text(json.dumps(told | {name: change(told[name])}))
+    told = json.loads((copied / "common_schedule.json").read_text())
+    (copied / "common_schedule.json").write_text(json.dumps(told | {name: change(told[name])}))
     assert wrong(copied) == {"tables"}
 
 
@@ -235,7 +240,7 @@ RICH, POOR = [1, 0.5, 1], [0, 0.5, 0]
 def at_mean_grades(weights, count):
     """What blocks would be worth at the mean of grades: here a block of 4000 g less 1000 where that pays."""
     found = weights.over(count)
-    flows = found.flows | {"cash": found.flows["cash"] * 0.9}
+    flows = found.flows | {"cash_flow": found.flows["cash_flow"] * 0.9}
     return problem.Weights(flows, found.mining)
 
 
@@ -261,7 +266,7 @@ def test_milling_less_than_the_best_is_found(plan_folder, monkeypatch):
     best = common_schedule.best_shares
     monkeypatch.setattr(common_schedule, "best_shares", lambda gain, takes, most: best(gain, takes, most) * 0.99)
     folder = solved(plan_folder, pillars(RICH, POOR))
-    with pytest.raises(PlanError, match="one schedule: scenario 1, sim_1, year 1: ore_tonnes 99 for 100"):
+    with pytest.raises(PlanError, match="one schedule: scenario 1, sim_1, year 1: feed_tonnes 99 for 100"):
         gather(folder)
 
 
@@ -280,8 +285,8 @@ def test_amounts_in_the_middle_of_two_are_rounded_as_they_are_written(plan_folde
         plan_folder, pillars(RICH, POOR), TWO_YEARS.replace("mining_cost = 2\n", "mining_cost = 2.135\ndecimals = 0\n")
     )
     gather(folder)
-    years = pd.read_csv(folder / "one_schedule_years.csv")
-    assert years[years["model"] == "sim_2"]["cash"].tolist() == [-4 * 214, 1000 - 2 * 214]
+    years = pd.read_csv(folder / "common_schedule_years.csv")
+    assert years[years["realisation"] == "sim_2"]["cash_flow"].tolist() == [-4 * 214, 1000 - 2 * 214]
 
 
 def test_ground_is_looked_at_too(copied):
@@ -303,8 +308,8 @@ def test_the_dual_of_milling_is_worth_what_the_best_choice_is(seed):
     assert gain @ shares == pytest.approx(most_earned(gain, takes, most), rel=1e-6)
 
 
-HAULAGE = "[haulage]\nexit = [400, 60, 60]\ngradient = 0.1\ncost = { ore = 1.4, waste = 1.1 }\nbeyond = 300\n"
-REFUSED = re.compile(r"^(fixed_cost_per_year|capital|prices|reblock) = .*\n", re.MULTILINE)
+HAULAGE = "[haulage]\npit_exit = [400, 60, 60]\nramp_gradient = 0.1\ncost = { ore = 1.4, waste = 1.1 }\nex_pit_distance = 300\n"
+REFUSED = re.compile(r"^(fixed_cost_per_year|capex|prices|reblock) = .*\n", re.MULTILINE)
 
 
 @pytest.mark.parametrize("seed", range(6))
@@ -322,11 +327,11 @@ def test_schedules_of_random_projects_are_right(plan_folder, seed):
     for name in ("cu_1", "cu_2", "cu_3"):
         table[name] = (table["cu"] * rng.lognormal(0, 0.7, len(table))).round(2)
     limits = "[schedule]\nyears = 5\nramp_up = [0.6, 1]\n" + pick(
-        rng, "", "metal_per_year = { copper = 15, gold = 300 }\n"
+        rng, "", "max_metal_per_year = { copper = 15, gold = 300 }\n"
     )
-    text += limits + pick(rng, "", HAULAGE) + pick(rng, "", '[fixed]\nforced = "must"\nbarred = "never"\n')
+    text += limits + pick(rng, "", HAULAGE) + pick(rng, "", '[constraints]\nmust_mine = "must"\nexclude = "never"\n')
     sets = pick(rng, "", "[[scenarios.prices]]\ncopper = 6500\n[[scenarios.prices]]\ngold = 75\n")
     text += '[scenarios]\ncolumns = { copper = "cu_*" }\n' + sets
     folder = solved_in_turn(prepared(plan_folder(table.drop(columns="cu"), text)))
     rows = pd.read_csv(folder / "schedules.csv")
-    assert (rows["one_value"] <= rows["bound"] + 0.01).all() and rows["blocks"].max() > 0
+    assert (rows["common_npv"] <= rows["upper_bound"] + 0.01).all() and rows["blocks"].max() > 0

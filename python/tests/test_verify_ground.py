@@ -90,7 +90,7 @@ def test_cells_that_are_passed_over_or_are_air_are_found(plan_folder, monkeypatc
 
 def test_rock_of_scenarios_that_the_project_does_not_give_is_found(plan_folder, monkeypatch):
     table = pillar()
-    rock = ("file =", 'absent = { tonnes = 90, rock = "R", region = "1" }\nfile =')
+    rock = ("file =", 'missing_blocks = { tonnes = 90, rock_type = "R", domain = "1" }\nfile =')
     path = plan_folder(table[table["name"] != "b0-0-1"], COLUMNS, UPRIGHT, rock)
     right = missing_blocks.with_rows
     heavy = {"tonnes": 95.0}
@@ -104,7 +104,7 @@ def test_rock_of_scenarios_that_the_project_does_not_give_is_found(plan_folder, 
 
 
 def with_absent(project, changed):
-    return replace(project, table=replace(project.table, absent=replace(project.table.absent, **changed)))
+    return replace(project, table=replace(project.table, missing_blocks=replace(project.table.missing_blocks, **changed)))
 
 
 def surfaced(plan_folder, tmp_path, points):
@@ -113,7 +113,7 @@ def surfaced(plan_folder, tmp_path, points):
         tmp_path / "mined.csv", index=False
     )
     return plan_folder(
-        ore_everywhere().assign(cu=0), PROJECT + '\n[fixed]\nsurface = "mined.csv"\ntopography = "blocks"\n'
+        ore_everywhere().assign(cu=0), PROJECT + '\n[constraints]\nas_mined = "mined.csv"\ntopography = "blocks"\n'
     )
 
 
@@ -225,7 +225,7 @@ def test_both_pits_are_right(pits):
     ]
 
 
-SUMS = "blocks tonnes ore_tonnes waste_tonnes strip_ratio processed_tonnes grade_copper metal_copper worth npv_best npv_worst years"
+SUMS = "blocks tonnes feed_tonnes waste_tonnes strip_ratio processed_at_revenue_factor head_grade_copper recovered_copper undiscounted_cash_flow npv_best npv_worst years"
 
 
 @pytest.mark.parametrize("column", [*SUMS.split(), "value_at_revenue_factor"])

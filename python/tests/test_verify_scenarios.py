@@ -65,7 +65,18 @@ def bend(path, **changed):
     np.savez_compressed(path, **{**arrays, **{name: change(arrays[name]) for name, change in changed.items()}})
 
 
-RULES = ["blocks", "absent", "levels", "scenarios", "walls", "fixed", "shells", "worth", "probability", "tables"]
+RULES = [
+    "blocks",
+    "absent",
+    "levels",
+    "scenarios",
+    "walls",
+    "fixed",
+    "shells",
+    "undiscounted_cash_flow",
+    "probability",
+    "tables",
+]
 
 
 def test_what_is_right_is_told_rule_by_rule(copied, capsys):
@@ -105,8 +116,8 @@ def a_hundredth_more(worth):
 @pytest.mark.parametrize(
     ("changed", "found"),
     [
-        ({"places": dig_no_more}, {"walls", "shells", "worth", "probability", "tables"}),
-        ({"value_at_revenue_factor": a_hundredth_more}, {"worth", "tables"}),
+        ({"places": dig_no_more}, {"walls", "shells", "undiscounted_cash_flow", "probability", "tables"}),
+        ({"value_at_revenue_factor": a_hundredth_more}, {"undiscounted_cash_flow", "tables"}),
         ({"table": lambda it: it * 1.001}, {"shells", "tables"}),
     ],
 )
@@ -137,7 +148,7 @@ def test_the_answer_of_another_scenario_is_found(copied, one, other):
         arrays = {**answer, "key": answer_of(copied, one).stem}
     np.savez_compressed(answer_of(copied, one), **arrays)
     assert main(["gather", str(copied), "--quiet", "--no-verify"]) == 0
-    assert "worth" in wrong(copied)
+    assert "undiscounted_cash_flow" in wrong(copied)
 
 
 def test_a_barred_block_that_is_dug_is_found(copied):
@@ -160,11 +171,18 @@ def test_a_barred_block_that_is_dug_is_found(copied):
         ("probability.csv", "id", "blocks"),
         *(
             ("scenarios.csv", name, "tables")
-            for name in ("price_gold", "blocks", "tonnes", "grade_gold", "worth", "value_at_revenue_factor")
+            for name in (
+                "price_gold",
+                "blocks",
+                "tonnes",
+                "head_grade_gold",
+                "undiscounted_cash_flow",
+                "value_at_revenue_factor",
+            )
         ),
         *(
             ("quantiles.csv", name, "tables")
-            for name in ("models", "tonnes_mean", "worth_least", "metal_gold_quantile_0.1")
+            for name in ("realisations", "tonnes_mean", "undiscounted_cash_flow_least", "recovered_gold_quantile_0.1")
         ),
         *(
             ("quantiles.csv", f"value_at_revenue_factor_{name}", "tables")
@@ -176,7 +194,7 @@ def test_each_number_that_is_bent_is_found(copied, file, column, rule):
     """A hundredth more in the last row that has the number."""
     table = pd.read_csv(copied / file, dtype={"value_at_revenue_factor": str})
     at = table.index[pd.to_numeric(table[column]) > 0][-1]
-    bent = float(table.loc[at, column]) + (1 if column in ("blocks", "id", "models") else 0.01)
+    bent = float(table.loc[at, column]) + (1 if column in ("blocks", "id", "realisations") else 0.01)
     table.loc[at, column] = f"{bent:.6f}" if column == "value_at_revenue_factor" else bent
     table.to_csv(copied / file, index=False)
     assert wrong(copied) == {rule}
@@ -222,7 +240,7 @@ def test_a_table_that_has_changed_is_found(copied):
     table = pd.read_csv(path)
     ore = table.index[table["cu_b"] > 0.5][0]
     table.assign(cu_b=table["cu_b"].where(table.index != ore, 1.0)).to_csv(path, index=False)
-    assert wrong(copied) == {"shells", "worth"}
+    assert wrong(copied) == {"shells", "undiscounted_cash_flow"}
     table[table.index != ore].to_csv(path, index=False)
     with pytest.raises(
         PlanError, match="probability.csv: 1 of its blocks are not in the table: has the table changed since?"
@@ -244,7 +262,7 @@ def test_models_of_a_folder_are_read_by_id_and_by_place(plan_folder):
         (np.arange(12) / 10).tolist()
     ] * 2
     write_models(path, by_id=model[["name", "cu"]].assign(name=model["name"][::-1].to_numpy()))
-    assert wrong(folder) == {"shells", "worth"}
+    assert wrong(folder) == {"shells", "undiscounted_cash_flow"}
     write_models(path, by_id=model[["name", "cu"]].assign(name=["nobody", *model["name"][1:]]))
     with pytest.raises(PlanError, match="by_id.csv: 1 of its blocks are not in the table: has it changed since?"):
         verify(folder)
@@ -290,9 +308,9 @@ def test_a_cost_that_is_counted_from_another_level_is_found(plan_folder, monkeyp
     assert 100 * 0.35 * 0.01 * 0.5 * 8000 > 1400
     costs = (
         "mining_cost = 2\nprocessing_cost = 10",
-        "mining_cost = 2\nmining_cost_per_level = 0.25\nprocessing_cost = { R = 10, T = 14 }",
+        "mining_cost = 2\nmining_cost_per_bench = 0.25\nprocessing_cost = { R = 10, T = 14 }",
     )
-    text = (COLUMNS, UPRIGHT, costs, ("file =", 'absent = "air"\nfile ='))
+    text = (COLUMNS, UPRIGHT, costs, ("file =", 'missing_blocks = "air"\nfile ='))
     path = plan_folder(pd.concat([table, side]), *text)
     shared = prepared(path)
     solved_in_turn(shared)
@@ -318,7 +336,7 @@ def test_ten_scenarios_of_more_are_looked_at_evenly(plan_folder):
     assert all(
         "of 10 of 12 answered scenarios: " in rule.holds
         for rule in verify(shared.folder)
-        if rule.name in ("walls", "fixed", "shells", "worth")
+        if rule.name in ("walls", "fixed", "shells", "undiscounted_cash_flow")
     )
     bend(answer_of(shared.folder, 4), places=lambda it: np.array([0, *it[1:]], dtype=it.dtype))
     assert wrong(shared.folder) == {"probability", "tables"}
@@ -351,7 +369,7 @@ def test_answers_that_were_not_gathered_are_named(plan_folder):
 def test_a_density_and_ground_without_rows_are_looked_at(plan_folder):
     """A block in the middle of a pillar has no row: it is 90 t of rock. The others are of 1 t a cubic metre, the topmost half of one."""
     table = pillar().drop(columns="tonnes").assign(dens=1.0, vol=[100, 100, 0.5])
-    rock = 'density = "dens"\nvolume = "vol"\nabsent = { tonnes = 90, rock = "R", region = "1" }\nfile ='
+    rock = 'density = "dens"\nvolume = "vol"\nmissing_blocks = { tonnes = 90, rock_type = "R", domain = "1" }\nfile ='
     shared = prepared(plan_folder(table[table["name"] != "b0-0-1"], COLUMNS, UPRIGHT, ("file =", rock)))
     solved_in_turn(shared)
     pitplan.gather(shared.folder)
@@ -388,7 +406,7 @@ def test_answers_that_are_none_are_named(copied):
 @settings(max_examples=6, suppress_health_check=[HealthCheck.function_scoped_fixture])
 @given(
     st.integers(0, 10**6),
-    st.sampled_from(["moving", "fixed"]),
+    st.sampled_from(["per_revenue_factor", "base_price"]),
     st.sampled_from(["per_level = 0.25", "by_elevation = [[10, 0.7], [40, 0.1]]"]),
 )
 def test_random_scenarios_are_right(plan_folder, seed, cutoff, deeper):
@@ -399,15 +417,13 @@ def test_random_scenarios_are_right(plan_folder, seed, cutoff, deeper):
     )
     ground = rng.integers(3, 6, (8, 7))[(table["x"] // 10).astype(int), (table["y"] // 10).astype(int)]
     table = table.assign(must=(rng.random(len(table)) < 0.01).astype(int), never=0)[table["z"] < 10 * ground]
-    walls = (
-        '[[slopes.walls]]\nregion = "1"\nangle = 42\n[[slopes.walls]]\nregion = "2"\nazimuths = [[0, 60], [180, 35]]'
-    )
+    walls = '[[slopes.domains]]\ndomain = "1"\nangle = 42\n[[slopes.domains]]\ndomain = "2"\nazimuths = [[0, 60], [180, 35]]'
     changes = [
-        ('[[slopes.walls]]\npattern = "1:5"', walls),
-        ("mining_cost_per_level = 0.25", f'cutoff = "{cutoff}"\nmining_cost_{deeper}'),
+        ('[[slopes.domains]]\npattern = "1:5"', walls),
+        ("mining_cost_per_bench = 0.25", f'cutoff = "{cutoff}"\nmining_cost_{deeper}'),
     ]
-    path = plan_folder(table, TEXT + '[scenarios]\nmodels = "models"\n' + SETS, *changes)
-    shutil.rmtree(path.parent / "models", ignore_errors=True)
+    path = plan_folder(table, TEXT + '[scenarios]\nrealisations = "realisations"\n' + SETS, *changes)
+    shutil.rmtree(path.parent / "realisations", ignore_errors=True)
     shutil.rmtree(path.parent / "plan", ignore_errors=True)
     for number in range(3):
         some = rng.random((2, len(table))) < 0.06
@@ -432,7 +448,7 @@ def test_tables_and_models_that_are_gone_are_named(copied, plan_folder):
     write_models(path, only=model)
     solved_in_turn(prepared(path))
     pitplan.gather(prepared(path).folder)
-    shutil.rmtree(path.parent / "models")
+    shutil.rmtree(path.parent / "realisations")
     with pytest.raises(PlanError, match="/models: cannot be read: No such file or directory"):
         verify(path.parent / "plan")
 
@@ -454,7 +470,7 @@ def test_ore_that_pays_nothing_once_it_is_rounded_is_none(plan_folder):
     ore needs is at 20 m, above the floor of the first column, and not that block at the top of the second."""
     table = rows(2, 1, 3, tonnes=lambda i, j, k: 3_000_000).drop(columns="cu")
     table = table.assign(sim_1=[6.0, 0, 0, 0, 0, 0.25])[table["name"] != "b0-0-2"]
-    more = "mining_cost = 2\nmining_cost_per_level = 0.5\ndecimals = 2"
+    more = "mining_cost = 2\nmining_cost_per_bench = 0.5\ndecimals = 2"
     shared = prepared(
         plan_folder(table, COLUMNS, UPRIGHT, ("price = 8000", "price = 8000.000001"), ("mining_cost = 2", more))
     )
@@ -462,7 +478,7 @@ def test_ore_that_pays_nothing_once_it_is_rounded_is_none(plan_folder):
     pitplan.gather(shared.folder)
     assert shared.record["mining_cost_reference"] == 20 and wrong(shared.folder) == set()
     # 90,000 t of copper; a tonne costs 10 to process, and 2 to mine in the upper block and 2.5 in the lower.
-    worth = pd.read_csv(shared.folder / "scenarios.csv").set_index("revenue_factor")["worth"]
+    worth = pd.read_csv(shared.folder / "scenarios.csv").set_index("revenue_factor")["undiscounted_cash_flow"]
     assert worth[1.0] == pytest.approx(90_000 * 8000.000001 - 3_000_000 * (10 + 2 + 2.5), abs=0.01)
 
 

@@ -95,11 +95,11 @@ def test_the_topography_lies_over_what_is_dug(page, browser):
 
 
 def scheduled(folder, place):
-    """The hill with phases and years by hand: phase 1 is the first shell, and years are one more than the number of the shell."""
+    """The hill with pushbacks and years by hand: pushback 1 is the first shell, and years are one more than the number of the shell."""
     result = read_folder(folder)
     dug = result.blocks["revenue_factor"] > 0.0
     more = {
-        "phase": np.where(dug, 1 + (result.blocks["revenue_factor"] > 0.5), 0),
+        "pushback": np.where(dug, 1 + (result.blocks["revenue_factor"] > 0.5), 0),
         "year": np.where(dug, 1 + (result.blocks["revenue_factor"] // 0.5).astype(int), 0),
     }
     blocks = result.blocks.assign(**more)
@@ -118,9 +118,9 @@ def test_a_schedule_has_a_slider_through_its_years_and_colours(solved, tmp_path,
     demand_drawn(browser, later, dugName="Dug by the end of year", dugText="2", low="1", name="year", high="4")
     browser.choose("dug", "3")
     demand_drawn(browser, cube_of(blocks, (blocks["year"] == 0) | (blocks["year"] > 3)), dugText="3")
-    browser.choose("by", "phase")
+    browser.choose("by", "pushback")
     browser.choose("dug", "1")
-    demand_drawn(browser, cube_of(blocks, blocks["phase"] != 1), dugName="Dug to the end of phase", dugText="1")
+    demand_drawn(browser, cube_of(blocks, blocks["pushback"] != 1), dugName="Dug to the end of pushback", dugText="1")
     browser.choose("show", "pit")
     browser.choose("dug", "2")
     browser.picture(tmp_path / "years.png")
@@ -149,7 +149,7 @@ def test_a_click_on_a_block_shows_its_row(page, browser):
         assert dict(shown) == {
             "id": str(cell),
             **text,
-            "worth": str(max(row["revenue"] - row["processing_cost"], 0) - row["mining_cost"]),
+            "undiscounted_cash_flow": str(max(row["revenue"] - row["processing_cost"], 0) - row["mining_cost"]),
         }
     browser.click(890, 590)
     assert browser.ask("document.getElementById('picked').hidden"), "beside the model there is nothing"
@@ -247,9 +247,9 @@ def test_the_model_of_the_page_by_hand(solved):
     assert tint[blocks["id"]].tolist() == blocks["cu"].map({0: 0, 0.8: 35, 0.9: 39, 6: 255}).tolist()
     air = np.setdiff1d(np.arange(450), blocks["id"])
     assert len(air) == 45 and set(shell[air]) == {255} and set(tint[air]) == {0}
-    assert len(model["shell_colours"]) == 3 and len(model["grade_colours"]) == 256 and model["stages"] == []
+    assert len(model["shell_colours"]) == 3 and len(model["head_grade_colours"]) == 256 and model["stages"] == []
     # The first and the last of matplotlib's YlOrRd.
-    assert (model["grade_colours"][0], model["grade_colours"][-1]) == ([255, 255, 204], [128, 0, 38])
+    assert (model["head_grade_colours"][0], model["head_grade_colours"][-1]) == ([255, 255, 204], [128, 0, 38])
 
 
 def test_the_worth_of_a_block_is_that_of_its_best_process():
@@ -292,7 +292,7 @@ def test_the_page_needs_no_other_file(page):
 
 
 @pytest.mark.parametrize(("name", "colour_map", "ends"), viewer3d.STAGES)
-def test_the_colours_of_phases_and_years_darken(name, colour_map, ends):
+def test_the_colours_of_pushbacks_and_years_darken(name, colour_map, ends):
     """By the luminance of sRGB (IEC 61966-2-1), for whoever does not tell hues apart."""
     linear = (np.array(viewer3d.colours(colour_map, np.linspace(*ends, 30))) / 255) ** 2.2
     assert (np.diff(linear @ [0.2126, 0.7152, 0.0722]) < 0).all(), name

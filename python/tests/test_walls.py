@@ -54,7 +54,7 @@ def closures(needs):
 
 def needs_of_walls(plan):
     """For each block all blocks that its walls need."""
-    grid, entries = plan.grid, plan.project.slopes.walls
+    grid, entries = plan.grid, plan.project.slopes.domains
     levels, broad, wide = grid.shape
     by_entry = [
         all_steps(wall, pattern.levels, grid.size, grid.shape, pattern.widened)
@@ -83,15 +83,19 @@ def needs_written(plan, folder):
 
 def project_of(walls, levels, size, never_steeper=False):
     """A project in memory with the given walls; its table comes from pandas."""
-    section = {"walls": walls, "never_steeper": never_steeper, **({} if levels is None else {"levels": levels})}
+    section = {
+        "walls": walls,
+        "never_steeper": never_steeper,
+        **({} if levels is None else {"precedence_benches": levels}),
+    }
     return of_data(
         {
             "table": {"file": "blocks.csv", "region": "region"},
             "grid": {"size": [Decimal(side) for side in size]},
-            "money": {"mining_cost": 2, "processing_cost": 10},
+            "economics": {"mining_cost": 2, "processing_cost": 10},
             "metals": [{"name": "copper", "column": "cu", "unit": "percent", "price": 8000, "recovery": 1}],
             "slopes": section,
-            "shells": {"revenue_factors": [1000], "rate": 0, "ore_per_year": 100},
+            "shells": {"revenue_factors": [1000], "discount_rate": 0, "processing_capacity": 100},
         },
         Path("project.toml"),
     )

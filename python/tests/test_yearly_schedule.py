@@ -8,57 +8,57 @@ import signal
 import pandas as pd
 import pytest
 from conftest import PROJECT, rows
-from test_pushbacks import UPRIGHT, pillars, with_phases
+from test_pushbacks import UPRIGHT, pillars, with_pushbacks
 
 import pitplan
 from pitplan import PlanError, load
 from pitplan.cli import main
 from pitplan.results.folder import read_record
-from pitplan.scheduling import phase_schedule
+from pitplan.scheduling import pushback_schedule
 from pitplan.verification import verify
 
 pytestmark = pytest.mark.usefixtures("without_figures")
 # Three pillars of waste over ore; the mill takes the ore of one a year, and the shovels a pillar.
-PHASES = with_phases(
+PUSHBACKS = with_pushbacks(
     "count = 3",
-    UPRIGHT.replace("ore_per_year = 100", 'ore_per_year = 100\nrock_per_year = 200\ndiscounting = "end_of_year"'),
+    UPRIGHT.replace(
+        "processing_capacity = 100", 'processing_capacity = 100\nmining_capacity = 200\ndiscounting = "end_of_year"'
+    ),
 )
 # What each pillar is worth: 40 a per cent and tonne, less 10 for processing and 4 for mining.
 WORTHS = [2600, 1400, 600]
 
 
-def scheduled(plan_folder, words="", text=PHASES):
+def scheduled(plan_folder, words="", text=PUSHBACKS):
     project = load(plan_folder(pillars(), text + words))
-    return pitplan.write_schedule(project).set_index("way"), project.folder / "schedule"
+    return pitplan.write_schedule(project).set_index("method"), project.folder / "schedule"
 
 
 def test_three_pillars_by_hand(plan_folder):
     """One pillar a year, the richest first. No schedule earns more, and the bound says so."""
     table, folder = scheduled(plan_folder)
     value = 2600 / 1.1 + 1400 / 1.21 + 600 / 1.331
-    assert table["value"].tolist() == pytest.approx([value] * len(table)) and table["years"].tolist() == [3] * len(
-        table
-    )
-    assert table["tonnes"].tolist() == [600] * len(table) and table["left_tonnes"].tolist() == [0] * len(table)
+    assert table["npv"].tolist() == pytest.approx([value] * len(table)) and table["years"].tolist() == [3] * len(table)
+    assert table["tonnes"].tolist() == [600] * len(table) and table["unmined_tonnes"].tolist() == [0] * len(table)
     told = json.loads((folder / "schedule.json").read_text())
-    assert told["ways"]["rule"] == {"value": pytest.approx(value, abs=1e-3), "years": 3, "left_tonnes": 0}
-    rows_of = pd.read_csv(folder / "schedule.csv").groupby("way")
+    assert told["methods"]["rule"] == {"npv": pytest.approx(value, abs=1e-3), "years": 3, "unmined_tonnes": 0}
+    rows_of = pd.read_csv(folder / "schedule.csv").groupby("method")
     for _, found in rows_of:
-        assert found["year"].tolist() == [1, 1, 2, 2, 3, 3] and found["phase"].tolist() == [1, 1, 2, 2, 3, 3]
+        assert found["year"].tolist() == [1, 1, 2, 2, 3, 3] and found["pushback"].tolist() == [1, 1, 2, 2, 3, 3]
         assert found["bench"].tolist() == [15, 5] * 3 and found["share"].tolist() == [1] * 6
-        assert found["rock_tonnes"].tolist() == [100] * 6 and found["ore_tonnes"].tolist() == [0, 100] * 3
-        assert found["metal_copper"].tolist() == pytest.approx([0, 0.5, 0, 0.35, 0, 0.25])
-        assert found["cash"].tolist() == [-200, 2800, -200, 1600, -200, 800]
-        assert found["discounted"].tolist() == pytest.approx(
-            [cash / 1.1 ** (1 + k // 2) for k, cash in enumerate(found["cash"])], abs=1e-3
+        assert found["total_tonnes"].tolist() == [100] * 6 and found["feed_tonnes"].tolist() == [0, 100] * 3
+        assert found["recovered_copper"].tolist() == pytest.approx([0, 0.5, 0, 0.35, 0, 0.25])
+        assert found["cash_flow"].tolist() == [-200, 2800, -200, 1600, -200, 800]
+        assert found["discounted_cash_flow"].tolist() == pytest.approx(
+            [cash / 1.1 ** (1 + k // 2) for k, cash in enumerate(found["cash_flow"])], abs=1e-3
         )
     years = pd.read_csv(folder / "years.csv").set_index("case").loc["rule"]
     assert (
         years["revenue_factor"].tolist() == [1.0] * 3
         and years["year"].tolist() == [1, 2, 3]
-        and years["cash"].tolist() == WORTHS
+        and years["cash_flow"].tolist() == WORTHS
     )
-    assert years["discounted"].tolist() == pytest.approx([2600 / 1.1, 1400 / 1.21, 600 / 1.331], abs=1e-3)
+    assert years["discounted_cash_flow"].tolist() == pytest.approx([2600 / 1.1, 1400 / 1.21, 600 / 1.331], abs=1e-3)
     blocks = pd.read_csv(folder / "blocks.csv").set_index("name")
     assert blocks["year"].to_dict() == {f"b{i}-0-{k}": i + 1 for i in range(3) for k in range(2)}
 
@@ -66,41 +66,44 @@ def test_three_pillars_by_hand(plan_folder):
 @pytest.mark.parametrize(
     ("words", "cash"),
     [
-        ("rock_per_year = 150", [1200, 1200, 1500, 700]),
-        ("ore_per_year = 200\nrock_per_year = 400", [4000, 600]),
+        ("mining_capacity = 150", [1200, 1200, 1500, 700]),
+        ("processing_capacity = 200\nmining_capacity = 400", [4000, 600]),
         ("ramp_up = [0.5, 1.0]", [1200, 2000, 1000, 400]),
         # The waste of the third pillar takes no metal, and is dug in the first year.
-        ("metal_per_year = { copper = 0.85 }\nore_per_year = 1e6\nrock_per_year = 1e6", [3800, 800]),
+        ("max_metal_per_year = { copper = 0.85 }\nprocessing_capacity = 1e6\nmining_capacity = 1e6", [3800, 800]),
         # Two wastes, then ore; when the mill is full the waste of the third waits, and goes with the second ore.
-        ("sinking_rate = 1", [-400, 2800, 1400, 800]),
+        ("vertical_advance_rate = 1", [-400, 2800, 1400, 800]),
         ("years = 2", [2600, 1400]),
     ],
 )
 def test_the_rule_keeps_each_limit(plan_folder, words, cash):
     table, folder = scheduled(plan_folder, f"[schedule]\n{words}\n")
     years = pd.read_csv(folder / "years.csv").set_index("case").loc["rule"]
-    assert years["cash"].tolist() == cash
-    assert table["left_tonnes"]["rule"] == (200 if words == "years = 2" else 0)
+    assert years["cash_flow"].tolist() == cash
+    assert table["unmined_tonnes"]["rule"] == (200 if words == "years = 2" else 0)
 
 
 @pytest.mark.parametrize(
     ("words", "said"),
     [
-        ("ore_per_year = 0", "[schedule] ore_per_year: 0 is below 1"),
-        ("sinking_rate = 0", "[schedule] sinking_rate: is above 0 benches a year"),
-        ("lag = -1", "[schedule] lag: must be a whole number from 0 to 1,000"),
-        ("ramp_up = 0.5", "[schedule] ramp_up: must be a list of shares of ore_per_year"),
+        ("processing_capacity = 0", "[schedule] processing_capacity: 0 is below 1"),
+        ("vertical_advance_rate = 0", "[schedule] vertical_advance_rate: is above 0 benches a year"),
+        ("bench_lag = -1", "[schedule] bench_lag: must be a whole number from 0 to 1,000"),
+        ("ramp_up = 0.5", "[schedule] ramp_up: must be a list of shares of processing_capacity"),
         ("ramp_up = [0.5, 1.2]", "[schedule] ramp_up: shares are from 0 to 1"),
         ("ramp_up = [0.5, 0]", "[schedule] ramp_up: shares are from 0 to 1, and the last, which stays, is above 0"),
-        ("metal_per_year = { copper = 0 }", "[schedule.metal_per_year] copper: is above 0"),
-        ("metal_per_year = { tin = 1 }", "[schedule] metal_per_year names tin, which is none of the [[metals]] copper"),
+        ("max_metal_per_year = { copper = 0 }", "[schedule.max_metal_per_year] copper: is above 0"),
+        (
+            "max_metal_per_year = { tin = 1 }",
+            "[schedule] max_metal_per_year names tin, which is none of the [[metals]] copper",
+        ),
         ("years = 0", "[schedule] years: must be a whole number from 1 to 200"),
-        ("sinking = 3", "[schedule] sinking: is no key here; sinking_rate is"),
+        ("sinking = 3", "[schedule] sinking: is no key here; vertical_advance_rate is"),
     ],
 )
 def test_what_is_refused(plan_folder, words, said):
     with pytest.raises(PlanError) as error:
-        load(plan_folder(pillars(), PHASES + f"[schedule]\n{words}\n"))
+        load(plan_folder(pillars(), PUSHBACKS + f"[schedule]\n{words}\n"))
     assert said in str(error.value) and "project.toml" in str(error.value)
 
 
@@ -113,22 +116,22 @@ def test_limits_within_which_nothing_can_be_dug_are_refused(plan_folder, words):
     )
     with pytest.raises(
         PlanError,
-        match="project.toml: .schedule. years: within these limits nothing can be dug in 1 year: are ore_per_year",
+        match="project.toml: .schedule. years: within these limits nothing can be dug in 1 year: are processing_capacity",
     ):
         pitplan.write_schedule(path)
 
 
-def test_without_phases_nothing_is_scheduled(plan_folder):
+def test_without_pushbacks_nothing_is_scheduled(plan_folder):
     with pytest.raises(PlanError, match="project.toml: .pushbacks. is missing"):
         pitplan.write_schedule(plan_folder(pillars(), UPRIGHT))
 
 
 def test_the_command_line_tells_the_ways(plan_folder, capsys):
-    path = plan_folder(pillars(), PHASES)
+    path = plan_folder(pillars(), PUSHBACKS)
     assert main(["schedule", str(path), "--quiet"]) == 0
     said = capsys.readouterr()
     lines = [line.split() for line in said.out.splitlines()]
-    assert lines[0][:2] == ["way", "NPV"] and [line[:2] for line in lines[2:4]] == [
+    assert lines[0][:2] == ["method", "NPV"] and [line[:2] for line in lines[2:4]] == [
         ["rule", "3,971.45"],
         ["lp", "3,971.45"],
     ]
@@ -142,13 +145,13 @@ def test_the_command_line_tells_the_ways(plan_folder, capsys):
 
 def test_the_size_of_the_programme_is_told_before_it_is_solved(plan_folder, capsys):
     """Six benches, and a fifth more than the rule's three years."""
-    assert main(["schedule", str(plan_folder(pillars(), PHASES))]) == 0
+    assert main(["schedule", str(plan_folder(pillars(), PUSHBACKS))]) == 0
     assert "solving the linear programme of 4 years, 24 unknowns .." in capsys.readouterr().err
 
 
 @pytest.fixture(scope="module")
 def written(without_figures, tmp_path_factory):
-    """A hill in three phases under several limits."""
+    """A hill in three pushbacks under several limits."""
     place = tmp_path_factory.mktemp("scheduled")
     table = rows(
         11,
@@ -159,8 +162,8 @@ def written(without_figures, tmp_path_factory):
         ),
     )
     table.to_csv(place / "blocks.csv", index=False)
-    words = "[schedule]\nrock_per_year = 700\nsinking_rate = 2\nramp_up = [0.5, 1]\nmetal_per_year = { copper = 2 }\n"
-    (place / "project.toml").write_text(with_phases("count = 3", PROJECT) + words)
+    words = "[schedule]\nmining_capacity = 700\nvertical_advance_rate = 2\nramp_up = [0.5, 1]\nmax_metal_per_year = { copper = 2 }\n"
+    (place / "project.toml").write_text(with_pushbacks("count = 3", PROJECT) + words)
     pitplan.write_schedule(place / "project.toml")
     return place
 
@@ -183,7 +186,7 @@ def test_what_is_right_passes(copied, capsys):
     told = capsys.readouterr().out.splitlines()
     assert [line.split(":")[0] for line in told][-5:] == RULES
     record = read_record(copied)
-    named = ["schedule.csv", "ways.csv", "schedule.json", "schedule.xlsx"]
+    named = ["schedule.csv", "methods.csv", "schedule.json", "schedule.xlsx"]
     assert set(named) <= set(record["files"])
     assert any(line.startswith("schedule order") for line in record["verified"])
 
@@ -191,11 +194,13 @@ def test_what_is_right_passes(copied, capsys):
 def test_the_report_and_the_workbook_have_the_schedule(copied):
     page = (copied / "report.html").read_text()
     assert (
-        "ways.csv" in page and "data:image/png" not in page and "the schedule and its bound, the other numbers" in page
+        "methods.csv" in page
+        and "data:image/png" not in page
+        and "the schedule and its bound, the other numbers" in page
     )
     book = pd.read_excel(copied / "schedule.xlsx", sheet_name=None)
-    assert list(book) == ["ways", "schedule", "years", "phases", "shells"]
-    for name in ("schedule", "phases", "shells"):
+    assert list(book) == ["methods", "schedule", "years", "pushbacks", "shells"]
+    for name in ("schedule", "pushbacks", "shells"):
         pd.testing.assert_frame_equal(book[name], pd.read_csv(copied / f"{name}.csv"), check_dtype=False)
     years = pd.read_csv(copied / "years.csv")
     pd.testing.assert_frame_equal(
@@ -203,8 +208,8 @@ def test_the_report_and_the_workbook_have_the_schedule(copied):
         years[years["revenue_factor"] == years["revenue_factor"].max()].reset_index(drop=True),
         check_dtype=False,
     )
-    told = json.loads((copied / "schedule.json").read_text())["ways"]
-    assert book["ways"]["value"].tolist() == pytest.approx([way["value"] for way in told.values()], abs=1e-3)
+    told = json.loads((copied / "schedule.json").read_text())["methods"]
+    assert book["methods"]["npv"].tolist() == pytest.approx([way["npv"] for way in told.values()], abs=1e-3)
 
 
 def rewrite(path, change):
@@ -221,13 +226,13 @@ def with_more(name, by):
     return change
 
 
-@pytest.mark.parametrize("name", ["rock_tonnes", "ore_tonnes", "metal_copper", "cash", "share"])
+@pytest.mark.parametrize("name", ["total_tonnes", "feed_tonnes", "recovered_copper", "cash_flow", "share"])
 def test_an_amount_that_is_not_of_its_bench_is_found(copied, name):
-    rewrite(copied / "schedule.csv", with_more(name, 0.01 if name in ("metal_copper", "share") else 1))
+    rewrite(copied / "schedule.csv", with_more(name, 0.01 if name in ("recovered_copper", "share") else 1))
     assert "schedule amounts" in wrong(copied)
 
 
-@pytest.mark.parametrize(("name", "by"), [("phase", 7), ("bench", 3), ("bench", 5000), ("year", -9)])
+@pytest.mark.parametrize(("name", "by"), [("pushback", 7), ("bench", 3), ("bench", 5000), ("year", -9)])
 def test_a_row_of_no_bench_is_found(copied, name, by):
     rewrite(copied / "schedule.csv", with_more(name, by))
     assert "schedule amounts" in wrong(copied)
@@ -252,11 +257,11 @@ def test_a_bench_before_its_time_is_found(copied):
 @pytest.mark.parametrize(
     ("old", "new"),
     [
-        ("rock_per_year = 700", "rock_per_year = 690"),
-        ("sinking_rate = 2", "sinking_rate = 1.2"),
+        ("mining_capacity = 700", "mining_capacity = 690"),
+        ("vertical_advance_rate = 2", "vertical_advance_rate = 1.2"),
         ("ramp_up = [0.5, 1]", "ramp_up = [0.5]"),
         ("copper = 2", "copper = 1"),
-        ("[schedule]", "[schedule]\nore_per_year = 60"),
+        ("[schedule]", "[schedule]\nprocessing_capacity = 60"),
         ("[schedule]", "[schedule]\nyears = 2"),
     ],
 )
@@ -269,7 +274,8 @@ def test_a_year_above_a_limit_is_found(copied, old, new):
 
 
 @pytest.mark.parametrize(
-    "bent", [{"ramp_up": [0.6, 1]}, {"lag": 1}, {"sinking_rate": 3}, {"years": 1}, {"limits": {"ore_tonnes": 100}}]
+    "bent",
+    [{"ramp_up": [0.6, 1]}, {"lag": 1}, {"vertical_advance_rate": 3}, {"years": 1}, {"limits": {"feed_tonnes": 100}}],
 )
 def test_limits_that_are_told_as_others_are_found(copied, bent):
     told = json.loads((copied / "schedule.json").read_text())
@@ -279,7 +285,7 @@ def test_limits_that_are_told_as_others_are_found(copied, bent):
 
 def test_a_lag_that_is_not_kept_is_found(copied):
     project = copied.parents[1] / "project.toml"
-    project.write_text(project.read_text() + "lag = 3\n")
+    project.write_text(project.read_text() + "bench_lag = 3\n")
     assert "schedule order" in wrong(copied)
 
 
@@ -289,28 +295,28 @@ def change_told(folder, **more):
     return told
 
 
-@pytest.mark.parametrize("name", ["value", "years", "left_tonnes"])
+@pytest.mark.parametrize("name", ["npv", "years", "unmined_tonnes"])
 def test_a_total_that_does_not_follow_is_found(copied, name):
     told = change_told(copied)
-    told["ways"]["rule"][name] += 1
-    change_told(copied, ways=told["ways"])
+    told["methods"]["rule"][name] += 1
+    change_told(copied, ways=told["methods"])
     assert "schedule value" in wrong(copied)
 
 
-@pytest.mark.parametrize("name", ["bound", "milp_bound"])
+@pytest.mark.parametrize("name", ["upper_bound", "milp_upper_bound"])
 def test_a_way_above_a_bound_is_found(copied, name):
     told = change_told(copied)
-    least = min(way["value"] for way in told["ways"].values())
+    least = min(way["npv"] for way in told["methods"].values())
     change_told(copied, **{name: least + 1e-4})
     found = wrong(copied)
-    assert found == ({"schedule value"} if any(way["value"] > least + 0.1 for way in told["ways"].values()) else set())
+    assert found == ({"schedule value"} if any(way["npv"] > least + 0.1 for way in told["methods"].values()) else set())
     change_told(copied, **{name: least - 1})
     assert wrong(copied) == {"schedule value"}
 
 
 def test_what_the_rule_leaves_is_found(copied):
     """It digs all there is, unless so many years are given; a linear programme may leave what does not pay."""
-    rewrite(copied / "schedule.csv", lambda table: table[table.duplicated("way", keep="last")])
+    rewrite(copied / "schedule.csv", lambda table: table[table.duplicated("method", keep="last")])
     said = [text for rule in verify(copied) if rule.name == "schedule value" for text in rule.differences]
     assert sum(" leaves " in text for text in said) == 1 and any(text.startswith("rule leaves ") for text in said)
     project = copied.parents[1] / "project.toml"
@@ -319,12 +325,13 @@ def test_what_the_rule_leaves_is_found(copied):
 
 
 def test_cash_that_is_discounted_otherwise_is_found(copied):
-    rewrite(copied / "schedule.csv", with_more("discounted", 1))
+    rewrite(copied / "schedule.csv", with_more("discounted_cash_flow", 1))
     assert "schedule value" in wrong(copied)
 
 
 @pytest.mark.parametrize(
-    "name", ["rock_tonnes", "ore_tonnes", "metal_copper", "cash", "discounted", "revenue_factor", "year"]
+    "name",
+    ["total_tonnes", "feed_tonnes", "recovered_copper", "cash_flow", "discounted_cash_flow", "revenue_factor", "year"],
 )
 def test_years_that_do_not_follow_are_found(copied, name):
     def change(table):
@@ -347,9 +354,9 @@ def test_a_year_of_a_block_is_found(copied):
 
 def test_a_way_that_is_shown_and_earns_less_is_found(copied):
     told = change_told(copied)
-    other = next(name for name in told["ways"] if name != told["shown"])
-    told["ways"][told["shown"]]["value"] = told["ways"][other]["value"] - 1
-    change_told(copied, ways=told["ways"])
+    other = next(name for name in told["methods"] if name != told["shown"])
+    told["methods"][told["shown"]]["npv"] = told["methods"][other]["npv"] - 1
+    change_told(copied, ways=told["methods"])
     assert "years of blocks" in wrong(copied)
     change_told(copied, shown="hand")
     assert "years of blocks" in wrong(copied)
@@ -357,16 +364,16 @@ def test_a_way_that_is_shown_and_earns_less_is_found(copied):
 
 def test_great_amounts_are_right_too(plan_folder):
     """Billions, of which a float holds no thousandths of a cent, at the price as given a millionfold."""
-    table, folder = scheduled(plan_folder, text=PHASES.replace("price = 8000", "price = 8_123_456_789.123"))
-    assert table["value"].min() > 1e9 and wrong(folder) == set()
+    table, folder = scheduled(plan_folder, text=PUSHBACKS.replace("price = 8000", "price = 8_123_456_789.123"))
+    assert table["npv"].min() > 1e9 and wrong(folder) == set()
 
 
 def test_blocks_of_half_a_tonne_are_dug_and_counted(plan_folder):
     """Three tonnes in all, of which every half is a block of its own."""
-    project = load(plan_folder(pillars(tonnes=lambda i, j, k: 0.5), PHASES))
-    table, folder = pitplan.write_schedule(project).set_index("way"), project.folder / "schedule"
-    assert table["tonnes"].tolist() == [3.0] * len(table) and table["left_tonnes"].tolist() == [0.0] * len(table)
-    assert pd.read_csv(folder / "phases.csv")["blocks"].tolist() == [2, 2, 2] and wrong(folder) == set()
+    project = load(plan_folder(pillars(tonnes=lambda i, j, k: 0.5), PUSHBACKS))
+    table, folder = pitplan.write_schedule(project).set_index("method"), project.folder / "schedule"
+    assert table["tonnes"].tolist() == [3.0] * len(table) and table["unmined_tonnes"].tolist() == [0.0] * len(table)
+    assert pd.read_csv(folder / "pushbacks.csv")["blocks"].tolist() == [2, 2, 2] and wrong(folder) == set()
 
 
 def test_a_case_of_no_way_is_found(copied):
@@ -380,11 +387,11 @@ def test_an_interruption_keeps_what_is_found_so_far(plan_folder, capsys, monkeyp
     def interrupted(programme, effort=None):
         os.kill(os.getpid(), signal.SIGINT)
 
-    monkeypatch.setattr(phase_schedule.bench_lp, "solve", interrupted)
-    path = plan_folder(pillars(), PHASES)
+    monkeypatch.setattr(pushback_schedule.bench_lp, "solve", interrupted)
+    path = plan_folder(pillars(), PUSHBACKS)
     assert main(["schedule", str(path), "--quiet"]) == 130
     folder = path.parent / "plan" / "schedule"
     told = json.loads((folder / "schedule.json").read_text())
-    assert list(told["ways"]) == ["rule"] and told["bound"] is None and told["interrupted"]
+    assert list(told["methods"]) == ["rule"] and told["upper_bound"] is None and told["interrupted"]
     assert "interrupted before all ways were found" in capsys.readouterr().err
     assert wrong(folder) == set() and (folder / "report.html").exists()

@@ -25,8 +25,8 @@ OTHERS = {
     "density": "density dens sg den bulkdensity specificgravity rho",
     "volume": "volume vol blockvolume cellvolume",
     "id": "id blockid ijk blockno blocknumber bid cellid name",
-    "rock": "rock rocktype lith lithology litho lithcode material mat oretype geology geol oxidation oxide weathering geomet domain zone",
-    "region": "region sloperegion slope slopesector geotech geotechdomain geotechnicaldomain wallregion pitsector sector",
+    "rock_type": "rock rocktype lith lithology litho lithcode material mat oretype geology geol oxidation oxide weathering geomet domain zone",
+    "domain": "region sloperegion slope slopesector geotech geotechdomain geotechnicaldomain wallregion pitsector sector",
 }
 METALS = {
     "au": "gold", "ag": "silver", "pt": "platinum", "pd": "palladium", "cu": "copper", "mo": "molybdenum", "ni": "nickel",
@@ -82,7 +82,9 @@ def columns_of(frame: pd.DataFrame) -> Columns:
     sizes = {axis: found for axis, names in SIZES.items() if (found := by_name(plain, names))}
     named = {key: found for key, names in OTHERS.items() if (found := by_name(plain, names))}
     named = {
-        key: found for key, found in named.items() if key in ("id", "rock", "region") or is_number(frame, found.column)
+        key: found
+        for key, found in named.items()
+        if key in ("id", "rock_type", "domain") or is_number(frame, found.column)
     }
     taken = {guess.column for group in (centres, sizes, named) for guess in group.values()}
     metals = [metal for name in map(str, frame.columns) if name not in taken and (metal := metal_of(frame, name))]

@@ -47,16 +47,16 @@ def depleted(frame: pd.DataFrame, grid: Grid, project: Project) -> tuple[pd.Data
     Raises PlanError if a file is not usable or lies over no block; MissingPackage if what reads it is not installed.
     """
     rules = project.fixed
-    if rules is None or rules.surface is None:
+    if rules is None or rules.as_mined is None:
         return frame, []
     original = project.table.topography or rules.topography
-    found = by_centres(grid, rules.surface) if original is None else by_volumes(grid, original, rules.surface)
+    found = by_centres(grid, rules.as_mined) if original is None else by_volumes(grid, original, rules.as_mined)
     before = frame[project.table.tonnes].to_numpy()
     share = np.divide(found.left, found.original, out=np.zeros(len(before)), where=found.original > 0)
     after = np.where(share < 1, (before * share).round(TONNES_PLACES), before)
     mined = np.where(before > 0, found.original - found.left, 0.0)
     columns = {project.table.tonnes: after, MINED_SHARE: mined}
-    return frame.assign(**columns), [*found.notes, sentence_of(rules.surface.path, before, after, mined)]
+    return frame.assign(**columns), [*found.notes, sentence_of(rules.as_mined.path, before, after, mined)]
 
 
 def sentence_of(file: Path, before: np.ndarray, after: np.ndarray, mined: np.ndarray) -> str:

@@ -1,4 +1,4 @@
-"""Whether the levels and sections that `[pictures]` names are within the model."""
+"""Whether the levels and sections that `[figures]` names are within the model."""
 
 from __future__ import annotations
 
@@ -10,7 +10,7 @@ from .grid import Grid, metres
 
 
 def demand_within(project: Project, grid: Grid) -> None:
-    """Raises PlanError if `[pictures]` names a level or a section beyond the model."""
+    """Raises PlanError if `[figures]` names a level or a section beyond the model."""
     rules = project.pictures or PictureRules()
     west, east, south, north, floor, top = grid.extent()
     asked = (
@@ -23,4 +23,4 @@ def demand_within(project: Project, grid: Grid) -> None:
             if value is not None and not least <= value <= most:
                 along = dict(zip(("east", "north"), grid.frame.names)).get(key, "") if grid.azimuth else ""
                 where = f"beyond the model, from {metres(least)} to {metres(most)} m {along}".rstrip()
-                raise PlanError(f"{project.path}: [pictures] {key}: {metres(value)} is {where}")
+                raise PlanError(f"{project.path}: [figures] {key}: {metres(value)} is {where}")

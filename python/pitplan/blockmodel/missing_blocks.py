@@ -13,7 +13,7 @@ import numpy as np
 import pandas as pd
 
 from pitplan.config.project import Project
-from pitplan.config.table import AbsentRock
+from pitplan.config.table import MissingRock
 from pitplan.core.revenue_factors import factor_text
 from pitplan.errors import PlanError
 
@@ -31,15 +31,19 @@ def unknown_cells(grid: Grid) -> np.ndarray:
 
 def with_rows(frame: pd.DataFrame, grid: Grid, project: Project) -> tuple[pd.DataFrame, Grid]:
     """The table and its grid with a row for each cell that is not known, where the project says what rock it is."""
-    rock, cells = project.table.absent, unknown_cells(grid)
-    if not isinstance(rock, AbsentRock) or not len(cells):
+    rock, cells = project.table.missing_blocks, unknown_cells(grid)
+    if not isinstance(rock, MissingRock) or not len(cells):
         return frame, grid
     columns = project.table
     added = pd.DataFrame({name: np.zeros(len(cells)) for name in frame.columns}, index=range(len(cells)))
     for name, centres in zip((columns.x, columns.y, columns.z), grid.centres(cells)):
         added[name] = centres
     added[columns.tonnes] = rock.tonnes
-    codes = {columns.id: [f"absent-{cell}" for cell in cells], columns.rock: rock.rock, columns.region: rock.region}
+    codes = {
+        columns.id: [f"absent-{cell}" for cell in cells],
+        columns.rock_type: rock.rock_type,
+        columns.domain: rock.domain,
+    }
     for column, code in codes.items():
         if column is not None:
             added[column] = code
@@ -49,10 +53,10 @@ def with_rows(frame: pd.DataFrame, grid: Grid, project: Project) -> tuple[pd.Dat
 
 def notes(frame: pd.DataFrame, grid: Grid, project: Project) -> list[str]:
     """What a planner should know of the cells that had no row, of a table as `with_rows` gives it."""
-    absent, left = project.table.absent, unknown_cells(grid)
+    absent, left = project.table.missing_blocks, unknown_cells(grid)
     air = grid.count - len(frame) - len(left)
     found = [f"{air:,} cells lie above the highest row of their column and are air"] if air else []
-    if isinstance(absent, AbsentRock):
+    if isinstance(absent, MissingRock):
         found.append(f"cells below a row, or in columns without rows, were taken as {absent.tonnes:g} t of rock each")
     elif len(left) and absent == "air":
         found.append(f"WARNING: {len(left):,} cells below a row, or in columns without rows, are taken as air")
@@ -69,7 +73,7 @@ def demand_known(entry: np.ndarray, grid: Grid, project: Project, source: str) -
     `entry` has for each cell the least factor whose pit holds it, 0 where none does. Cells that are not known cost nothing while
     the shells are found; so where none is reached, none would be, whatever it cost.
     """
-    if project.table.absent == "air":
+    if project.table.missing_blocks == "air":
         return
     cells = unknown_cells(grid)
     reached = cells[entry[cells] > 0]
@@ -80,6 +84,6 @@ def demand_known(entry: np.ndarray, grid: Grid, project: Project, source: str) -
     x, y, z = (f"{float(axis):.10g}" for axis in grid.centres(first))
     raise PlanError(
         f"{source}: the shells reach {len(reached):,} cells that have no row and are not above the highest of their column, the first "
-        f'at {x}, {y}, {z} from revenue factor {factor_text(factors.min())} on: give their rows, or say what they are by [table] absent = "air" or '
-        "absent = { tonnes = .., region = .. }"
+        f'at {x}, {y}, {z} from revenue factor {factor_text(factors.min())} on: give their rows, or say what they are by [table] missing_blocks = "air" or '
+        "missing_blocks = { tonnes = .., rock_type = .., domain = .. }"
     )

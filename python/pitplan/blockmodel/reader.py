@@ -56,7 +56,7 @@ def read(project: Project) -> Table:
     be read here.
     """
     columns = project.table
-    codes = [name for name in (columns.id, columns.rock, columns.region) if name]
+    codes = [name for name in (columns.id, columns.rock_type, columns.domain) if name]
     if parquet.is_parquet(columns.file):
         frame, names = parquet.read(columns.file, codes, names_of(project))
         demand_columns(pd.DataFrame(columns=names), names_of(project), str(columns.file))
@@ -122,16 +122,27 @@ def names_of(project: Project) -> list[str]:
 def named(project: Project) -> list[str]:
     """The columns that the project names, each as often as it does."""
     t = project.table
-    fixed = [project.fixed.forced, project.fixed.barred] if project.fixed else []
+    fixed = [project.fixed.must_mine, project.fixed.exclude] if project.fixed else []
     rock = [t.density, t.volume] if t.density else [t.tonnes]
     sums = project.schedule_rules.columns if project.schedule_rules else ()
-    columns = [t.id, t.x, t.y, t.z, *rock, t.rock, t.region, *(metal.column for metal in project.metals), *fixed, *sums]
+    columns = [
+        t.id,
+        t.x,
+        t.y,
+        t.z,
+        *rock,
+        t.rock_type,
+        t.domain,
+        *(metal.column for metal in project.metals),
+        *fixed,
+        *sums,
+    ]
     return [name for name in columns if name]
 
 
 def demand_codes_apart(project: Project) -> None:
     """Refuses a column of codes that would be read as numbers too."""
-    codes = {"id": project.table.id, "rock": project.table.rock, "region": project.table.region}
+    codes = {"id": project.table.id, "rock_type": project.table.rock_type, "domain": project.table.domain}
     for key, name in codes.items():
         if name and named(project).count(name) > list(codes.values()).count(name):
             why = "is read as numbers too: codes need a column of their own"
@@ -148,7 +159,7 @@ def checked(frame: pd.DataFrame, project: Project, source: str = "table") -> Tab
     demand_columns(frame, names_of(project), source)
     if frame.empty:
         raise PlanError(f"{source}: has no blocks")
-    codes = [name for name in (columns.id, columns.rock, columns.region) if name]
+    codes = [name for name in (columns.id, columns.rock_type, columns.domain) if name]
     result = pd.DataFrame(index=pd.RangeIndex(len(frame)))
     filled = 0
     for name in names_of(project):
@@ -201,7 +212,7 @@ def demand_codes(frame: pd.DataFrame, project: Project, source: str) -> None:
     """Every block has an id of its own, and every block of rock its rock and region, where these are named."""
     columns = project.table
     demand_ids(frame, columns.id, source)
-    for name in (columns.rock, columns.region):
+    for name in (columns.rock_type, columns.domain):
         if name:
             empty = ((frame[name] == "") & (frame[columns.tonnes] > 0)).to_numpy()
             if empty.any():

@@ -153,10 +153,10 @@ def put_together(
     result = result.assign(
         **{columns.tonnes: parts.sums(parts.tonnes, TONNES_PLACES)}, **amounts(frame, parts, project)
     )
-    for code in filter(None, (columns.rock, columns.region)):
+    for code in filter(None, (columns.rock_type, columns.domain)):
         result[code], other = parts.most(frame[code].to_numpy())
         mixed.append(f"of {parts.tonnes.sum():,.0f} t {other:,.0f} are of another {code} than their block")
-    for mark in filter(None, dict.fromkeys((fixed.forced, fixed.barred) if fixed else ())):
+    for mark in filter(None, dict.fromkeys((fixed.must_mine, fixed.exclude) if fixed else ())):
         result[mark] = parts.greatest(frame[mark].to_numpy())
     return result, mixed
 
@@ -164,8 +164,8 @@ def put_together(
 def amounts(frame: pd.DataFrame, parts: Parts, project: Project) -> dict[str, np.ndarray]:
     """Of each block the means of what is of a tonne, and the sums of what else a schedule sums."""
     rules = project.schedule_rules or ScheduleRules()
-    means = {*(metal.column for metal in project.metals), *rules.columns_of(a_tonne=True)}
-    whole = rules.columns_of(a_tonne=False)
+    means = {*(metal.column for metal in project.metals), *rules.columns_of(per_tonne=True)}
+    whole = rules.columns_of(per_tonne=False)
     found = {name: parts.means if name in means else parts.sums for name in frame.columns if name in (*means, *whole)}
     return {name: of_parts(frame[name].to_numpy(), GRADE_PLACES) for name, of_parts in found.items()}
 

@@ -14,7 +14,7 @@ from pitplan.config.table import TableColumns
 from .grid import Grid, metres
 from .reader import Table
 
-OPTIONAL = ("id", "rock", "region")
+OPTIONAL = ("id", "rock_type", "domain")
 
 
 @dataclass(frozen=True)

@@ -141,7 +141,7 @@ def text_of(model: Model, out: Path) -> str:
     environment = Environment(loader=FileSystemLoader(TEMPLATES), keep_trailing_newline=True)
     environment.filters["quoted"] = quoted
     size, size_why = size_of(model)
-    ore = ore_per_year(model)
+    ore = processing_capacity(model)
     words = {
         "file": file_name(model.file, out),
         "title": "".join(letter if letter.isprintable() else " " for letter in model.file.name.split(".")[0]),
@@ -151,7 +151,7 @@ def text_of(model: Model, out: Path) -> str:
         "size_why": size_why,
         "metals": [priced(metal) for metal in model.columns.metals],
         "regions": regions_of(model),
-        "ore_per_year": f"{ore:_}",
+        "processing_capacity": f"{ore:_}",
         "ore_why": "by Taylor's rule for the blocks that pay at these prices; put your own",
     }
     return environment.get_template("project.toml").render(words)
@@ -186,7 +186,9 @@ def table_lines(model: Model) -> list[tuple[str, str, str]]:
     if "id" in columns.named and not model.frame[columns.named["id"].column].duplicated().any():
         lines.append(("id", columns.named["id"].column, columns.named["id"].why))
     lines += [
-        (key, columns.named[key].column, columns.named[key].why) for key in ("rock", "region") if key in columns.named
+        (key, columns.named[key].column, columns.named[key].why)
+        for key in ("rock_type", "domain")
+        if key in columns.named
     ]
     if model.form.encoding != "utf-8-sig":
         lines.append(("encoding", model.form.encoding, "by its bytes"))
@@ -282,13 +284,13 @@ def priced(metal: MetalGuess) -> dict[str, str]:
 
 def regions_of(model: Model) -> list[Optional[str]]:
     """The regions of the table; one entry without a name where it has none, or more than anybody would give walls of their own."""
-    if "region" not in model.columns.named:
+    if "domain" not in model.columns.named:
         return [None]
-    found = sorted(set(model.frame[model.columns.named["region"].column].dropna().astype(str).str.strip()) - {""})
+    found = sorted(set(model.frame[model.columns.named["domain"].column].dropna().astype(str).str.strip()) - {""})
     return list(found) if 0 < len(found) <= MOST_REGIONS else [None]
 
 
-def ore_per_year(model: Model) -> int:
+def processing_capacity(model: Model) -> int:
     """What a mill takes, to two digits: the ore by the life that Taylor found, 0.2 times its fourth root in years (1977)."""
     revenue = np.zeros(len(model.frame))
     for metal in model.columns.metals:

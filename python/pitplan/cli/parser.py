@@ -20,7 +20,7 @@ DESCRIPTION = (
     "Plan an open-pit mine: from a block model, prices, costs and slope angles to pit shells, pushbacks and schedules."
 )
 FORMATS = ("table", "csv", "xlsx", "vti", "vtu", "dxf", "stl", "obj", "gpkg", "str", "lines")
-STAGES = ("revenue_factor", "phase", "year")
+STAGES = ("revenue_factor", "pushback", "year")
 SURFACES = ("pit", "ground")
 SOLVERS = ("library", "program")
 # The option that names a shell.
@@ -151,8 +151,8 @@ def add_schedule(subs: Subparsers) -> None:
     add_json(sub)
     add_figures(sub)
     add_solver(sub)
-    text = "schedule the benches of pushbacks (phase), or single blocks with an upper bound on the NPV of all such schedules (block)"
-    sub.add_argument("--by", choices=("phase", "block"), default="phase", help=f"{text} (default: phase)")
+    text = "schedule the benches of pushbacks (pushback), or single blocks with an upper bound on the NPV of all such schedules (block)"
+    sub.add_argument("--by", choices=("pushback", "block"), default="pushback", help=f"{text} (default: pushback)")
 
 
 def add_sensitivity(subs: Subparsers) -> None:
@@ -231,7 +231,7 @@ def add_export(subs: Subparsers) -> None:
     text = "format; table is the planner's own table with the revenue factor, pushback and year of each block"
     sub.add_argument("--to", required=True, choices=FORMATS, help=text)
     add_factor(sub)
-    text = "export the pit of one revenue factor, or all pushbacks (phase) or years (default: revenue_factor)"
+    text = "export the pit of one revenue factor, or all pushbacks (pushback) or years (default: revenue_factor)"
     sub.add_argument("--of", choices=STAGES, default=STAGES[0], help=text)
     text = "export the mined blocks (pit), or the open surface of the ground with the pit in it (ground) (default: pit)"
     sub.add_argument("--surface", choices=SURFACES, default=SURFACES[0], help=text)
@@ -300,7 +300,9 @@ def add_json(sub: Parser) -> None:
 
 
 def add_set(sub: Parser) -> None:
-    text = "set a key of the project, for example money.mining_cost=2.6 or metals.copper.price=9000 (may be repeated)"
+    text = (
+        "set a key of the project, for example economics.mining_cost=2.6 or metals.copper.price=9000 (may be repeated)"
+    )
     sub.add_argument("--set", action="append", default=[], metavar="KEY=VALUE", help=text)
 
 

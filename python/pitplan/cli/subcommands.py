@@ -113,7 +113,7 @@ def pit(options: Namespace) -> int:
 
 
 def pushbacks(options: Namespace) -> int:
-    from pitplan.report.columns import columns_of_phases
+    from pitplan.report.columns import columns_of_pushbacks
 
     from ..commands.pushbacks import write_pushbacks
     from .printing import print_answer
@@ -121,7 +121,7 @@ def pushbacks(options: Namespace) -> int:
     project = project_of(options)
     folder = options.out or project.folder / "pushbacks"
     table = write_pushbacks(project, folder, writing_of(options))
-    print_answer(table, columns_of_phases(table, project), folder, options.json)
+    print_answer(table, columns_of_pushbacks(table, project), folder, options.json)
     return 0
 
 

@@ -14,13 +14,13 @@ from pitplan.core.revenue_factors import factor_text
 from pitplan.export import xlsx
 from pitplan.pits import shell_tables
 from pitplan.pushbacks import nested
-from pitplan.pushbacks.nested import Phases
+from pitplan.pushbacks.nested import Pushbacks
 from pitplan.report import html
 from pitplan.results import names
 from pitplan.results.conventions import with_discounting, with_outline
 from pitplan.results.rounding import shown, write_csv
-from pitplan.scheduling import phase_schedule
-from pitplan.scheduling.phase_schedule import YearlySchedule
+from pitplan.scheduling import pushback_schedule
+from pitplan.scheduling.pushback_schedule import YearlySchedule
 from pitplan.solver import mine_files, problem
 from pitplan.solver.problem import Mine
 from pitplan.solver.program import Solution
@@ -39,7 +39,7 @@ class Answered:
 
     plan: Plan
     solution: Solution
-    phases: Optional[Phases] = None
+    pushbacks: Optional[Pushbacks] = None
     schedule: Optional[YearlySchedule] = None
     blocks: Optional[ScheduledBlocks] = None
 
@@ -86,8 +86,8 @@ def note_answer(answered: Answered, factor: float, run: Run) -> None:
         "selected": factor,
         "solver": record.pop("solver"),
     }
-    if answered.phases is not None:
-        record["phases"] = len(answered.phases.factors)
+    if answered.pushbacks is not None:
+        record["pushbacks"] = len(answered.pushbacks.factors)
     if answered.schedule is not None:
         record["schedule"] = answered.schedule.shown
     if answered.blocks is not None:
@@ -105,7 +105,7 @@ def check_fixed(mine: Mine, solution: Solution, factor: float, progress: Progres
 
 def tables_of(answered: Answered) -> list[str]:
     """The names of the tables that an answer has."""
-    found = [names.TABLE, names.SHELLS, names.YEARS, *([names.PHASES] if answered.phases else [])]
+    found = [names.TABLE, names.SHELLS, names.YEARS, *([names.PUSHBACKS] if answered.pushbacks else [])]
     found += [names.SCHEDULE, names.SCHEDULE_RECORD, WORKBOOK] if answered.schedule else []
     found += [names.BLOCK_SCHEDULE] if answered.blocks else []
     found += [names.WAYS] if answered.schedule or answered.blocks else []
@@ -114,31 +114,31 @@ def tables_of(answered: Answered) -> list[str]:
 
 def sheets_of(answered: Answered, table: pd.DataFrame, years: pd.DataFrame) -> dict[str, pd.DataFrame]:
     """The tables of a schedule's workbook, by sheet."""
-    assert answered.phases is not None and answered.schedule is not None
+    assert answered.pushbacks is not None and answered.schedule is not None
     project = answered.plan.project
-    bins = {"milling": shown(phase_schedule.milling(answered.schedule))} if answered.schedule.milling else {}
+    bins = {"milling": shown(pushback_schedule.milling(answered.schedule))} if answered.schedule.milling else {}
     sheets = {
-        "ways": phase_schedule.ways(answered.schedule),
-        "schedule": shown(phase_schedule.table(answered.schedule)),
+        "methods": pushback_schedule.ways(answered.schedule),
+        "schedule": shown(pushback_schedule.table(answered.schedule)),
         "years": shown(with_outline(years[years["revenue_factor"] == answered.schedule.factor], project)),
-        "phases": shown(nested.table(answered.phases)),
+        "pushbacks": shown(nested.table(answered.pushbacks)),
         "shells": shown(with_outline(table, project)),
     }
     return bins | {name: with_discounting(sheet, project) for name, sheet in sheets.items()}
 
 
 def write_tables(answered: Answered, stage: Path) -> tuple[pd.DataFrame, pd.DataFrame]:
-    """Writes the program's own answer, if it solved, blocks.csv, shells.csv, years.csv, of pushbacks phases.csv, and the tables of a
+    """Writes the program's own answer, if it solved, blocks.csv, shells.csv, years.csv, of pushbacks pushbacks.csv, and the tables of a
     schedule; returns the tables of shells and of years."""
-    plan, solution, phases = answered.plan, answered.solution, answered.phases
-    more = None if phases is None else phases.mining_cost_added
+    plan, solution, pushbacks = answered.plan, answered.solution, answered.pushbacks
+    more = None if pushbacks is None else pushbacks.mining_cost_added
     table, years = shell_tables.shells(plan, solution, more), shell_tables.years(plan, solution, more)
     if solution.answer is not None:
         (stage / mine_files.ANSWER).write_bytes(solution.answer)
-    blocks = shell_tables.blocks(plan, solution) if phases is None else nested.blocks(phases)
+    blocks = shell_tables.blocks(plan, solution) if pushbacks is None else nested.blocks(pushbacks)
     if answered.schedule is not None:
-        blocks["year"] = phase_schedule.blocks_year(answered.schedule)[blocks["id"].to_numpy()]
-        years = pd.concat([years, phase_schedule.years(answered.schedule)], ignore_index=True)
+        blocks["year"] = pushback_schedule.blocks_year(answered.schedule)[blocks["id"].to_numpy()]
+        years = pd.concat([years, pushback_schedule.years(answered.schedule)], ignore_index=True)
         write_schedule_tables(answered.schedule, plan, stage)
     if answered.blocks is not None:
         blocks, years = answered.blocks.beside(blocks), pd.concat([years, answered.blocks.years], ignore_index=True)
@@ -146,16 +146,16 @@ def write_tables(answered: Answered, stage: Path) -> tuple[pd.DataFrame, pd.Data
         write_csv(shown(answered.blocks.ways), stage / names.WAYS, plan.project)
     write_table(blocks, stage)
     for found, name in ((table, names.SHELLS), (years, names.YEARS)):
-        write_csv(shown(found if phases is None else with_outline(found, plan.project)), stage / name, plan.project)
-    if phases is not None:
-        shown(nested.table(phases)).to_csv(stage / names.PHASES, index=False)
+        write_csv(shown(found if pushbacks is None else with_outline(found, plan.project)), stage / name, plan.project)
+    if pushbacks is not None:
+        shown(nested.table(pushbacks)).to_csv(stage / names.PUSHBACKS, index=False)
     return table, years
 
 
 def write_schedule_tables(schedule: YearlySchedule, plan: Plan, stage: Path) -> None:
-    """Writes schedule.csv, ways.csv, schedule.json, and milling.csv if ore is divided into bins."""
-    write_csv(shown(phase_schedule.table(schedule)), stage / names.SCHEDULE, plan.project)
-    write_csv(shown(phase_schedule.ways(schedule)), stage / names.WAYS, plan.project)
-    write_json(stage / names.SCHEDULE_RECORD, phase_schedule.record(schedule))
+    """Writes schedule.csv, methods.csv, schedule.json, and mill_feed.csv if ore is divided into bins."""
+    write_csv(shown(pushback_schedule.table(schedule)), stage / names.SCHEDULE, plan.project)
+    write_csv(shown(pushback_schedule.ways(schedule)), stage / names.WAYS, plan.project)
+    write_json(stage / names.SCHEDULE_RECORD, pushback_schedule.record(schedule))
     if schedule.milling:
-        shown(phase_schedule.milling(schedule)).to_csv(stage / names.MILLING, index=False)
+        shown(pushback_schedule.milling(schedule)).to_csv(stage / names.MILLING, index=False)

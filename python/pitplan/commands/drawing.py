@@ -11,7 +11,7 @@ from pitplan.figures import annual, block_schedule, plans_sections, pushbacks, s
 from pitplan.figures.pit_by_pit import write_pit_by_pit
 from pitplan.figures.style import also_as, files_of
 
-from .writing import BLOCK_PICTURES, PHASE_PICTURES, PICTURES, SCHEDULE_PICTURES
+from .writing import BLOCK_PICTURES, PICTURES, PUSHBACK_PICTURES, SCHEDULE_PICTURES
 
 if TYPE_CHECKING:
     from .answers import Answered
@@ -41,7 +41,7 @@ def draw(answered: Answered, table: pd.DataFrame, years: pd.DataFrame, chosen: f
     with also_as(formats):
         draw_shells(answered, table, chosen, stage)
         annual.write_years(years, project, chosen, stage / PICTURES["years"])
-        drawn = PICTURES | draw_phases(answered, stage) | draw_schedules(answered, years, stage)
+        drawn = PICTURES | draw_pushbacks(answered, stage) | draw_schedules(answered, years, stage)
     return files_of(drawn, formats)
 
 
@@ -53,14 +53,14 @@ def draw_shells(answered: Answered, table: pd.DataFrame, chosen: float, stage: P
     plans_sections.write_sections(scene, stage / PICTURES["sections"])
 
 
-def draw_phases(answered: Answered, stage: Path) -> dict[str, str]:
+def draw_pushbacks(answered: Answered, stage: Path) -> dict[str, str]:
     """Draws the pushbacks, if there are any; returns the files of the pictures by name."""
-    if answered.phases is None:
+    if answered.pushbacks is None:
         return {}
-    scene = pushbacks.scene_of(answered.phases)
-    pushbacks.write_plans(scene, stage / PHASE_PICTURES["phase_plans"])
-    pushbacks.write_sections(scene, stage / PHASE_PICTURES["phase_sections"])
-    return PHASE_PICTURES
+    scene = pushbacks.scene_of(answered.pushbacks)
+    pushbacks.write_plans(scene, stage / PUSHBACK_PICTURES["pushback_plans"])
+    pushbacks.write_sections(scene, stage / PUSHBACK_PICTURES["pushback_sections"])
+    return PUSHBACK_PICTURES
 
 
 def draw_schedules(answered: Answered, years: pd.DataFrame, stage: Path) -> dict[str, str]:

@@ -52,7 +52,9 @@ def write_pit(
     project = read(project)
     target = project.folder / "pit" if folder is None else Path(folder)
     if project.fixed is None:
-        raise PlanError(f"{project.path}: [fixed] is missing: it says which blocks must be dug and which may not be")
+        raise PlanError(
+            f"{project.path}: [constraints] is missing: it says which blocks must be dug and which may not be"
+        )
     with begun(project, target, writing, with_lower_factors(project, revenue_factor)) as run:
         table, blocks = compared(run, revenue_factor)
         write_table(blocks, run.stage)

@@ -16,7 +16,7 @@ from .writing import Place, Source, Writing, begun, read
 def write_pushbacks(project: Source, folder: Optional[Place] = None, writing: Writing = Writing()) -> pd.DataFrame:
     """Divides the pit of one factor into pushbacks, as `pitplan pushbacks` does.
 
-    The folder gets the table as phases.csv and all files that `write_shells` writes, of the pushbacks' shells. blocks.csv has the pushback
+    The folder gets the table as pushbacks.csv and all files that `write_shells` writes, of the pushbacks' shells. blocks.csv has the pushback
     of each block.
 
     Parameters
@@ -41,7 +41,7 @@ def write_pushbacks(project: Source, folder: Optional[Place] = None, writing: Wr
     project = read(project)
     target = project.folder / "pushbacks" if folder is None else Path(folder)
     with begun(project, target, writing, nested.ending(project)) as run:
-        phases = nested.divide(run.mine.plan, run.mine, writing.progress)
-        run.record["notes"] += phases.notes
-        write_answer(Answered(phases.plan, phases.solution, phases), run)
-    return nested.table(phases)
+        pushbacks = nested.divide(run.mine.plan, run.mine, writing.progress)
+        run.record["notes"] += pushbacks.notes
+        write_answer(Answered(pushbacks.plan, pushbacks.solution, pushbacks), run)
+    return nested.table(pushbacks)

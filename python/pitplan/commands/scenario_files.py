@@ -132,7 +132,7 @@ def write_tables(shared: Shared, gathered: Gathered, stage: Path) -> None:
 
 
 def write_schedule_tables(schedules: Schedules, quantiles: pd.DataFrame, shared: Shared, stage: Path) -> None:
-    """Writes the tables of schedules and of the one for all, and one_schedule.json."""
+    """Writes the tables of schedules and of the one for all, and common_schedule.json."""
     blocks = pit_probability.read_blocks(shared.folder, codes_of(shared.project))
     csv_writer.write(stage / ONE, schedules.by_block(shared, blocks))
     tables = {SCHEDULES: schedules.table, ONE_YEARS: schedules.years, QUANTILES: quantiles}

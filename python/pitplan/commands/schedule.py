@@ -10,7 +10,7 @@ import pandas as pd
 from pitplan.core.optional_packages import load_library
 from pitplan.export import xlsx
 from pitplan.pushbacks import nested
-from pitplan.scheduling import phase_schedule
+from pitplan.scheduling import pushback_schedule
 from pitplan.solver import problem
 
 from .answers import Answered, write_answer
@@ -21,7 +21,7 @@ def write_schedule(project: Source, folder: Optional[Place] = None, writing: Wri
     """Schedules the benches of pushbacks by years, as `pitplan schedule` does.
 
     The folder gets all files that `write_pushbacks` writes, with the year of each block in blocks.csv and the years of each method in
-    years.csv. It also gets schedule.csv, schedule.json, milling.csv if ore is divided into bins, a workbook of the tables, and pictures.
+    years.csv. It also gets schedule.csv, schedule.json, mill_feed.csv if ore is divided into bins, a workbook of the tables, and pictures.
     An interruption while programmes are solved ends these only, and schedule.json records it.
 
     Parameters
@@ -50,11 +50,11 @@ def write_schedule(project: Source, folder: Optional[Place] = None, writing: Wri
     target = project.folder / "schedule" if folder is None else Path(folder)
     xlsx.demand_library()
     with begun(project, target, writing, nested.ending(project)) as run:
-        phases = nested.divide(run.mine.plan, run.mine, writing.progress)
-        schedule = phase_schedule.make(phases, writing.progress)
-        run.record["notes"] += [*phases.notes, *phase_schedule.notes(schedule)]
-        write_answer(Answered(phases.plan, phases.solution, phases, schedule), run)
-    return phase_schedule.ways(schedule)
+        pushbacks = nested.divide(run.mine.plan, run.mine, writing.progress)
+        schedule = pushback_schedule.make(pushbacks, writing.progress)
+        run.record["notes"] += [*pushbacks.notes, *pushback_schedule.notes(schedule)]
+        write_answer(Answered(pushbacks.plan, pushbacks.solution, pushbacks, schedule), run)
+    return pushback_schedule.ways(schedule)
 
 
 def write_block_schedule(project: Source, folder: Optional[Place] = None, writing: Writing = Writing()) -> pd.DataFrame:

@@ -39,14 +39,14 @@ PICTURES = {
     "plans": "plans.png",
     "sections": "sections.png",
 }
-PHASE_PICTURES = {"phase_plans": "phase_plans.png", "phase_sections": "phase_sections.png"}
+PUSHBACK_PICTURES = {"pushback_plans": "pushback_plans.png", "pushback_sections": "pushback_sections.png"}
 SCHEDULE_PICTURES = {
     "schedule_gantt": "schedule_gantt.png",
     "schedule_tonnes": "schedule_tonnes.png",
     "schedule_value": "schedule_value.png",
 }
 BLOCK_PICTURES = {"block_schedule": block_schedule.NAME}
-FIGURES = tuple((PICTURES | PHASE_PICTURES | SCHEDULE_PICTURES | BLOCK_PICTURES).values())
+FIGURES = tuple((PICTURES | PUSHBACK_PICTURES | SCHEDULE_PICTURES | BLOCK_PICTURES).values())
 REPORT, VIEW, WORKBOOK = "report.html", "view.html", "schedule.xlsx"
 # The files that every run writes or removes.
 ALWAYS = (*mine_files.OF_PROGRAM, names.RECORD, names.TABLE, project_writer.AS_RUN)
@@ -54,7 +54,7 @@ WRITTEN = {
     *ALWAYS,
     names.SHELLS,
     names.YEARS,
-    names.PHASES,
+    names.PUSHBACKS,
     *(names.SCHEDULE, names.SCHEDULE_RECORD, names.MILLING, WORKBOOK),
     *(names.BLOCK_SCHEDULE, names.WAYS),
     *(REPORT, VIEW),

@@ -6,8 +6,8 @@ from typing import TYPE_CHECKING, Any
 
 from pitplan.errors import PlanError
 
-from .economics import ByRegion
-from .schedule import ScheduleRules
+from .economics import ByDomain
+from .schedule import FEED, TOTAL, ScheduleRules
 
 if TYPE_CHECKING:
     from .project import Project
@@ -21,12 +21,12 @@ def demand_agreement(project: Project) -> None:
     for way in project.ways:
         priced += [
             way.money.processing_cost,
-            *(share for metal in way.metals for share in (metal.recovery, metal.fixed_tail)),
+            *(share for metal in way.metals for share in (metal.recovery, metal.tail_grade)),
         ]
-    if project.table.rock is None and any(isinstance(price, dict) for price in priced):
-        raise PlanError(f"{path}: [table] rock: is missing, and prices or recoveries are given by rock")
-    if project.table.region is None and any(isinstance(price, ByRegion) for price in priced):
-        raise PlanError(f"{path}: [table] region: is missing, and mining recovery or dilution is given by region")
+    if project.table.rock_type is None and any(isinstance(price, dict) for price in priced):
+        raise PlanError(f"{path}: [table] rock_type: is missing, and prices or recoveries are given by rock type")
+    if project.table.domain is None and any(isinstance(price, ByDomain) for price in priced):
+        raise PlanError(f"{path}: [table] domain: is missing, and mining recovery or dilution is given by domain")
     if project.table.density and not project.table.volume and project.grid.size is None:
         raise PlanError(
             f"{path}: [grid] size: is missing, by which a density gives tonnes, unless [table] names a volume"
@@ -41,13 +41,13 @@ def demand_agreement(project: Project) -> None:
     if (
         varied
         and not project.haulage
-        and "haulage" in {*varied.vary, *(name for pair in varied.pairs for name in pair)}
+        and "haulage" in {*varied.parameters, *(name for pair in varied.pairs for name in pair)}
     ):
         raise PlanError(f"{path}: [sensitivity] varies haulage, and there is no section [haulage]")
-    for name in project.schedule_rules.metal_per_year if project.schedule_rules else ():
+    for name in project.schedule_rules.max_metal_per_year if project.schedule_rules else ():
         if name not in names:
             raise PlanError(
-                f"{path}: [schedule] metal_per_year names {name}, which is none of the [[metals]] {', '.join(names)}"
+                f"{path}: [schedule] max_metal_per_year names {name}, which is none of the [[metals]] {', '.join(names)}"
             )
     if project.scenarios is not None:
         named = [*project.scenarios.columns, *(name for prices in project.scenarios.prices for name in prices)]
@@ -59,16 +59,16 @@ def demand_agreement(project: Project) -> None:
 def demand_ground(project: Project) -> None:
     """Refuses an as-mined surface if the original ground is unknown or is given twice."""
     rules, path = project.fixed, project.path
-    if rules is None or rules.surface is None:
+    if rules is None or rules.as_mined is None:
         return
     named = bool(rules.topography or rules.by_blocks)
     if named and project.table.topography:
         raise PlanError(
-            f"{path}: [fixed] topography: [table] topography is the original ground already: leave one of them out"
+            f"{path}: [constraints] topography: [table] topography is the original ground already: leave one of them out"
         )
     if not named and not project.table.topography:
         raise PlanError(
-            f"{path}: [fixed] topography: is missing: the mined volume lies between the original ground and the as-mined surface. Give the file "
+            f"{path}: [constraints] topography: is missing: the mined volume lies between the original ground and the as-mined surface. Give the file "
             'of the original ground if the tonnes of the table are cut by it, or "blocks" if all blocks are whole'
         )
 
@@ -79,40 +79,43 @@ def demand_sums_agree(project: Project) -> None:
     if rules is None:
         return
     shells, metals = project.schedule, [metal.name for metal in project.metals]
-    most = {"ore": rules.ore_per_year or shells.ore_per_year, "rock": rules.rock_per_year or shells.rock_per_year}
-    most |= rules.metal_per_year | {process.name: process.per_year for process in project.processes}
+    most = {
+        FEED: rules.processing_capacity or shells.processing_capacity,
+        TOTAL: rules.mining_capacity or shells.mining_capacity,
+    }
+    most |= rules.max_metal_per_year | {process.name: process.capacity for process in project.processes}
     several = "stands for several things: call the metal or the process otherwise"
-    for name, least in rules.least.items():
-        if name not in ("ore", "rock", *metals, *names):
+    for name, least in rules.minimum.items():
+        if name not in (FEED, TOTAL, *metals, *names):
             raise PlanError(
-                f"{project.path}: [schedule.least] {name}: is none of {', '.join(('ore', 'rock', *metals, *names))}"
+                f"{project.path}: [schedule.minimum] {name}: is none of {', '.join((FEED, TOTAL, *metals, *names))}"
             )
-        if ("ore", "rock", *metals, *names).count(name) > 1:
-            raise PlanError(f"{project.path}: [schedule.least] {name}: {several}")
+        if (FEED, TOTAL, *metals, *names).count(name) > 1:
+            raise PlanError(f"{project.path}: [schedule.minimum] {name}: {several}")
         if (limit := most.get(name)) and least > limit:
             raise PlanError(
-                f"{project.path}: [schedule.least] {name}: {least:.10g} is above the most of a year, {limit:.10g}"
+                f"{project.path}: [schedule.minimum] {name}: {least:.10g} is above the most of a year, {limit:.10g}"
             )
-    for it in rules.sums:
-        if it.of not in ("ore", "rock", *names):
+    for it in rules.limits:
+        if it.of not in (FEED, TOTAL, *names):
             raise PlanError(
-                f"{project.path}: [schedule.sums] {it.name}: of {it.of} is none of {', '.join(('rock', 'ore', *names))}"
+                f"{project.path}: [schedule.limits] {it.name}: of {it.of} is none of {', '.join((TOTAL, FEED, *names))}"
             )
-        if ("ore", "rock", *names).count(it.of) > 1:
-            raise PlanError(f"{project.path}: [schedule.sums] {it.name}: of {it.of} {several}")
+        if (FEED, TOTAL, *names).count(it.of) > 1:
+            raise PlanError(f"{project.path}: [schedule.limits] {it.name}: of {it.of} {several}")
     demand_sums_of_parts(project, rules)
 
 
 def demand_sums_of_parts(project: Project, rules: ScheduleRules) -> None:
     """Refuses sums of whole blocks where a topography cuts these, and where those that are put together have the means of that column."""
-    means = {*rules.columns_of(a_tonne=True), *(metal.column for metal in project.metals)}
-    for it in [it for it in rules.sums if not it.a_tonne]:
+    means = {*rules.columns_of(per_tonne=True), *(metal.column for metal in project.metals)}
+    for it in [it for it in rules.limits if not it.per_tonne]:
         if project.table.topography:
-            why = "is of whole blocks, and [table] topography cuts some: give it a_tonne, or leave out one of the two"
-            raise PlanError(f"{project.path}: [schedule.sums] {it.name}: {why}")
+            why = "is of whole blocks, and [table] topography cuts some: give it per_tonne, or leave out one of the two"
+            raise PlanError(f"{project.path}: [schedule.limits] {it.name}: {why}")
         if project.table.reblock and it.column in means:
             why = f"{it.column} is of a tonne too, and [table] reblock makes means of that: let the table have it twice"
-            raise PlanError(f"{project.path}: [schedule.sums] {it.name}: {why}")
+            raise PlanError(f"{project.path}: [schedule.limits] {it.name}: {why}")
 
 
 def demand_processes_agree(project: Project) -> None:
@@ -128,7 +131,7 @@ def demand_processes_agree(project: Project) -> None:
                     f"{path}: [[processes]] {process.name} recovers {name}, which is none of the [[metals]] {', '.join(metals)}"
                 )
     rules = project.schedule_rules
-    if names and rules and (rules.bins is not None or rules.ore_per_year is not None):
+    if names and rules and (rules.bins is not None or rules.processing_capacity is not None):
         raise PlanError(
-            f"{path}: [schedule] bins and ore_per_year are of one process: leave them out, or [[processes]]"
+            f"{path}: [schedule] bins and processing_capacity are of one process: leave them out, or [[processes]]"
         )

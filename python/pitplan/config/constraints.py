@@ -1,4 +1,4 @@
-"""What `[fixed]` of a project says: what must be dug, and what may not be."""
+"""What `[constraints]` of a project says: what must be dug, and what may not be."""
 
 from __future__ import annotations
 
@@ -19,24 +19,24 @@ class Area:
     may not be dug."""
 
     polygon: SurveyFile
-    barred: str
+    exclude: str
 
 
 @dataclass(frozen=True)
 class FixedRules:
     """What must be dug, and what may not be.
 
-    forced   a column of the table: blocks with a number above 0 must be dug
-    barred   a column of the table: blocks with a number above 0 may not be dug
-    surface  heights of the as-mined surface: blocks have the tonnes below it, and those that are mined must be dug
+    must_mine   a column of the table: blocks with a number above 0 are in every shell
+    exclude     a column of the table: blocks with a number above 0 are in no shell
+    as_mined    heights of the as-mined surface: blocks keep the tonnes below it, and mined blocks are in every shell
     topography  heights of the original ground, by which the table's tonnes are cut already; None: [table] topography, or the blocks' tops
     by_blocks   whether the original ground of the as-mined surface is the blocks' tops, since they are whole
     areas    what may not be dug on the map
     """
 
-    forced: Optional[str]
-    barred: Optional[str]
-    surface: Optional[SurveyFile]
+    must_mine: Optional[str]
+    exclude: Optional[str]
+    as_mined: Optional[SurveyFile]
     areas: tuple[Area, ...]
     topography: Optional[SurveyFile] = None
     by_blocks: bool = False
@@ -44,23 +44,23 @@ class FixedRules:
 
 def read_fixed(section: Section, folder: Path) -> FixedRules:
     rules = FixedRules(
-        forced=section.optional_text("forced"),
-        barred=section.optional_text("barred"),
-        surface=read_survey(section, "surface", folder) if section.has("surface") else None,
+        must_mine=section.optional_text("must_mine"),
+        exclude=section.optional_text("exclude"),
+        as_mined=read_survey(section, "as_mined", folder) if section.has("as_mined") else None,
         areas=tuple(read_area(area, folder) for area in section.sections("areas")) if section.has("areas") else (),
         by_blocks=section.has("topography") and section.get("topography") == BLOCKS,
         topography=read_survey(section, "topography", folder)
         if section.has("topography") and section.get("topography") != BLOCKS
         else None,
     )
-    if (rules.topography or rules.by_blocks) and not rules.surface:
-        raise section.wrong("topography", "is the original ground of an as-mined surface: give surface too")
+    if (rules.topography or rules.by_blocks) and not rules.as_mined:
+        raise section.wrong("topography", "is the original ground of an as-mined surface: give as_mined too")
     section.finish()
     return rules
 
 
 def read_area(section: Section, folder: Path) -> Area:
     polygon = read_survey(section, "polygon", folder, heights=False)
-    area = Area(polygon, section.choice("barred", ("inside", "outside"), None))
+    area = Area(polygon, section.choice("exclude", ("inside", "outside"), None))
     section.finish()
     return area

@@ -1,4 +1,4 @@
-"""What `[money]` and `[[metals]]` of a project say: prices, costs, and what of a block comes to the mill and is sold."""
+"""What `[economics]` and `[[metals]]` of a project say: prices, costs, and what of a block comes to the mill and is sold."""
 
 from __future__ import annotations
 
@@ -12,6 +12,8 @@ from .toml_section import Section
 # A price or a cost: one for every rock, or one for each rock by its code.
 ByRock = Union[Decimal, dict[str, Decimal]]
 
+# When ore is told from waste: again at each revenue factor, or once at the base price.
+PER_REVENUE_FACTOR, AT_BASE_PRICE = "per_revenue_factor", "base_price"
 # So many years are counted at most.
 MOST_YEARS = 1_000
 GRADE_UNITS = {"percent": Decimal("0.01"), "fraction": Decimal(1), "gram_per_tonne": Decimal(1)}
@@ -30,14 +32,14 @@ PRICE_PLACES = Decimal(1).scaleb(-12)
 
 
 @dataclass(frozen=True)
-class ByRegion:
+class ByDomain:
     """A number for each region, by its code."""
 
     values: dict[str, Decimal]
 
 
 # One for every block, or for each rock or each region.
-ByCode = Union[Decimal, dict[str, Decimal], ByRegion]
+ByCode = Union[Decimal, dict[str, Decimal], ByDomain]
 
 
 @dataclass(frozen=True)
@@ -57,7 +59,7 @@ class Metal:
 
     price_per   the unit of price, selling cost and prices: t, kg, g, lb or oz (troy); none: t, or g if the grade is in grams a tonne
     recovery    the share that is recovered of what comes to the mill, less the fixed tail; one, or by rock
-    fixed_tail  the grade, in the column's unit, of what is lost of each tonne that comes to the mill, whatever it holds
+    tail_grade  the grade, in the column's unit, of what is lost of each tonne that comes to the mill, whatever it holds
     prices      of each year from the first, in years and schedules, the last one staying; none: the price, as in the worth of blocks
     """
 
@@ -67,7 +69,7 @@ class Metal:
     price: Decimal
     selling_cost: Decimal
     recovery: Union[Recovery, dict[str, Recovery]]
-    fixed_tail: ByRock = Decimal(0)
+    tail_grade: ByRock = Decimal(0)
     prices: tuple[Decimal, ...] = ()
     price_per: Optional[str] = None
 
@@ -101,14 +103,14 @@ class Process:
     name: str
     cost: ByRock
     recovery: dict[str, Union[Recovery, dict[str, Recovery]]]
-    per_year: float
+    capacity: float
 
 
 @dataclass(frozen=True)
 class Money:
     """Costs a tonne, how many decimals of the currency are kept, and whether the cut-off moves with the price.
 
-    mining_cost_per_level     more a tonne for each level below the one that holds the reference
+    mining_cost_per_bench     more a tonne for each level below the one that holds the reference
     mining_cost_reference     an elevation in metres; None: the top of the highest block that any ore needs
     mining_cost_by_elevation  pairs of an elevation in metres and what mining costs more there, a tonne; rising
     mining_recovery           the share of a block's tonnes that comes to the mill, where it is ore
@@ -116,12 +118,12 @@ class Money:
     royalty                   a share of the revenue
     royalty_per_tonne         of what comes to the mill
     fixed_cost_per_year       in years and schedules alone
-    capital                   pairs of a year, from 1, and what is spent at its start, in years and schedules alone
+    capex                   pairs of a year, from 1, and what is spent at its start, in years and schedules alone
     """
 
     currency: str
     mining_cost: ByRock
-    mining_cost_per_level: Decimal
+    mining_cost_per_bench: Decimal
     mining_cost_reference: Optional[Decimal]
     mining_cost_by_elevation: tuple[tuple[Decimal, Decimal], ...]
     processing_cost: ByRock
@@ -132,35 +134,35 @@ class Money:
     royalty: Decimal = Decimal(0)
     royalty_per_tonne: Decimal = Decimal(0)
     fixed_cost_per_year: Decimal = Decimal(0)
-    capital: tuple[tuple[int, Decimal], ...] = ()
+    capex: tuple[tuple[int, Decimal], ...] = ()
 
 
-def read_money(section: Section, has_processes: bool = False) -> Money:
+def read_economics(section: Section, has_processes: bool = False) -> Money:
     if has_processes and section.has("processing_cost"):
         raise section.wrong("processing_cost", "give the cost of each of the [[processes]], not this")
     money = Money(
         currency=section.text("currency", "USD"),
         mining_cost=section.by_rock("mining_cost"),
-        mining_cost_per_level=section.number("mining_cost_per_level", Decimal(0), least=0),
+        mining_cost_per_bench=section.number("mining_cost_per_bench", Decimal(0), least=0),
         mining_cost_reference=read_reference(section),
         mining_cost_by_elevation=read_by_elevation(section),
         processing_cost=Decimal(0) if has_processes else section.by_rock("processing_cost"),
         decimals=section.whole("decimals", 6, 0, 6),
-        cutoff=section.choice("cutoff", ("moving", "fixed"), "moving"),
+        cutoff=section.choice("cutoff", (PER_REVENUE_FACTOR, AT_BASE_PRICE), PER_REVENUE_FACTOR),
         mining_recovery=read_by_code(section, "mining_recovery", Decimal(1), most=1),
         dilution=read_by_code(section, "dilution", Decimal(0)),
         royalty=section.number("royalty", Decimal(0), least=0),
         royalty_per_tonne=section.number("royalty_per_tonne", Decimal(0), least=0),
         fixed_cost_per_year=section.number("fixed_cost_per_year", Decimal(0), least=0),
-        capital=read_capital(section),
+        capex=read_capex(section),
     )
     section.finish()
-    if money.mining_cost_reference is not None and not section.has("mining_cost_per_level"):
+    if money.mining_cost_reference is not None and not section.has("mining_cost_per_bench"):
         raise section.wrong(
-            "mining_cost_reference", "says from where on mining_cost_per_level is added, which is missing"
+            "mining_cost_reference", "says from where on mining_cost_per_bench is added, which is missing"
         )
-    if money.mining_cost_by_elevation and section.has("mining_cost_per_level"):
-        raise section.wrong("mining_cost_by_elevation", "give it or mining_cost_per_level, not both")
+    if money.mining_cost_by_elevation and section.has("mining_cost_per_bench"):
+        raise section.wrong("mining_cost_by_elevation", "give it or mining_cost_per_bench, not both")
     if money.royalty >= 1:
         raise section.wrong("royalty", f"{money.royalty} is a share of the revenue, such as 0.03 for 3 %")
     return money
@@ -173,17 +175,17 @@ def read_reference(section: Section) -> Optional[Decimal]:
 
 
 def read_by_code(section: Section, key: str, default: Decimal, most: Optional[int] = None) -> ByCode:
-    """A number for all blocks, by rock, or as `{ region = { CODE = number } }` by region."""
+    """A number for all blocks, by rock, or as `{ domain = { CODE = number } }` by domain."""
     if not section.has(key):
         return default
     value = section.get(key)
-    if not isinstance(value, dict) or not isinstance(value.get("region"), dict):
+    if not isinstance(value, dict) or not isinstance(value.get("domain"), dict):
         return section.by_rock(key, most)
     inner = section.section(key)
-    by_region = inner.by_rock("region", most)
+    by_region = inner.by_rock("domain", most)
     inner.finish()
     assert isinstance(by_region, dict)
-    return ByRegion(by_region)
+    return ByDomain(by_region)
 
 
 def read_by_elevation(section: Section) -> tuple[tuple[Decimal, Decimal], ...]:
@@ -198,18 +200,18 @@ def read_by_elevation(section: Section) -> tuple[tuple[Decimal, Decimal], ...]:
     return tuple(pairs)
 
 
-def read_capital(section: Section) -> tuple[tuple[int, Decimal], ...]:
+def read_capex(section: Section) -> tuple[tuple[int, Decimal], ...]:
     """Pairs of a year and an amount, by rising year."""
-    if not section.has("capital"):
+    if not section.has("capex"):
         return ()
-    pairs = sorted(section.pairs("capital", "year, amount"))
+    pairs = sorted(section.pairs("capex", "year, amount"))
     if any(year != int(year) or not 1 <= year <= MOST_YEARS or amount < 0 for year, amount in pairs):
-        raise section.wrong("capital", f"years are whole, from 1 to {MOST_YEARS:,}, and amounts may not be negative")
+        raise section.wrong("capex", f"years are whole, from 1 to {MOST_YEARS:,}, and amounts may not be negative")
     return tuple((int(year), amount) for year, amount in pairs)
 
 
 def read_metal(section: Section, has_processes: bool = False) -> Metal:
-    for key in ("recovery", "fixed_tail") if has_processes else ():
+    for key in ("recovery", "tail_grade") if has_processes else ():
         if section.has(key):
             raise section.wrong(key, "give the recoveries of each of the [[processes]], not this")
     metal = Metal(
@@ -219,7 +221,7 @@ def read_metal(section: Section, has_processes: bool = False) -> Metal:
         price=section.number("price", least=0),
         selling_cost=section.number("selling_cost", Decimal(0), least=0),
         recovery=Decimal(0) if has_processes else read_recovery(section, "recovery"),
-        fixed_tail=section.by_rock("fixed_tail") if section.has("fixed_tail") else Decimal(0),
+        tail_grade=section.by_rock("tail_grade") if section.has("tail_grade") else Decimal(0),
         prices=section.amounts("prices", "of prices, one a year, such as [8000, 8200]; the last one stays"),
         price_per=section.choice("price_per", tuple(GRAMS), None) if section.has("price_per") else None,
     )
@@ -239,7 +241,7 @@ def read_process(section: Section) -> Process:
         name=name,
         cost=section.by_rock("cost"),
         recovery={metal: read_recovery(by_metal, metal) for metal in by_metal.data},
-        per_year=float(section.number("per_year", least=1)),
+        capacity=float(section.number("capacity", least=1)),
     )
     section.finish()
     return process

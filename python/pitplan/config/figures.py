@@ -1,4 +1,4 @@
-"""What `[pictures]` of a project says: which levels, sections and metal are drawn, and as what besides PNG."""
+"""What `[figures]` of a project says: which levels, sections and metal are drawn, and as what besides PNG."""
 
 from __future__ import annotations
 

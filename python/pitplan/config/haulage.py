@@ -16,37 +16,35 @@ class Road:
     """What one of ore and waste is hauled for: the cost of a tonne and kilometre, one way, and metres of road from the exit on."""
 
     cost: Decimal
-    beyond: Decimal
+    ex_pit_distance: Decimal
 
 
 @dataclass(frozen=True)
 class Haulage:
     """Roads to one exit of the pit.
 
-    exit      the planner's x, y, z in metres of the place where the road leaves the pit
-    gradient  metres that a ramp rises for each metre in plan
+    pit_exit      the planner's x, y, z in metres of the place where the road leaves the pit
+    ramp_gradient metres that a ramp rises for each metre in plan
     ore       from the exit to the mill; `waste` to the dump
     """
 
-    exit: tuple[Decimal, Decimal, Decimal]
-    gradient: Decimal
+    pit_exit: tuple[Decimal, Decimal, Decimal]
+    ramp_gradient: Decimal
     ore: Road
     waste: Road
 
 
 def read_haulage(section: Section) -> Haulage:
     """Raises PlanError, with the key, where one is missing or wrong."""
-    place = section.get("exit")
+    place = section.get("pit_exit")
     if not isinstance(place, list) or len(place) != 3:
-        raise section.wrong("exit", "must be a list of 3 numbers, x, y and z")
-    x, y, z = (section.as_coordinate("exit", item) for item in place)
-    costs, beyond = (of_kinds(section, key, required) for key, required in (("cost", True), ("beyond", False)))
-    gradient = section.number("gradient")
+        raise section.wrong("pit_exit", "must be a list of 3 numbers, x, y and z")
+    x, y, z = (section.as_coordinate("pit_exit", item) for item in place)
+    costs, beyond = (of_kinds(section, key, required) for key, required in (("cost", True), ("ex_pit_distance", False)))
+    gradient = section.number("ramp_gradient")
     section.finish()
     if not 0 < gradient <= STEEPEST:
-        raise section.wrong(
-            "gradient", f"{gradient} is no rise for a metre in plan from above 0 to {STEEPEST}, such as 0.1 for 10 %"
-        )
+        raise section.wrong("ramp_gradient", f"found {gradient}, expected above 0 and at most {STEEPEST} (0.1 = 10 %)")
     ore, waste = (Road(costs[kind], beyond[kind]) for kind in KINDS)
     return Haulage((x, y, z), gradient, ore, waste)
 

@@ -9,7 +9,7 @@ from pitplan.errors import PlanError
 
 from . import toml_text
 
-EXAMPLE = "such as money.mining_cost=2.6 or metals.copper.price=9000"
+EXAMPLE = "such as economics.mining_cost=2.6 or metals.copper.price=9000"
 
 
 def overridden(data: dict[str, Any], assignments: Iterable[str]) -> dict[str, Any]:
@@ -20,8 +20,8 @@ def overridden(data: dict[str, Any], assignments: Iterable[str]) -> dict[str, An
     data : dict
         The sections, as TOML has them.
     assignments : iterable of str
-        Each `KEY=VALUE`. KEY names the section and the key, with points between: `money.mining_cost`. An entry of a list of sections is
-        named by its `name`, or by its number from 1: `metals.copper.price`, `slopes.walls.2.angle`. VALUE is TOML; a word that is none,
+        Each `KEY=VALUE`. KEY names the section and the key, with points between: `economics.mining_cost`. An entry of a list of sections is
+        named by its `name`, or by its number from 1: `metals.copper.price`, `slopes.domains.2.angle`. VALUE is TOML; a word that is none,
         such as AUD, is a text.
 
     Raises

@@ -13,11 +13,11 @@ from pitplan.errors import PlanError
 from . import toml_text
 from .agreement import demand_agreement
 from .constraints import FixedRules, read_fixed
-from .economics import Metal, Money, Process, read_metal, read_money, read_process
+from .economics import Metal, Money, Process, read_economics, read_metal, read_process
 from .figures import PictureRules, read_pictures
 from .haulage import Haulage, read_haulage
 from .overrides import overridden
-from .pushbacks import PhaseRules, read_phases
+from .pushbacks import PushbackRules, read_pushbacks
 from .scenarios import Scenarios, read_scenarios
 from .schedule import ScheduleRules, read_schedule_rules
 from .sensitivity import SensitivityRules, read_sensitivity
@@ -45,7 +45,7 @@ class Project:
     folder: Path
     scenarios: Optional[Scenarios] = None
     fixed: Optional[FixedRules] = None
-    phases: Optional[PhaseRules] = None
+    pushbacks: Optional[PushbackRules] = None
     schedule_rules: Optional[ScheduleRules] = None
     processes: tuple[Process, ...] = ()
     sensitivity: Optional[SensitivityRules] = None
@@ -62,7 +62,7 @@ class Project:
     def inputs(self) -> tuple[Path, ...]:
         """The project's own file, and those that a plan is made of: its table, a topography, a surface as mined, and areas."""
         rules = self.fixed
-        surfaces = (self.table.topography, *((rules.topography, rules.surface) if rules else ()))
+        surfaces = (self.table.topography, *((rules.topography, rules.as_mined) if rules else ()))
         areas = () if rules is None else (area.polygon for area in rules.areas)
         return (self.path, self.table.file, *(path for file in (*surfaces, *areas) if file for path in file.parts))
 
@@ -74,7 +74,7 @@ class Project:
     @property
     def cuts_blocks(self) -> bool:
         """Whether blocks have less than the table's tonnes, by a topography or an as-mined surface."""
-        return bool(self.table.topography or self.fixed and self.fixed.surface)
+        return bool(self.table.topography or self.fixed and self.fixed.as_mined)
 
     def to_toml(self, folder: Optional[Path] = None) -> str:
         """The text of a project.toml in a folder, by default that of the project's own file. It reads back as this project, but for `path`
@@ -98,7 +98,7 @@ def load(path: Union[str, Path], original: Optional[Path] = None, overrides: Ite
     original : Path, optional
         The file of which `path` is a copy: paths in the project are relative to its folder.
     overrides : iterable of str
-        Keys to set in place of those of the file, each `KEY=VALUE`, such as `money.mining_cost=2.6`.
+        Keys to set in place of those of the file, each `KEY=VALUE`, such as `economics.mining_cost=2.6`.
 
     Raises
     ------
@@ -150,14 +150,14 @@ def of_data(data: dict[str, Any], path: Path, source: Optional[str] = None) -> P
         title=read_title(top, path.parent.name or "plan"),
         table=read_table(top.section("table"), path.parent),
         grid=read_grid(top.section("grid", optional=True)),
-        money=read_money(top.section("money"), bool(processes)),
+        money=read_economics(top.section("economics"), bool(processes)),
         metals=tuple(read_metal(section, bool(processes)) for section in top.sections("metals")),
         slopes=read_slopes(top.section("slopes")),
         schedule=read_schedule(top.section("shells"), processes),
         folder=path.parent / output.text("folder", "plan"),
         scenarios=read_scenarios(top.section("scenarios"), path.parent) if top.has("scenarios") else None,
-        fixed=read_fixed(top.section("fixed"), path.parent) if top.has("fixed") else None,
-        phases=read_phases(top.section("pushbacks")) if top.has("pushbacks") else None,
+        fixed=read_fixed(top.section("constraints"), path.parent) if top.has("constraints") else None,
+        pushbacks=read_pushbacks(top.section("pushbacks")) if top.has("pushbacks") else None,
         schedule_rules=read_schedule_rules(top.section("schedule")) if top.has("schedule") else None,
         processes=processes,
         haulage=read_haulage(top.section("haulage")) if top.has("haulage") else None,
@@ -165,8 +165,8 @@ def of_data(data: dict[str, Any], path: Path, source: Optional[str] = None) -> P
     metals = tuple(metal.name for metal in project.metals)
     if top.has("sensitivity"):
         project = replace(project, sensitivity=read_sensitivity(top.section("sensitivity"), metals))
-    if top.has("pictures"):
-        project = replace(project, pictures=read_pictures(top.section("pictures"), metals))
+    if top.has("figures"):
+        project = replace(project, pictures=read_pictures(top.section("figures"), metals))
     output.finish()
     top.finish()
     demand_agreement(project)

@@ -11,15 +11,15 @@ from typing import Any, Optional, Union
 from pitplan.config.project import Project, load
 from pitplan.config.scenarios import Scenarios
 from pitplan.config.shells import Schedule
-from pitplan.config.table import AbsentRock, GridRules, Reblock, TableColumns
+from pitplan.config.table import GridRules, MissingRock, Reblock, TableColumns
 from pitplan.core.atomic_files import hash_of
 from pitplan.core.revenue_factors import BASE_PRICE
 
 from .constraints import BLOCKS, FixedRules
-from .economics import ByRegion, Curve, Metal, Money, Process
+from .economics import ByDomain, Curve, Metal, Money, Process
 from .figures import PictureRules
 from .haulage import KINDS, Haulage
-from .pushbacks import PhaseRules
+from .pushbacks import PushbackRules
 from .schedule import ScheduleRules, Sum
 from .sensitivity import SensitivityRules
 from .slopes import WALL, Slopes, Wall
@@ -39,18 +39,18 @@ def of_project(project: Project, folder: Path) -> str:
         "output": {"folder": place(project.folder, folder)},
         "table": of_table(project.table, folder),
         "grid": of_grid(project.grid),
-        "money": of_money(project.money, has_processes),
+        "economics": of_money(project.money, has_processes),
         "metals": [of_metal(metal, has_processes) for metal in project.metals],
         "processes": [of_process(process) for process in project.processes],
         "slopes": of_slopes(project.slopes),
         "shells": of_shells(project.schedule),
         "haulage": project.haulage and of_haulage(project.haulage),
-        "fixed": project.fixed and of_fixed(project.fixed, folder),
-        "pushbacks": project.phases and of_phases(project.phases),
+        "constraints": project.fixed and of_fixed(project.fixed, folder),
+        "pushbacks": project.pushbacks and of_pushbacks(project.pushbacks),
         "schedule": project.schedule_rules and of_schedule(project.schedule_rules),
         "sensitivity": project.sensitivity and of_sensitivity(project.sensitivity),
         "scenarios": project.scenarios and of_scenarios(project.scenarios, folder),
-        "pictures": project.pictures and of_pictures(project.pictures),
+        "figures": project.pictures and of_pictures(project.pictures),
     }
     lines = [f"title = {shown(project.title)}"]
     for name, values in sections.items():
@@ -131,20 +131,33 @@ def of_survey(file: Optional[SurveyFile], folder: Path) -> Any:
     return {"file": place(file.path, folder), "layer": file.layers or None, "height": file.height}
 
 
-def of_absent(absent: Union[str, AbsentRock]) -> Union[str, Values]:
-    if not isinstance(absent, AbsentRock):
-        return absent
-    return {"tonnes": absent.tonnes, "rock": absent.rock or None, "region": absent.region or None}
+def of_missing(missing: Union[str, MissingRock]) -> Union[str, Values]:
+    if not isinstance(missing, MissingRock):
+        return missing
+    return {"tonnes": missing.tonnes, "rock_type": missing.rock_type or None, "domain": missing.domain or None}
 
 
 def of_table(table: TableColumns, folder: Path) -> Values:
-    names = ("x", "y", "z", "density", "volume", "id", "rock", "region", "separator", "decimal", "encoding", "empty")
-    values, absent = {name: getattr(table, name) for name in names}, of_absent(table.absent)
+    names = (
+        "x",
+        "y",
+        "z",
+        "density",
+        "volume",
+        "id",
+        "rock_type",
+        "domain",
+        "separator",
+        "decimal",
+        "encoding",
+        "empty",
+    )
+    values, missing = {name: getattr(table, name) for name in names}, of_missing(table.missing_blocks)
     return {
         "file": place(table.file, folder),
         **values,
         "tonnes": None if table.density else table.tonnes,
-        "absent": absent,
+        "missing_blocks": missing,
         "reblock": of_reblock(table.reblock) if table.reblock else None,
         "topography": of_survey(table.topography, folder),
     }
@@ -159,22 +172,22 @@ def of_grid(grid: GridRules) -> Values:
 
 
 def of_money(money: Money, has_processes: bool) -> Values:
-    """`mining_cost_per_level` is left out where it is 0 and no elevation refers to it, since it does not go with costs by elevation."""
+    """`mining_cost_per_bench` is left out where it is 0 and no elevation refers to it, since it does not go with costs by elevation."""
     values = {name: getattr(money, name) for name in Money.__dataclass_fields__}
-    by_level = money.mining_cost_per_level or money.mining_cost_reference is not None
+    by_level = money.mining_cost_per_bench or money.mining_cost_reference is not None
     return {
         **values,
-        "mining_cost_per_level": money.mining_cost_per_level if by_level else None,
+        "mining_cost_per_bench": money.mining_cost_per_bench if by_level else None,
         "mining_cost_by_elevation": money.mining_cost_by_elevation or None,
         "processing_cost": None if has_processes else money.processing_cost,
         "mining_recovery": of_code(money.mining_recovery),
         "dilution": of_code(money.dilution),
-        "capital": money.capital or None,
+        "capex": money.capex or None,
     }
 
 
 def of_code(value: Any) -> Any:
-    return {"region": value.values} if isinstance(value, ByRegion) else value
+    return {"domain": value.values} if isinstance(value, ByDomain) else value
 
 
 def of_recovery(value: Any) -> Any:
@@ -185,29 +198,29 @@ def of_recovery(value: Any) -> Any:
 
 def of_metal(metal: Metal, has_processes: bool) -> Values:
     values = {name: getattr(metal, name) for name in ("name", "column", "unit", "price", "selling_cost")}
-    recovery = {} if has_processes else {"recovery": of_recovery(metal.recovery), "fixed_tail": metal.fixed_tail}
+    recovery = {} if has_processes else {"recovery": of_recovery(metal.recovery), "tail_grade": metal.tail_grade}
     return {**values, **recovery, "prices": metal.prices or None, "price_per": metal.price_per}
 
 
 def of_process(process: Process) -> Values:
     recovery = {metal: of_recovery(value) for metal, value in process.recovery.items()}
-    return {"name": process.name, "cost": process.cost, "recovery": recovery, "per_year": process.per_year}
+    return {"name": process.name, "cost": process.cost, "recovery": recovery, "capacity": process.capacity}
 
 
 def of_slopes(slopes: Slopes) -> Values:
     return {
-        "levels": slopes.levels,
+        "precedence_benches": slopes.precedence_benches,
         "never_steeper": slopes.never_steeper,
-        "walls": [of_wall(wall) for wall in slopes.walls],
+        "domains": [of_wall(wall) for wall in slopes.domains],
     }
 
 
 def of_wall(wall: Wall) -> Values:
-    found: Values = {"region": wall.regions}
+    found: Values = {"domain": wall.domains}
     if wall.bench:
         return found | {"bench": asdict(wall.bench)}
-    if wall.pattern or wall.steps:
-        return {**found, "pattern": wall.pattern} if wall.pattern else {**found, "steps": wall.steps}
+    if wall.pattern or wall.offsets:
+        return {**found, "pattern": wall.pattern} if wall.pattern else {**found, "offsets": wall.offsets}
     is_one = len(wall.angles) == 1 and wall.angles[0][0] == 0
     if is_one and wall.azimuth_of == WALL:
         return {**found, "angle": wall.angles[0][1]}
@@ -220,9 +233,9 @@ def of_shells(schedule: Schedule) -> Values:
     return {
         "revenue_factors": [factor for factor in schedule.revenue_factors if factor not in left],
         "selected": schedule.selected,
-        "rate": schedule.rate,
-        "ore_per_year": None if schedule.per_process else schedule.ore_per_year,
-        "rock_per_year": schedule.rock_per_year,
+        "discount_rate": schedule.discount_rate,
+        "processing_capacity": None if schedule.per_process else schedule.processing_capacity,
+        "mining_capacity": schedule.mining_capacity,
         "discounting": schedule.discounting,
     }
 
@@ -231,37 +244,38 @@ def of_haulage(haulage: Haulage) -> Values:
     roads = {kind: getattr(haulage, kind) for kind in KINDS}
     by_kind = {
         "cost": {kind: road.cost for kind, road in roads.items()},
-        "beyond": {kind: road.beyond for kind, road in roads.items()},
+        "ex_pit_distance": {kind: road.ex_pit_distance for kind, road in roads.items()},
     }
-    return {"exit": haulage.exit, "gradient": haulage.gradient, **by_kind}
+    return {"pit_exit": haulage.pit_exit, "ramp_gradient": haulage.ramp_gradient, **by_kind}
 
 
 def of_fixed(fixed: FixedRules, folder: Path) -> Values:
-    areas = [{"polygon": of_survey(area.polygon, folder), "barred": area.barred} for area in fixed.areas]
+    areas = [{"polygon": of_survey(area.polygon, folder), "exclude": area.exclude} for area in fixed.areas]
     ground = of_survey(fixed.topography, folder)
     # A file of that name, which is not the word.
     ground = f"./{BLOCKS}" if ground == BLOCKS else BLOCKS if fixed.by_blocks else ground
-    surfaces = {"surface": of_survey(fixed.surface, folder), "topography": ground}
-    return {"forced": fixed.forced, "barred": fixed.barred, **surfaces, "areas": areas or None}
+    surfaces = {"as_mined": of_survey(fixed.as_mined, folder), "topography": ground}
+    return {"must_mine": fixed.must_mine, "exclude": fixed.exclude, **surfaces, "areas": areas or None}
 
 
-def of_phases(rules: PhaseRules) -> Values:
+def of_pushbacks(rules: PushbackRules) -> Values:
     values = {
-        name: getattr(rules, name) for name in ("count", "tonnes", "revenue_factors", "ultimate_pit", "width", "bottom")
+        name: getattr(rules, name)
+        for name in ("count", "tonnes", "revenue_factors", "ultimate_pit", "min_mining_width", "min_bottom_width")
     }
     return {**values, "mining_cost_added": rules.mining_cost_added or None}
 
 
 def of_schedule(rules: ScheduleRules) -> Values:
-    names = ("ore_per_year", "rock_per_year", "sinking_rate", "lag", "ramp_up", "years", "bins")
+    names = ("processing_capacity", "mining_capacity", "vertical_advance_rate", "bench_lag", "ramp_up", "years", "bins")
     milp = rules.milp and {"gap": rules.milp.gap, "seconds": rules.milp.seconds and int(rules.milp.seconds)}
     return {
         **{name: getattr(rules, name) for name in names},
         "milp": milp,
-        "stockpile": None if rules.rehandling is None else {"rehandling_cost": rules.rehandling},
-        "metal_per_year": rules.metal_per_year or None,
-        "least": rules.least or None,
-        "sums": [of_sum(it) for it in rules.sums] or None,
+        "stockpile": None if rules.reclaim_cost is None else {"reclaim_cost": rules.reclaim_cost},
+        "max_metal_per_year": rules.max_metal_per_year or None,
+        "minimum": rules.minimum or None,
+        "limits": [of_sum(it) for it in rules.limits] or None,
     }
 
 
@@ -270,13 +284,18 @@ def of_sum(it: Sum) -> Values:
 
 
 def of_sensitivity(rules: SensitivityRules) -> Values:
-    return {"by": rules.by, "vary": rules.vary or None, "pairs": rules.pairs or None, "skin": rules.skin}
+    return {
+        "changes": rules.changes,
+        "parameters": rules.parameters or None,
+        "pairs": rules.pairs or None,
+        "skin": rules.skin,
+    }
 
 
 def of_scenarios(scenarios: Scenarios, folder: Path) -> Values:
     prices = [dict(one) for one in scenarios.prices if one]
     if scenarios.folder is not None:
-        return {"models": place(scenarios.folder, folder), "prices": prices or None}
+        return {"realisations": place(scenarios.folder, folder), "prices": prices or None}
     return {"columns": scenarios.columns, "prices": prices or None}
 
 

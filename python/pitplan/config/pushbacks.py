@@ -1,4 +1,4 @@
-"""What `[pushbacks]` of a project says: into which phases a pit is divided."""
+"""What `[pushbacks]` of a project says: into which pushbacks a pit is divided."""
 
 from __future__ import annotations
 
@@ -8,54 +8,54 @@ from typing import Optional
 
 from .toml_section import Section
 
-MOST_PHASES = 100
+MOST_PUSHBACKS = 100
 LEAST_FACTOR = 0.001
 WAYS = ("count", "tonnes", "revenue_factors")
 
 
 @dataclass(frozen=True)
-class PhaseRules:
-    """How a pit is divided into phases: by one of count, tonnes and revenue_factors; the other two are None.
+class PushbackRules:
+    """How a pit is divided into pushbacks: by one of count, tonnes and revenue_factors; the other two are None.
 
-    count    so many phases of even tonnage
-    tonnes   even phases of about so many tonnes of rock each
-    revenue_factors  those of the phases' shells, rising
-    ultimate_pit     the revenue factor of the last phase's shell; None: the project's selected one, else the one that `shells` selects
-    width    metres that a phase is wide on each level at least; None: any
-    bottom   metres that the pit up to a phase is wide on each level at least, its bottom with it; None: any
-    mining_cost_added  of each phase what digging a tonne costs more there, in money; none: nothing
+    count    so many pushbacks of even tonnage
+    tonnes   even pushbacks of about so many tonnes of rock each
+    revenue_factors  those of the pushbacks' shells, rising
+    ultimate_pit     the revenue factor of the last pushback's shell; None: the project's selected one, else the one that `shells` selects
+    width    metres that a pushback is wide on each level at least; None: any
+    bottom   metres that the pit up to a pushback is wide on each level at least, its bottom with it; None: any
+    mining_cost_added  of each pushback what digging a tonne costs more there, in money; none: nothing
     """
 
     count: Optional[int]
     tonnes: Optional[float]
     revenue_factors: Optional[tuple[float, ...]]
     ultimate_pit: Optional[float]
-    width: Optional[float] = None
-    bottom: Optional[float] = None
+    min_mining_width: Optional[float] = None
+    min_bottom_width: Optional[float] = None
     mining_cost_added: tuple[Decimal, ...] = ()
 
 
-def read_phases(section: Section) -> PhaseRules:
+def read_pushbacks(section: Section) -> PushbackRules:
     """The section's rules. Raises PlanError, with the key, where one is missing or wrong."""
     given = [key for key in WAYS if section.has(key)]
     if len(given) != 1:
         raise section.wrong(given[1] if given else WAYS[0], f"give exactly one of {', '.join(WAYS)}")
     if section.has("ultimate_pit") and given == ["revenue_factors"]:
         raise section.wrong("ultimate_pit", "is the last of the revenue_factors: leave it out")
-    rules = PhaseRules(
-        count=section.whole("count", 1, 1, MOST_PHASES) if given == ["count"] else None,
+    rules = PushbackRules(
+        count=section.whole("count", 1, 1, MOST_PUSHBACKS) if given == ["count"] else None,
         tonnes=float(section.number("tonnes")) if given == ["tonnes"] else None,
         revenue_factors=read_factors(section) if given == ["revenue_factors"] else None,
         ultimate_pit=section.revenue_factor("ultimate_pit", LEAST_FACTOR) if section.has("ultimate_pit") else None,
-        width=read_metres(section, "width"),
-        bottom=read_metres(section, "bottom"),
+        min_mining_width=read_metres(section, "min_mining_width"),
+        min_bottom_width=read_metres(section, "min_bottom_width"),
         mining_cost_added=section.amounts(
-            "mining_cost_added", "with what a tonne costs more in each phase, such as [0, 0.15]"
+            "mining_cost_added", "with what a tonne costs more in each pushback, such as [0, 0.15]"
         ),
     )
     section.finish()
     if rules.tonnes is not None and rules.tonnes <= 0:
-        raise section.wrong("tonnes", "a phase has more than 0 tonnes")
+        raise section.wrong("tonnes", "a pushback has more than 0 tonnes")
     return rules
 
 
@@ -72,6 +72,6 @@ def read_factors(section: Section) -> tuple[float, ...]:
     factors = tuple(sorted(set(section.revenue_factors("revenue_factors"))))
     if factors[0] < LEAST_FACTOR:
         raise section.wrong("revenue_factors", "found 0, expected 0.001 or more for each pushback")
-    if len(factors) > MOST_PHASES:
-        raise section.wrong("revenue_factors", f"found {len(factors):,}, expected {MOST_PHASES} at most")
+    if len(factors) > MOST_PUSHBACKS:
+        raise section.wrong("revenue_factors", f"found {len(factors):,}, expected {MOST_PUSHBACKS} at most")
     return factors

@@ -25,9 +25,9 @@ class Scenarios:
 
 
 def read_scenarios(section: Section, folder: Path) -> Scenarios:
-    given = [key for key in ("models", "columns") if section.has(key)]
+    given = [key for key in ("realisations", "columns") if section.has(key)]
     if len(given) != 1:
-        raise section.wrong("models", "give exactly one of models, a folder, and columns, by metal")
+        raise section.wrong("realisations", "give exactly one of realisations, a folder, and columns, by metal")
     columns: dict[str, tuple[str, ...]] = {}
     if given == ["columns"]:
         by_metal = section.section("columns")
@@ -36,7 +36,7 @@ def read_scenarios(section: Section, folder: Path) -> Scenarios:
             raise section.wrong("columns", "name the columns of at least one metal")
     priced = section.sections("prices") if section.has("prices") else []
     scenarios = Scenarios(
-        folder=folder / section.text("models") if given == ["models"] else None,
+        folder=folder / section.text("realisations") if given == ["realisations"] else None,
         columns=columns,
         prices=tuple({name: one.number(name, least=0) for name in one.data} for one in priced) or ({},),
     )

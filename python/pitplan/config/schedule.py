@@ -1,4 +1,4 @@
-"""What `[schedule]` of a project says: the limits of a year, and how phases follow each other."""
+"""What `[schedule]` of a project says: the limits of a year, and how pushbacks follow each other."""
 
 from __future__ import annotations
 
@@ -12,7 +12,7 @@ from .toml_section import Section
 MOST_YEARS, MOST_BENCHES = 200, 1_000
 MOST_BINS = 50
 MOST_SECONDS = 7 * 24 * 3600
-ROCK, ORE = "rock", "ore"
+TOTAL, FEED = "total", "feed"
 
 
 @dataclass(frozen=True)
@@ -35,81 +35,83 @@ class Sum:
     name: str
     column: str
     of: str
-    a_tonne: bool
-    least: Optional[float]
-    most: Optional[float]
+    per_tonne: bool
+    min: Optional[float]
+    max: Optional[float]
 
 
 @dataclass(frozen=True)
 class ScheduleRules:
-    """The limits of a year, and how phases follow each other.
+    """The limits of a year, and how pushbacks follow each other.
 
-    ore_per_year    tonnes that the mill takes; None: as `[shells]` says
-    rock_per_year   tonnes that the shovels take; None: as `[shells]` says, which may have no limit
-    metal_per_year  by metal the most that is recovered: tonnes, or grams where the grade is in grams a tonne
-    sinking_rate    the most benches by which a phase sinks in a year; None: any
-    lag             by how many benches a phase is behind the one before at least
+    processing_capacity    tonnes that the mill takes; None: as `[shells]` says
+    mining_capacity   tonnes that the shovels take; None: as `[shells]` says, which may have no limit
+    max_metal_per_year  by metal the most that is recovered: tonnes, or grams where the grade is in grams a tonne
+    vertical_advance_rate    the most benches by which a pushback sinks in a year; None: any
+    lag             by how many benches a pushback is behind the one before at least
     ramp_up         shares of the mill's tonnes in the first years; the last one stays
     years           so many years at most; None: a fifth more than the rule takes
     milp            whether and how far an integer programme is solved too; None: it is not
     bins            into so many bins ore is divided, which may be left as waste while the mill is full; None: all ore is milled
-    rehandling      what it costs to reclaim a tonne from a stockpile; None: there is none
+    reclaim_cost      what it costs to reclaim a tonne from a stockpile; None: there is none
     least           of rock, ore, metals and processes by name what a schedule by block holds each year at least, of ore as ramp_up says
     sums            of columns of the table, which a schedule by block limits
     """
 
-    ore_per_year: Optional[float] = None
-    rock_per_year: Optional[float] = None
-    metal_per_year: dict[str, float] = field(default_factory=dict)
-    sinking_rate: Optional[float] = None
-    lag: int = 0
+    processing_capacity: Optional[float] = None
+    mining_capacity: Optional[float] = None
+    max_metal_per_year: dict[str, float] = field(default_factory=dict)
+    vertical_advance_rate: Optional[float] = None
+    bench_lag: int = 0
     ramp_up: tuple[float, ...] = (1.0,)
     years: Optional[int] = None
     milp: Optional[Effort] = None
     bins: Optional[int] = None
-    rehandling: Optional[float] = None
-    least: dict[str, float] = field(default_factory=dict)
-    sums: tuple[Sum, ...] = ()
+    reclaim_cost: Optional[float] = None
+    minimum: dict[str, float] = field(default_factory=dict)
+    limits: tuple[Sum, ...] = ()
 
     @property
     def columns(self) -> tuple[str, ...]:
         """The columns of the table that sums are of."""
-        return tuple(it.column for it in self.sums)
+        return tuple(it.column for it in self.limits)
 
-    def columns_of(self, a_tonne: bool) -> tuple[str, ...]:
+    def columns_of(self, per_tonne: bool) -> tuple[str, ...]:
         """Those that are multiplied by tonnes, or those that are of the whole block."""
-        return tuple(dict.fromkeys(it.column for it in self.sums if it.a_tonne == a_tonne))
+        return tuple(dict.fromkeys(it.column for it in self.limits if it.per_tonne == per_tonne))
 
     @property
     def asks_least(self) -> bool:
         """Whether a year must hold something at least."""
-        return bool(self.least) or any(it.least for it in self.sums)
+        return bool(self.minimum) or any(it.min for it in self.limits)
 
 
 def read_schedule_rules(section: Section) -> ScheduleRules:
     """The section's rules. Raises PlanError, with the key, where one is wrong."""
     rules = ScheduleRules(
-        ore_per_year=read_tonnes(section, "ore_per_year"),
-        rock_per_year=read_tonnes(section, "rock_per_year"),
-        metal_per_year=read_metals(section),
-        sinking_rate=float(section.number("sinking_rate")) if section.has("sinking_rate") else None,
-        lag=section.whole("lag", 0, 0, MOST_BENCHES),
+        processing_capacity=read_tonnes(section, "processing_capacity"),
+        mining_capacity=read_tonnes(section, "mining_capacity"),
+        max_metal_per_year=read_metals(section),
+        vertical_advance_rate=float(section.number("vertical_advance_rate"))
+        if section.has("vertical_advance_rate")
+        else None,
+        bench_lag=section.whole("bench_lag", 0, 0, MOST_BENCHES),
         ramp_up=read_ramp_up(section),
         years=section.whole("years", 1, 1, MOST_YEARS) if section.has("years") else None,
         milp=read_effort(section.section("milp")) if section.has("milp") else None,
         bins=section.whole("bins", 1, 1, MOST_BINS) if section.has("bins") else None,
-        rehandling=read_stockpile(section.section("stockpile")) if section.has("stockpile") else None,
-        least=read_least(section.section("least")) if section.has("least") else {},
-        sums=tuple(read_sum(it) for it in section.sections("sums")) if section.has("sums") else (),
+        reclaim_cost=read_stockpile(section.section("stockpile")) if section.has("stockpile") else None,
+        minimum=read_minimum(section.section("minimum")) if section.has("minimum") else {},
+        limits=tuple(read_sum(it) for it in section.sections("limits")) if section.has("limits") else (),
     )
     section.finish()
-    if len({it.name for it in rules.sums}) < len(rules.sums):
-        raise section.wrong("sums", "two have one name")
+    if len({it.name for it in rules.limits}) < len(rules.limits):
+        raise section.wrong("limits", "two have one name")
     if rules.asks_least and rules.years is None:
         raise section.wrong("years", "is missing: in each of so many years there must be what is asked for at least")
-    if rules.sinking_rate is not None and rules.sinking_rate <= 0:
-        raise section.wrong("sinking_rate", "is above 0 benches a year: leave it out where there is no limit")
-    if rules.rehandling is not None and rules.bins is None:
+    if rules.vertical_advance_rate is not None and rules.vertical_advance_rate <= 0:
+        raise section.wrong("vertical_advance_rate", "is above 0 benches a year: leave it out where there is no limit")
+    if rules.reclaim_cost is not None and rules.bins is None:
         raise section.wrong("stockpile", "needs bins, by which ore is laid on it")
     if rules.milp is not None and rules.bins is not None:
         raise section.wrong("milp", "knows no bins: leave out one of the two")
@@ -117,20 +119,20 @@ def read_schedule_rules(section: Section) -> ScheduleRules:
 
 
 def read_stockpile(section: Section) -> float:
-    cost = float(section.number("rehandling_cost", least=0))
+    cost = float(section.number("reclaim_cost", least=0))
     section.finish()
     return cost
 
 
-def read_least(section: Section) -> dict[str, float]:
+def read_minimum(section: Section) -> dict[str, float]:
     return {name: float(section.number(name, least=0)) for name in section.data}
 
 
 def read_sum(section: Section) -> Sum:
     column = section.text("column")
-    least, most = (float(section.number(key, least=0)) if section.has(key) else None for key in ("least", "most"))
+    least, most = (float(section.number(key, least=0)) if section.has(key) else None for key in ("min", "max"))
     found = Sum(
-        section.text("name", column), column, section.text("of", ROCK), section.truth("a_tonne", False), least, most
+        section.text("name", column), column, section.text("of", TOTAL), section.truth("per_tonne", False), least, most
     )
     section.finish()
     if not re.fullmatch(r"\w[\w-]*", found.name):
@@ -138,9 +140,9 @@ def read_sum(section: Section) -> Sum:
             "name", f'"{found.name}" is not one word of letters, digits, _ and -, as columns are named by it'
         )
     if least is None and most is None:
-        raise section.wrong("most", "is missing, and so is least: give one or both")
+        raise section.wrong("max", "is missing, and so is min: give one or both")
     if least is not None and most is not None and least > most:
-        raise section.wrong("least", f"{least:.10g} is above the most of {most:.10g}")
+        raise section.wrong("min", f"{least:.10g} is above the max of {most:.10g}")
     return found
 
 
@@ -160,9 +162,9 @@ def read_tonnes(section: Section, key: str) -> Optional[float]:
 
 def read_metals(section: Section) -> dict[str, float]:
     """The most of each metal that is named."""
-    if not section.has("metal_per_year"):
+    if not section.has("max_metal_per_year"):
         return {}
-    by_metal = section.section("metal_per_year")
+    by_metal = section.section("max_metal_per_year")
     most = {name: float(by_metal.number(name)) for name in by_metal.data}
     for name, amount in most.items():
         if amount <= 0:
@@ -175,7 +177,9 @@ def read_ramp_up(section: Section) -> tuple[float, ...]:
         return (1.0,)
     value = section.get("ramp_up")
     if not isinstance(value, list) or not value:
-        raise section.wrong("ramp_up", "must be a list of shares of ore_per_year, one a year, such as [0.5, 0.8, 1.0]")
+        raise section.wrong(
+            "ramp_up", "must be a list of shares of processing_capacity, one a year, such as [0.5, 0.8, 1.0]"
+        )
     shares = tuple(float(section.as_number("ramp_up", item)) for item in value)
     if any(not 0 <= share <= 1 for share in shares) or shares[-1] == 0:
         raise section.wrong("ramp_up", "shares are from 0 to 1, and the last, which stays, is above 0")

@@ -22,8 +22,8 @@ class SensitivityRules:
     pairs that are varied together; and the share of the pit's rock that its skin has at least. Without names those are varied that the
     project gives."""
 
-    by: tuple[Decimal, ...] = SHARES
-    vary: tuple[str, ...] = ()
+    changes: tuple[Decimal, ...] = SHARES
+    parameters: tuple[str, ...] = ()
     pairs: tuple[tuple[str, str], ...] = ()
     skin: Decimal = SKIN
 
@@ -31,28 +31,28 @@ class SensitivityRules:
 def read_sensitivity(section: Section, metals: tuple[str, ...]) -> SensitivityRules:
     """The section's rules; `metals` are the names that may follow one. Raises PlanError, with the key, where one is wrong."""
     rules = SensitivityRules(
-        by=read_shares(section),
-        vary=tuple(named(section, "vary", name, metals) for name in section.names("vary") or ()),
+        changes=read_shares(section),
+        parameters=tuple(named(section, "parameters", name, metals) for name in section.names("parameters") or ()),
         pairs=read_pairs(section, metals),
         skin=read_skin(section),
     )
     section.finish()
-    if len(set(rules.vary)) < len(rules.vary):
-        raise section.wrong("vary", "names a number twice")
+    if len(set(rules.parameters)) < len(rules.parameters):
+        raise section.wrong("parameters", "names a parameter twice")
     return rules
 
 
 def read_shares(section: Section) -> tuple[Decimal, ...]:
-    if not section.has("by"):
+    if not section.has("changes"):
         return SHARES
-    value = section.get("by")
+    value = section.get("changes")
     if not isinstance(value, list) or not value or len(value) > MOST_SHARES:
         raise section.wrong(
-            "by", f"must be a list of up to {MOST_SHARES} shares, such as [-0.1, 0.1] for 10 % less and more"
+            "changes", f"must be a list of up to {MOST_SHARES} shares, such as [-0.1, 0.1] for 10 % less and more"
         )
-    shares = sorted(section.as_number("by", item) for item in value)
+    shares = sorted(section.as_number("changes", item) for item in value)
     if any(not -1 < share <= 10 or share == 0 for share in shares) or len(set(shares)) < len(shares):
-        raise section.wrong("by", "shares are above -1 and up to 10, none is 0, and each stands once")
+        raise section.wrong("changes", "shares are above -1 and up to 10, none is 0, and each stands once")
     return tuple(shares)
 
 

@@ -30,14 +30,14 @@ class Schedule:
     revenue_factors   rising; 1.0 is the base price
     selected          the shell that is shown; None: the one with the best mean NPV
     base_price_added  whether 1.0 was added to the project's own factors
-    per_process       the yearly capacity of each of several processes; `ore_per_year` is their sum
+    per_process       the yearly capacity of each of several processes; `processing_capacity` is their sum
     """
 
     revenue_factors: tuple[float, ...]
     selected: Optional[float]
-    rate: float
-    ore_per_year: float
-    rock_per_year: Optional[float]
+    discount_rate: float
+    processing_capacity: float
+    mining_capacity: Optional[float]
     discounting: str
     base_price_added: bool
     per_process: tuple[float, ...] = ()
@@ -48,20 +48,20 @@ def read_schedule(section: Section, processes: tuple[Process, ...] = ()) -> Sche
     factors = tuple(sorted({*given, BASE_PRICE}))
     if len(factors) > MOST_FACTORS:
         raise section.wrong("revenue_factors", f"found {len(factors):,} with 1.0, expected {MOST_FACTORS:,} at most")
-    if processes and section.has("ore_per_year"):
-        raise section.wrong("ore_per_year", "give per_year of each of the [[processes]], not this")
+    if processes and section.has("processing_capacity"):
+        raise section.wrong("processing_capacity", "give capacity of each of the [[processes]], not this")
     selected = section.revenue_factor("selected") if section.has("selected") else None
     if selected is not None and selected not in factors:
         raise section.wrong("selected", f"{factor_text(selected)} is not among the revenue_factors")
     schedule = Schedule(
         revenue_factors=factors,
         selected=selected,
-        rate=read_rate(section),
-        ore_per_year=sum(it.per_year for it in processes)
+        discount_rate=read_rate(section),
+        processing_capacity=sum(it.capacity for it in processes)
         if processes
-        else float(section.number("ore_per_year", least=1)),
-        per_process=tuple(process.per_year for process in processes),
-        rock_per_year=float(section.number("rock_per_year", least=1)) if section.has("rock_per_year") else None,
+        else float(section.number("processing_capacity", least=1)),
+        per_process=tuple(process.capacity for process in processes),
+        mining_capacity=float(section.number("mining_capacity", least=1)) if section.has("mining_capacity") else None,
         discounting=section.choice("discounting", DISCOUNTINGS, DISCOUNTINGS[0]),
         base_price_added=BASE_PRICE not in given,
     )
@@ -70,7 +70,7 @@ def read_schedule(section: Section, processes: tuple[Process, ...] = ()) -> Sche
 
 
 def read_rate(section: Section) -> float:
-    rate = section.number("rate", least=0)
+    rate = section.number("discount_rate", least=0)
     if rate > 1:
-        raise section.wrong("rate", f"{rate} is above 1: it is a yearly rate, such as 0.08 for 8 % a year")
+        raise section.wrong("discount_rate", f"{rate} is above 1: it is a yearly rate, such as 0.08 for 8 % a year")
     return float(rate)

@@ -18,13 +18,15 @@ class Bench:
     """Benches with berms: the height of one and the width of the berm below it in metres, and the angle of its face in degrees."""
 
     height: float
-    face: float
-    berm: float
+    face_angle: float
+    berm_width: float
 
     @property
     def angle(self) -> float:
         """Degrees of the wall from toe to toe."""
-        return math.degrees(math.atan2(self.height, self.height / math.tan(math.radians(self.face)) + self.berm))
+        return math.degrees(
+            math.atan2(self.height, self.height / math.tan(math.radians(self.face_angle)) + self.berm_width)
+        )
 
 
 @dataclass(frozen=True)
@@ -36,10 +38,10 @@ class Wall:
     azimuth_of  what the azimuths are of: "wall", the bearing from the pit to the wall, or "dip", the dip direction of its face
     """
 
-    regions: Optional[tuple[str, ...]]
+    domains: Optional[tuple[str, ...]]
     pattern: Optional[str]
     angles: tuple[tuple[float, float], ...]
-    steps: tuple[tuple[int, int, int], ...] = ()
+    offsets: tuple[tuple[int, int, int], ...] = ()
     bench: Optional[Bench] = None
     azimuth_of: str = WALL
 
@@ -58,30 +60,32 @@ class Slopes:
     levels  None where each wall entry takes as many as its angles need
     """
 
-    levels: Optional[int]
+    precedence_benches: Optional[int]
     never_steeper: bool
-    walls: tuple[Wall, ...]
+    domains: tuple[Wall, ...]
 
 
 def read_slopes(section: Section) -> Slopes:
     slopes = Slopes(
-        levels=section.whole("levels", 1, 1, MOST_LEVELS) if section.has("levels") else None,
+        precedence_benches=section.whole("precedence_benches", 1, 1, MOST_LEVELS)
+        if section.has("precedence_benches")
+        else None,
         never_steeper=section.truth("never_steeper", False),
-        walls=tuple(read_wall(wall) for wall in section.sections("walls")),
+        domains=tuple(read_wall(wall) for wall in section.sections("domains")),
     )
     section.finish()
-    named = [region for wall in slopes.walls for region in wall.regions or ()]
+    named = [region for wall in slopes.domains for region in wall.domains or ()]
     if len(set(named)) < len(named):
-        raise section.wrong("walls", "a region is named twice")
-    if sum(wall.regions is None for wall in slopes.walls) > 1:
-        raise section.wrong("walls", "more than one entry names no region")
+        raise section.wrong("domains", "a domain is named twice")
+    if sum(wall.domains is None for wall in slopes.domains) > 1:
+        raise section.wrong("domains", "more than one entry names no domain")
     return slopes
 
 
 def read_wall(section: Section) -> Wall:
-    given = [key for key in ("pattern", "angle", "azimuths", "steps", "bench") if section.has(key)]
+    given = [key for key in ("pattern", "angle", "azimuths", "offsets", "bench") if section.has(key)]
     if len(given) != 1:
-        raise section.wrong("angle", "give exactly one of angle, azimuths, bench, pattern and steps")
+        raise section.wrong("angle", "give exactly one of angle, azimuths, bench, pattern and offsets")
     angles: tuple[tuple[float, float], ...] = ()
     if given == ["angle"]:
         angles = ((0.0, float(section.number("angle"))),)
@@ -94,35 +98,37 @@ def read_wall(section: Section) -> Wall:
     if any(not 0 <= azimuth < 360 for azimuth, _ in angles) or len({azimuth for azimuth, _ in angles}) < len(angles):
         raise section.wrong(given[0], "azimuths are from 0 to below 360 degrees, each named once")
     pattern = section.choice("pattern", PATTERNS, None) if given == ["pattern"] else None
-    steps = read_steps(section) if given == ["steps"] else ()
+    steps = read_offsets(section) if given == ["offsets"] else ()
     azimuth_of = section.choice("azimuth_of", (WALL, DIP), WALL)
     if section.has("azimuth_of") and given != ["azimuths"]:
         raise section.wrong("azimuth_of", "says what azimuths are of: give azimuths, or leave it out")
-    wall = Wall(section.names("region"), pattern, tuple(sorted(angles)), steps, bench, azimuth_of)
+    wall = Wall(section.names("domain"), pattern, tuple(sorted(angles)), steps, bench, azimuth_of)
     section.finish()
     return wall
 
 
-def read_steps(section: Section) -> tuple[tuple[int, int, int], ...]:
+def read_offsets(section: Section) -> tuple[tuple[int, int, int], ...]:
     """Whole numbers of blocks east, north and up, which go up."""
-    value, far = section.get("steps"), MOST_STEPS
+    value, far = section.get("offsets"), MOST_STEPS
     is_list = isinstance(value, list) and value and all(isinstance(step, list) and len(step) == 3 for step in value)
     if not is_list or any(isinstance(item, bool) or not isinstance(item, int) for step in value for item in step):
         raise section.wrong(
-            "steps", "must be a list of steps [east, north, up] in whole blocks, such as [[0, 0, 1], [1, 0, 1]]"
+            "offsets", "must be a list of offsets [east, north, up] in whole blocks, such as [[0, 0, 1], [1, 0, 1]]"
         )
     if any(not 1 <= up <= MOST_LEVELS or max(abs(east), abs(north)) > far for east, north, up in value):
-        raise section.wrong("steps", f"go up by 1 to {MOST_LEVELS} blocks, and by at most {far} to a side")
+        raise section.wrong("offsets", f"go up by 1 to {MOST_LEVELS} blocks, and by at most {far} to a side")
     return tuple(sorted({(east, north, up) for east, north, up in value}))
 
 
 def read_bench(section: Section) -> Bench:
     bench = Bench(
-        float(section.number("height")), float(section.number("face")), float(section.number("berm", least=0))
+        float(section.number("height")),
+        float(section.number("face_angle")),
+        float(section.number("berm_width", least=0)),
     )
     section.finish()
     if bench.height <= 0:
         raise section.wrong("height", "is above 0 metres")
-    if not 1 <= bench.face <= 90:
-        raise section.wrong("face", "an angle of a face is from 1 to 90 degrees")
+    if not 1 <= bench.face_angle <= 90:
+        raise section.wrong("face_angle", "a face angle is from 1 to 90 degrees")
     return bench

@@ -13,12 +13,12 @@ from .toml_section import Section, cut, shown
 
 
 @dataclass(frozen=True)
-class AbsentRock:
-    """What lies in cells that the table has no row of: tonnes a cell, and codes of rock and region, "" where none is given."""
+class MissingRock:
+    """What fills missing blocks: tonnes a block, and the codes of rock type and domain, "" if none is given."""
 
     tonnes: float
-    rock: str
-    region: str
+    rock_type: str
+    domain: str
 
 
 @dataclass(frozen=True)
@@ -52,13 +52,13 @@ class TableColumns:
     density: Optional[str]
     volume: Optional[str]
     id: Optional[str]
-    rock: Optional[str]
-    region: Optional[str]
+    rock_type: Optional[str]
+    domain: Optional[str]
     separator: Optional[str]
     decimal: Optional[str]
     encoding: str
     empty: str
-    absent: Union[str, AbsentRock]
+    missing_blocks: Union[str, MissingRock]
     reblock: Optional[Reblock] = None
     topography: Optional[SurveyFile] = None
 
@@ -85,13 +85,13 @@ def read_table(section: Section, folder: Path) -> TableColumns:
         density=section.optional_text("density"),
         volume=section.optional_text("volume"),
         id=section.optional_text("id"),
-        rock=section.optional_text("rock"),
-        region=section.optional_text("region"),
+        rock_type=section.optional_text("rock_type"),
+        domain=section.optional_text("domain"),
         separator=read_separator(section),
         decimal=section.choice("decimal", (".", ","), None) if section.has("decimal") else None,
         encoding=read_encoding(section),
         empty=section.choice("empty", ("refuse", "zero"), "refuse"),
-        absent=read_absent(section),
+        missing_blocks=read_missing(section),
         reblock=read_reblock(section),
         topography=read_survey(section, "topography", folder) if section.has("topography") else None,
     )
@@ -100,9 +100,11 @@ def read_table(section: Section, folder: Path) -> TableColumns:
         raise section.wrong("density", "give it or tonnes, not both")
     if columns.volume and not columns.density:
         raise section.wrong("volume", "is multiplied by a density, which is missing")
-    for name, code in (("rock", columns.rock), ("region", columns.region)):
-        if isinstance(columns.absent, AbsentRock) and bool(getattr(columns.absent, name)) != bool(code):
-            raise section.wrong("absent", f"needs a {name} where, and only where, a column of the table is its {name}")
+    for name, code in (("rock_type", columns.rock_type), ("domain", columns.domain)):
+        if isinstance(columns.missing_blocks, MissingRock) and bool(getattr(columns.missing_blocks, name)) != bool(
+            code
+        ):
+            raise section.wrong("missing_blocks", f"needs a {name} if, and only if, [table] {name} names a column")
     return columns
 
 
@@ -134,14 +136,14 @@ def read_separator(section: Section) -> Optional[str]:
     return sign
 
 
-def read_absent(section: Section) -> Union[str, AbsentRock]:
-    if not section.has("absent") or not isinstance(section.data["absent"], dict):
-        return section.choice("absent", ("refuse", "air"), "refuse")
-    rock = section.section("absent")
-    tonnes = float(rock.number("tonnes", least=0))
-    absent = AbsentRock(tonnes, rock.optional_text("rock") or "", rock.optional_text("region") or "")
-    rock.finish()
-    return absent
+def read_missing(section: Section) -> Union[str, MissingRock]:
+    if not section.has("missing_blocks") or not isinstance(section.data["missing_blocks"], dict):
+        return section.choice("missing_blocks", ("refuse", "air"), "refuse")
+    inner = section.section("missing_blocks")
+    tonnes = float(inner.number("tonnes", least=0))
+    missing = MissingRock(tonnes, inner.optional_text("rock_type") or "", inner.optional_text("domain") or "")
+    inner.finish()
+    return missing
 
 
 def read_reblock(section: Section) -> Optional[Reblock]:

@@ -21,6 +21,7 @@ import numpy as np
 import pandas as pd
 
 from pitplan.blockmodel.grid import MOST_BLOCKS, Grid
+from pitplan.config.economics import AT_BASE_PRICE, PER_REVENUE_FACTOR
 from pitplan.config.project import Project
 from pitplan.core.decimals import Exact, Rounding, at_factor, product, total
 from pitplan.core.revenue_factors import BASE_PRICE
@@ -45,8 +46,8 @@ class Values:
     best        the number of the process that is worth most at the reference price
     tonnes      of rock, for reports
     feed, undiluted tonnes that come to the mill if it is processed, and these without the rock that dilutes them
-    cutoff      "moving" or "fixed"
-    first_level the level below which each costs more to mine, by `mining_cost_per_level`
+    cutoff      "per_revenue_factor" or "base_price"
+    first_level the level below which each costs more to mine, by `mining_cost_per_bench`
     shared      of scenarios the block of each shared node for processing; None: the nodes are those of the steps
     hauled      roads and what hauling costs, which the other amounts have in them; None where the project has no `[haulage]`
     """
@@ -88,7 +89,7 @@ class Values:
     def steps(self) -> Steps:
         """The nodes for processing. Scenarios share nodes, since one file of precedences serves all: a scenario may leave some without a
         step."""
-        if self.cutoff != "moving":
+        if self.cutoff != PER_REVENUE_FACTOR:
             return Steps(*[np.zeros(0, dtype=np.int64)] * 4)
         if len(self.ways) > 1:
             steps = steps_of(self.ways)
@@ -109,26 +110,26 @@ class Values:
 
     def nodes(self) -> tuple[np.ndarray, np.ndarray]:
         """Revenue and cost in millionths of every node: the cells, then the processing nodes."""
-        if self.cutoff == "moving":
+        if self.cutoff == PER_REVENUE_FACTOR:
             nothing = np.zeros_like(self.mining)
             return np.concatenate([nothing, self.steps.revenue]), np.concatenate([self.mining, self.steps.cost])
         return np.where(self.pays, self.revenue, 0), self.mining + np.where(self.pays, self.processing, 0)
 
     def greatest_value(self, factor: float) -> np.ndarray:
         """The most that each cell can be worth at a factor, in billionths: less than 0 where it cannot pay for itself."""
-        if self.cutoff == "fixed":
+        if self.cutoff == AT_BASE_PRICE:
             gain = np.where(self.pays, at_factor(factor, self.revenue, self.processing), 0)
             return total(gain, product(self.mining, -1000))
         return self.value_bound(factor)
 
-    def value_bound(self, factor: int) -> np.ndarray:
+    def value_bound(self, factor: float) -> np.ndarray:
         """The same for either cut-off, if cells yield no more in any process than here and cost no less."""
         gain = np.maximum(np.max([worth(way, factor) for way in self.ways], axis=0), 0)
         return total(gain, product(self.mining, -1000))
 
     def with_shared_nodes(self) -> Values:
         """The same with the nodes that serve every scenario whose blocks yield no more than here in any process."""
-        return replace(self, shared=most_steps(self.ways)) if self.cutoff == "moving" else self
+        return replace(self, shared=most_steps(self.ways)) if self.cutoff == "per_revenue_factor" else self
 
 
 def values_of(
@@ -190,7 +191,7 @@ def demand_few_nodes(values: Values, grid: Grid) -> None:
     if nodes > MOST_BLOCKS:
         raise PlanError(
             f"{grid.count:,} blocks and {len(values.processed):,} processing nodes are {nodes:,} nodes, and the program takes at most "
-            f'{MOST_BLOCKS:,}: give a smaller model, or [money] cutoff = "fixed"'
+            f'{MOST_BLOCKS:,}: give a smaller model, or [economics] cutoff = "base_price"'
         )
 
 
@@ -200,7 +201,7 @@ def first_level(project: Project, grid: Grid, pays: np.ndarray, needed: Optional
     reference, top, height = project.money.mining_cost_reference, grid.extent()[5], grid.size[2]
     if reference is not None:
         return math.floor((top - float(reference)) / height + 1e-9)
-    if not project.money.mining_cost_per_level or needed is None:
+    if not project.money.mining_cost_per_bench or needed is None:
         return 0
     levels = grid.rows[needed(pays)[grid.rows]] // grid.per_level
     return int(levels.min()) if len(levels) else 0

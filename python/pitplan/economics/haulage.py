@@ -50,7 +50,7 @@ class Roads:
 
     def cost(self, road: Road) -> Exact:
         count = len(self.metres.whole)
-        return self.metres.plus(Exact.of(road.beyond, count)).times(Exact.of(road.cost.scaleb(-3), count))
+        return self.metres.plus(Exact.of(road.ex_pit_distance, count)).times(Exact.of(road.cost.scaleb(-3), count))
 
 
 @dataclass(frozen=True)
@@ -66,11 +66,11 @@ class Hauled:
 def flat_lengths(grid: Grid, rules: Haulage) -> np.ndarray:
     """Metres in plan from the exit to the centre of each column of blocks, shape (rows x columns,)."""
     x, y, _ = grid.centres(np.arange(grid.per_level))
-    return np.hypot(x - float(rules.exit[0]), y - float(rules.exit[1]))
+    return np.hypot(x - float(rules.pit_exit[0]), y - float(rules.pit_exit[1]))
 
 
 def ramp_lengths(grid: Grid, rules: Haulage) -> np.ndarray:
     """Metres in plan of the ramp from each level's floor to the exit's elevation, from the top."""
     floors = Exact.of_floats((grid.elevations() - grid.size[2] / 2).round(ELEVATION_PLACES))
-    rise = floors.minus(Exact.of(rules.exit[2], len(floors.whole))).floats()
-    return np.asarray(np.abs(rise) / float(rules.gradient))
+    rise = floors.minus(Exact.of(rules.pit_exit[2], len(floors.whole))).floats()
+    return np.asarray(np.abs(rise) / float(rules.ramp_gradient))

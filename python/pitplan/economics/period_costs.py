@@ -1,4 +1,4 @@
-"""What years earn and cost besides what is dug at the price as given: prices of their own, a fixed cost, and capital."""
+"""What years earn and cost besides what is dug at the price as given: prices of their own, a fixed cost, and capex."""
 
 from __future__ import annotations
 
@@ -14,19 +14,19 @@ class YearlyMoney:
     """What is no part of a block's worth.
 
     fixed_cost  of a year, in money; it flows evenly as long as the mine runs
-    capital     pairs of a year, from 1, and what is spent at its start if the mine still runs, in money
+    capex     pairs of a year, from 1, and what is spent at its start if the mine still runs, in money
     premiums    by the name of a metal's amount what a unit of it earns more than at the price as given, royalty taken off, for each
                 year from the first; the last one stays
     """
 
     fixed_cost: float = 0.0
-    capital: tuple[tuple[int, float], ...] = ()
+    capex: tuple[tuple[int, float], ...] = ()
     premiums: dict[str, tuple[float, ...]] = field(default_factory=dict)
 
     @property
     def columns(self) -> tuple[str, ...]:
         """The names of the amounts that a year has of these."""
-        return ("fixed_cost", "capital") if self.fixed_cost or self.capital else ()
+        return ("fixed_cost", "capex") if self.fixed_cost or self.capex else ()
 
     def premium(self, names: tuple[str, ...], years: int) -> np.ndarray:
         """What a unit of each amount earns more: an array of years and names."""
@@ -39,7 +39,7 @@ class YearlyMoney:
     def spent(self, years: int) -> np.ndarray:
         """Capital by year."""
         found = np.zeros(years)
-        for year, amount in self.capital:
+        for year, amount in self.capex:
             if year <= years:
                 found[year - 1] += amount
         return found
@@ -51,7 +51,7 @@ PLAIN = YearlyMoney()
 def of_project(project: Project) -> YearlyMoney:
     money = project.money
     premiums = {
-        f"metal_{metal.name}": tuple(
+        f"recovered_{metal.name}": tuple(
             float((metal.by_quantity(price) - metal.by_quantity(metal.price)) * (1 - money.royalty))
             for price in metal.prices
         )
@@ -59,7 +59,7 @@ def of_project(project: Project) -> YearlyMoney:
         if metal.prices
     }
     return YearlyMoney(
-        float(money.fixed_cost_per_year), tuple((year, float(amount)) for year, amount in money.capital), premiums
+        float(money.fixed_cost_per_year), tuple((year, float(amount)) for year, amount in money.capex), premiums
     )
 
 
@@ -67,10 +67,10 @@ def notes(project: Project) -> list[str]:
     """That years have money of their own, and which numbers have it."""
     money = of_project(project)
     parts = [f"a fixed cost of {money.fixed_cost:,.12g} {project.money.currency} a year"] if money.fixed_cost else []
-    parts += ["capital"] if money.capital else []
+    parts += ["capex"] if money.capex else []
     parts += ["prices of their own"] if money.premiums else []
     if not parts:
         return []
     return [
-        f"years have {' and '.join(parts)}: in years, net present values and schedules, not in the worth of blocks, shells and phases"
+        f"years have {' and '.join(parts)}: in years, net present values and schedules, not in the worth of blocks, shells and pushbacks"
     ]

@@ -8,7 +8,7 @@ from decimal import Decimal
 import numpy as np
 import pandas as pd
 
-from pitplan.config.economics import ByCode, ByRegion, Curve, Metal
+from pitplan.config.economics import ByCode, ByDomain, Curve, Metal
 from pitplan.config.project import Project
 from pitplan.core.numeric_fields import HEADER_ROWS
 
@@ -68,10 +68,10 @@ def haulage_notes(rows: Rows) -> list[str]:
     if rows.roads is None:
         return []
     rules, metres = rows.roads.rules, rows.roads.metres.floats()
-    place = ", ".join(f"{axis:f}" for axis in rules.exit)
+    place = ", ".join(f"{axis:f}" for axis in rules.pit_exit)
     return [
         f"roads from blocks to the exit at {place} are {metres.min():,.0f} to {metres.max():,.0f} m long: the way in plan, and a ramp of "
-        f"{(100 * rules.gradient).normalize():f} %; hauling as waste is part of mining cost, what ore costs more of processing cost"
+        f"{(100 * rules.ramp_gradient).normalize():f} %; hauling as waste is part of mining cost, what ore costs more of processing cost"
     ]
 
 
@@ -81,9 +81,9 @@ def recovery_notes(rows: Rows, feed: Feed) -> list[str]:
     for metal in rows.project.metals:
         of_rocks = metal.recovery if isinstance(metal.recovery, dict) else {"": metal.recovery}
         notes += [curve_note(rows, feed, metal, rock) for rock, share in of_rocks.items() if isinstance(share, Curve)]
-        if metal.fixed_tail:
+        if metal.tail_grade:
             notes.append(
-                f"of each tonne that comes to the mill {said_of(metal.fixed_tail)} {metal.sign} of {metal.name} are lost, whatever it holds"
+                f"of each tonne that comes to the mill {said_of(metal.tail_grade)} {metal.sign} of {metal.name} are lost, whatever it holds"
             )
     return notes
 
@@ -106,7 +106,7 @@ def said_of(value: ByCode) -> str:
     """One number, or those of all codes."""
     if isinstance(value, Decimal):
         return f"{value:f}"
-    by_code = value.values if isinstance(value, ByRegion) else value
+    by_code = value.values if isinstance(value, ByDomain) else value
     return ", ".join(f"{number:f} of {code}" for code, number in by_code.items())
 
 

@@ -11,7 +11,7 @@ import numpy as np
 import pandas as pd
 
 from pitplan.blockmodel.grid import Grid
-from pitplan.config.economics import GRADE_UNITS, ByCode, ByRegion, Metal, Money
+from pitplan.config.economics import GRADE_UNITS, ByCode, ByDomain, Metal, Money
 from pitplan.config.project import Project
 from pitplan.core.decimals import Exact, Rounding
 from pitplan.core.numeric_fields import at_row
@@ -97,21 +97,21 @@ class Rows:
 
     @property
     def rock(self) -> np.ndarray:
-        return self.codes(self.project.table.rock)
+        return self.codes(self.project.table.rock_type)
 
     def by_code(self, price: ByCode, needed: np.ndarray, key: str) -> Exact:
         """One number a row by its rock or its region. Raises PlanError where a row in `needed` is of one that has none."""
         if isinstance(price, Decimal):
             return self.every(price)
-        name, column = "rock", self.project.table.rock
-        if isinstance(price, ByRegion):
-            name, column = "region", self.project.table.region
-        by_code = price.values if isinstance(price, ByRegion) else price
+        name, column = "rock type", self.project.table.rock_type
+        if isinstance(price, ByDomain):
+            name, column = "domain", self.project.table.domain
+        by_code = price.values if isinstance(price, ByDomain) else price
         inverse, codes = pd.factorize(self.codes(column), sort=True)
         for number, code in enumerate(codes):
             lacking = needed & (inverse == number)
             if code not in by_code and lacking.any():
-                why = f'[money] {key} names no {name} "{code}"'
+                why = f'[economics] {key} names no {name} "{code}"'
                 raise at_row(self.source, int(lacking.argmax()), column or name, why)
         table = Exact.of_decimals([by_code.get(code, Decimal(0)) for code in codes])
         return Exact(table.whole[inverse], table.places)
@@ -126,7 +126,7 @@ class Rows:
             deeper = Exact(more.whole[level], more.places)
         else:
             steps = np.maximum(level - first_level, 0).astype(np.int64)
-            deeper = Exact(steps, 0).times(self.every(money.mining_cost_per_level))
+            deeper = Exact(steps, 0).times(self.every(money.mining_cost_per_bench))
         a_tonne = self.by_code(money.mining_cost, solid, "mining_cost").plus(deeper)
         return self.tonnes.times(a_tonne.plus(self.roads.waste) if self.roads else a_tonne)
 
@@ -143,8 +143,8 @@ class Rows:
         """The quantity of a metal that is recovered: tonnes, or grams where the grade is in grams a tonne."""
         grade, nowhere = Exact.of_floats(self.frame[metal.column].to_numpy()), np.zeros(len(self.frame), dtype=bool)
         share = recovery_curves.of_rows(metal.recovery, self.rock, Head(grade, feed.tonnes_of))
-        if metal.fixed_tail:
-            tail = self.by_code(metal.fixed_tail, nowhere, "fixed_tail").times(feed.tonnes_of)
+        if metal.tail_grade:
+            tail = self.by_code(metal.tail_grade, nowhere, "tail_grade").times(feed.tonnes_of)
             left = grade.minus(tail)
             grade = Exact(np.maximum(left.whole, 0), left.places)
         return feed.undiluted.times(grade).times(self.every(GRADE_UNITS[metal.unit])).times(share)

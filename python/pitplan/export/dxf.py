@@ -1,4 +1,4 @@
-"""Pits as drawings (DXF, by ezdxf): toes and crests as closed lines, or the ground as faces, in metres; a layer a bench, and of phases and years
+"""Pits as drawings (DXF, by ezdxf): toes and crests as closed lines, or the ground as faces, in metres; a layer a bench, and of pushbacks and years
 of each."""
 
 from __future__ import annotations
@@ -19,7 +19,7 @@ from .toes_and_crests import lines_of
 
 def write_dxf(path: Path, folder: Folder, shape: Shape) -> list[str]:
     """The toes and crests of the pits that are asked for (layers TOE_z and CREST_z, z being the bench's floor), or the ground with them in it
-    (BENCH_z, and GROUND where nothing is dug); before these names stands the phase or year. Gives a sentence on each surface.
+    (BENCH_z, and GROUND where nothing is dug); before these names stands the pushback or year. Gives a sentence on each surface.
 
     Raises MissingPackage without ezdxf, and PlanError as `stages_of` and `ground.of_stage` do.
     """

@@ -28,7 +28,7 @@ BREAK, END = "0, 0.000, 0.000, 0.000,", "0, 0.000, 0.000, 0.000, END"
 
 def write_gpkg(path: Path, folder: Folder, shape: Shape) -> None:
     """A GeoPackage with a layer `lines`: closed lines with heights, `kind` (toe or crest), `bench` (metres of its floor) and the factor,
-    phase or year. Its coordinates are those of the table, of no named system.
+    pushback or year. Its coordinates are those of the table, of no named system.
 
     Raises MissingPackage without GDAL, and PlanError as `stages_of` does and where it cannot be written.
     """
@@ -77,9 +77,9 @@ def closed(line: Line) -> list[list[float]]:
 
 def write_str(path: Path, folder: Folder, shape: Shape) -> None:
     """A string file of Surpac: a line of its name and one of its axis, then for each point the string's number, north, east, height, and as
-    descriptions toe or crest, the bench's floor, and the factor, phase or year.
+    descriptions toe or crest, the bench's floor, and the factor, pushback or year.
 
-    Toes have the numbers 1, 3, 5 and so on, one a factor, phase or year, and crests the next. Raises PlanError as `stages_of` does, and where
+    Toes have the numbers 1, 3, 5 and so on, one a factor, pushback or year, and crests the next. Raises PlanError as `stages_of` does, and where
     there are more numbers than Surpac knows.
     """
     lines, numbers = [f"{path.stem},,toes and crests,", AXIS], dict[float, int]()
@@ -94,7 +94,7 @@ def write_str(path: Path, folder: Folder, shape: Shape) -> None:
 
 
 def write_lines(path: Path, folder: Folder, shape: Shape) -> None:
-    """A table with a row a point: the factor, phase or year, `line` from 1, `kind`, `bench`, and x, y and z in metres; the first point of a line
+    """A table with a row a point: the factor, pushback or year, `line` from 1, `kind`, `bench`, and x, y and z in metres; the first point of a line
     is its last one too. Raises PlanError as `stages_of` does."""
     rows = [
         (line.stage.number, number, line.kind, metres(line.bench), *(metres(axis) for axis in point))

@@ -23,7 +23,7 @@ TOLERANCE = 1e-3
 
 
 def write_stl(path: Path, folder: Folder, shape: Shape) -> list[str]:
-    """The surface of a factor's pit as STL, in metres, or into the folder `path` that of each phase or year; gives a sentence on the volume of
+    """The surface of a factor's pit as STL, in metres, or into the folder `path` that of each pushback or year; gives a sentence on the volume of
     each.
 
     Raises MissingPackage without VTK, and PlanError where the pit is empty, or the surface does not hold what its blocks do.

@@ -19,8 +19,8 @@ from pitplan.errors import PlanError
 from pitplan.plan import shown_name
 from pitplan.results.folder import Folder
 
-# What blocks.csv has of a block's pits, phase and year, in this order; each where the folder has it.
-FOUND = ("revenue_factor", "process_revenue_factor", "phase", "year")
+# What blocks.csv has of a block's pits, pushback and year, in this order; each where the folder has it.
+FOUND = ("revenue_factor", "process_revenue_factor", "pushback", "year")
 # What is read as UTF-8, with a byte-order mark or without, is written without.
 WRITTEN_AS = {"utf-8-sig": "utf-8"}
 

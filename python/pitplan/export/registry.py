@@ -25,20 +25,20 @@ from .vtk import PACKAGE, save, write_image
 # Writes the shells of a folder, or some of its pits; gives what is to be told of it, where that is anything.
 Writer = Callable[[Path, Folder, Shape], Optional[list[str]]]
 PLANNED = "table.csv"
-# What holds the pit of one factor, or those of phases or years.
+# What holds the pit of one factor, or those of pushbacks or years.
 OF_ONE = ("dxf", "stl", "obj", "gpkg", "str", "lines")
 # Those of them that hold surfaces, and in which each stage has a file of its own.
 SURFACES, SINGLE = ("dxf", "stl", "obj"), ("stl", "obj")
 # Those that hold toes and crests alone, with the ending of their files.
 LINES = {"gpkg": "gpkg", "str": "str", "lines": "csv"}
 # The tables of a folder, each a sheet of the workbook by its name.
-SHEETS = (names.SHELLS, names.YEARS, names.PHASES, names.SCHEDULE, names.MILLING)
+SHEETS = (names.SHELLS, names.YEARS, names.PUSHBACKS, names.SCHEDULE, names.MILLING)
 # The corners of a cell as VTK counts them in a voxel: steps east, north and up.
 CORNERS = np.array([(x, y, z) for z in (0, 1) for y in (0, 1) for x in (0, 1)])
 
 
 def name_of(kind: str, shape: Shape) -> str:
-    """The file's name: a table and image data hold all factors, a drawing or a surface one, or all phases or years."""
+    """The file's name: a table and image data hold all factors, a drawing or a surface one, or all pushbacks or years."""
     if kind not in OF_ONE:
         return PLANNED if kind == "table" else f"pit.{kind}"
     of_what = factor_text(shape.revenue_factor) if shape.of == FACTOR else f"{shape.of}s"
@@ -48,7 +48,7 @@ def name_of(kind: str, shape: Shape) -> str:
 
 
 def is_folder(kind: str, shape: Shape) -> bool:
-    """Whether a folder is written, with a file for each phase or year."""
+    """Whether a folder is written, with a file for each pushback or year."""
     return kind in SINGLE and shape.of != FACTOR
 
 
@@ -72,7 +72,7 @@ def demand_apt(kind: str, shape: Shape) -> None:
     if kind not in WRITERS:
         raise PlanError(f"{kind} is none of {', '.join(WRITERS)}")
     if shape.of != FACTOR and kind not in OF_ONE:
-        raise PlanError(f"{kind} holds all factors, phases and years: of one kind of them are {', '.join(OF_ONE)}")
+        raise PlanError(f"{kind} holds all factors, pushbacks and years: of one kind of them are {', '.join(OF_ONE)}")
     if shape.surface == GROUND and kind not in SURFACES:
         raise PlanError(f"{kind} has no surface of the ground: {', '.join(SURFACES)} have")
     if shape.smooth and shape.surface != GROUND:

@@ -13,13 +13,13 @@ WIDEST = 24
 # By the beginning of a column's name how its numbers are shown; others have thousands and no decimals.
 SHOWN = {
     "share": "0.0000",
-    "grade_": "0.000",
+    "head_grade_": "0.000",
     "strip_ratio": "0.00",
-    "below_bound": "0.0000",
-    "metal_": "#,##0.00",
+    "optimality_gap": "0.0000",
+    "recovered_": "#,##0.00",
     "years": "0.0",
 }
-PLAIN = ("revenue_factor", "year", "phase", "bench", "pieces", "least_width", "process_revenue_factor")
+PLAIN = ("revenue_factor", "year", "pushback", "bench", "pieces", "min_width", "process_revenue_factor")
 
 
 def demand_library() -> None:

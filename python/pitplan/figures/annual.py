@@ -38,17 +38,17 @@ class Scale:
 
 def capacities_of(settings: Schedule) -> list[tuple[str, float, str]]:
     """Name, tonnes a year and colour of each capacity."""
-    found = [("all processes" if settings.per_process else "mill", settings.ore_per_year, MILL)]
-    return found if settings.rock_per_year is None else [*found, ("shovels", settings.rock_per_year, SHOVELS)]
+    found = [("all processes" if settings.per_process else "mill", settings.processing_capacity, MILL)]
+    return found if settings.mining_capacity is None else [*found, ("shovels", settings.mining_capacity, SHOVELS)]
 
 
 def scale_of(years: pd.DataFrame, settings: Schedule) -> Scale:
     """Limits that hold all years, with nothing at the same height on both axes."""
-    most = max(float(years["rock_tonnes"].max()), 1.0)
+    most = max(float(years["total_tonnes"].max()), 1.0)
     near = [capacity for _, capacity, _ in capacities_of(settings) if capacity <= FAR_ABOVE * most]
     tonnes = scaled(max(most, *near, 0.0))
     top = MARGIN * max(most, *near, 0.0) / tonnes[0]
-    earned, spent = max(float(years["cash"].max()), 0.0), max(-float(years["cash"].min()), 0.0)
+    earned, spent = max(float(years["cash_flow"].max()), 0.0), max(-float(years["cash_flow"].min()), 0.0)
     money = scaled(max(earned, spent))
     whole = MARGIN * max(earned + spent, 1.0) / money[0]
     below = min((spent / money[0] + 0.03 * whole) / whole, MOST_BELOW) if spent else 0.0
@@ -90,7 +90,7 @@ def draw(axes: list[Axes], years: pd.DataFrame, project: Project) -> None:
         draw_tonnes(left, shown, scale, project.schedule)
         draw_cash(right, shown, scale)
         size, sign = scale.money
-        npv = f"{shown['discounted'].sum() / size:,.1f} {sign} {currency}".replace("  ", " ")
+        npv = f"{shown['discounted_cash_flow'].sum() / size:,.1f} {sign} {currency}".replace("  ", " ")
         left.set_title(f"{title}: NPV {npv}")
     axes[0].set_ylabel(f"rock in the year, {scale.tonnes[1]}t")
     rights[1].set_ylabel(f"cash of the year, {scale.money[1]} {currency}".replace(",  ", ", "))
@@ -105,7 +105,7 @@ def draw_tonnes(axis: Axes, years: pd.DataFrame, scale: Scale, settings: Schedul
     """A bar a year of ore with waste on it, and a line across for each capacity."""
     size, sign = scale.tonnes
     # Feed that holds more of dilution than ore was lost may be more than all that is mined.
-    ore, waste = years["ore_tonnes"] / size, (years["rock_tonnes"] - years["ore_tonnes"]).clip(lower=0) / size
+    ore, waste = years["feed_tonnes"] / size, (years["total_tonnes"] - years["feed_tonnes"]).clip(lower=0) / size
     axis.bar(years["year"], ore, 0.8, color=ORE, label="ore", linewidth=0)
     axis.bar(years["year"], waste, 0.8, bottom=ore, color=WASTE, label="waste", linewidth=0)
     for name, capacity, colour in capacities_of(settings):
@@ -121,6 +121,6 @@ def draw_tonnes(axis: Axes, years: pd.DataFrame, scale: Scale, settings: Schedul
 def draw_cash(axis: Axes, years: pd.DataFrame, scale: Scale) -> None:
     """A line of each year's cash, and one at nothing."""
     marks = {"marker": "o", "markersize": 3.5, "linewidth": 1.5}
-    axis.plot(years["year"], years["cash"] / scale.money[0], color=PLAIN, label="cash, not discounted", **marks)
+    axis.plot(years["year"], years["cash_flow"] / scale.money[0], color=PLAIN, label="cash, not discounted", **marks)
     axis.axhline(0, color="black", linewidth=0.8)
     axis.set_ylim(*scale.cash)

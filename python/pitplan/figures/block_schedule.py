@@ -40,11 +40,11 @@ def plot(made: ScheduledBlocks, axes: Any) -> list[Axes]:
 
 def plot_tonnes(made: ScheduledBlocks, ax: Axes) -> None:
     years, limits = made.years, made.planned.limits
-    top = max(float(years["rock_tonnes"].max()), 1.0) if len(years) else 1.0
+    top = max(float(years["total_tonnes"].max()), 1.0) if len(years) else 1.0
     size, sign = scaled(top)
     draw_bars(ax, years, None, size)
     edges = np.arange(max(len(years), 1) + 1) + 0.5
-    for name, label, colour in (("ore_tonnes", "mill", MILL), ("rock_tonnes", "shovels", SHOVELS)):
+    for name, label, colour in (("feed_tonnes", "mill", MILL), ("total_tonnes", "shovels", SHOVELS)):
         if name in limits.most and limits.most[name] <= FAR_ABOVE * top:
             most = limits.of_years(len(edges) - 1)[:, list(limits.most).index(name)] / size
             label = f"{label}: {round(limits.most[name] / size, 3):,.12g} {sign}t a year"
@@ -64,7 +64,7 @@ def plot_tonnes(made: ScheduledBlocks, ax: Axes) -> None:
 
 
 def plot_value(made: ScheduledBlocks, ax: Axes) -> None:
-    earned = np.append(0.0, made.years["discounted"].cumsum())
+    earned = np.append(0.0, made.years["discounted_cash_flow"].cumsum())
     size, sign = scaled(max(float(np.abs(earned).max()), made.found.bound))
     currency = made.planned.plan.project.money.currency
     marks = {"color": ORE, "marker": "o", "markersize": 3, "linewidth": 1.4}

@@ -57,7 +57,7 @@ def draw_tonnes(axis: Axes, table: pd.DataFrame, chosen: float) -> None:
 def draw_worth(axis: Axes, table: pd.DataFrame, currency: str) -> None:
     """A line each for worth and both NPVs, with a ring round its greatest."""
     curves = (
-        ("worth", "undiscounted", PLAIN, "--o"),
+        ("undiscounted_cash_flow", "undiscounted", PLAIN, "--o"),
         ("npv_best", "NPV, best case", BEST, f"-{BEST_MARK}"),
         ("npv_worst", "NPV, worst case", WORST, f"-{WORST_MARK}"),
     )

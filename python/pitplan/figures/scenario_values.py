@@ -16,9 +16,9 @@ from pitplan.studies.scenarios.pit_probability import QUANTILES
 
 # By the name of an amount what it is called, and its colour.
 LOOKS = {
-    "one_value": ("the one schedule\nfor all", "#d55e00"),
-    "value": ("a schedule each,\nthe ground known", "#0072b2"),
-    "bound": ("the bound of each", "#555555"),
+    "common_npv": ("the one schedule\nfor all", "#d55e00"),
+    "npv": ("a schedule each,\nthe ground known", "#0072b2"),
+    "upper_bound": ("the bound of each", "#555555"),
 }
 # So many scenarios have marks that can be told apart.
 MANY = 60
@@ -37,7 +37,7 @@ def plot(table: pd.DataFrame, currency: str, axes: Any) -> list[Axes]:
     """
     each, spread = found = list_of(axes, 2)
     size, sign = scaled(float(table[list(LOOKS)].abs().max().max()))
-    rising = table.sort_values("bound", kind="stable")[list(LOOKS)] / size
+    rising = table.sort_values("upper_bound", kind="stable")[list(LOOKS)] / size
     unit = f"{sign} {currency}".strip()
     plot_each(rising, each)
     plot_spread(rising, unit, spread)
@@ -49,8 +49,8 @@ def plot(table: pd.DataFrame, currency: str, axes: Any) -> list[Axes]:
 
 def plot_each(rising: pd.DataFrame, ax: Axes) -> None:
     place, marks = np.arange(1, len(rising) + 1), 5.0 if len(rising) <= MANY else 2.5
-    ax.vlines(place, rising["one_value"], rising["bound"], color="#bbbbbb", linewidth=0.8)
-    for name, mark in (("bound", "_"), ("value", "o"), ("one_value", "D")):
+    ax.vlines(place, rising["common_npv"], rising["upper_bound"], color="#bbbbbb", linewidth=0.8)
+    for name, mark in (("upper_bound", "_"), ("npv", "o"), ("common_npv", "D")):
         label, colour = LOOKS[name]
         size = {"markersize": 2.5 * marks, "markeredgewidth": 1.5} if mark == "_" else {"markersize": marks}
         ax.plot(place, rising[name], mark, color=colour, label=label.replace("\n", " "), **size)
@@ -71,6 +71,6 @@ def plot_spread(rising: pd.DataFrame, unit: str, ax: Axes) -> None:
         ax.annotate(f"mean {mean:,.4g}", (place, mean), xytext=(14, 0), textcoords="offset points", va="center")
     ax.set_xticks(range(len(LOOKS)), [label for label, _ in LOOKS.values()])
     ax.set_xlim(-0.4, len(LOOKS) - 0.2)
-    known = float((rising["bound"] - rising["one_value"]).mean())
+    known = float((rising["upper_bound"] - rising["common_npv"]).mean())
     ax.set_title(f"to know the ground is worth at most {known:,.4g} {unit} on the mean", loc="left", fontsize=9)
     ax.set_xlabel(f"least, {100 * low:.0f} %, median, {100 * high:.0f} %, greatest")

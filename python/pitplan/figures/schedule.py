@@ -17,19 +17,19 @@ from matplotlib.ticker import MaxNLocator
 from pitplan.blockmodel.grid import metres
 from pitplan.config.economics import Metal
 from pitplan.figures.style import BEST, BEST_MARK, ORE, PLAIN, STYLE, WASTE, WORST, WORST_MARK, finish, list_of, scaled
-from pitplan.scheduling.phase_schedule import LP, MILP, RULE, YearlySchedule, years as years_of
+from pitplan.scheduling.pushback_schedule import LP, MILP, RULE, YearlySchedule, years as years_of
 
 from .annual import FAR_ABOVE, MARGIN, MILL, SHOVELS
 
 TITLES = {RULE: "By rule", LP: "By linear programme", MILP: "By integer programme"}
-COLOURS = {"worst": WORST, RULE: "#d08a1d", LP: ORE, MILP: "#7b4fa3", "best": BEST, "bound": PLAIN}
+COLOURS = {"worst": WORST, RULE: "#d08a1d", LP: ORE, MILP: "#7b4fa3", "best": BEST, "upper_bound": PLAIN}
 NAMES = {
     "worst": "worst case",
     RULE: "rule",
     LP: "linear programme",
     MILP: "integer programme",
     "best": "best case",
-    "bound": "upper bound, these pushbacks",
+    "upper_bound": "upper bound, these pushbacks",
 }
 MARKED = {"marker": "o", "markersize": 3, "linewidth": 1.4}
 # The rule's line is seen where the other lies on it.
@@ -39,7 +39,7 @@ LINES = {
     LP: MARKED,
     MILP: MARKED | {"marker": "s"},
     "best": MARKED | {"marker": BEST_MARK, "markersize": 4},
-    "bound": {"linestyle": "--", "linewidth": 1.2},
+    "upper_bound": {"linestyle": "--", "linewidth": 1.2},
 }
 GRADE, STOCKED = "#a23b8f", "#8fb3d9"
 # The palest part of a bench is still seen.
@@ -57,11 +57,11 @@ def write_gantt(schedule: YearlySchedule, path: Path) -> None:
 
 
 def plot_gantt(schedule: YearlySchedule, axes: Any) -> list[Axes]:
-    """The years in which benches are dug, phase by phase from the top, on an axis a way, which it gives."""
+    """The years in which benches are dug, pushback by pushback from the top, on an axis a way, which it gives."""
     found = list_of(axes, len(schedule.shares))
     for ax, way in zip(found, schedule.shares):
         draw_gantt(schedule, way, ax)
-    found[0].set_ylabel("bench of each phase: z of its centres, m")
+    found[0].set_ylabel("bench of each pushback: z of its centres, m")
     return found
 
 
@@ -70,7 +70,7 @@ def draw_gantt(schedule: YearlySchedule, way: str, ax: Axes) -> None:
     shares, benches = schedule.shares[way], schedule.benches
     row = rows_of(schedule)
     bench, year = np.nonzero(shares)
-    tints = phase_tints(int(benches.phase.max()))[benches.phase[bench] - 1]
+    tints = pushback_tints(int(benches.pushback.max()))[benches.pushback[bench] - 1]
     tints[:, 3] = PALEST + (1 - PALEST) * shares[bench, year]
     bars = [Rectangle((t + 0.5, row[b] - 0.5), 1, 1) for b, t in zip(bench, year)]
     ax.add_collection(PatchCollection(bars, facecolors=tints, edgecolors="white", linewidths=0.3))
@@ -87,30 +87,30 @@ def draw_gantt(schedule: YearlySchedule, way: str, ax: Axes) -> None:
 
 
 def rows_of(schedule: YearlySchedule) -> np.ndarray:
-    """Where each bench stands from the top of the picture, with room for a phase's name above its first."""
-    phase = schedule.benches.phase
-    return np.arange(len(phase)) + 2.0 * (phase - 1) + 1
+    """Where each bench stands from the top of the picture, with room for a pushback's name above its first."""
+    pushback = schedule.benches.pushback
+    return np.arange(len(pushback)) + 2.0 * (pushback - 1) + 1
 
 
-def phase_tints(count: int) -> np.ndarray:
-    """A colour a phase, as plans of phases have it."""
+def pushback_tints(count: int) -> np.ndarray:
+    """A colour a pushback, as plans of pushbacks have it."""
     return matplotlib.colormaps["viridis_r"](np.linspace(0.08, 0.95, count))
 
 
 def name_benches(schedule: YearlySchedule, row: np.ndarray, longest: int, ax: Axes) -> None:
-    benches, elevations = schedule.benches, schedule.phases.plan.grid.elevations()
+    benches, elevations = schedule.benches, schedule.pushbacks.plan.grid.elevations()
     each = -(-len(benches) // MOST_NAMES)
     shown = [bench for bench in range(len(benches)) if benches.level[bench] % each == 0]
     ax.set_yticks(row[shown], [metres(elevations[benches.level[bench]]) for bench in shown], fontsize=7)
-    for number in np.unique(benches.phase):
-        first = row[benches.phase == number][0]
-        ax.text(0.6, first - 1.0, f"phase {number}", va="center", ha="left", fontsize=8, fontweight="bold")
+    for number in np.unique(benches.pushback):
+        first = row[benches.pushback == number][0]
+        ax.text(0.6, first - 1.0, f"pushback {number}", va="center", ha="left", fontsize=8, fontweight="bold")
         ax.plot([0.5, longest + 0.5], [first - 0.55] * 2, color="#999999", linewidth=0.6)
 
 
 def money(amount: float, schedule: YearlySchedule) -> str:
     size, sign = scaled(abs(amount))
-    return f"{amount / size:,.2f} {sign} {schedule.phases.plan.project.money.currency}".replace("  ", " ")
+    return f"{amount / size:,.2f} {sign} {schedule.pushbacks.plan.project.money.currency}".replace("  ", " ")
 
 
 def write_tonnes(schedule: YearlySchedule, path: Path) -> None:
@@ -125,10 +125,10 @@ def plot_tonnes(schedule: YearlySchedule, axes: Any) -> list[Axes]:
     """Ore and waste of each year with its limits, and what of the first metal is recovered of a tonne of ore, on an axis a way, which it
     gives."""
     found, table = list_of(axes, len(schedule.shares)), years_of(schedule)
-    metal = schedule.phases.plan.project.metals[0]
-    size, sign = scaled(float(table["rock_tonnes"].max()))
+    metal = schedule.pushbacks.plan.project.metals[0]
+    size, sign = scaled(float(table["total_tonnes"].max()))
     rights = [ax.twinx() for ax in found]
-    most = recovered(table, metal).max() if table["ore_tonnes"].any() else 0.0
+    most = recovered(table, metal).max() if table["feed_tonnes"].any() else 0.0
     for left, right, way in zip(found, rights, schedule.shares):
         shown = table[table["case"] == way]
         draw_bars(left, shown, reclaimed_of(schedule, way), size)
@@ -162,14 +162,14 @@ def plot_tonnes(schedule: YearlySchedule, axes: Any) -> list[Axes]:
 
 def recovered(table: pd.DataFrame, metal: Metal) -> pd.Series:
     """What is recovered of a metal in the unit of its grade, of each year's ore; nan where there is none."""
-    ore = table["ore_tonnes"].where(table["ore_tonnes"] > 0)
-    return table[f"metal_{metal.name}"] / ore * (100.0 if metal.unit == "percent" else 1.0)
+    ore = table["feed_tonnes"].where(table["feed_tonnes"] > 0)
+    return table[f"recovered_{metal.name}"] / ore * (100.0 if metal.unit == "percent" else 1.0)
 
 
 def reclaimed_of(schedule: YearlySchedule, way: str) -> Optional[np.ndarray]:
     """Tonnes of ore that come from the stockpile in each year; None of a way that has none."""
     milling = schedule.milling.get(way)
-    return None if milling is None or not milling.is_stocked else milling.parcels.of("ore_tonnes") @ milling.reclaimed
+    return None if milling is None or not milling.is_stocked else milling.parcels.of("feed_tonnes") @ milling.reclaimed
 
 
 def draw_bars(ax: Axes, shown: pd.DataFrame, reclaimed: Optional[np.ndarray], size: float) -> None:
@@ -181,8 +181,8 @@ def draw_bars(ax: Axes, shown: pd.DataFrame, reclaimed: Optional[np.ndarray], si
         ax.set_xticks([])
         return
     from_stock = np.zeros(len(shown)) if reclaimed is None else reclaimed / size
-    milled = shown["ore_tonnes"] / size
-    rest = shown["rock_tonnes"] / size - (milled - from_stock)
+    milled = shown["feed_tonnes"] / size
+    rest = shown["total_tonnes"] / size - (milled - from_stock)
     ax.bar(shown["year"], milled - from_stock, 0.8, color=ORE, label="ore", linewidth=0)
     if reclaimed is not None:
         ax.bar(
@@ -213,8 +213,8 @@ def draw_limits(ax: Axes, schedule: YearlySchedule, count: int, unit: tuple[floa
     size, sign = unit
     limits = schedule.problem.limits
     edges = np.arange(max(count, 1) + 1) + 0.5
-    mill = "all processes" if any(name.startswith("ore_tonnes_") for name in limits.most) else "mill"
-    for name, label, colour in (("ore_tonnes", mill, MILL), ("rock_tonnes", "shovels", SHOVELS)):
+    mill = "all processes" if any(name.startswith("feed_tonnes_") for name in limits.most) else "mill"
+    for name, label, colour in (("feed_tonnes", mill, MILL), ("total_tonnes", "shovels", SHOVELS)):
         if name in limits.most:
             most = limits.of_years(max(count, 1))[:, list(limits.most).index(name)] / size
             label = f"{label}: {round(limits.most[name] / size, 3):,.12g} {sign}t a year"
@@ -242,11 +242,13 @@ def plot_cumulative(schedule: YearlySchedule, years: pd.DataFrame, ax: Axes) -> 
     the linear programme, which ends at the bound; gives `ax`."""
     shown = years[years["revenue_factor"] == schedule.factor]
     curves = {
-        case: np.append(0.0, shown["discounted"][shown["case"] == case].cumsum()) for case in NAMES if case != "bound"
+        case: np.append(0.0, shown["discounted_cash_flow"][shown["case"] == case].cumsum())
+        for case in NAMES
+        if case != "upper_bound"
     }
     if schedule.optimum is not None:
         cash = schedule.optimum.cash
-        curves["bound"] = np.append(0.0, np.cumsum(cash * schedule.discounts(len(cash))))
+        curves["upper_bound"] = np.append(0.0, np.cumsum(cash * schedule.discounts(len(cash))))
     size, sign = scaled(max(float(np.abs(curve).max()) for curve in curves.values()))
     for case, curve in curves.items():
         if len(curve) > 1:
@@ -258,10 +260,12 @@ def plot_cumulative(schedule: YearlySchedule, years: pd.DataFrame, ax: Axes) -> 
                 **LINES[case],
             )
     if schedule.optimum is not None:
-        ax.axhline(schedule.optimum.bound / size, color=COLOURS["bound"], linewidth=0.8, linestyle=":")
+        ax.axhline(schedule.optimum.bound / size, color=COLOURS["upper_bound"], linewidth=0.8, linestyle=":")
     ax.axhline(0, color="black", linewidth=0.8)
     ax.set_xlabel("end of year")
-    ax.set_ylabel(f"discounted cash so far, {sign} {schedule.phases.plan.project.money.currency}".replace(",  ", ", "))
+    ax.set_ylabel(
+        f"discounted cash so far, {sign} {schedule.pushbacks.plan.project.money.currency}".replace(",  ", ", ")
+    )
     ax.xaxis.set_major_locator(MaxNLocator(integer=True))
     ax.legend(loc="lower right", facecolor="white", edgecolor="none", framealpha=0.9)
     return ax

@@ -39,10 +39,10 @@ def grid_name(pair: tuple[str, str]) -> str:
 
 def singles(table: pd.DataFrame) -> dict[str, pd.Series]:
     """By number its net present values by share, rising, the project as given at share 0 among them."""
-    alone, as_given = table[(table["number"] != "") & (table["second"] == "")], float(table["npv"].iloc[0])
+    alone, as_given = table[(table["parameter"] != "") & (table["second_parameter"] == "")], float(table["npv"].iloc[0])
     return {
-        str(name): pd.concat([rows.set_index("share")["npv"], pd.Series({0.0: as_given})]).sort_index()
-        for name, rows in alone.groupby("number", sort=False)
+        str(name): pd.concat([rows.set_index("change")["npv"], pd.Series({0.0: as_given})]).sort_index()
+        for name, rows in alone.groupby("parameter", sort=False)
     }
 
 
@@ -111,8 +111,8 @@ def plot_spider(table: pd.DataFrame, currency: str, axes: Axes) -> Axes:
 
 def grid_of(table: pd.DataFrame, one: str, other: str) -> pd.DataFrame:
     """The net present values of a pair: a row a share of the first, rising, a column a share of the second, and both as given among them."""
-    pair = table[(table["number"] == one) & (table["second"] == other)]
-    grid = pair.pivot(index="share", columns="second_share", values="npv")
+    pair = table[(table["parameter"] == one) & (table["second_parameter"] == other)]
+    grid = pair.pivot(index="change", columns="second_change", values="npv")
     curves = singles(table)
     grid[0.0], grid.loc[0.0] = curves[one].reindex(grid.index), curves[other].reindex([*grid.columns, 0.0])
     return grid.sort_index().sort_index(axis=1)

@@ -33,7 +33,7 @@ class Benches:
     """What each factor's shell adds to the shell before, bench by bench from the top.
 
     factors  rising
-    names    of the amounts: rock_tonnes, ore_tonnes, ore_tonnes_NAME of each of several processes, metal_NAME of each metal, and last cash, in money
+    names    of the amounts: total_tonnes, feed_tonnes, feed_tonnes_NAME of each of several processes, metal_NAME of each metal, and last cash, in money
     amounts  an array of factors, benches and names
     """
 
@@ -127,10 +127,10 @@ def mean_discount(start: np.ndarray, end: np.ndarray, rate: float) -> np.ndarray
 def capacity_years(amounts: np.ndarray, settings: Schedule) -> np.ndarray:
     """Years of each capacity that each piece uses, shape (pieces, capacities): all ore, then each process, then total material."""
     capacities = [
-        (ORE, settings.ore_per_year),
+        (ORE, settings.processing_capacity),
         *((ORE + 1 + k, capacity) for k, capacity in enumerate(settings.per_process)),
     ]
-    capacities += [] if settings.rock_per_year is None else [(ROCK, settings.rock_per_year)]
+    capacities += [] if settings.mining_capacity is None else [(ROCK, settings.mining_capacity)]
     return np.stack([amounts[..., place] / capacity for place, capacity in capacities], axis=-1)
 
 
@@ -149,8 +149,10 @@ def year_discounts(settings: Schedule, count: int) -> np.ndarray:
 def discounts_between(starts: np.ndarray, ends: np.ndarray, settings: Schedule) -> np.ndarray:
     """Discount factors of periods that start with a year and end within it."""
     if settings.discounting in BEFORE_THE_END:
-        return np.asarray((1 + settings.rate) ** -(np.floor(starts) + 1 - BEFORE_THE_END[settings.discounting]))
-    return mean_discount(starts, ends, settings.rate)
+        return np.asarray(
+            (1 + settings.discount_rate) ** -(np.floor(starts) + 1 - BEFORE_THE_END[settings.discounting])
+        )
+    return mean_discount(starts, ends, settings.discount_rate)
 
 
 @dataclass(frozen=True)
@@ -164,7 +166,7 @@ class Terms:
     @property
     def columns(self) -> list[str]:
         """The names of a year's amounts."""
-        return [*self.names[:CASH], *self.money.columns, self.names[CASH], "discounted"]
+        return [*self.names[:CASH], *self.money.columns, self.names[CASH], "discounted_cash_flow"]
 
     def earned(self, years: Years) -> Years:
         """The years of a course with all the money of each, discounted as the project asks. A pit without rock has none."""
@@ -175,7 +177,7 @@ class Terms:
         fixed = self.money.fixed_cost * (ends - starts)
         spent = self.money.spent(len(amounts)) * (amounts[:, ROCK].sum() > 0)
         worth = (cash - fixed) * discounts_between(starts, ends, self.settings) - spent * (
-            1 + self.settings.rate
+            1 + self.settings.discount_rate
         ) ** -starts
         of_years = [fixed, spent] if self.money.columns else []
         return Years(years.end, np.column_stack([amounts[:, :CASH], *of_years, cash - fixed - spent, worth]))
@@ -197,7 +199,7 @@ def worst_case(benches: Benches, settings: Schedule, money: YearlyMoney = PLAIN)
 
 def table_of(benches: Benches, settings: Schedule, money: YearlyMoney = PLAIN) -> pd.DataFrame:
     """One row a case, factor and year, for the factors whose pits hold rock: case, factor, year from 1, the amounts' names, fixed_cost and
-    capital where there are such, cash after them, and `discounted`, in money."""
+    capex where there are such, cash after them, and `discounted_cash_flow`, in money."""
     some = np.flatnonzero(benches.pits[:, :, ROCK].sum(axis=1) > 0)
     cases = {"best": best_case(benches, settings, money), "worst": worst_case(benches, settings, money)}
     keys = [(case, benches.factors[k]) for case in cases for k in some]
@@ -220,6 +222,6 @@ def demand_few_years(benches: Benches, project: Project) -> None:
     years = max(course.used[-1].max(), float(len(course.ends)))
     if years > MOST_YEARS:
         raise PlanError(
-            f"{project.path}: [shells] ore_per_year, rock_per_year: the greatest pit would take at least {years:,.0f} years, and "
+            f"{project.path}: [shells] processing_capacity, mining_capacity: the greatest pit would take at least {years:,.0f} years, and "
             f"at most {MOST_YEARS:,} are counted: are the capacities in tonnes a year?"
         )

@@ -11,6 +11,7 @@ from typing import Optional
 import numpy as np
 import pandas as pd
 
+from pitplan.config.economics import PER_REVENUE_FACTOR
 from pitplan.config.shells import Schedule
 from pitplan.core.revenue_factors import BASE_PRICE, factor_text
 from pitplan.economics import period_costs
@@ -64,7 +65,7 @@ def cells_of(plan: Plan, solution: Solution) -> Cells:
     values, count = plan.values, plan.grid.count
     factor = solution.entry[:count]
     processed = np.zeros(count)
-    if values.cutoff == "moving":
+    if values.cutoff == PER_REVENUE_FACTOR:
         # The first step of a block, whose others come in later.
         block, first = np.unique(values.processed, return_index=True)
         processed[block] = solution.entry[count:][first]
@@ -105,9 +106,9 @@ def blocks(plan: Plan, solution: Solution) -> pd.DataFrame:
 def shells(plan: Plan, solution: Solution, more: Optional[np.ndarray] = None) -> pd.DataFrame:
     """One row a factor; `more` is for each cell what digging it costs in years besides its worth, in money.
 
-    revenue_factor; blocks (with rock) in the pit; tonnes; ore_tonnes, the mill feed, diluted and after ore loss; in_situ_ore_tonnes of
+    revenue_factor; blocks (with rock) in the pit; tonnes; feed_tonnes, the mill feed, diluted and after ore loss; in_situ_ore_tonnes of
     the blocks of ore; waste_tonnes, the tonnes that are not in-situ ore; strip_ratio of these two;
-    processed_tonnes at the factor's own price; ore_tonnes_NAME of each of several processes; grade_NAME of the ore in its column's unit, metal_NAME recovered of it
+    processed_at_revenue_factor at the factor's own price; feed_tonnes_NAME of each of several processes; grade_NAME of the ore in its column's unit, metal_NAME recovered of it
     (tonnes, or grams); worth in money at the price as given; npv_best, npv_worst and years (of the best case), by the money of years;
     value_at_revenue_factor, exact (Decimal), as the program answers it. Raises PlanError where it takes too many years.
     """
@@ -129,8 +130,8 @@ def shells(plan: Plan, solution: Solution, more: Optional[np.ndarray] = None) ->
 def years(plan: Plan, solution: Solution, more: Optional[np.ndarray] = None) -> pd.DataFrame:
     """One row a case, a factor whose pit is not empty, and a year; `more` as of `shells`.
 
-    case best or worst; revenue_factor; year from 1; rock_tonnes and, of these, ore_tonnes; metal_NAME recovered (tonnes,
-    or grams); fixed_cost and capital, where the project has any; cash after these, and discounted, the same as it counts for
+    case best or worst; revenue_factor; year from 1; total_tonnes and, of these, feed_tonnes; metal_NAME recovered (tonnes,
+    or grams); fixed_cost and capex, where the project has any; cash after these, and discounted, the same as it counts for
     NPV, in money. What is ore is so at the price as given, and so is cash unless years have prices of their own. Raises
     PlanError where it takes too many years.
     """
@@ -145,10 +146,10 @@ def benches_of(plan: Plan, cells: Cells, more: Optional[np.ndarray] = None) -> B
     _, _, level = plan.grid.indices(inside)
     piece = np.searchsorted(factors, cells.factor[inside]) * levels + level
     ore = cells.ore[inside]
-    flows = {"rock_tonnes": cells.tonnes[inside], "ore_tonnes": np.where(ore, cells.feed[inside], 0.0)}
+    flows = {"total_tonnes": cells.tonnes[inside], "feed_tonnes": np.where(ore, cells.feed[inside], 0.0)}
     flows |= {name: feed[inside] for name, feed in feeds_of(plan, cells).items()}
-    flows |= {f"metal_{name}": np.where(ore, metal[inside], 0.0) for name, metal in plan.values.metal.items()}
-    flows["cash"] = cells.worth[inside] - (0.0 if more is None else more[inside])
+    flows |= {f"recovered_{name}": np.where(ore, metal[inside], 0.0) for name, metal in plan.values.metal.items()}
+    flows["cash_flow"] = cells.worth[inside] - (0.0 if more is None else more[inside])
     count = len(factors) * levels
     sums = np.column_stack([np.bincount(piece, flow, minlength=count) for flow in flows.values()])
     benches = Benches(factors, tuple(flows), sums.reshape(len(factors), levels, len(flows)))
@@ -159,7 +160,7 @@ def benches_of(plan: Plan, cells: Cells, more: Optional[np.ndarray] = None) -> B
 def feeds_of(plan: Plan, cells: Cells) -> dict[str, np.ndarray]:
     """Of several processes the tonnes that come to each, by the name of the amount, of each cell that is ore; else nothing."""
     return {
-        f"ore_tonnes_{process.name}": np.where(cells.ore & (cells.best == number), cells.feed, 0.0)
+        f"feed_tonnes_{process.name}": np.where(cells.ore & (cells.best == number), cells.feed, 0.0)
         for number, process in enumerate(plan.project.processes)
     }
 
@@ -167,7 +168,7 @@ def feeds_of(plan: Plan, cells: Cells) -> dict[str, np.ndarray]:
 def amounts(plan: Plan, cells: Cells) -> pd.DataFrame:
     """One row a factor: tonnes, grades and worth of its pit, without time."""
     pit, ore, content = cells.factor, np.where(cells.ore, cells.factor, 0), cells.content
-    tonnes, ore_tonnes, in_situ = (
+    tonnes, feed_tonnes, in_situ = (
         within(plan, pit, cells.tonnes),
         within(plan, ore, cells.feed),
         within(plan, ore, cells.tonnes),
@@ -175,17 +176,17 @@ def amounts(plan: Plan, cells: Cells) -> pd.DataFrame:
     columns = {
         "blocks": within(plan, pit, cells.tonnes > 0).astype(np.int64),
         "tonnes": tonnes,
-        "ore_tonnes": ore_tonnes,
+        "feed_tonnes": feed_tonnes,
         "in_situ_ore_tonnes": in_situ,
         "waste_tonnes": tonnes - in_situ,
         "strip_ratio": ratio(tonnes - in_situ, in_situ),
-        "processed_tonnes": within(plan, cells.processed, cells.feed),
+        "processed_at_revenue_factor": within(plan, cells.processed, cells.feed),
     }
     columns |= {name: within(plan, pit, feed) for name, feed in feeds_of(plan, cells).items()}
     for metal in plan.project.metals:
-        columns[f"grade_{metal.name}"] = ratio(within(plan, ore, content[metal.name]), ore_tonnes)
-        columns[f"metal_{metal.name}"] = within(plan, ore, plan.values.metal[metal.name])
-    columns["worth"] = within(plan, pit, cells.worth)
+        columns[f"head_grade_{metal.name}"] = ratio(within(plan, ore, content[metal.name]), feed_tonnes)
+        columns[f"recovered_{metal.name}"] = within(plan, ore, plan.values.metal[metal.name])
+    columns["undiscounted_cash_flow"] = within(plan, pit, cells.worth)
     return pd.DataFrame(columns)
 
 

@@ -1,1 +1,1 @@
-"""Pushbacks: phases chosen from nested shells, their benches and minimum mining width."""
+"""Pushbacks: pushbacks chosen from nested shells, their benches and minimum mining width."""

@@ -1,4 +1,4 @@
-"""The benches of each phase, which a yearly schedule digs, and which of them must be through before another is begun."""
+"""The benches of each pushback, which a yearly schedule digs, and which of them must be through before another is begun."""
 
 from __future__ import annotations
 
@@ -9,30 +9,30 @@ import numpy as np
 
 from pitplan.pits import shell_tables
 
-from .nested import Phases
+from .nested import Pushbacks
 
-ROCK, ORE, CASH = "rock_tonnes", "ore_tonnes", "cash"
+ROCK, ORE, CASH = "total_tonnes", "feed_tonnes", "cash_flow"
 
 
 @dataclass(frozen=True)
-class PhaseBenches:
-    """The benches with rock of each phase, phase by phase and there from the top.
+class PushbackBenches:
+    """The benches with rock of each pushback, pushback by pushback and there from the top.
 
-    phase    of each bench, from 1
+    pushback    of each bench, from 1
     level    of each, from 0 at the top of the grid
-    names    of the amounts: rock_tonnes, ore_tonnes, metal_NAME of each metal, and cash, in money
+    names    of the amounts: total_tonnes, feed_tonnes, metal_NAME of each metal, and cash, in money
     amounts  an array of benches and names
-    lag      by how many benches a phase is behind the one before at least
+    lag      by how many benches a pushback is behind the one before at least
     """
 
-    phase: np.ndarray
+    pushback: np.ndarray
     level: np.ndarray
     names: tuple[str, ...]
     amounts: np.ndarray
     lag: int = 0
 
     def __len__(self) -> int:
-        return len(self.phase)
+        return len(self.pushback)
 
     def of(self, name: str) -> np.ndarray:
         """One amount of each bench."""
@@ -50,10 +50,10 @@ class PhaseBenches:
 
     @cached_property
     def waits(self) -> tuple[np.ndarray, ...]:
-        """For each bench those that must be through before it is begun: the bench above it in its phase, and of each phase before the
+        """For each bench those that must be through before it is begun: the bench above it in its pushback, and of each pushback before the
         lowest that is not more than `lag` benches below it. Those that another of them waits for are left out.
 
-        So all that lies over a bench in its phase and those before is dug first, wherever a phase begins or ends.
+        So all that lies over a bench in its pushback and those before is dug first, wherever a pushback begins or ends.
         """
         found = []
         for bench in range(len(self)):
@@ -62,26 +62,26 @@ class PhaseBenches:
         return tuple(found)
 
     def candidates(self, bench: int) -> list[int]:
-        """The lowest bench above it in its phase, and of each phase before the lowest that it waits for. Benches stand in an order in
+        """The lowest bench above it in its pushback, and of each pushback before the lowest that it waits for. Benches stand in an order in
         which each is behind those that it waits for."""
-        phase, level = self.phase[bench], self.level[bench]
-        deepest = np.where(self.phase == phase, level - 1, level + self.lag)
-        open_to = np.flatnonzero((self.phase <= phase) & (self.level <= deepest))
-        last = np.flatnonzero(np.diff(self.phase[open_to], append=-1))
+        pushback, level = self.pushback[bench], self.level[bench]
+        deepest = np.where(self.pushback == pushback, level - 1, level + self.lag)
+        open_to = np.flatnonzero((self.pushback <= pushback) & (self.level <= deepest))
+        last = np.flatnonzero(np.diff(self.pushback[open_to], append=-1))
         return open_to[last].tolist()
 
 
-def of_phases(phases: Phases, lag: int = 0) -> PhaseBenches:
-    """The benches of a pit's phases, at the price as given and with the phases' own mining costs."""
-    plan, cells = phases.plan, shell_tables.cells_of(phases.plan, phases.solution)
-    inside = np.flatnonzero((phases.phase > 0) & (cells.tonnes > 0))
+def of_pushbacks(pushbacks: Pushbacks, lag: int = 0) -> PushbackBenches:
+    """The benches of a pit's pushbacks, at the price as given and with the pushbacks' own mining costs."""
+    plan, cells = pushbacks.plan, shell_tables.cells_of(pushbacks.plan, pushbacks.solution)
+    inside = np.flatnonzero((pushbacks.pushback > 0) & (cells.tonnes > 0))
     levels = plan.grid.shape[0]
-    place = (phases.phase[inside].astype(np.int64) - 1) * levels + inside // plan.grid.per_level
+    place = (pushbacks.pushback[inside].astype(np.int64) - 1) * levels + inside // plan.grid.per_level
     used, bench = np.unique(place, return_inverse=True)
     ore = cells.ore[inside]
     flows = {ROCK: cells.tonnes[inside], ORE: np.where(ore, cells.feed[inside], 0.0)}
     flows |= {name: feed[inside] for name, feed in shell_tables.feeds_of(plan, cells).items()}
-    flows |= {f"metal_{name}": np.where(ore, metal[inside], 0.0) for name, metal in plan.values.metal.items()}
-    flows[CASH] = (cells.worth - phases.mining_cost_added)[inside]
+    flows |= {f"recovered_{name}": np.where(ore, metal[inside], 0.0) for name, metal in plan.values.metal.items()}
+    flows[CASH] = (cells.worth - pushbacks.mining_cost_added)[inside]
     sums = np.column_stack([np.bincount(bench, flow, minlength=len(used)) for flow in flows.values()])
-    return PhaseBenches(used // levels + 1, used % levels, tuple(flows), sums, lag)
+    return PushbackBenches(used // levels + 1, used % levels, tuple(flows), sums, lag)

@@ -1,13 +1,13 @@
-"""Phases that are wide enough to work in, by morphology on the levels of the grid.
+"""Pushbacks that are wide enough to work in, by morphology on the levels of the grid.
 
-A level of a phase is wide enough where each of its blocks lies in a rectangle of blocks, of the width asked for each way, that the phase
+A level of a pushback is wide enough where each of its blocks lies in a rectangle of blocks, of the width asked for each way, that the pushback
 digs on that level: where it is its own opening by the rectangle (Serra, Image Analysis and Mathematical Morphology, 1982). Air is room as
 well, and so is what must be dug. From the last pit inwards:
 
 1. The last pit keeps the greatest part whose levels are wide enough, without waste that only what it leaves has needed, where that
    gains. It grows first where that gains more than it costs: each narrow block gets the rectangle round it that digs least, with all that
    this needs.
-2. Small narrow pieces of a phase go to the phase before, with all that they need.
+2. Small narrow pieces of a pushback go to the pushback before, with all that they need.
 3. Beside what else is narrow the pit before shrinks: each narrow block gets the rectangle round it that takes least of that pit, and what
    needs this goes with it. Then that pit keeps the greatest part whose levels are wide enough.
 
@@ -25,7 +25,7 @@ from scipy import ndimage
 
 from pitplan.blockmodel import missing_blocks
 from pitplan.blockmodel.grid import metres
-from pitplan.config.pushbacks import PhaseRules
+from pitplan.config.pushbacks import PushbackRules
 from pitplan.core.revenue_factors import factor_text
 from pitplan.errors import PlanError
 from pitplan.plan import Plan
@@ -36,9 +36,9 @@ Rectangle = tuple[int, int]
 # Cells that touch by a side, an edge or a corner are of one piece of needs.
 TOUCHING = np.ones((3, 3, 3), dtype=bool)
 HAIR = 1e-9
-# Narrow pieces of up to this share of a phase's tonnes go to the phase before.
+# Narrow pieces of up to this share of a pushback's tonnes go to the pushback before.
 SMALL = 0.25
-# A phase that keeps less than this share of what its shell adds is told.
+# A pushback that keeps less than this share of what its shell adds is told.
 FEW = 0.5
 # So many pieces that are left are named each.
 NAMED = 5
@@ -49,11 +49,11 @@ class Ground:
     """What may be dug and how wide; arrays are of levels (from the top), rows and columns.
 
     tonnes  of rock
-    free    room for every phase: air, and what must be dug
+    free    room for every pushback: air, and what must be dug
     may     what may be dug: neither barred, nor ground that is not known, nor what needs such
-    worth   of each cell at the factor of the last phase, in billionths of the currency
-    width   the rectangle of a phase; None: any
-    bottom  that of a pit up to a phase
+    worth   of each cell at the factor of the last pushback, in billionths of the currency
+    width   the rectangle of a pushback; None: any
+    bottom  that of a pit up to a pushback
     """
 
     plan: Plan
@@ -68,13 +68,15 @@ class Ground:
         return int(self.worth[pit].sum())
 
 
-def ground_of(plan: Plan, rules: PhaseRules) -> Ground:
+def ground_of(plan: Plan, rules: PushbackRules) -> Ground:
     grid, last = plan.grid, plan.project.schedule.revenue_factors[-1]
     closed = closure.users_of(grid, plan.walls, unknown(plan))
     if plan.settled is not None:
         closed |= plan.settled.left
     sides = (grid.size[1], grid.size[0])
-    width, bottom = (None if wide is None else rectangle(wide, sides) for wide in (rules.width, rules.bottom))
+    width, bottom = (
+        None if wide is None else rectangle(wide, sides) for wide in (rules.min_mining_width, rules.min_bottom_width)
+    )
     tonnes, may, worth = (grid.cube(cells) for cells in (plan.values.tonnes, ~closed, plan.values.greatest_value(last)))
     return Ground(plan, tonnes, free_of(plan), may, worth, width, bottom)
 
@@ -82,13 +84,13 @@ def ground_of(plan: Plan, rules: PhaseRules) -> Ground:
 def unknown(plan: Plan) -> np.ndarray:
     """A truth for each cell: whether nothing is known of its ground."""
     found = np.zeros(plan.grid.count, dtype=bool)
-    if plan.project.table.absent != "air":
+    if plan.project.table.missing_blocks != "air":
         found[missing_blocks.unknown_cells(plan.grid)] = True
     return found
 
 
 def free_of(plan: Plan) -> np.ndarray:
-    """What is room for every phase, by level, row and column: air, and what must be dug."""
+    """What is room for every pushback, by level, row and column: air, and what must be dug."""
     free = (plan.values.tonnes == 0) & ~unknown(plan)
     return plan.grid.cube(free if plan.settled is None else free | plan.settled.dug)
 
@@ -99,19 +101,19 @@ def rectangle(wide: float, sides: tuple[float, float]) -> Rectangle:
     return north, east
 
 
-def widened(phase: np.ndarray, plan: Plan, rules: PhaseRules) -> tuple[np.ndarray, list[str]]:
-    """Phases, one number a cell, of which each is wide enough, and notes of what is left for it.
+def widened(pushback: np.ndarray, plan: Plan, rules: PushbackRules) -> tuple[np.ndarray, list[str]]:
+    """Pushbacks, one number a cell, of which each is wide enough, and notes of what is left for it.
 
-    What must be dug stays in phase 1, however narrow. Raises PlanError where nothing of the last pit is wide enough.
+    What must be dug stays in pushback 1, however narrow. Raises PlanError where nothing of the last pit is wide enough.
     """
     ground, count = ground_of(plan, rules), len(plan.project.schedule.revenue_factors)
-    cube = plan.grid.cube(phase)
+    cube = plan.grid.cube(pushback)
     pits = [(cube > 0) & (cube <= number) for number in range(1, count + 1)]
     found = wide_pits(pits, ground)
     if not ((ground.tonnes > 0) & found[-1]).any():
         factor = plan.project.schedule.revenue_factors[-1]
         raise PlanError(
-            f"{plan.project.path}: [pushbacks] width, bottom: no part of the pit of revenue factor {factor_text(factor)} is so wide: ask for less"
+            f"{plan.project.path}: [pushbacks] min_mining_width, min_bottom_width: no part of the pit of revenue factor {factor_text(factor)} is so wide: ask for less"
         )
     result = np.zeros(plan.grid.shape, dtype=np.int16)
     for number in range(count, 0, -1):
@@ -120,7 +122,7 @@ def widened(phase: np.ndarray, plan: Plan, rules: PhaseRules) -> tuple[np.ndarra
 
 
 def wide_pits(pits: list[np.ndarray], ground: Ground) -> list[np.ndarray]:
-    """The pits made wide enough, each within the next: the last one by what it leaves, the others by what they leave to the next phase."""
+    """The pits made wide enough, each within the next: the last one by what it leaves, the others by what they leave to the next pushback."""
     outer = best(pits[-1], ground)
     found = [outer]
     for pit in reversed(pits[:-1]):
@@ -148,9 +150,9 @@ def lean(pit: np.ndarray, ground: Ground) -> np.ndarray:
 
 
 def advanced(inner: np.ndarray, outer: np.ndarray, ground: Ground) -> np.ndarray:
-    """The inner pit with the small narrow pieces of the phase between the two, and all that these need."""
+    """The inner pit with the small narrow pieces of the pushback between the two, and all that these need."""
     between = outer & ~inner
-    narrow = [phase & ~opened(phase, free, ground.width) for phase, free in zip(between, ground.free)]
+    narrow = [pushback & ~opened(pushback, free, ground.width) for pushback, free in zip(between, ground.free)]
     more = with_needs(inner | np.stack(narrow), ground) & between
     pieces, count = ndimage.label(more, TOUCHING)
     weights = ndimage.sum_labels(ground.tonnes, pieces, np.arange(count + 1))
@@ -160,7 +162,7 @@ def advanced(inner: np.ndarray, outer: np.ndarray, ground: Ground) -> np.ndarray
 
 
 def shrunk(inner: np.ndarray, outer: np.ndarray, ground: Ground) -> np.ndarray:
-    """The part of the inner pit that is wide enough, and leaves room enough for a phase between it and the outer one, if there is one.
+    """The part of the inner pit that is wide enough, and leaves room enough for a pushback between it and the outer one, if there is one.
 
     Level by level from the top: what needs something that is left above is left too.
     """
@@ -229,16 +231,16 @@ def with_needs(pit: np.ndarray, ground: Ground) -> np.ndarray:
     return ground.plan.grid.cube(closure.used_blocks(ground.plan.grid, ground.plan.walls, pit.ravel()))
 
 
-def least_width(phase: np.ndarray, free: np.ndarray, sides: tuple[float, float]) -> float:
-    """Metres, in whole steps of a block's lesser side, that a phase is wide on each level; nan where there is none of it.
+def min_width(pushback: np.ndarray, free: np.ndarray, sides: tuple[float, float]) -> float:
+    """Metres, in whole steps of a block's lesser side, that a pushback is wide on each level; nan where there is none of it.
 
-    phase, free  truths by level, row and column; `sides` are a block's metres north and east
+    pushback, free  truths by level, row and column; `sides` are a block's metres north and east
     """
-    levels = [number for number, level in enumerate(phase & ~free) if level.any()]
+    levels = [number for number, level in enumerate(pushback & ~free) if level.any()]
     if not levels:
         return math.nan
     step, wide = min(sides), 1
-    while all(is_wide(phase[number], free[number], rectangle((wide + 1) * step, sides)) for number in levels):
+    while all(is_wide(pushback[number], free[number], rectangle((wide + 1) * step, sides)) for number in levels):
         wide += 1
     return wide * step
 
@@ -247,12 +249,12 @@ def is_wide(mask: np.ndarray, free: np.ndarray, shape: Rectangle) -> bool:
     return not (mask & ~free & ~opened(mask, free, shape)).any()
 
 
-def notes_of(before: np.ndarray, after: np.ndarray, ground: Ground, rules: PhaseRules) -> list[str]:
+def notes_of(before: np.ndarray, after: np.ndarray, ground: Ground, rules: PushbackRules) -> list[str]:
     """What the widths moved, and the pieces that are left for them."""
     rock, tonnes = ground.tonnes > 0, ground.tonnes
     asked = [
         f"{name} {metres(wide)} m"
-        for name, wide in (("width", rules.width), ("bottom", rules.bottom))
+        for name, wide in (("width", rules.min_mining_width), ("bottom", rules.min_bottom_width))
         if wide is not None
     ]
     moved = (
@@ -264,10 +266,10 @@ def notes_of(before: np.ndarray, after: np.ndarray, ground: Ground, rules: Phase
     told = [f"{np.count_nonzero(cells & rock):,} {word} ({tonnes[cells].sum():,.0f} t)" for word, cells in moved]
     notes = [f"for {' and '.join(asked)} blocks are dug: {', '.join(told)}"]
     for number in range(1, int(before.max()) + 1):
-        shell, phase = (float(tonnes[cube == number].sum()) for cube in (before, after))
-        if phase < FEW * shell:
+        shell, pushback = (float(tonnes[cube == number].sum()) for cube in (before, after))
+        if pushback < FEW * shell:
             notes.append(
-                f"WARNING: for its width phase {number} has {phase:,.0f} t of {shell:,.0f} t in its shell: the pit holds fewer phases so wide"
+                f"WARNING: for its width pushback {number} has {pushback:,.0f} t of {shell:,.0f} t in its shell: the pit holds fewer pushbacks so wide"
             )
     return notes + left_pieces((before > 0) & (after == 0) & rock, tonnes, ground)
 

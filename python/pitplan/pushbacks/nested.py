@@ -1,6 +1,6 @@
-"""Phases: nested parts of a pit that are dug one after the other, chosen from its shells.
+"""Pushbacks: nested parts of a pit that are dug one after the other, chosen from its shells.
 
-Each phase is what one shell adds to the one before. For even phases the shells are sought whose tonnes come nearest to even shares of the
+Each pushback is what one shell adds to the one before. For even pushbacks the shells are sought whose tonnes come nearest to even shares of the
 last one's: since shells nest, their tonnes rise with the factor, and the neighbours of a share are found by trying factors between those
 that are known until two are left that follow each other. Factors are whole thousandths. Where the tonnes between two that follow each other
 jump past a share, no factor divides that rock, which is told as a gap.
@@ -17,7 +17,7 @@ from scipy import ndimage
 
 from pitplan.blockmodel.plausibility import WARNING
 from pitplan.config.project import Project
-from pitplan.config.pushbacks import LEAST_FACTOR, MOST_PHASES, PhaseRules
+from pitplan.config.pushbacks import LEAST_FACTOR, MOST_PUSHBACKS, PushbackRules
 from pitplan.core.progress import Progress, silent
 from pitplan.core.revenue_factors import BASE_PRICE, factor_text, factor_texts
 from pitplan.errors import PlanError
@@ -37,51 +37,51 @@ TonnesAt = Callable[[tuple[float, ...]], dict[float, float]]
 
 
 @dataclass(frozen=True)
-class Phases:
-    """A pit in phases.
+class Pushbacks:
+    """A pit in pushbacks.
 
-    plan      the plan, with the phases' factors for its own
+    plan      the plan, with the pushbacks' factors for its own
     solution  the shells of these factors
-    phase     for each cell its phase, from 1; 0 where it is in none
+    pushback     for each cell its pushback, from 1; 0 where it is in none
     notes     what a planner should know of the division
     """
 
     plan: Plan
     solution: Solution
-    phase: np.ndarray
+    pushback: np.ndarray
     notes: tuple[str, ...]
 
     @property
     def factors(self) -> tuple[float, ...]:
-        """Of each phase the factor of the shell that ends it, rising."""
+        """Of each pushback the factor of the shell that ends it, rising."""
         return self.plan.project.schedule.revenue_factors
 
     @property
     def mining_cost_added(self) -> np.ndarray:
-        """For each cell what digging it costs more in its phase, in money, which is no part of its worth."""
+        """For each cell what digging it costs more in its pushback, in money, which is no part of its worth."""
         a_tonne = np.zeros(len(self.factors) + 1)
         if amounts := rules_of(self.plan.project).mining_cost_added:
             a_tonne[1:] = [float(amount) for amount in amounts]
-        return np.asarray(a_tonne[self.phase] * self.plan.values.tonnes)
+        return np.asarray(a_tonne[self.pushback] * self.plan.values.tonnes)
 
 
-def rules_of(project: Project) -> PhaseRules:
-    """Raises PlanError where the project says nothing of phases."""
-    if project.phases is None:
+def rules_of(project: Project) -> PushbackRules:
+    """Raises PlanError where the project says nothing of pushbacks."""
+    if project.pushbacks is None:
         raise PlanError(
-            f"{project.path}: [pushbacks] is missing: it says by count, tonnes or revenue_factors which phases are asked for"
+            f"{project.path}: [pushbacks] is missing: it says by count, tonnes or revenue_factors which pushbacks are asked for"
         )
-    return project.phases
+    return project.pushbacks
 
 
 def named_last(project: Project) -> Optional[float]:
-    """The factor of the last phase's shell, where the project names one; None: the shell that `shells` selects."""
+    """The factor of the last pushback's shell, where the project names one; None: the shell that `shells` selects."""
     rules = rules_of(project)
     return rules.revenue_factors[-1] if rules.revenue_factors else rules.ultimate_pit or project.schedule.selected
 
 
 def ending(project: Project) -> Project:
-    """The project with the factors up to that of its last phase, where it names that; else as it is, and `divide` selects a shell."""
+    """The project with the factors up to that of its last pushback, where it names that; else as it is, and `divide` selects a shell."""
     last = named_last(project)
     return project if last is None else ended(project, last)
 
@@ -91,7 +91,7 @@ def ended(project: Project, last: float) -> Project:
 
 
 def selected(plan: Plan, mine: Mine, progress: Progress) -> tuple[Plan, list[str]]:
-    """The plan with the factors up to the shell that `shells` selects, and a note of it, unless the project names the last phase's shell.
+    """The plan with the factors up to the shell that `shells` selects, and a note of it, unless the project names the last pushback's shell.
 
     Where an empty shell is selected, since no other has a net present value above 0, that of the price as given is taken, with a warning.
     """
@@ -99,18 +99,18 @@ def selected(plan: Plan, mine: Mine, progress: Progress) -> tuple[Plan, list[str
         return plan, []
     table = shell_tables.shells(plan, problem.solve(plan, mine, progress))
     last = shell_tables.selected_factor(table, plan.project.schedule)
-    note = f"the last phase ends with the shell of revenue factor {factor_text(last)}, which shells selects: [pushbacks] ultimate_pit names another"
+    note = f"the last pushback ends with the shell of revenue factor {factor_text(last)}, which shells selects: [pushbacks] ultimate_pit names another"
     if not table["tonnes"][table["revenue_factor"] == last].any():
         last = BASE_PRICE
-        note = f"{WARNING}no shell has a net present value above 0: the last phase ends with the shell of revenue factor {factor_text(last)}"
+        note = f"{WARNING}no shell has a net present value above 0: the last pushback ends with the shell of revenue factor {factor_text(last)}"
     return replace(plan, project=ended(plan.project, last)), [note]
 
 
-def divide(plan: Plan, mine: Optional[Mine] = None, progress: Progress = silent) -> Phases:
+def divide(plan: Plan, mine: Optional[Mine] = None, progress: Progress = silent) -> Pushbacks:
     """Divides the pit of the plan's last factor as the project asks, or of the shell that `shells` selects where the project names none; the
     mine is that of the plan, which is else made for the time being.
 
-    Raises PlanError where that pit is empty, more than a hundred phases are asked for, or there are not as many as mining costs are given,
+    Raises PlanError where that pit is empty, more than a hundred pushbacks are asked for, or there are not as many as mining costs are given,
     and ProgramError where the solver refuses.
     """
     if mine is None:
@@ -138,12 +138,12 @@ def divide(plan: Plan, mine: Optional[Mine] = None, progress: Progress = silent)
     more += notes_of_added(rules, factors, plan.project)
     part, solution = solved(factors)
     entry = solution.entry[: plan.grid.count]
-    phase = np.where(entry > 0, np.searchsorted(factors, entry) + 1, 0).astype(np.int16)
-    if rules.width is not None or rules.bottom is not None:
-        with progress.step("making the phases wide enough"):
-            phase, told = mining_width.widened(phase, part, rules)
+    pushback = np.where(entry > 0, np.searchsorted(factors, entry) + 1, 0).astype(np.int16)
+    if rules.min_mining_width is not None or rules.min_bottom_width is not None:
+        with progress.step("making the pushbacks wide enough"):
+            pushback, told = mining_width.widened(pushback, part, rules)
         more = [*more, *told]
-    return Phases(part, solution, phase, (*notes, *more))
+    return Pushbacks(part, solution, pushback, (*notes, *more))
 
 
 def not_empty(tonnes: dict[float, float], project: Project) -> tuple[tuple[float, ...], list[str]]:
@@ -154,7 +154,7 @@ def not_empty(tonnes: dict[float, float], project: Project) -> tuple[tuple[float
             kept.append(factor)
         else:
             notes.append(
-                f"the shell of revenue factor {factor_text(factor)} has no rock that the one before has not: it makes no phase"
+                f"the shell of revenue factor {factor_text(factor)} has no rock that the one before has not: it makes no pushback"
             )
         before = rock
     if not kept:
@@ -164,21 +164,21 @@ def not_empty(tonnes: dict[float, float], project: Project) -> tuple[tuple[float
     return tuple(kept), notes
 
 
-def notes_of_added(rules: PhaseRules, factors: tuple[float, ...], project: Project) -> list[str]:
-    """That phases have mining costs of their own. Raises PlanError where these are not as many as the phases."""
+def notes_of_added(rules: PushbackRules, factors: tuple[float, ...], project: Project) -> list[str]:
+    """That pushbacks have mining costs of their own. Raises PlanError where these are not as many as the pushbacks."""
     amounts = rules.mining_cost_added
     if not amounts:
         return []
     if len(amounts) != len(factors):
-        said = f"mining_cost_added has {len(amounts)} amounts, and the pit has {len(factors)} phases, of the revenue factors"
+        said = f"mining_cost_added has {len(amounts)} amounts, and the pit has {len(factors)} pushbacks, of the revenue factors"
         raise PlanError(f"{project.path}: [pushbacks] {said} {factor_texts(factors)}: give one for each")
     told = ", ".join(f"{amount:f}" for amount in amounts)
-    where = "in phases, years, net present values and schedules, not in the worth of blocks, shells and phases"
-    return [f"by phase a tonne costs {told} {project.money.currency} more to dig: {where}"]
+    where = "in pushbacks, years, net present values and schedules, not in the worth of blocks, shells and pushbacks"
+    return [f"by pushback a tonne costs {told} {project.money.currency} more to dig: {where}"]
 
 
 def even_shells(
-    rules: PhaseRules, last: float, tonnes_at: TonnesAt, project: Project
+    rules: PushbackRules, last: float, tonnes_at: TonnesAt, project: Project
 ) -> tuple[dict[float, float], list[str]]:
     """Factors and tonnes of the shells that come nearest to even shares of the last one's tonnes, and notes of the shares that none comes
     near to."""
@@ -197,18 +197,18 @@ def even_shells(
         if abs(known[nearest] - share) > FAR_OFF * known[last] / count:
             notes.append(gap(known, low, high))
     if len(found) < count:
-        notes.append(f"{count} phases are asked for, and the shells make {len(found)}")
+        notes.append(f"{count} pushbacks are asked for, and the shells make {len(found)}")
     return {factor: rock for rock, factor in sorted(found.items())}, list(dict.fromkeys(notes))
 
 
-def count_of(rules: PhaseRules, whole: float, project: Project) -> int:
-    """How many phases are asked for of a pit of so many tonnes."""
+def count_of(rules: PushbackRules, whole: float, project: Project) -> int:
+    """How many pushbacks are asked for of a pit of so many tonnes."""
     if rules.count is not None:
         return rules.count
     assert rules.tonnes is not None
     count = max(1, round(whole / rules.tonnes))
-    if count > MOST_PHASES:
-        why = f"the pit of {whole:,.0f} t would have {count:,} phases of {rules.tonnes:,.0f} t, and there are at most {MOST_PHASES}"
+    if count > MOST_PUSHBACKS:
+        why = f"the pit of {whole:,.0f} t would have {count:,} pushbacks of {rules.tonnes:,.0f} t, and there are at most {MOST_PUSHBACKS}"
         raise PlanError(f"{project.path}: [pushbacks] tonnes: {why}")
     return count
 
@@ -222,64 +222,68 @@ def gap(known: dict[float, float], low: float, high: float) -> str:
     )
 
 
-def blocks(phases: Phases) -> pd.DataFrame:
-    """`pitplan.blocks` of the phases' shells with `phase`, from 1 (0: in none)."""
-    frame = shell_tables.blocks(phases.plan, phases.solution)
-    return frame.assign(phase=phases.phase[frame["id"].to_numpy()])
+def blocks(pushbacks: Pushbacks) -> pd.DataFrame:
+    """`pitplan.blocks` of the pushbacks' shells with `pushback`, from 1 (0: in none)."""
+    frame = shell_tables.blocks(pushbacks.plan, pushbacks.solution)
+    return frame.assign(pushback=pushbacks.pushback[frame["id"].to_numpy()])
 
 
-def table(phases: Phases) -> pd.DataFrame:
-    """One row a phase, of what it adds to those before, at the price as given.
+def table(pushbacks: Pushbacks) -> pd.DataFrame:
+    """One row a pushback, of what it adds to those before, at the price as given.
 
-    phase from 1; revenue_factor, of the shell that ends it; blocks (with rock); tonnes, ore_tonnes, in_situ_ore_tonnes, waste_tonnes and
+    pushback from 1; revenue_factor, of the shell that ends it; blocks (with rock); tonnes, feed_tonnes, in_situ_ore_tonnes, waste_tonnes and
     strip_ratio as of shells;
     grade_NAME of the ore in its column's unit, metal_NAME recovered of it (tonnes, or grams); worth in money; mining_cost_added, where
-    phases have mining costs of their own, which are not in the worth; deferred_value, what the shell that ends a phase is worth more than
-    the phases up to it, since blocks come in a later phase for the sake of width; cost_of_width, the same of the last phase, where it is lost;
-    pieces that do not touch by a side; least_width in metres.
+    pushbacks have mining costs of their own, which are not in the worth; deferred_value, what the shell that ends a pushback is worth more than
+    the pushbacks up to it, since blocks come in a later pushback for the sake of width; value_lost_to_width, the same of the last pushback, where it is lost;
+    pieces that do not touch by a side; min_width in metres.
     """
-    plan, cells = phases.plan, shell_tables.cells_of(phases.plan, phases.solution)
-    ore = np.where(cells.ore, phases.phase, 0)
-    tonnes, ore_tonnes, in_situ = (
-        added(of, amounts, phases)
-        for of, amounts in ((phases.phase, cells.tonnes), (ore, cells.feed), (ore, cells.tonnes))
+    plan, cells = pushbacks.plan, shell_tables.cells_of(pushbacks.plan, pushbacks.solution)
+    ore = np.where(cells.ore, pushbacks.pushback, 0)
+    tonnes, feed_tonnes, in_situ = (
+        added(of, amounts, pushbacks)
+        for of, amounts in ((pushbacks.pushback, cells.tonnes), (ore, cells.feed), (ore, cells.tonnes))
     )
     columns = {
-        "phase": np.arange(1, len(phases.factors) + 1),
-        "revenue_factor": np.array(phases.factors),
-        "blocks": added(phases.phase, cells.tonnes > 0, phases).astype(np.int64),
+        "pushback": np.arange(1, len(pushbacks.factors) + 1),
+        "revenue_factor": np.array(pushbacks.factors),
+        "blocks": added(pushbacks.pushback, cells.tonnes > 0, pushbacks).astype(np.int64),
         "tonnes": tonnes,
-        "ore_tonnes": ore_tonnes,
+        "feed_tonnes": feed_tonnes,
         "in_situ_ore_tonnes": in_situ,
         "waste_tonnes": tonnes - in_situ,
         "strip_ratio": shell_tables.ratio(tonnes - in_situ, in_situ),
     }
-    columns |= {name: added(phases.phase, feed, phases) for name, feed in shell_tables.feeds_of(plan, cells).items()}
+    columns |= {
+        name: added(pushbacks.pushback, feed, pushbacks) for name, feed in shell_tables.feeds_of(plan, cells).items()
+    }
     for metal in plan.project.metals:
-        columns[f"grade_{metal.name}"] = shell_tables.ratio(added(ore, cells.content[metal.name], phases), ore_tonnes)
-        columns[f"metal_{metal.name}"] = added(ore, plan.values.metal[metal.name], phases)
-    columns["worth"] = added(phases.phase, cells.worth, phases)
+        columns[f"head_grade_{metal.name}"] = shell_tables.ratio(
+            added(ore, cells.content[metal.name], pushbacks), feed_tonnes
+        )
+        columns[f"recovered_{metal.name}"] = added(ore, plan.values.metal[metal.name], pushbacks)
+    columns["undiscounted_cash_flow"] = added(pushbacks.pushback, cells.worth, pushbacks)
     if rules_of(plan.project).mining_cost_added:
-        columns["mining_cost_added"] = added(phases.phase, phases.mining_cost_added, phases)
-    lacking = shell_tables.within(plan, cells.factor, cells.worth) - np.cumsum(columns["worth"])
-    is_last = columns["phase"] == len(phases.factors)
-    columns["deferred_value"], columns["cost_of_width"] = np.where(is_last, 0.0, lacking), np.where(
+        columns["mining_cost_added"] = added(pushbacks.pushback, pushbacks.mining_cost_added, pushbacks)
+    lacking = shell_tables.within(plan, cells.factor, cells.worth) - np.cumsum(columns["undiscounted_cash_flow"])
+    is_last = columns["pushback"] == len(pushbacks.factors)
+    columns["deferred_value"], columns["value_lost_to_width"] = np.where(is_last, 0.0, lacking), np.where(
         is_last, lacking, 0.0
     )
-    return pd.DataFrame(columns | shapes(phases))
+    return pd.DataFrame(columns | shapes(pushbacks))
 
 
-def shapes(phases: Phases) -> dict[str, list[float]]:
-    """Of each phase into how many pieces it falls, and its least width in metres."""
-    grid, free = phases.plan.grid, mining_width.free_of(phases.plan)
-    rock, cube = grid.cube(phases.plan.values.tonnes > 0), grid.cube(phases.phase)
-    each = [cube == number for number in range(1, len(phases.factors) + 1)]
+def shapes(pushbacks: Pushbacks) -> dict[str, list[float]]:
+    """Of each pushback into how many pieces it falls, and its least width in metres."""
+    grid, free = pushbacks.plan.grid, mining_width.free_of(pushbacks.plan)
+    rock, cube = grid.cube(pushbacks.plan.values.tonnes > 0), grid.cube(pushbacks.pushback)
+    each = [cube == number for number in range(1, len(pushbacks.factors) + 1)]
     return {
-        "pieces": [int(ndimage.label(phase & rock)[1]) for phase in each],
-        "least_width": [mining_width.least_width(phase, free, (grid.size[1], grid.size[0])) for phase in each],
+        "pieces": [int(ndimage.label(pushback & rock)[1]) for pushback in each],
+        "min_width": [mining_width.min_width(pushback, free, (grid.size[1], grid.size[0])) for pushback in each],
     }
 
 
-def added(phase: np.ndarray, values: np.ndarray, phases: Phases) -> np.ndarray:
-    """For each phase the sum of the values of its cells."""
-    return np.bincount(phase, values, minlength=len(phases.factors) + 1)[1:]
+def added(pushback: np.ndarray, values: np.ndarray, pushbacks: Pushbacks) -> np.ndarray:
+    """For each pushback the sum of the values of its cells."""
+    return np.bincount(pushback, values, minlength=len(pushbacks.factors) + 1)[1:]

@@ -29,7 +29,7 @@ from .columns import TEMPLATES, Columns
 SENSITIVITY, SENSITIVITY_RECORD, TORNADO = "sensitivity.csv", "sensitivity.json", "tornado.png"
 BY_BLOCK = "block"
 # What is told in words of a column.
-NAMED = {(SENSITIVITY, "case"): "number"}
+NAMED = {(SENSITIVITY, "case"): "parameter"}
 # More columns than these are not legible on A4, and stand in several tables below each other.
 MOST_COLUMNS = 13
 
@@ -127,7 +127,7 @@ def write(path: Path, folder: Path, project: Project, sensitivity: Optional[Path
         warnings=[note.removeprefix("WARNING: ") for note in warnings],
         notes=[note for note in record["notes"] if note not in warnings],
         pictures={Path(name).stem: picture(folder / name) for name in record["files"] if name.endswith(".png")},
-        rate=project.schedule.rate,
+        rate=project.schedule.discount_rate,
         discounting=IN_WORDS[project.schedule.discounting],
         has_fixed=project.fixed is not None,
         bins=names.MILLING in record["files"],
@@ -170,7 +170,7 @@ def without_comments(text: str) -> str:
 
 
 def of_answer(folder: Path, project: Project, record: dict[str, Any]) -> dict[str, Any]:
-    """Figures and tables of shells, and where there are such of phases and of a schedule."""
+    """Figures and tables of shells, and where there are such of pushbacks and of a schedule."""
     chosen = record["shells"]["selected"]
     shells, years = read_table(folder, names.SHELLS), read_table(folder, names.YEARS)
     marks = shells.frame["revenue_factor"].map(
@@ -178,17 +178,17 @@ def of_answer(folder: Path, project: Project, record: dict[str, Any]) -> dict[st
     )
     found: dict[str, Any] = {"shells": parts_of(shells, report.columns_of, project, marks)}
     cases, figures = ["best", "worst"], of_shell(shells, chosen, project)
-    if names.PHASES in record["files"]:
-        found["phases"] = parts_of(read_table(folder, names.PHASES), report.columns_of_phases, project)
+    if names.PUSHBACKS in record["files"]:
+        found["pushbacks"] = parts_of(read_table(folder, names.PUSHBACKS), report.columns_of_pushbacks, project)
     if names.WAYS in record["files"]:
         ways = read_table(folder, names.WAYS)
         shown = record.get("schedule", BY_BLOCK)
         of_ways = report.columns_by_block if shown == BY_BLOCK else report.columns_of_ways
-        found["ways"], found["shown"] = (
-            parts_of(ways, of_ways, project, ways.frame["way"].map({shown: "selected"}).fillna("")),
+        found["methods"], found["shown"] = (
+            parts_of(ways, of_ways, project, ways.frame["method"].map({shown: "selected"}).fillna("")),
             shown,
         )
-        found["way"] = schedule.NAMES.get(shown, shown)
+        found["method"] = schedule.NAMES.get(shown, shown)
         # What is scheduled by block is the pit of the price as given, whichever shell is shown.
         pit = BASE_PRICE if shown == BY_BLOCK else chosen
         cases, figures = [shown], [*of_way(ways, shown, project), *grades(shells, pit, project)]
@@ -213,7 +213,11 @@ def parts_of(
     while others:
         many = -(-len(others) // (count - len(parts)))
         # The grade of a metal and what is recovered of it stay beside each other.
-        many -= many < len(others) and others[many][0].startswith("metal_") and others[many - 1][0].startswith("grade_")
+        many -= (
+            many < len(others)
+            and others[many][0].startswith("recovered_")
+            and others[many - 1][0].startswith("head_grade_")
+        )
         parts.append(part_of(table, [first, *others[:many]], marks))
         others = others[many:]
     return parts
@@ -234,9 +238,9 @@ def of_shell(shells: Written, chosen: float, project: Project) -> list[Figure]:
     names = {
         "npv_best": "Net present value, best case",
         "npv_worst": "Net present value, worst case",
-        "worth": "Worth, not discounted",
-        "tonnes": "Rock",
-        "ore_tonnes": "Mill feed",
+        "undiscounted_cash_flow": "Undiscounted cash flow",
+        "tonnes": "Total material",
+        "feed_tonnes": "Mill feed",
         "strip_ratio": "Strip ratio, waste to in-situ ore",
     }
     found = [shells.figure(name, row, columns[column]) for column, name in names.items()]
@@ -248,9 +252,9 @@ def grades(shells: Written, factor: float, project: Project) -> list[Figure]:
     row = int(shells.frame.index[shells.frame["revenue_factor"] == factor][0])
     return [
         shells.figure(
-            f"{metal.name.capitalize()} in the ore of the pit of revenue factor {factor_text(factor)}",
+            f"{metal.name.capitalize()} head grade of the pit at revenue factor {factor_text(factor)}",
             row,
-            (f"grade_{metal.name}", f"grade, {metal.sign}", 1.0, 3),
+            (f"head_grade_{metal.name}", f"grade, {metal.sign}", 1.0, 3),
         )
         for metal in project.metals
     ]
@@ -260,22 +264,22 @@ def recovered(
     table: Written, row: int, columns: dict[str, tuple[str, str, float, int]], project: Project
 ) -> list[Figure]:
     return [
-        table.figure(f"{metal.name.capitalize()} recovered", row, columns[f"metal_{metal.name}"])
+        table.figure(f"{metal.name.capitalize()} recovered", row, columns[f"recovered_{metal.name}"])
         for metal in project.metals
     ]
 
 
 def of_way(ways: Written, shown: str, project: Project) -> list[Figure]:
     """What the board asks first of a schedule."""
-    row = int(ways.frame.index[ways.frame["way"] == shown][0])
+    row = int(ways.frame.index[ways.frame["method"] == shown][0])
     only = ways.frame.loc[[row]]
     columns = {
         column[0]: column
         for column in (report.columns_by_block if shown == BY_BLOCK else report.columns_of_ways)(only, project)
     }
     bound = "Upper bound, any schedule by block" if shown == BY_BLOCK else "Upper bound, these pushbacks and processes"
-    names = {"value": "Net present value", "bound": bound, "tonnes": "Rock", "ore_tonnes": "Mill feed"}
-    names |= {"left_tonnes": "Rock that is left"} if "left_tonnes" in columns else {}
+    names = {"npv": "Net present value", "upper_bound": bound, "tonnes": "Total material", "feed_tonnes": "Mill feed"}
+    names |= {"unmined_tonnes": "Unmined material"} if "unmined_tonnes" in columns else {}
     found = [ways.figure(name, row, columns[column]) for column, name in names.items()]
     return [*found, *recovered(ways, row, columns, project), ways.figure("Life", row, ("years", "life, years", 1.0, 0))]
 
@@ -283,7 +287,7 @@ def of_way(ways: Written, shown: str, project: Project) -> list[Figure]:
 def of_sensitivity(found: Sensitivity, project: Project) -> dict[str, Any]:
     """Table and picture of a sensitivity: the cases of one number each, and the pit as given before them."""
     table = read_table(found.folder, SENSITIVITY)
-    alone = table.frame[table.frame["second"].isna()].fillna({"number": "", "second": ""})
+    alone = table.frame[table.frame["second_parameter"].isna()].fillna({"parameter": "", "second_parameter": ""})
     named = alone.assign(case=report.cases_in_words(alone))
     record = found.record
     return {

@@ -1,7 +1,7 @@
 """The shells in 3D: one HTML page with three.js and the model in it, to rotate, to cut by planes, and to pick blocks from.
 
 The page holds a byte a cell for each thing that it colours by, and the table's rows, all of them compressed; which faces are seen is found in
-the page. Of phases and of a schedule it shows the ground as it is behind each of them.
+the page. Of pushbacks and of a schedule it shows the ground as it is behind each of them.
 """
 
 from __future__ import annotations
@@ -30,7 +30,7 @@ MOST_FACTORS = 254
 MOST_ROWS = 300_000
 # What a block is dug by, besides the factor: the column, how it is called, and the colours, which darken from first to last, since not all
 # who look tell red from green.
-STAGES = (("phase", "viridis_r", (0.08, 0.95)), ("year", "plasma_r", (0.05, 0.95)))
+STAGES = (("pushback", "viridis_r", (0.08, 0.95)), ("year", "plasma_r", (0.05, 0.95)))
 
 
 def write(path: Path, folder: Folder) -> None:
@@ -43,7 +43,7 @@ def write(path: Path, folder: Folder) -> None:
 
 
 def model_of(folder: Folder) -> dict[str, Any]:
-    """What the page is told: the grid, of each cell a byte of factor and one of each grade, phase and year, the table's rows, and colours."""
+    """What the page is told: the grid, of each cell a byte of factor and one of each grade, pushback and year, the table's rows, and colours."""
     grid, blocks = folder.grid, folder.blocks
     factors = folder.factors
     if len(factors) > MOST_FACTORS:
@@ -67,7 +67,7 @@ def model_of(folder: Folder) -> dict[str, Any]:
         "shell": encoded(grid.spread(shell, AIR)),
         "shell_colours": colours("viridis_r", np.linspace(0.02, 1, len(factors))),
         "metals": [metal_of(folder, metal, solid) for metal in folder.record["metals"]],
-        "grade_colours": colours("YlOrRd", np.linspace(0, 1, 256)),
+        "head_grade_colours": colours("YlOrRd", np.linspace(0, 1, 256)),
         "stages": [stage_of(folder, *stage) for stage in STAGES if stage[0] in blocks],
         "rows": compressed(rows_of(folder).encode("utf-8")),
     }
@@ -83,7 +83,7 @@ def metal_of(folder: Folder, metal: dict[str, Any], solid: np.ndarray) -> dict[s
 
 
 def stage_of(folder: Folder, name: str, shades: str, ends: tuple[float, float]) -> dict[str, Any]:
-    """A byte of phase or year for each cell, 0 where it has none, and a colour for each. What a byte does not hold has the last that it does."""
+    """A byte of pushback or year for each cell, 0 where it has none, and a colour for each. What a byte does not hold has the last that it does."""
     number = np.clip(folder.blocks[name].to_numpy(), 0, 254)
     last = max(int(number.max()), 1)
     return {
@@ -98,7 +98,7 @@ def rows_of(folder: Folder) -> str:
     blocks that some pit holds."""
     blocks = folder.blocks
     written = pd.read_csv(folder.path / TABLE, dtype=str, keep_default_na=False, na_values={})
-    written["worth"] = worths(blocks).round(6)
+    written["undiscounted_cash_flow"] = worths(blocks).round(6)
     return written[(blocks["revenue_factor"] > 0).to_numpy() | (len(blocks) <= MOST_ROWS)].to_csv(
         index=False, lineterminator="\n"
     )

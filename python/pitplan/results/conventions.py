@@ -10,9 +10,9 @@ from pitplan.config.project import Project
 DISCOUNTING, OUTLINE = "discounting", "outline"
 SHELL, PUSHBACK = "shell", "pushback"
 # The columns of discounted amounts.
-DISCOUNTED = {"npv_best", "npv", "discounted", "value", "one_value"}
+DISCOUNTED = {"npv_best", "npv", "discounted_cash_flow", "common_npv"}
 # How the columns of their means and quantiles begin.
-SPREAD = ("value_", "one_value_")
+SPREAD = ("npv_mean", "npv_quantile", "common_npv_")
 # The cases of years that mine shell by shell or bench by bench.
 OF_SHELLS = ("best", "worst")
 
@@ -26,7 +26,7 @@ def with_discounting(table: pd.DataFrame, project: Project) -> pd.DataFrame:
 def with_outline(table: pd.DataFrame, project: Project) -> pd.DataFrame:
     """Adds the column `outline` to a table of shells or years if the project has a minimum mining width: "shell" for rows that describe the
     shells before widening, "pushback" for rows of a schedule."""
-    if project.phases is None or not (project.phases.width or project.phases.bottom):
+    if project.pushbacks is None or not (project.pushbacks.min_mining_width or project.pushbacks.min_bottom_width):
         return table
     is_shell = table["case"].isin(OF_SHELLS) if "case" in table else True
     return table.assign(**{OUTLINE: np.where(is_shell, SHELL, PUSHBACK)})

@@ -95,7 +95,7 @@ PLAN = {
     "inputs": Lacking({"*": SHA256}),
     "files": Lacking({"*": SHA256}),
     "shells": Lacking(SHELLS),
-    "phases": Lacking(whole(1, 100_000)),
+    "pushbacks": Lacking(whole(1, 100_000)),
     "schedule": Lacking(TEXT),
     "by_block": Lacking(TRUTH),
     "figures": Lacking(TRUTH),

@@ -1,4 +1,4 @@
-"""What of a folder is drawn or exported: what is dug up to a factor, a phase or the end of a year."""
+"""What of a folder is drawn or exported: what is dug up to a factor, a pushback or the end of a year."""
 
 from __future__ import annotations
 
@@ -13,17 +13,17 @@ from pitplan.core.revenue_factors import BASE_PRICE, factor_text
 from pitplan.errors import PlanError
 from pitplan.results.folder import Folder
 
-FACTOR, PHASE, YEAR = "revenue_factor", "phase", "year"
-KINDS = (FACTOR, PHASE, YEAR)
+FACTOR, PUSHBACK, YEAR = "revenue_factor", "pushback", "year"
+KINDS = (FACTOR, PUSHBACK, YEAR)
 PIT, GROUND = "pit", "ground"
-MADE_BY = {PHASE: "pitplan pushbacks", YEAR: "pitplan schedule"}
+MADE_BY = {PUSHBACK: "pitplan pushbacks", YEAR: "pitplan schedule"}
 
 
 @dataclass(frozen=True)
 class Shape:
     """Which pits are exported, and as what.
 
-    of       revenue_factor: that of one; phase, year: what is dug up to the end of each
+    of       revenue_factor: that of one; pushback, year: what is dug up to the end of each
     surface  pit: round the blocks that are dug; ground: the open surface of the ground with the pit in it
     smooth   of ground: without the steps of blocks
     """
@@ -36,7 +36,7 @@ class Shape:
 
 @dataclass(frozen=True)
 class Stage:
-    """What is dug up to a factor, a phase or a year: a truth for each level (from the top), row and column; number 0 is before all."""
+    """What is dug up to a factor, a pushback or a year: a truth for each level (from the top), row and column; number 0 is before all."""
 
     kind: str
     number: float
@@ -49,7 +49,7 @@ class Stage:
 
     @property
     def spoken(self) -> str:
-        """In words, such as `revenue factor 0.80` or `phase 2`."""
+        """In words, such as `revenue factor 0.80` or `pushback 2`."""
         number = factor_text(self.number) if self.kind == FACTOR else f"{self.number:.0f}"
         return f"{self.kind.replace('_', ' ')} {number}"
 
@@ -60,9 +60,9 @@ class Stage:
 
 
 def stages_of(folder: Folder, shape: Shape) -> list[Stage]:
-    """The stages that are asked for, in order; of phases and years of the ground one before all of them.
+    """The stages that are asked for, in order; of pushbacks and years of the ground one before all of them.
 
-    Raises PlanError where the folder has no phases or years, and where the pit of the factor is empty.
+    Raises PlanError where the folder has no pushbacks or years, and where the pit of the factor is empty.
     """
     if shape.of == FACTOR:
         dug = folder.dug(shape.revenue_factor)

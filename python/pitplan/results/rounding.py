@@ -26,18 +26,20 @@ def shown(table: pd.DataFrame) -> pd.DataFrame:
         if result[name].dtype == np.float64:
             places = (
                 6
-                if name.startswith("grade_") or name in ("strip_ratio", "years")
+                if name.startswith("head_grade_") or name in ("strip_ratio", "years")
                 else 9
-                if name in ("share", "below_bound")
+                if name in ("share", "optimality_gap")
                 else 3
             )
             # A hair below nothing is rounded to -0.0, which is no amount.
             result[name] = result[name].round(places) + 0.0
-    return with_share_below(result) if "below_bound" in result else result
+    return with_share_below(result) if "optimality_gap" in result else result
 
 
 def with_share_below(ways: pd.DataFrame) -> pd.DataFrame:
     """Ways with the share by which each value is less than its bound, of both as they are told: else a value of a few thousandths, as in
     millions of the currency, would be told with a share that is not its own. It stays 0 or nan where the bound is 0."""
-    share = (ways["bound"] - ways["value"]) / ways["bound"].abs()
-    return ways.assign(below_bound=share.where(ways["bound"] != 0, 0.0 * ways["below_bound"]).round(9) + 0.0)
+    share = (ways["upper_bound"] - ways["npv"]) / ways["upper_bound"].abs()
+    return ways.assign(
+        optimality_gap=share.where(ways["upper_bound"] != 0, 0.0 * ways["optimality_gap"]).round(9) + 0.0
+    )

@@ -1,6 +1,6 @@
 """The yearly schedule as a linear programme, and schedules that can be dug made from its optimum.
 
-The unknowns are cumulative: the share of each bench of a phase that is dug by the end of each year. A bench is dug no further than each
+The unknowns are cumulative: the share of each bench of a pushback that is dug by the end of each year. A bench is dug no further than each
 that it waits for, nor than the limits of the years so far allow once all that it waits for is through; a year keeps its limits; the
 discounted value is the most that there is. Since every schedule that can be dug keeps to this too, the optimum is a bound of them all.
 From it such schedules are made as Chicoisne, Espinoza, Goycoolea, Moreno and Rubio do
@@ -18,7 +18,7 @@ from scipy.optimize import linprog
 from scipy.sparse import coo_matrix, csr_matrix, diags, eye, hstack, vstack
 
 from pitplan.pits.best_worst_case import year_discounts
-from pitplan.pushbacks.bench_table import PhaseBenches
+from pitplan.pushbacks.bench_table import PushbackBenches
 
 from .bench_sequencing import HAIR, Limits, Problem, Sequence, by_lead, dig, leads
 from .highs import Programme
@@ -42,7 +42,7 @@ class Relaxed:
 
     cumulative  an array of benches and years: the share of each bench that is dug by the end of each year
     bound       its value, discounted, in money
-    cash        of each year, in money; capital as if it flowed with the year's other cash
+    cash        of each year, in money; capex as if it flowed with the year's other cash
     """
 
     cumulative: np.ndarray
@@ -89,17 +89,17 @@ def with_running_years(
     )
 
 
-def furthest(benches: PhaseBenches, limits: Limits, years: int) -> np.ndarray:
+def furthest(benches: PushbackBenches, limits: Limits, years: int) -> np.ndarray:
     """The greatest share of each bench that can be dug by the end of each year, where all before it is dug first as fast as the limits
     allow."""
     takes, most = limits.amounts(benches), limits.of_years(years).cumsum(axis=0)
     result = np.ones((len(benches), years))
     for number in range(takes.shape[1]):
         result = np.minimum(result, left_over(takes[:, number], benches.before, most[:, number]))
-    if np.isfinite(limits.sinking_rate):
-        above = benches.before & (benches.phase[:, None] == benches.phase)
+    if np.isfinite(limits.vertical_advance_rate):
+        above = benches.before & (benches.pushback[:, None] == benches.pushback)
         result = np.minimum(
-            result, left_over(np.ones(len(benches)), above, limits.sinking_rate * np.arange(1, years + 1))
+            result, left_over(np.ones(len(benches)), above, limits.vertical_advance_rate * np.arange(1, years + 1))
         )
     return result
 
@@ -116,7 +116,7 @@ def joined(rows: list[tuple[csr_matrix, np.ndarray]]) -> tuple[csr_matrix, np.nd
     return vstack([matrix for matrix, _ in rows], format="csr"), np.concatenate([most for _, most in rows])
 
 
-def order_rows(benches: PhaseBenches, years: int) -> tuple[csr_matrix, np.ndarray]:
+def order_rows(benches: PushbackBenches, years: int) -> tuple[csr_matrix, np.ndarray]:
     """No bench is dug less by the end of a later year, nor further than one that it waits for."""
     place = np.arange(len(benches) * years).reshape(len(benches), years)
     first = [place[:, :-1].ravel(), *(place[bench] for bench in range(len(benches)) for _ in benches.waits[bench])]
@@ -128,15 +128,17 @@ def order_rows(benches: PhaseBenches, years: int) -> tuple[csr_matrix, np.ndarra
     return matrix.tocsr(), np.zeros(len(less))
 
 
-def limit_rows(benches: PhaseBenches, limits: Limits, years: int) -> Iterator[tuple[csr_matrix, np.ndarray]]:
+def limit_rows(benches: PushbackBenches, limits: Limits, years: int) -> Iterator[tuple[csr_matrix, np.ndarray]]:
     """For each limit a row a year, as a share of what a year may hold."""
     takes, most = limits.amounts(benches), limits.of_years(years)
     for number in range(takes.shape[1]):
         whole = float(most[:, number].max()) or 1.0
         yield yearly_rows(takes[:, number] / whole, years), most[:, number] / whole
-    if np.isfinite(limits.sinking_rate):
-        for phase in np.unique(benches.phase):
-            yield yearly_rows((benches.phase == phase).astype(float), years), np.full(years, limits.sinking_rate)
+    if np.isfinite(limits.vertical_advance_rate):
+        for pushback in np.unique(benches.pushback):
+            yield yearly_rows((benches.pushback == pushback).astype(float), years), np.full(
+                years, limits.vertical_advance_rate
+            )
 
 
 def yearly_rows(amounts: np.ndarray, years: int) -> csr_matrix:
@@ -190,7 +192,7 @@ def cash_of(earned: np.ndarray, runs: np.ndarray, problem: Problem) -> np.ndarra
     return (earned - costs) / year_discounts(problem.settings, years)
 
 
-def sequences(optimum: Relaxed, benches: PhaseBenches) -> Iterator[Sequence]:
+def sequences(optimum: Relaxed, benches: PushbackBenches) -> Iterator[Sequence]:
     """Orders by the expected year of each bench, and by that in which a part of it is dug, with what the years may be filled with."""
     cumulative = optimum.cumulative
     years = cumulative.shape[1]
@@ -206,7 +208,7 @@ def sequences(optimum: Relaxed, benches: PhaseBenches) -> Iterator[Sequence]:
                 yield Sequence(some, begun - earlier, eager=True)
 
 
-def by_leads(optimum: Relaxed, benches: PhaseBenches) -> Iterator[Sequence]:
+def by_leads(optimum: Relaxed, benches: PushbackBenches) -> Iterator[Sequence]:
     """The orders of the rule, without what the optimum leaves."""
     kept = optimum.cumulative[:, -1] >= LEFT
     for lead in leads(benches):
@@ -215,7 +217,7 @@ def by_leads(optimum: Relaxed, benches: PhaseBenches) -> Iterator[Sequence]:
         yield Sequence(order[kept[order]])
 
 
-def in_order(benches: PhaseBenches, key: np.ndarray, second: np.ndarray) -> np.ndarray:
+def in_order(benches: PushbackBenches, key: np.ndarray, second: np.ndarray) -> np.ndarray:
     """The benches by rising keys, each behind those that it waits for, whose keys may be greater by what the solver leaves open."""
     first, second = key.astype(float), second.astype(float)
     for bench, others in enumerate(benches.waits):
@@ -256,7 +258,7 @@ def ended(shares: np.ndarray, problem: Problem) -> np.ndarray:
     return max((shares[:, :years] for years in range(shares.shape[1], -1, -1)), key=problem.value)
 
 
-def paying(earned: np.ndarray, benches: PhaseBenches) -> np.ndarray:
+def paying(earned: np.ndarray, benches: PushbackBenches) -> np.ndarray:
     """A truth for each bench: whether it is in the part that earns most, of those that hold with each bench all that it waits for, where
     each earns so much. As such a part is a closed set, the linear programme of it has whole numbers."""
     unit = float(np.abs(earned).max(initial=0.0)) or 1.0

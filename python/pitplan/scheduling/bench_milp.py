@@ -12,7 +12,7 @@ import numpy as np
 from scipy.sparse import coo_matrix, csr_matrix, hstack, vstack
 
 from pitplan.config.schedule import Effort
-from pitplan.pushbacks.bench_table import PhaseBenches
+from pitplan.pushbacks.bench_table import PushbackBenches
 
 from .bench_lp import diggable, limit_rows, of_unknowns, programme_of, with_running_years
 from .bench_sequencing import HAIR, Problem
@@ -46,7 +46,7 @@ def integer_programme(problem: Problem, years: int) -> tuple[Programme, float]:
     return with_running_years(programme, iter(limits), problem.costs_of_years(years) / unit), unit
 
 
-def begun_rows(benches: PhaseBenches, years: int) -> csr_matrix:
+def begun_rows(benches: PushbackBenches, years: int) -> csr_matrix:
     """A bench is dug where it is begun, and begun where what it waits for is through."""
     size = len(benches) * years
     place = np.arange(size).reshape(len(benches), years)
@@ -86,6 +86,8 @@ def keeps(problem: Problem, shares: np.ndarray) -> bool:
     for bench, others in enumerate(benches.waits):
         if (done[others][:, shares[bench] > 0] < 1 - HAIR).any():
             return False
-    by_phase = np.stack([shares[benches.phase == phase].sum(axis=0) for phase in np.unique(benches.phase)])
+    by_pushback = np.stack(
+        [shares[benches.pushback == pushback].sum(axis=0) for pushback in np.unique(benches.pushback)]
+    )
     is_within = (limits.amounts(benches).T @ shares).T <= limits.of_years(years) * (1 + TOLERATED)
-    return bool(is_within.all() and (by_phase <= limits.sinking_rate + TOLERATED).all())
+    return bool(is_within.all() and (by_pushback <= limits.vertical_advance_rate + TOLERATED).all())

@@ -14,7 +14,7 @@ from pitplan.config.shells import Schedule
 from pitplan.economics.period_costs import PLAIN, YearlyMoney
 from pitplan.errors import PlanError
 from pitplan.pits.best_worst_case import year_discounts
-from pitplan.pushbacks.bench_table import CASH, ORE, ROCK, PhaseBenches
+from pitplan.pushbacks.bench_table import CASH, ORE, ROCK, PushbackBenches
 
 # A share so small is taken as nothing, since sums of fractions miss it by a hair.
 HAIR = 1e-9
@@ -26,13 +26,13 @@ class Limits:
 
     most          by name the most of an amount; of ore once the mill runs in full
     ramp_up       shares of the tonnes of mill and processes in the first years; the last one stays
-    sinking_rate  the most benches by which a phase sinks; infinite where there is no limit
+    vertical_advance_rate  the most benches by which a pushback sinks; infinite where there is no limit
     least         by name the least of an amount, likewise, where blocks are scheduled one by one
     """
 
     most: dict[str, float]
     ramp_up: tuple[float, ...] = (1.0,)
-    sinking_rate: float = np.inf
+    vertical_advance_rate: float = np.inf
     least: dict[str, float] = field(default_factory=dict)
 
     def of_year(self, number: int) -> np.ndarray:
@@ -54,26 +54,26 @@ class Limits:
         """An array of years, from the first, and limited amounts."""
         return np.stack([self.of_year(number) for number in range(1, count + 1)])
 
-    def amounts(self, benches: PhaseBenches) -> np.ndarray:
+    def amounts(self, benches: PushbackBenches) -> np.ndarray:
         """What each bench takes of each limit: an array of benches and limited amounts."""
         return np.array([benches.of(name) for name in self.most]).reshape(len(self.most), len(benches)).T
 
 
 def limits_of(project: Project, rules: ScheduleRules) -> Limits:
     """The limits of `[schedule]`, and of `[shells]` where it gives none."""
-    rock = rules.rock_per_year or project.schedule.rock_per_year
-    most = {ORE: rules.ore_per_year or project.schedule.ore_per_year}
+    rock = rules.mining_capacity or project.schedule.mining_capacity
+    most = {ORE: rules.processing_capacity or project.schedule.processing_capacity}
     most |= {} if rock is None else {ROCK: rock}
-    most |= {f"{ORE}_{process.name}": process.per_year for process in project.processes}
-    most |= {f"metal_{name}": amount for name, amount in rules.metal_per_year.items()}
-    return Limits(most, rules.ramp_up, np.inf if rules.sinking_rate is None else rules.sinking_rate)
+    most |= {f"{ORE}_{process.name}": process.capacity for process in project.processes}
+    most |= {f"recovered_{name}": amount for name, amount in rules.max_metal_per_year.items()}
+    return Limits(most, rules.ramp_up, np.inf if rules.vertical_advance_rate is None else rules.vertical_advance_rate)
 
 
 @dataclass(frozen=True)
 class Problem:
-    """What is scheduled: benches of phases, the limits of a year, the settings by which cash is discounted, and the money of years."""
+    """What is scheduled: benches of pushbacks, the limits of a year, the settings by which cash is discounted, and the money of years."""
 
-    benches: PhaseBenches
+    benches: PushbackBenches
     limits: Limits
     settings: Schedule
     money: YearlyMoney = PLAIN
@@ -96,12 +96,12 @@ class Problem:
         return result
 
     def costs(self, flows: np.ndarray) -> np.ndarray:
-        """Fixed costs and capital, discounted, of each year up to the last in which something flows; by the last axis of the flows."""
+        """Fixed costs and capex, discounted, of each year up to the last in which something flows; by the last axis of the flows."""
         return self.costs_of_years(flows.shape[-1]) * running(flows)
 
     def costs_of_years(self, years: int) -> np.ndarray:
         """The same of so many years in which the mine runs."""
-        starts = (1 + self.settings.rate) ** -np.arange(float(years))
+        starts = (1 + self.settings.discount_rate) ** -np.arange(float(years))
         return self.money.fixed_cost * year_discounts(self.settings, years) + self.money.spent(years) * starts
 
 
@@ -119,7 +119,7 @@ class Sequence:
     order  the benches that are dug, each behind those that it waits for
     first  for each bench the first year, from 1, in which it may be dug; None: any
     eager  whether benches further down the order use what a full limit leaves of the others; else the first limit that is full ends the
-           year, but for that of sinking, which holds up its phase alone
+           year, but for that of sinking, which holds up its pushback alone
     pace   the most rock that is dug by the end of each year; None: any
     """
 
@@ -150,20 +150,20 @@ class Digging:
             np.inf if sequence.pace is None else max(0.0, sequence.pace[number - 1] - self.benches.of(ROCK) @ self.done)
         )
         left = np.append(self.limits.of_year(number), pace)
-        depth = np.full(int(self.benches.phase.max()) + 1, self.limits.sinking_rate)
+        depth = np.full(int(self.benches.pushback.max()) + 1, self.limits.vertical_advance_rate)
         shares = np.zeros(len(self.benches))
         for bench in pending:
             is_due = sequence.first is None or sequence.first[bench] <= number
             if not is_due or (self.done[self.benches.waits[bench]] < 1).any():
                 continue
-            phase = self.benches.phase[bench]
-            share = self.room(bench, left, depth[phase])
+            pushback = self.benches.pushback[bench]
+            share = self.room(bench, left, depth[pushback])
             if share > HAIR:
                 shares[bench] = share
                 left = np.maximum(left - share * self.takes[bench], 0.0)
-                depth[phase] -= share
+                depth[pushback] -= share
                 self.done[bench] = 1.0 if self.done[bench] + share > 1 - HAIR else self.done[bench] + share
-            if self.done[bench] < 1 and not sequence.eager and depth[phase] > HAIR:
+            if self.done[bench] < 1 and not sequence.eager and depth[pushback] > HAIR:
                 break
         return shares
 
@@ -186,14 +186,14 @@ def dig(problem: Problem, sequence: Sequence, years: Optional[int] = None) -> np
     return np.column_stack(found) if found else np.zeros((len(problem.benches), 0))
 
 
-def by_lead(benches: PhaseBenches, lead: int) -> Sequence:
-    """All benches, each phase so many benches behind the one before. No lead is the whole pit bench by bench; one of all levels is phase
-    by phase."""
-    return Sequence(np.lexsort((benches.phase, benches.level + lead * (benches.phase - 1))))
+def by_lead(benches: PushbackBenches, lead: int) -> Sequence:
+    """All benches, each pushback so many benches behind the one before. No lead is the whole pit bench by bench; one of all levels is pushback
+    by pushback."""
+    return Sequence(np.lexsort((benches.pushback, benches.level + lead * (benches.pushback - 1))))
 
 
-def leads(benches: PhaseBenches) -> range:
-    """From the lag up to the lead at which phases follow one after the other."""
+def leads(benches: PushbackBenches) -> range:
+    """From the lag up to the lead at which pushbacks follow one after the other."""
     return range(benches.lag, max(benches.lag, int(np.ptp(benches.level)) + 1) + 1)
 
 

@@ -17,7 +17,7 @@ import numpy as np
 from scipy.sparse import bmat, csr_matrix, diags, eye, identity, kron
 
 from pitplan.pits.best_worst_case import year_discounts
-from pitplan.pushbacks.bench_table import CASH, ORE, ROCK, PhaseBenches
+from pitplan.pushbacks.bench_table import CASH, ORE, ROCK, PushbackBenches
 
 from .bench_lp import (
     Relaxed,
@@ -65,7 +65,7 @@ class Milling:
     def milled(self) -> np.ndarray:
         return self.straight + self.reclaimed
 
-    def flows(self, benches: PhaseBenches, shares: np.ndarray) -> np.ndarray:
+    def flows(self, benches: PushbackBenches, shares: np.ndarray) -> np.ndarray:
         """What flows of each bench in each year, by the benches' names: an array of benches, years and names."""
         flows = np.zeros((len(benches), shares.shape[1], len(benches.names)))
         place = self.parcels.bench
@@ -83,7 +83,7 @@ class Milling:
                 np.add.at(flows[:, :, number], place, self.parcels.of(name)[:, None] * self.milled)
         return flows
 
-    def mining(self, benches: PhaseBenches) -> np.ndarray:
+    def mining(self, benches: PushbackBenches) -> np.ndarray:
         """What digging each bench whole earns without its ore: less than nothing."""
         return mining_of(benches, self.parcels)
 
@@ -94,7 +94,7 @@ class Milling:
         return [float(lower[some].min()) if some.any() else None for some in (self.straight > SLIGHT).T]
 
 
-def mining_of(benches: PhaseBenches, parcels: Parcels) -> np.ndarray:
+def mining_of(benches: PushbackBenches, parcels: Parcels) -> np.ndarray:
     return benches.of(CASH) - np.bincount(parcels.bench, parcels.of(GAIN), minlength=len(benches))
 
 
@@ -133,7 +133,9 @@ class MillingProblem:
     def of_digging(self) -> Limits:
         """The limits that digging has without the mill."""
         limits = self.problem.limits
-        return Limits({name: most for name, most in limits.most.items() if name == ROCK}, (1.0,), limits.sinking_rate)
+        return Limits(
+            {name: most for name, most in limits.most.items() if name == ROCK}, (1.0,), limits.vertical_advance_rate
+        )
 
     def digging_rows(self) -> Iterator[tuple[csr_matrix, np.ndarray]]:
         """Order, and the limits of digging."""

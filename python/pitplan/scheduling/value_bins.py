@@ -1,4 +1,4 @@
-"""The ore of each bench of a phase in bins, by what a tonne of it is worth when it is milled."""
+"""The ore of each bench of a pushback in bins, by what a tonne of it is worth when it is milled."""
 
 from __future__ import annotations
 
@@ -8,8 +8,8 @@ import numpy as np
 
 from pitplan.pits import shell_tables
 from pitplan.plan import MILLION
-from pitplan.pushbacks.bench_table import ORE, PhaseBenches
-from pitplan.pushbacks.nested import Phases
+from pitplan.pushbacks.bench_table import ORE, PushbackBenches
+from pitplan.pushbacks.nested import Pushbacks
 
 GAIN = "gain"
 
@@ -20,7 +20,7 @@ class Parcels:
 
     bench    of each parcel, its place among the benches
     bin      of each, from 1, the poorest
-    names    of the amounts: ore_tonnes, metal_NAME of each metal, and gain, the revenue less the cost of processing and selling, in money
+    names    of the amounts: feed_tonnes, metal_NAME of each metal, and gain, the revenue less the cost of processing and selling, in money
     amounts  an array of parcels and names
     edges    between two bins what a tonne is worth, in money; rising
     """
@@ -39,19 +39,23 @@ class Parcels:
         return self.amounts[:, self.names.index(name)]
 
 
-def of_phases(phases: Phases, benches: PhaseBenches, count: int) -> Parcels:
-    """The ore of a pit's phases in so many bins of even tonnage, or in fewer where ore of one worth is more than a bin."""
-    plan, cells = phases.plan, shell_tables.cells_of(phases.plan, phases.solution)
-    ore = np.flatnonzero((phases.phase > 0) & (cells.tonnes > 0) & cells.ore)
+def of_pushbacks(pushbacks: Pushbacks, benches: PushbackBenches, count: int) -> Parcels:
+    """The ore of a pit's pushbacks in so many bins of even tonnage, or in fewer where ore of one worth is more than a bin."""
+    plan, cells = pushbacks.plan, shell_tables.cells_of(pushbacks.plan, pushbacks.solution)
+    ore = np.flatnonzero((pushbacks.pushback > 0) & (cells.tonnes > 0) & cells.ore)
     gain, tonnes = (plan.values.revenue[ore] - plan.values.processing[ore]) / MILLION, cells.feed[ore]
     edges = edges_of(gain / tonnes, tonnes, count)
-    bench_at = np.full((len(phases.factors) + 1, plan.grid.shape[0]), -1)
-    bench_at[benches.phase, benches.level] = np.arange(len(benches))
+    bench_at = np.full((len(pushbacks.factors) + 1, plan.grid.shape[0]), -1)
+    bench_at[benches.pushback, benches.level] = np.arange(len(benches))
     place = (
-        bench_at[phases.phase[ore], ore // plan.grid.per_level] * (len(edges) + 1) + bins_of(gain / tonnes, edges) - 1
+        bench_at[pushbacks.pushback[ore], ore // plan.grid.per_level] * (len(edges) + 1)
+        + bins_of(gain / tonnes, edges)
+        - 1
     )
     used, parcel = np.unique(place, return_inverse=True)
-    flows = {ORE: tonnes} | {f"metal_{name}": metal[ore] for name, metal in plan.values.metal.items()} | {GAIN: gain}
+    flows = (
+        {ORE: tonnes} | {f"recovered_{name}": metal[ore] for name, metal in plan.values.metal.items()} | {GAIN: gain}
+    )
     sums = np.column_stack([np.bincount(parcel, flow, minlength=len(used)) for flow in flows.values()])
     return Parcels(used // (len(edges) + 1), used % (len(edges) + 1) + 1, tuple(flows), sums, edges)
 

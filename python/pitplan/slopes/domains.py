@@ -60,22 +60,22 @@ def walls_of(region: np.ndarray, grid: Grid, slopes: Slopes) -> Walls:
 
     Raises PlanError where a region that blocks are of has no walls.
     """
-    patterns = tuple(pattern_of(wall, grid.size, slopes, grid.azimuth) for wall in slopes.walls)
+    patterns = tuple(pattern_of(wall, grid.size, slopes, grid.azimuth) for wall in slopes.domains)
     return laid(patterns, pattern_codes(region, slopes), grid)
 
 
 def pattern_codes(region: np.ndarray, slopes: Slopes) -> np.ndarray:
     """For each cell the number of its wall entry. Raises PlanError where a region that blocks are of has no walls."""
-    by_region = {name: k for k, wall in enumerate(slopes.walls) for name in wall.regions or ()}
-    others = next((k for k, wall in enumerate(slopes.walls) if wall.regions is None), None)
+    by_region = {name: k for k, wall in enumerate(slopes.domains) for name in wall.domains or ()}
+    others = next((k for k, wall in enumerate(slopes.domains) if wall.domains is None), None)
     inverse, codes = pd.factorize(region.astype(object), sort=True)
     if others is None and not any(codes):
-        raise PlanError("[slopes] all [[slopes.walls]] are for regions, and [table] names no column as region")
+        raise PlanError("[slopes] all [[slopes.domains]] are for regions, and [table] names no column as region")
     numbers = []
     for name in codes:
         number = by_region.get(str(name), others)
         if number is None and name != "":
-            raise PlanError(f"[slopes] no [[slopes.walls]] is for region {name}, and none is without a region")
+            raise PlanError(f"[slopes] no [[slopes.domains]] is for region {name}, and none is without a region")
         numbers.append(0 if number is None else number)
     return np.array(numbers, dtype=np.int16)[inverse]
 

@@ -177,15 +177,15 @@ def from_grid_north(wall: Wall, azimuth: float) -> Wall:
 def pattern_of(asked_wall: Wall, size: tuple[float, float, float], slopes: Slopes, azimuth: float = 0.0) -> Pattern:
     """The needs of one wall entry, with their errors, on a grid whose north has an azimuth."""
     wall = from_grid_north(asked_wall, azimuth)
-    where = "other regions" if wall.regions is None else f"region {', '.join(wall.regions)}"
+    where = "other regions" if wall.domains is None else f"region {', '.join(wall.domains)}"
     if wall.pattern:
         offsets = PATTERN_OFFSETS[wall.pattern]
         angles = wall_angles(offsets, size)
         return Pattern(f"{where}, {wall.pattern}", cone_templates.of_steps(offsets), offsets, angles, np.zeros(0))
-    if wall.steps:
-        cells = cone_templates.of_steps(wall.steps)
+    if wall.offsets:
+        cells = cone_templates.of_steps(wall.offsets)
         return Pattern(
-            f"{where}, {len(wall.steps)} steps of the project",
+            f"{where}, {len(wall.offsets)} steps of the project",
             cells,
             offsets_of(cells),
             angles_of_cone(cells, size),
@@ -193,7 +193,7 @@ def pattern_of(asked_wall: Wall, size: tuple[float, float, float], slopes: Slope
         )
     of_dip = " (dip directions)" if asked_wall.azimuth_of == DIP else ""
     asked = np.degrees(np.arctan2(1.0, cotangents(wall.angles, AZIMUTHS)))
-    levels = levels_of(wall, size, asked) if slopes.levels is None else slopes.levels
+    levels = levels_of(wall, size, asked) if slopes.precedence_benches is None else slopes.precedence_benches
     widened = widening(wall, size, levels, asked) if slopes.never_steeper else 1.0
     cells = cone(wall.angles, size, levels, widened)
     angles = angles_of_cone(cells, size)
@@ -203,7 +203,7 @@ def pattern_of(asked_wall: Wall, size: tuple[float, float, float], slopes: Slope
         else f"{wall.angles[0][1]:g}"
     )
     if wall.bench:
-        where += f", benches of {wall.bench.height:g} m with faces of {wall.bench.face:g} degrees and berms of {wall.bench.berm:g} m"
+        where += f", benches of {wall.bench.height:g} m with faces of {wall.bench.face_angle:g} degrees and berms of {wall.bench.berm_width:g} m"
     return Pattern(f"{where}, {said} degrees", cells, offsets_of(cells), angles, angles - asked, widened, azimuth)
 
 

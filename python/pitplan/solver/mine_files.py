@@ -22,7 +22,7 @@ CHUNK = 200_000
 
 
 def write(plan: Plan, folder: Path) -> Pairs:
-    """Writes mine.blocks, mine.upit and mine.prec into a folder, and if the project has `[fixed]` mine.fixed, and the rest's rest.blocks
+    """Writes mine.blocks, mine.upit and mine.prec into a folder, and if the project has `[constraints]` mine.fixed, and the rest's rest.blocks
     and rest.prec.
 
     Returns how many precedences the mine has. Raises PlanError if the program takes fewer.

@@ -22,7 +22,7 @@ whether the answer does:
 - no year exceeds a capacity, the years add up to their shell, and both net present values follow from its benches;
 - of `pit`, both rows of pits.csv are right in all this, and the pit without fixed blocks is worth no less;
 - a table that was written back has the planner's own rows and fields, and of each block what blocks.csv says;
-- phases are closed under the whole cones, hold what must be dug in phase 1 and what may not be in none, add up, and are as wide as
+- pushbacks are closed under the whole cones, hold what must be dug in pushback 1 and what may not be in none, add up, and are as wide as
   asked, which is counted anew by sums over squares;
 - in a schedule by block no block comes before its whole cone, no year is above a limit, and the value is not above the bound; of
   scenarios this holds for the schedule of each and for the one for all, whose years mill in each what earns most there.
@@ -53,8 +53,8 @@ from . import (
     fixed,
     haulage,
     money,
-    phases,
     planned_table,
+    pushbacks,
     reach,
     reblocked,
     scenarios,
@@ -91,7 +91,7 @@ def verify(folder: Path, project: Optional[Project] = None, table: Optional[pd.D
     more += [reach.verify(answer)] if answer.beyond is not None else []
     more += [haulage.verify(answer, money.sample(answer))] if answer.project.haulage else []
     more += [verify_free(answer, answer.free)] if answer.free else []
-    more += phases.verify(answer) if answer.phases is not None else []
+    more += pushbacks.verify(answer) if answer.pushbacks is not None else []
     more += (
         [planned_table.verify(answer, folder / planned_table.NAME)] if (folder / planned_table.NAME).exists() else []
     )

@@ -7,7 +7,7 @@ from typing import Optional
 import numpy as np
 import pandas as pd
 
-from pitplan.config.table import AbsentRock
+from pitplan.config.table import MissingRock
 from pitplan.verification.answer import Answer
 from pitplan.verification.read_tables import UNCUT
 from pitplan.verification.rules import TOLD, Rule, rule
@@ -15,8 +15,8 @@ from pitplan.verification.rules import TOLD, Rule, rule
 
 def verify(answer: Answer) -> Rule:
     """Ground without rows is blocks of the project's rock, where it names one, and otherwise none are."""
-    rock = answer.project.table.absent
-    if not isinstance(rock, AbsentRock):
+    rock = answer.project.table.missing_blocks
+    if not isinstance(rock, MissingRock):
         return rule("absent", "no block stands for a cell that the table has no row of", [])
     differences, count = unlike_cells(answer)
     for name, expected in words(answer, rock).items():
@@ -28,14 +28,14 @@ def verify(answer: Answer) -> Rule:
     return rule("absent", f"{holds} of the project's rock, and no other is", differences, count)
 
 
-def words(answer: Answer, rock: AbsentRock) -> dict[str, str | float]:
+def words(answer: Answer, rock: MissingRock) -> dict[str, str | float]:
     """What each column says of such a block: its tonnes, unless a surface cuts them, and codes, and 0 in every other but for its centre
     and its id."""
     columns = answer.project.table
     told: dict[Optional[str], str | float] = {
         columns.tonnes: rock.tonnes,
-        columns.rock: rock.rock,
-        columns.region: rock.region,
+        columns.rock_type: rock.rock_type,
+        columns.domain: rock.domain,
     }
     passed = {
         columns.x,

@@ -21,8 +21,8 @@ from ..errors import PlanError
 from .feed import by_code, recovered
 from .read_tables import (
     FREE,
-    PHASE,
     PROCESS,
+    PUSHBACK,
     YEAR,
     TableRows,
     beside,
@@ -49,15 +49,19 @@ def read_shells(
     )
     frame, parts, beyond = table
     rows, known, order = beside(frame, written, project, record["grid"], "blocks.csv")
-    phases = read_table(folder / "phases.csv").set_index("phase") if "phases" in record else None
-    schedule = read_table(folder / "schedule.csv", ["way"]) if "schedule" in record else None
+    pushbacks = read_table(folder / "pushbacks.csv").set_index("pushback") if "pushbacks" in record else None
+    schedule = read_table(folder / "schedule.csv", ["method"]) if "schedule" in record else None
     is_by_block = "by_block" in record
     shares = shares_of(project) if is_by_block else []
-    more = [*([PHASE] if phases is not None else []), *([YEAR] if schedule is not None or is_by_block else []), *shares]
+    more = [
+        *([PUSHBACK] if pushbacks is not None else []),
+        *([YEAR] if schedule is not None or is_by_block else []),
+        *shares,
+    ]
     said, factors = written[[*said_of(project), *more]].iloc[order].reset_index(drop=True), tuple(
         record["shells"]["revenue_factors"]
     )
-    found = {"phases": phases, "schedule": schedule, "parts": parts, "beyond": beyond, "is_by_block": is_by_block}
+    found = {"pushbacks": pushbacks, "schedule": schedule, "parts": parts, "beyond": beyond, "is_by_block": is_by_block}
     found["own"] = own_columns(written, rows, order)
     return Answer(folder, project, rows, known, said, shells, years, record, factors, **found)
 
@@ -100,7 +104,7 @@ class Answer:
     factors the factors of which the folder has shells
     free    of `pitplan pit` the answer that keeps to no fixed blocks
     found   what was told of it before, by name
-    phases  of `pitplan pushbacks` phases.csv, by phase; `said` has each block's phase then
+    pushbacks  of `pitplan pushbacks` pushbacks.csv, by pushback; `said` has each block's pushback then
     schedule  of `pitplan schedule` schedule.csv; `said` has each block's year then
     is_by_block  whether blocks were scheduled one by one; `said` has the year of each then
     own     what blocks.csv has of the planner's columns in these rows, by the names that they have in the table
@@ -119,7 +123,7 @@ class Answer:
     factors: tuple[float, ...]
     free: Optional[Answer] = None
     found: dict[str, Any] = field(default_factory=dict)
-    phases: Optional[pd.DataFrame] = None
+    pushbacks: Optional[pd.DataFrame] = None
     schedule: Optional[pd.DataFrame] = None
     parts: Optional[pd.DataFrame] = None
     beyond: Optional[pd.DataFrame] = None
@@ -183,7 +187,7 @@ class Answer:
         """Of several processes the tonnes of ore that come to each, by the name of the amount."""
         names = [process.name for process in self.project.processes]
         return {
-            f"ore_tonnes_{name}": np.where(self.ore & (self.process == k), self.feed, 0.0)
+            f"feed_tonnes_{name}": np.where(self.ore & (self.process == k), self.feed, 0.0)
             for k, name in enumerate(names)
         }
 
@@ -211,12 +215,12 @@ class Answer:
 
     @cached_property
     def earned(self) -> np.ndarray:
-        """The worths without what each phase's own mining cost takes of them, once blocks have phases."""
-        rules = self.project.phases
-        if PHASE not in self.said or rules is None or not rules.mining_cost_added:
+        """The worths without what each pushback's own mining cost takes of them, once blocks have pushbacks."""
+        rules = self.project.pushbacks
+        if PUSHBACK not in self.said or rules is None or not rules.mining_cost_added:
             return self.worths
         a_tonne = np.array([0.0, *map(float, rules.mining_cost_added)])
-        return self.worths - a_tonne[np.clip(self.said[PHASE].to_numpy(), 0, len(a_tonne) - 1)] * self.tonnes
+        return self.worths - a_tonne[np.clip(self.said[PUSHBACK].to_numpy(), 0, len(a_tonne) - 1)] * self.tonnes
 
     @cached_property
     def cells(self) -> tuple[np.ndarray, np.ndarray, np.ndarray]:
@@ -242,7 +246,7 @@ class Answer:
         cube[self.cells] = np.where(self.tonnes > 0, np.where(factor > 0, factor, UNDUG), NOTHING)
         highest = np.where(known.any(axis=0), known.argmax(axis=0), 0)
         air = np.arange(self.shape[0])[:, None, None] < highest
-        if self.project.table.absent == "air":
+        if self.project.table.missing_blocks == "air":
             air = ~known
         cube[air] = NOTHING
         return cube
@@ -251,9 +255,9 @@ class Answer:
     def entries(self) -> np.ndarray:
         """For each cell the number of the wall entry that its region has. A cell without a row is of the region of the next block below
         it in its column, else of the next above."""
-        column, walls = self.project.table.region, self.project.slopes.walls
-        others = next((k for k, wall in enumerate(walls) if wall.regions is None), 0)
-        by_region = {name: k for k, wall in enumerate(walls) for name in wall.regions or ()}
+        column, walls = self.project.table.domain, self.project.slopes.domains
+        others = next((k for k, wall in enumerate(walls) if wall.domains is None), 0)
+        by_region = {name: k for k, wall in enumerate(walls) for name in wall.domains or ()}
         place, names = pd.factorize(self.rows[column].astype(str) if column else np.full(len(self.rows), ""))
         cube = np.full(self.shape, np.nan)
         cube[self.cells] = np.array([by_region.get(name, others) for name in names])[place]
@@ -264,10 +268,10 @@ class Answer:
         """Over how many levels the needs of a wall entry reach."""
         if wall.pattern:
             return 1
-        if wall.steps:
-            return max(up for _, _, up in wall.steps)
-        number = self.project.slopes.walls.index(wall)
-        return int(self.record["walls"][number].get("levels", self.project.slopes.levels))
+        if wall.offsets:
+            return max(up for _, _, up in wall.offsets)
+        number = self.project.slopes.domains.index(wall)
+        return int(self.record["walls"][number].get("levels", self.project.slopes.precedence_benches))
 
     def called(self, row: int) -> str:
         """A block by the planner's id, or by its centre."""
@@ -289,14 +293,14 @@ def read(folder: Path, project: Optional[Project] = None, table: Optional[pd.Dat
     try:
         record = json_records.read_plan(folder / "prepare.json", is_whole=False)
         project = project or as_run_or_edited(folder, record)
-        found, expected = len(record.get("walls", project.slopes.walls)), len(project.slopes.walls)
+        found, expected = len(record.get("walls", project.slopes.domains)), len(project.slopes.domains)
         if found < expected:
             raise PlanError(
                 f"{folder / 'prepare.json'}: walls: found {found}, expected {expected} as in the project: run pitplan shells again"
             )
         own = [own_name(name) for name in (*reader.names_of(project), project.table.tonnes)]
         written = read_blocks(
-            folder / "blocks.csv", project, (*said_of(project), *FREE, PHASE, YEAR, *shares_of(project), *own)
+            folder / "blocks.csv", project, (*said_of(project), *FREE, PUSHBACK, YEAR, *shares_of(project), *own)
         )
         rows = rows_of(project, written, record["grid"], table)
         return (read_shells if "shells" in record else read_pits)(folder, record, project, written, rows)

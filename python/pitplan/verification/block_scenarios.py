@@ -31,9 +31,9 @@ from .schedule import CENT, discount
 from .simulated import ONE, Scenario, read
 from .weighing import at_price
 
-RECORD, TABLE, YEARS, QUANTILES = "one_schedule.json", "schedules.csv", "one_schedule_years.csv", "quantiles.csv"
-VALUES = ("value", "bound", "one_value")
-ROCK, ORE, LEFT, PLANNED = "rock_tonnes", "ore_tonnes", "ore_left_tonnes", "planned_ore_tonnes"
+RECORD, TABLE, YEARS, QUANTILES = "common_schedule.json", "schedules.csv", "common_schedule_years.csv", "quantiles.csv"
+VALUES = ("npv", "upper_bound", "common_npv")
+ROCK, ORE, LEFT, PLANNED = "total_tonnes", "feed_tonnes", "unprocessed_tonnes", "planned_feed_tonnes"
 SLIGHT = 1e-6
 
 
@@ -141,14 +141,14 @@ class Schedules:
         ]
 
     def held(self, scenario: Scenario, is_dug: np.ndarray) -> pd.DataFrame:
-        """What each block holds in a scenario: rock_tonnes, ore_tonnes and metals where it pays, what digging it costs and what milling
+        """What each block holds in a scenario: total_tonnes, feed_tonnes and metals where it pays, what digging it costs and what milling
         it earns besides, in money; 0 where it is not dug."""
         whole = self.whole.in_scenario(scenario)
         part = replace(
             whole, rows=whole.rows[is_dug].reset_index(drop=True), said=whole.said[is_dug].reset_index(drop=True)
         )
         found = at_price(part)
-        columns = {ROCK: part.tonnes, ORE: found.ore, **{f"metal_{name}": it for name, it in found.metals.items()}}
+        columns = {ROCK: part.tonnes, ORE: found.ore, **{f"recovered_{name}": it for name, it in found.metals.items()}}
         frame = pd.DataFrame(columns | {"mining": found.mining, "gain": found.gain})
         return frame.set_index(np.flatnonzero(is_dug)).reindex(range(len(is_dug)), fill_value=0.0)
 
@@ -160,14 +160,17 @@ class Schedules:
         cash = sums["gain"] - held["mining"].groupby(kept.year).sum().drop(index=0, errors="ignore")
         value, bound = (
             float(sum(amount * discount(self.ground, int(year)) for year, amount in cash.items())),
-            kept.row["bound"],
+            kept.row["upper_bound"],
         )
         is_dug = kept.year > 0
-        expected = {"value": value, "years": int(kept.year.max()), "blocks": int((is_dug & (held[ROCK] > 0)).sum())}
-        expected |= {"tonnes": held[ROCK][is_dug].sum(), "below_bound": (bound - value) / abs(bound) if bound else 0.0}
-        expected |= {name: sums[name].sum() for name in sums if name == ORE or name.startswith("metal_")}
+        expected = {"npv": value, "years": int(kept.year.max()), "blocks": int((is_dug & (held[ROCK] > 0)).sum())}
+        expected |= {
+            "tonnes": held[ROCK][is_dug].sum(),
+            "optimality_gap": (bound - value) / abs(bound) if bound else 0.0,
+        }
+        expected |= {name: sums[name].sum() for name in sums if name == ORE or name.startswith("recovered_")}
         for name, amount in expected.items():
-            if abs(kept.row[name] - amount) > (SLIGHT if name == "below_bound" else CENT) + 1e-9 * abs(amount):
+            if abs(kept.row[name] - amount) > (SLIGHT if name == "optimality_gap" else CENT) + 1e-9 * abs(amount):
                 yield f"{name} {kept.row[name]:.12g} for {amount:.12g}"
         if value > bound + CENT + 1e-9 * abs(bound):
             yield f"value {value:.12g} is above bound {bound:.12g}"
@@ -191,10 +194,19 @@ class Schedules:
             milled = min(ore, most[0]) if len(of_mill) == 1 else ore if (takes.sum(axis=1) <= most).all() else math.nan
             cash = most_earned(blocks["gain"].to_numpy(), takes, most) - blocks["mining"].sum()
             rows.append(
-                {"year": year, ROCK: blocks[ROCK].sum(), ORE: milled, LEFT: ore - milled, "total": ore, "cash": cash}
+                {
+                    "year": year,
+                    ROCK: blocks[ROCK].sum(),
+                    ORE: milled,
+                    LEFT: ore - milled,
+                    "total": ore,
+                    "cash_flow": cash,
+                }
             )
-        frame = pd.DataFrame(rows, columns=["year", ROCK, ORE, LEFT, "total", "cash"]).set_index("year")
-        return frame.assign(discounted=frame["cash"] * [discount(self.ground, year) for year in frame.index])
+        frame = pd.DataFrame(rows, columns=["year", ROCK, ORE, LEFT, "total", "cash_flow"]).set_index("year")
+        return frame.assign(
+            discounted_cash_flow=frame["cash_flow"] * [discount(self.ground, year) for year in frame.index]
+        )
 
 
 def by_year(amounts: pd.Series, year: np.ndarray) -> np.ndarray:
@@ -219,7 +231,7 @@ class Tables:
         return self.schedules.whole.folder.scenarios
 
     def read(self, name: str) -> pd.DataFrame:
-        path, codes = self.schedules.whole.folder.tables / name, {"model": str, "status": str}
+        path, codes = self.schedules.whole.folder.tables / name, {"realisation": str, "status": str}
         return pd.read_csv(path, dtype=codes, keep_default_na=False, na_values=[""])
 
     @cached_property
@@ -244,8 +256,8 @@ class Tables:
                 found.append(f"{scenario.label}: years {said.index.tolist()} for 1 to {len(dug)}")
                 continue
             found += [f"{scenario.label}, {difference}" for difference in self.unlike_years(said, dug)]
-            bound = Kept.of(scenario.file).row["bound"] if scenario.file.is_file() else math.inf
-            value = dug["discounted"].sum()
+            bound = Kept.of(scenario.file).row["upper_bound"] if scenario.file.is_file() else math.inf
+            value = dug["discounted_cash_flow"].sum()
             if value > bound + CENT + 1e-7 * abs(bound):
                 found.append(f"{scenario.label}: the one schedule earns {value:.12g}, above the bound {bound:.12g}")
         return found
@@ -254,8 +266,8 @@ class Tables:
         expected = dug.assign(**{PLANNED: self.planned[: len(dug)]})
         # Of several limits what is milled and left may be any that earns as much.
         expected[ORE], expected[LEFT] = (expected[name].fillna(said[name]) for name in (ORE, LEFT))
-        for name in (ROCK, ORE, LEFT, PLANNED, "cash", "discounted"):
-            slack = CENT + (1e-7 if name in ("cash", "discounted") else 1e-9) * expected[name].abs()
+        for name in (ROCK, ORE, LEFT, PLANNED, "cash_flow", "discounted_cash_flow"):
+            slack = CENT + (1e-7 if name in ("cash_flow", "discounted_cash_flow") else 1e-9) * expected[name].abs()
             for year in said.index[~((said[name] - expected[name]).abs() <= slack)]:
                 yield f"year {year}: {name} {said[name][year]:.12g} for {expected[name][year]:.12g}"
         whole = dug["total"]
@@ -276,7 +288,7 @@ class Tables:
         for scenario in self.scenarios:
             years = self.years[self.years["scenario"] == scenario.number]
             heads: dict[str, str | float] = {
-                "model": scenario.model.name,
+                "realisation": scenario.model.name,
                 **{f"price_{metal}": float(price) for metal, price in scenario.prices.items()},
             }
             found += [
@@ -291,18 +303,18 @@ class Tables:
         years = self.years[self.years["scenario"] == scenario.number]
         expected: dict[str, float] = {f"price_{metal}": float(price) for metal, price in scenario.prices.items()}
         expected |= {
-            "one_value": years["discounted"].sum(),
-            "one_ore_tonnes": years[ORE].sum(),
-            "one_ore_left_tonnes": years[LEFT].sum(),
+            "common_npv": years["discounted_cash_flow"].sum(),
+            "common_feed_tonnes": years[ORE].sum(),
+            "common_unprocessed_tonnes": years[LEFT].sum(),
         }
-        expected["one_years_short"] = int((years[ORE] < years[PLANNED] * (1 - 1e-9)).sum())
+        expected["common_years_short"] = int((years[ORE] < years[PLANNED] * (1 - 1e-9)).sum())
         own = Kept.of(scenario.file).row if scenario.file.is_file() else {}
-        expected |= own or dict.fromkeys(("value", "bound", "below_bound"), math.nan)
-        if (row["status"] == "solved") != bool(own) or row["model"] != scenario.model.name:
-            yield f"status {row['status']!r} of model {row['model']}"
+        expected |= own or dict.fromkeys(("npv", "upper_bound", "optimality_gap"), math.nan)
+        if (row["status"] == "solved") != bool(own) or row["realisation"] != scenario.model.name:
+            yield f"status {row['status']!r} of model {row['realisation']}"
         for name, amount in expected.items():
             if not np.isclose(
-                row[name], amount, rtol=1e-9, atol=1e-9 if name == "below_bound" else CENT, equal_nan=True
+                row[name], amount, rtol=1e-9, atol=1e-9 if name == "optimality_gap" else CENT, equal_nan=True
             ):
                 yield f"{name} {row[name]:.12g} for {amount:.12g}"
 
@@ -327,7 +339,7 @@ class Tables:
         found = [] if len(written) == len(sets) else [f"{QUANTILES}: has {len(written):,} rows for {len(sets):,}"]
         for prices in sets:
             rows, mine = at_prices(solved, prices), at_prices(written, prices)
-            if len(mine) != 1 or mine["models"].iloc[0] != len(rows):
+            if len(mine) != 1 or mine["realisations"].iloc[0] != len(rows):
                 found.append(f"{QUANTILES}: {prices}: {len(mine)} rows, of which the first has not {len(rows)} models")
                 continue
             said = {
@@ -337,7 +349,7 @@ class Tables:
         return found
 
     def unlike_record(self) -> Iterator[str]:
-        """Where one_schedule.json differs."""
+        """Where common_schedule.json differs."""
         told = json.loads((self.schedules.whole.folder.tables / RECORD).read_text(encoding="utf-8"))
         solved, one = self.solved, self.schedules.one.row
         ramps = next(ramps for name, ramps, _ in self.schedules.limits if name == ORE)
@@ -350,10 +362,14 @@ class Tables:
         yield from (
             f"{RECORD}: {name} {told[name]} for {value}" for name, value in expected.items() if told[name] != value
         )
-        known = float(solved["bound"].mean() - solved["one_value"].mean())
-        amounts = {"value_as_planned": one["value"], "bound_as_planned": one["bound"], "perfect_information": known}
+        known = float(solved["upper_bound"].mean() - solved["common_npv"].mean())
+        amounts = {
+            "npv_as_planned": one["npv"],
+            "upper_bound_as_planned": one["upper_bound"],
+            "perfect_information": known,
+        }
         for name, amount in amounts.items():
-            if not abs(told[name] - amount) <= CENT + 1e-8 * abs(one["bound"]):
+            if not abs(told[name] - amount) <= CENT + 1e-8 * abs(one["upper_bound"]):
                 yield f"{RECORD}: {name} {told[name]:.12g} for {amount:.12g}"
         yield from (f"{RECORD}: {difference}" for difference in unlike_spreads(told, solved))
 

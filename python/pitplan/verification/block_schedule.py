@@ -62,29 +62,30 @@ def verify_fixed(answer: Answer) -> Optional[Rule]:
 def flows_of(answer: Answer) -> pd.DataFrame:
     """What each block of rock, dug in its year, holds as it is milled, and its cash at the prices of the year."""
     shares = shares_of(answer)
-    columns = {"rock_tonnes": answer.tonnes, "ore_tonnes": sum(share for _, share in shares) * answer.feed}
-    columns |= {f"ore_tonnes_{name}": share * answer.feed for name, share in shares if name}
+    columns = {"total_tonnes": answer.tonnes, "feed_tonnes": sum(share for _, share in shares) * answer.feed}
+    columns |= {f"feed_tonnes_{name}": share * answer.feed for name, share in shares if name}
     columns |= {f"sum_{it.name}": sum_of(answer, it, shares) for it in sums_asked(answer)}
     columns |= {
-        f"metal_{metal.name}": quantity(answer, number, shares) for number, metal in enumerate(answer.project.metals)
+        f"recovered_{metal.name}": quantity(answer, number, shares)
+        for number, metal in enumerate(answer.project.metals)
     }
     frame, said = pd.DataFrame(columns), answer.said
     amounts = zip(shares, answer.amounts_of_ways)
     gain = sum(share * (said[revenue] - said[cost]).to_numpy() for (_, share), (revenue, cost) in amounts)
-    return frame.assign(cash=gain - said["mining_cost"].to_numpy() + more_by_years(answer, frame))
+    return frame.assign(cash_flow=gain - said["mining_cost"].to_numpy() + more_by_years(answer, frame))
 
 
 def sums_asked(answer: Answer) -> tuple[Sum, ...]:
     rules = answer.project.schedule_rules
-    return rules.sums if rules else ()
+    return rules.limits if rules else ()
 
 
 def sum_of(answer: Answer, asked: Sum, shares: Shares) -> np.ndarray:
     """What each block adds to a sum of a column: of what is dug, or of what is milled, in one process or in any."""
-    milled = sum((share for name, share in shares if asked.of in ("ore", name)), np.zeros(len(answer.rows)))
-    counted = np.ones(len(answer.rows)) if asked.of == "rock" else milled
-    tonnes = answer.tonnes if asked.of == "rock" else answer.undiluted
-    return answer.rows[asked.column].to_numpy() * counted * (tonnes if asked.a_tonne else 1.0)
+    milled = sum((share for name, share in shares if asked.of in ("feed", name)), np.zeros(len(answer.rows)))
+    counted = np.ones(len(answer.rows)) if asked.of == "total" else milled
+    tonnes = answer.tonnes if asked.of == "total" else answer.undiluted
+    return answer.rows[asked.column].to_numpy() * counted * (tonnes if asked.per_tonne else 1.0)
 
 
 def quantity(answer: Answer, number: int, shares: Shares) -> np.ndarray:
@@ -150,7 +151,7 @@ def verify_limits(answer: Answer, told: dict[str, Any], sums: pd.DataFrame) -> R
     if told.get("least", {}) != due:
         differences.append(f"least amounts are told as {told.get('least', {})} for {due}")
     for (name, least), year in product(due.items(), range(1, told["years"] + 1)):
-        of_mill = rules.ramp_up if rules and name.startswith("ore_tonnes") else (1.0,)
+        of_mill = rules.ramp_up if rules and name.startswith("feed_tonnes") else (1.0,)
         amount, owed = float(sums[name].get(year, 0.0)), least * of_mill[min(year, len(of_mill)) - 1]
         if amount < owed * (1 - 1e-8) - CENT:
             differences.append(f"year {year}: {name} {amount:.10g} below {owed:.10g}")
@@ -162,29 +163,29 @@ def verify_limits(answer: Answer, told: dict[str, Any], sums: pd.DataFrame) -> R
 def least_of(answer: Answer) -> Iterator[tuple[str, float]]:
     """Name of an amount that has a least by year, and this."""
     rules = answer.project.schedule_rules
-    for name, least in (rules.least if rules else {}).items():
-        kind = "ore_tonnes" if name == "ore" else "rock_tonnes" if name == "rock" else f"metal_{name}"
-        kind = f"ore_tonnes_{name}" if name in {process.name for process in answer.project.processes} else kind
+    for name, least in (rules.minimum if rules else {}).items():
+        kind = "feed_tonnes" if name == "feed" else "total_tonnes" if name == "total" else f"recovered_{name}"
+        kind = f"feed_tonnes_{name}" if name in {process.name for process in answer.project.processes} else kind
         if least:
             yield kind, least
-    yield from ((f"sum_{it.name}", it.least) for it in sums_asked(answer) if it.least)
+    yield from ((f"sum_{it.name}", it.min) for it in sums_asked(answer) if it.min)
 
 
 def limits_of(answer: Answer) -> Iterator[tuple[str, tuple[float, ...], float]]:
     """Name of an amount, the shares of its limit in the first years, and the limit."""
     rules, shells = answer.project.schedule_rules, answer.project.schedule
     of_mill = rules.ramp_up if rules else (1.0,)
-    yield "ore_tonnes", of_mill, (rules and rules.ore_per_year) or shells.ore_per_year
-    rock = (rules and rules.rock_per_year) or shells.rock_per_year
+    yield "feed_tonnes", of_mill, (rules and rules.processing_capacity) or shells.processing_capacity
+    rock = (rules and rules.mining_capacity) or shells.mining_capacity
     if rock:
-        yield "rock_tonnes", (1.0,), rock
+        yield "total_tonnes", (1.0,), rock
     for process in answer.project.processes:
-        yield f"ore_tonnes_{process.name}", of_mill, process.per_year
-    for name, most in (rules.metal_per_year if rules else {}).items():
-        yield f"metal_{name}", (1.0,), most
+        yield f"feed_tonnes_{process.name}", of_mill, process.capacity
+    for name, most in (rules.max_metal_per_year if rules else {}).items():
+        yield f"recovered_{name}", (1.0,), most
     for it in sums_asked(answer):
-        if it.most is not None:
-            yield f"sum_{it.name}", (1.0,), it.most
+        if it.max is not None:
+            yield f"sum_{it.name}", (1.0,), it.max
 
 
 def verify_value(answer: Answer, told: dict[str, Any], sums: pd.DataFrame) -> Rule:
@@ -196,21 +197,21 @@ def verify_value(answer: Answer, told: dict[str, Any], sums: pd.DataFrame) -> Ru
         [] if said.index.tolist() == list(range(1, last + 1)) else [f"years {said.index.tolist()} for 1 to {last}"]
     )
     sums = sums.reindex(range(1, last + 1), fill_value=0.0)
-    sums["discounted"] = sums["cash"] * [discount(answer, year) for year in sums.index]
+    sums["discounted_cash_flow"] = sums["cash_flow"] * [discount(answer, year) for year in sums.index]
     for name in sums.columns:
         off = (said[name].reindex(sums.index) - sums[name]).abs() > CENT + 1e-9 * sums[name].abs()
         pairs = [(year, said[name].get(year, math.nan), sums[name][year]) for year in sums.index[off]]
         differences += [f"year {year}: {name} {told_of:.12g} for {expected:.12g}" for year, told_of, expected in pairs]
-    value, bound = sums["discounted"].sum(), told["bound"]
-    if abs(told["value"] - value) > CENT + 1e-9 * abs(value):
-        differences.append(f"value {told['value']:.12g} for {value:.12g}")
+    value, bound = sums["discounted_cash_flow"].sum(), told["upper_bound"]
+    if abs(told["npv"] - value) > CENT + 1e-9 * abs(value):
+        differences.append(f"value {told['npv']:.12g} for {value:.12g}")
     if value > bound + CENT + 1e-9 * abs(bound):
         differences.append(f"value {value:.12g} is above bound {bound:.12g}")
-    gap = (bound - told["value"]) / abs(bound) if bound else 0.0
+    gap = (bound - told["npv"]) / abs(bound) if bound else 0.0
     if abs(told["gap"] - gap) > 1e-6:
         differences.append(f"gap {told['gap']:.9g} for {gap:.9g}")
     dug = int(((answer.said[YEAR] > 0) & (answer.tonnes > 0)).sum())
-    differences += ways_table.differences(answer, {CASE: {"value": told["value"], "bound": bound, "blocks": dug}})
+    differences += ways_table.differences(answer, {CASE: {"npv": told["npv"], "upper_bound": bound, "blocks": dug}})
     holds = (
         "cash is discounted as the project asks, years and value are the sums of blocks, and it is not above the bound"
     )

@@ -27,7 +27,7 @@ def original_of(answer: Answer) -> Optional[SurveyFile]:
 
 def verify_cuts(answer: Answer) -> list[Rule]:
     """What an as-mined surface, or otherwise a topography, leaves of blocks; nothing if the project has neither."""
-    if answer.project.fixed and answer.project.fixed.surface:
+    if answer.project.fixed and answer.project.fixed.as_mined:
         return [verify(answer)]
     return [topography.verify(answer)] if answer.project.table.topography else []
 
@@ -35,13 +35,13 @@ def verify_cuts(answer: Answer) -> list[Rule]:
 def verify(answer: Answer) -> Rule:
     """Checks that the tonnes of blocks in sampled columns are those that remain."""
     original, rules = original_of(answer), answer.project.fixed
-    assert rules is not None and rules.surface is not None
+    assert rules is not None and rules.as_mined is not None
     if original is None:
-        return verify_by_centres(answer, rules.surface)
+        return verify_by_centres(answer, rules.as_mined)
     before, after = answer.rows[UNCUT].to_numpy(), answer.tonnes
     differences = told(answer, (after < 0) | (after > before + GRAM), before)
     for exactly, missed in ((False, MISSED), (True, HAIR)):
-        whole, left = shares(answer, original, rules.surface, exactly)
+        whole, left = shares(answer, original, rules.as_mined, exactly)
         # Tonnes of the table are whole blocks', or those below the original ground.
         due, of = before * left, 1.0 if answer.project.table.topography else whole
         differences += told(answer, np.abs(after * of - due) > 2 * GRAM + missed * before, due)
@@ -82,9 +82,9 @@ def shares(answer: Answer, original: SurveyFile, mined: SurveyFile, exactly: boo
 
 def surely_mined(answer: Answer, rules: FixedRules) -> np.ndarray:
     """A truth for each row: whether so much of the block is mined that it must be dug, however roughly its volumes are taken."""
-    assert rules.surface is not None
+    assert rules.as_mined is not None
     original, rock = original_of(answer), answer.rows[UNCUT].to_numpy() > 0
     if original is None:
-        return np.asarray(surface.above(answer, rules.surface) & rock)
-    whole, left = shares(answer, original, rules.surface, exactly=False)
+        return np.asarray(surface.above(answer, rules.as_mined) & rock)
+    whole, left = shares(answer, original, rules.as_mined, exactly=False)
     return np.asarray((np.nan_to_num(whole - left) > MINED + MISSED) & rock)

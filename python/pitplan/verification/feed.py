@@ -8,7 +8,7 @@ from fractions import Fraction
 import numpy as np
 import pandas as pd
 
-from pitplan.config.economics import ByCode, ByRegion, Curve, Metal, Recovery
+from pitplan.config.economics import ByCode, ByDomain, Curve, Metal, Recovery
 from pitplan.config.project import Project
 from pitplan.config.table import TableColumns
 
@@ -20,7 +20,7 @@ def by_code(value: ByCode, rows: pd.DataFrame, columns: TableColumns) -> np.ndar
     """One number a row, by its rock or its region; 0 where its code has none."""
     if isinstance(value, Decimal):
         return np.full(len(rows), float(value))
-    column, numbers = (columns.region, value.values) if isinstance(value, ByRegion) else (columns.rock, value)
+    column, numbers = (columns.domain, value.values) if isinstance(value, ByDomain) else (columns.rock_type, value)
     return (
         rows[column].astype(str).map({code: float(number) for code, number in numbers.items()}).fillna(0.0).to_numpy()
     )
@@ -30,7 +30,7 @@ def of_code(value: ByCode, rock: str, region: str) -> Decimal:
     """The number of a block of these codes; 0 where they have none."""
     if isinstance(value, Decimal):
         return value
-    return value.values.get(region, Decimal(0)) if isinstance(value, ByRegion) else value.get(rock, Decimal(0))
+    return value.values.get(region, Decimal(0)) if isinstance(value, ByDomain) else value.get(rock, Decimal(0))
 
 
 def recovered(metal: Metal, rows: pd.DataFrame, project: Project) -> np.ndarray:
@@ -38,7 +38,8 @@ def recovered(metal: Metal, rows: pd.DataFrame, project: Project) -> np.ndarray:
     grades, table = rows[metal.column].to_numpy(), project.table
     tonnes_of = 1 + by_code(project.money.dilution, rows, table)
     codes = [
-        rows[name].astype(str).to_numpy() if name else np.full(len(rows), "") for name in (table.rock, table.region)
+        rows[name].astype(str).to_numpy() if name else np.full(len(rows), "")
+        for name in (table.rock_type, table.domain)
     ]
     of_rocks = (
         metal.recovery if isinstance(metal.recovery, dict) else dict.fromkeys(np.unique(codes[0]), metal.recovery)
@@ -50,7 +51,7 @@ def recovered(metal: Metal, rows: pd.DataFrame, project: Project) -> np.ndarray:
         for row in mine[close].tolist():
             whole = 1 + of_code(project.money.dilution, codes[0][row], codes[1][row])
             share[row] = float(at_grade(recovery, Fraction(repr(float(grades[row]))) / Fraction(whole)))
-    return np.maximum(grades - by_code(metal.fixed_tail, rows, table) * tonnes_of, 0.0) * share
+    return np.maximum(grades - by_code(metal.tail_grade, rows, table) * tonnes_of, 0.0) * share
 
 
 def by_grade(recovery: Recovery, head: np.ndarray) -> tuple[np.ndarray, np.ndarray]:

@@ -32,7 +32,7 @@ def verify(answer: Answer) -> Rule:
         f"{answer.called(row)} may not be dug, and is so from revenue factor {factor_text(first[row])} on"
         for row in dug[:TOLD]
     ]
-    ground = ", with the blocks that are mined," if rules.surface else ""
+    ground = ", with the blocks that are mined," if rules.as_mined else ""
     holds = f"what must be dug{ground} is in every shell, and what may not be is in none"
     return rule("fixed", holds, differences, len(left) + len(dug))
 
@@ -41,11 +41,11 @@ def demanded(answer: Answer, rules: FixedRules) -> tuple[np.ndarray, np.ndarray]
     """Which blocks of rock must be dug, and which may not be; the same for all answers to one project and table."""
     if "fixed" not in answer.found:
         rock = answer.tonnes > 0
-        must, never = marked(answer, rules.forced) & rock, marked(answer, rules.barred)
-        if rules.surface is not None:
+        must, never = marked(answer, rules.must_mine) & rock, marked(answer, rules.exclude)
+        if rules.as_mined is not None:
             must = must | depletion.surely_mined(answer, rules)
         for area in rules.areas:
-            never = never | within(answer, survey.polygons(area.polygon), area.barred == "inside")
+            never = never | within(answer, survey.polygons(area.polygon), area.exclude == "inside")
         answer.found["fixed"] = must, never & rock
     return answer.found["fixed"]
 

@@ -49,18 +49,18 @@ def lengths(answer: Answer, rules: Haulage) -> np.ndarray:
     level, row, column = answer.cells
     x, y = places_of(np.stack([column, row], axis=1), grid).T
     floor = grid["origin"][2] - (level + 0.5) * grid["size"][2]
-    away = np.sqrt((x - float(rules.exit[0])) ** 2 + (y - float(rules.exit[1])) ** 2)
-    return away + np.abs(float(rules.exit[2]) - floor) / float(rules.gradient)
+    away = np.sqrt((x - float(rules.pit_exit[0])) ** 2 + (y - float(rules.pit_exit[1])) ** 2)
+    return away + np.abs(float(rules.pit_exit[2]) - floor) / float(rules.ramp_gradient)
 
 
 def rate(metres: np.ndarray, road: Road, less: Road | None = None) -> np.ndarray:
     """What a tonne costs along roads to the exit and on, less what it costs along those of another kind."""
-    cost = float(road.cost) / 1000 * (metres + float(road.beyond))
+    cost = float(road.cost) / 1000 * (metres + float(road.ex_pit_distance))
     return cost if less is None else cost - rate(metres, less)
 
 
 def a_tonne(metres: float, road: Road) -> Decimal:
-    return road.cost / 1000 * (Decimal(repr(float(metres))) + road.beyond)
+    return road.cost / 1000 * (Decimal(repr(float(metres))) + road.ex_pit_distance)
 
 
 def roads_of(answer: Answer, rules: Haulage) -> np.ndarray:

@@ -1,4 +1,4 @@
-"""What becomes of ore that is divided into bins, anew from the blocks and milling.csv."""
+"""What becomes of ore that is divided into bins, anew from the blocks and mill_feed.csv."""
 
 from __future__ import annotations
 
@@ -11,63 +11,67 @@ import pandas as pd
 from .answer import Answer
 from .written import read_table
 
-# The last place that milling.csv keeps of tonnes, and what a share may be off by the solver's tolerance.
+# The last place that mill_feed.csv keeps of tonnes, and what a share may be off by the solver's tolerance.
 AMOUNT, SHARE = 0.6e-3, 1e-6
 # Of a bench's height, by which its middle may be off.
 SLIGHT = 1e-6
-KEYS = ["phase", "level", "bin"]
+KEYS = ["pushback", "level", "bin"]
 
 
 def parcels_of(answer: Answer, edges: list[float]) -> pd.DataFrame:
-    """By phase, level and bin what the ore adds up to: tonnes, metals and gain."""
+    """By pushback, level and bin what the ore adds up to: tonnes, metals and gain."""
     gain = (answer.said["revenue"] - answer.said["processing_cost"]).to_numpy()
     with np.errstate(divide="ignore", invalid="ignore"):
         bins = 1 + (gain[:, None] / answer.feed[:, None] > np.array(edges)).sum(axis=1)
-    columns = {"ore_tonnes": answer.feed, "gain": gain} | {
-        f"metal_{name}": metal for name, metal in answer.quantities.items()
+    columns = {"feed_tonnes": answer.feed, "gain": gain} | {
+        f"recovered_{name}": metal for name, metal in answer.quantities.items()
     }
-    frame = pd.DataFrame(columns | {"phase": answer.said["phase"].to_numpy(), "level": answer.cells[0], "bin": bins})
-    return frame[(frame["phase"] > 0) & answer.ore & (answer.tonnes > 0)].groupby(KEYS).sum()
+    frame = pd.DataFrame(
+        columns | {"pushback": answer.said["pushback"].to_numpy(), "level": answer.cells[0], "bin": bins}
+    )
+    return frame[(frame["pushback"] > 0) & answer.ore & (answer.tonnes > 0)].groupby(KEYS).sum()
 
 
 def amounts(
     answer: Answer, rows: pd.DataFrame, plain: pd.DataFrame, told: dict[str, Any]
 ) -> tuple[pd.DataFrame, pd.DataFrame, list[str]]:
-    """What each row of a way's schedule should have, by how much it may be off, and what is wrong in milling.csv. `plain` is what it would
+    """What each row of a way's schedule should have, by how much it may be off, and what is wrong in mill_feed.csv. `plain` is what it would
     have if all ore were milled as it is dug."""
-    table = read_table(answer.folder / "milling.csv", ["way"])
-    table = table[table["way"].isin(rows["way"].unique())].copy()
+    table = read_table(answer.folder / "mill_feed.csv", ["method"])
+    table = table[table["method"].isin(rows["method"].unique())].copy()
     # Of a way that mills nothing there are no rows, by which the reader could tell numbers.
     table = table.astype(
-        {name: float if name.endswith("_tonnes") else int for name in table if name not in ("way", "bench")}
+        {name: float if name.endswith("_tonnes") else int for name in table if name not in ("method", "bench")}
     )
     steps = ((answer.elevations[0] - table["bench"]) / answer.size[2]).astype(float)
     table["level"] = np.rint(steps).astype(int)
     lost = [
-        f"milling.csv: {z:.10g} is the middle of no bench"
+        f"mill_feed.csv: {z:.10g} is the middle of no bench"
         for z in table["bench"][(steps - table["level"]).abs() > SLIGHT].unique()
     ]
     whole = parcels_of(answer, told["edges"])
     of_parcel = whole.reindex(pd.MultiIndex.from_frame(table[KEYS])).reset_index(drop=True).astype(float)
     table = table.reset_index(drop=True)
     if of_parcel.isna().any(axis=None):
-        return plain, plain * 0, [f"milling.csv has ore of no bin in {int(of_parcel.isna().any(axis=1).sum())} rows"]
+        return plain, plain * 0, [f"mill_feed.csv has ore of no bin in {int(of_parcel.isna().any(axis=1).sum())} rows"]
     milled = table["milled_tonnes"] + table["reclaimed_tonnes"]
-    flows = of_parcel.mul(milled / of_parcel["ore_tonnes"], axis=0)
-    cost = told["rehandling_cost"]
+    flows = of_parcel.mul(milled / of_parcel["feed_tonnes"], axis=0)
+    cost = told["reclaim_cost"]
     flows["gain"] -= (cost or 0.0) * table["reclaimed_tonnes"]
     # A thousandth of a tonne of a parcel is worth so much.
-    slack = of_parcel.abs().mul(2 * AMOUNT / of_parcel["ore_tonnes"], axis=0)
+    slack = of_parcel.abs().mul(2 * AMOUNT / of_parcel["feed_tonnes"], axis=0)
     slack["gain"] += (cost or 0.0) * AMOUNT
-    keys = [table["year"], table["phase"], table["level"]]
-    at = pd.MultiIndex.from_frame(rows[["year", "phase", "level"]])
+    keys = [table["year"], table["pushback"], table["level"]]
+    at = pd.MultiIndex.from_frame(rows[["year", "pushback", "level"]])
     flowed, more = (
         frame.groupby(keys).sum().reindex(at).fillna(0.0).reset_index(drop=True) for frame in (flows, slack)
     )
     expected, loose = flowed.drop(columns="gain"), more.drop(columns="gain")
-    expected["rock_tonnes"], loose["rock_tonnes"] = plain["rock_tonnes"], 0.0
-    gains = whole["gain"].groupby(level=["phase", "level"]).sum().reindex(at.droplevel("year")).fillna(0.0).to_numpy()
-    expected["cash"], loose["cash"] = plain["cash"] - rows["share"] * gains + flowed["gain"], more[
+    expected["total_tonnes"], loose["total_tonnes"] = plain["total_tonnes"], 0.0
+    gains = (
+        whole["gain"].groupby(level=["pushback", "level"]).sum().reindex(at.droplevel("year")).fillna(0.0).to_numpy()
+    )
+    expected["cash_flow"], loose["cash_flow"] = plain["cash_flow"] - rows["share"] * gains + flowed["gain"], more[
         "gain"
     ] + 1e-9 * np.abs(gains)
     wrong = [
@@ -80,7 +84,7 @@ def amounts(
 
 def unlike_cutoffs(table: pd.DataFrame, told: dict[str, Any]) -> list[str]:
     """Years whose cut-off is not the lower edge of the poorest bin of which some is milled as it is dug, or of one of which less is than
-    milling.csv shows."""
+    mill_feed.csv shows."""
     edges = [0.0, *told["edges"]]
     poorest = table[table["milled_tonnes"] > 0].groupby("year")["bin"].min()
     found = []
@@ -93,19 +97,19 @@ def unlike_cutoffs(table: pd.DataFrame, told: dict[str, Any]) -> list[str]:
 
 def unlike_rows(table: pd.DataFrame, rows: pd.DataFrame, of_parcel: pd.DataFrame) -> list[str]:
     """What is dug of a bin and is not the share of its bench, and more that is milled straight than is dug."""
-    keys = ["year", "phase", "level"]
+    keys = ["year", "pushback", "level"]
     share = rows.groupby(keys)["share"].sum().reindex(pd.MultiIndex.from_frame(table[keys]))
-    dug = share.fillna(0.0).to_numpy() * of_parcel["ore_tonnes"]
-    slack = AMOUNT + SHARE * of_parcel["ore_tonnes"]
-    wrong = (table["dug_tonnes"] - dug).abs() > slack
-    wrong |= (table["milled_tonnes"] > table["dug_tonnes"] + slack) | (
+    dug = share.fillna(0.0).to_numpy() * of_parcel["feed_tonnes"]
+    slack = AMOUNT + SHARE * of_parcel["feed_tonnes"]
+    wrong = (table["mined_tonnes"] - dug).abs() > slack
+    wrong |= (table["milled_tonnes"] > table["mined_tonnes"] + slack) | (
         table[["milled_tonnes", "reclaimed_tonnes"]] < 0
     ).any(axis=1)
     places = [
-        f"year {row.year}, phase {row.phase}, bench {row.bench:.10g}, bin {row.bin}"
+        f"year {row.year}, pushback {row.pushback}, bench {row.bench:.10g}, bin {row.bin}"
         for row in table[wrong].itertuples()
     ]
-    return [f"milling.csv, {place}: dug or milled tonnes are wrong" for place in places]
+    return [f"mill_feed.csv, {place}: dug or milled tonnes are wrong" for place in places]
 
 
 def unlike_stock(table: pd.DataFrame, whole: pd.DataFrame, is_stocked: bool) -> list[str]:
@@ -118,12 +122,12 @@ def unlike_stock(table: pd.DataFrame, whole: pd.DataFrame, is_stocked: bool) -> 
         .reindex(columns=years)
         .fillna(0.0)
         .cumsum(axis=1)
-        for name in ("dug", "milled", "reclaimed")
+        for name in ("mined", "milled", "reclaimed")
     )
     stocked = (dug - milled).shift(1, axis=1, fill_value=0.0)
-    slack = (SHARE * whole["ore_tonnes"]).reindex(dug.index) + AMOUNT * len(years) * 3
+    slack = (SHARE * whole["feed_tonnes"]).reindex(dug.index) + AMOUNT * len(years) * 3
     wrong = reclaimed.gt(stocked.add(slack, axis=0)).any(axis=1)
     return [
-        f"milling.csv: more is reclaimed of phase {at[0]}, level {at[1]}, bin {at[2]} than is stocked"
+        f"mill_feed.csv: more is reclaimed of pushback {at[0]}, level {at[1]}, bin {at[2]} than is stocked"
         for at in wrong.index[wrong]
     ]

@@ -105,13 +105,13 @@ def more_for_depth(answer: Answer, elevation: float) -> Decimal:
     money = answer.project.money
     if money.mining_cost_by_elevation:
         return between(money.mining_cost_by_elevation, Fraction(repr(round(float(elevation), 6))))
-    if not money.mining_cost_per_level:
+    if not money.mining_cost_per_bench:
         return Decimal(0)
     reference = money.mining_cost_reference
     height = answer.size[2]
     at = float(highest_needed(answer) if reference is None else reference)
     top = elevation + height / 2
-    return money.mining_cost_per_level * max(0, math.ceil((at - top) / height - 1e-9))
+    return money.mining_cost_per_bench * max(0, math.ceil((at - top) / height - 1e-9))
 
 
 def between(pairs: tuple[tuple[Decimal, Decimal], ...], elevation: Fraction) -> Decimal:
@@ -144,7 +144,7 @@ class Costs:
             metal.recovery.get(rock, Decimal(0)) if isinstance(metal.recovery, dict) else metal.recovery
             for metal in metals
         ]
-        tails = [of_code(metal.fixed_tail, rock, "") for metal in metals]
+        tails = [of_code(metal.tail_grade, rock, "") for metal in metals]
         return Costs(
             of_code(money.mining_cost, rock, region),
             of_code(money.processing_cost, rock, region),
@@ -188,7 +188,7 @@ class Exactly:
         project, columns = answer.project, answer.project.table
         named = [
             answer.rows[name].astype(str).tolist() if name else [""] * len(answer.rows)
-            for name in (columns.rock, columns.region)
+            for name in (columns.rock_type, columns.domain)
         ]
         codes = list(zip(*named))
         costs = {code: Costs.of(project, *code) for code in set(codes)}

@@ -1,4 +1,4 @@
-"""What years earn and cost besides what is dug at the price as given, anew: prices of their own, fixed costs and capital."""
+"""What years earn and cost besides what is dug at the price as given, anew: prices of their own, fixed costs and capex."""
 
 from __future__ import annotations
 
@@ -15,7 +15,7 @@ HAIR = 1e-9
 def premiums(project: Project, year: int) -> dict[str, float]:
     """By the name of a metal's amount what a unit of it earns more in a year, numbered from 1, than at the price as given."""
     return {
-        f"metal_{metal.name}": float(
+        f"recovered_{metal.name}": float(
             (converted(metal, metal.prices[min(year, len(metal.prices)) - 1]) - converted(metal, metal.price))
             * (1 - project.money.royalty)
         )
@@ -44,6 +44,6 @@ def most_premium(project: Project) -> float:
     )
 
 
-def capital(project: Project, year: int) -> float:
+def capex(project: Project, year: int) -> float:
     """What is spent at the start of a year."""
-    return sum(float(amount) for at, amount in project.money.capital if at == year)
+    return sum(float(amount) for at, amount in project.money.capex if at == year)

@@ -22,8 +22,8 @@ from pitplan.verification.rules import Rule, rule
 from .turned import steps_of
 
 NAME = "table.csv"
-FOUND = ("revenue_factor", "process_revenue_factor", "phase", "year")
-HOLDS = "table.csv has the planner's rows in their order, each field as it stands there, and each block's own factors, phase and year"
+FOUND = ("revenue_factor", "process_revenue_factor", "pushback", "year")
+HOLDS = "table.csv has the planner's rows in their order, each field as it stands there, and each block's own factors, pushback and year"
 
 
 def verify(answer: Answer, path: Path) -> Rule:

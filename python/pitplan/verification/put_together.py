@@ -24,19 +24,19 @@ def together(parts: pd.DataFrame, project: Project, grid: dict[str, Any]) -> pd.
     steps = steps_of(parts[[columns.x, columns.y, columns.z]].to_numpy(), grid)
     east, north, up = np.floor(steps + 0.5).astype(np.int64).T
     frame = parts.assign(east_=east, north_=north, up_=up + grid["shape"][0] - 1)
-    sums = project.schedule_rules.sums if project.schedule_rules else ()
-    of_a_tonne = {*(metal.column for metal in project.metals), *(it.column for it in sums if it.a_tonne)}
+    sums = project.schedule_rules.limits if project.schedule_rules else ()
+    of_a_tonne = {*(metal.column for metal in project.metals), *(it.column for it in sums if it.per_tonne)}
     for name in of_a_tonne:
         frame[f"content_{name}"] = frame[name] * frame[columns.tonnes]
     by = frame.groupby(["up_", "north_", "east_"], sort=True)
     found = pd.DataFrame({columns.tonnes: by[columns.tonnes].sum()})
     for name in of_a_tonne:
         found[name] = (by[f"content_{name}"].sum() / found[columns.tonnes]).fillna(0.0)
-    for name in {it.column for it in sums if not it.a_tonne}:
+    for name in {it.column for it in sums if not it.per_tonne}:
         found[name] = by[name].sum()
-    for code in filter(None, (columns.rock, columns.region)):
+    for code in filter(None, (columns.rock_type, columns.domain)):
         found[code] = of_most(frame, code, columns)
-    for mark in filter(None, (fixed.forced, fixed.barred) if fixed else ()):
+    for mark in filter(None, (fixed.must_mine, fixed.exclude) if fixed else ()):
         found[mark] = by[mark].max()
     up, north, east = (found.index.get_level_values(name).to_numpy() for name in found.index.names)
     found[columns.x], found[columns.y] = places_of(np.stack([east, north], axis=1), grid).T

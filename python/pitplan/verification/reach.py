@@ -37,9 +37,9 @@ def verify(answer: Answer) -> Rule:
         ]
         count += len(pays)
     fixed = answer.project.fixed
-    if fixed is not None and fixed.forced:
+    if fixed is not None and fixed.must_mine:
         part = replace(answer, rows=rows)
-        forced = rock_of(part, np.flatnonzero((rows[fixed.forced] > 0) & (rows[answer.project.table.tonnes] > 0)))
+        forced = rock_of(part, np.flatnonzero((rows[fixed.must_mine] > 0) & (rows[answer.project.table.tonnes] > 0)))
         differences += [f"{part.called(row)} was left out, and must be dug" for row in forced[:TOLD]]
         count += len(forced)
     reaching = leading_off(answer)
@@ -73,7 +73,7 @@ def leading_off(answer: Answer) -> np.ndarray:
     dug, entry = answer.dug[answer.cells], answer.entries[answer.cells]
     south, north, west, east = beyond_sides(answer)
     wrong = np.zeros(len(answer.rows), dtype=bool)
-    for number, wall in enumerate(answer.project.slopes.walls):
+    for number, wall in enumerate(answer.project.slopes.domains):
         mine = (entry == number) & (dug != UNDUG) & (dug != NOTHING)
         for up in range(1, answer.levels(wall) + 1):
             for run in runs(cone(wall, answer.size, up, answer.azimuth)):

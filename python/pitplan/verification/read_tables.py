@@ -10,7 +10,7 @@ import pandas as pd
 
 from pitplan.blockmodel import reader
 from pitplan.config.project import Project
-from pitplan.config.table import AbsentRock
+from pitplan.config.table import MissingRock
 
 from ..errors import PlanError
 from .put_together import divided, together, written_rows
@@ -22,11 +22,11 @@ SAID = ("id", "mining_cost", "revenue", "processing_cost", "revenue_factor", "pr
 # Of several processes that of each block at the price as given, "" where it is waste; there are amounts of each process then.
 PROCESS = "process"
 # With `[haulage]` the road of each block, and what of the costs is hauling.
-HAULED = ("road", "haulage_cost", "ore_haulage_cost")
+HAULED = ("haul_distance", "haulage_cost", "ore_haulage_cost")
 # Those that `pitplan pit` writes besides, of the pit that keeps to no fixed blocks.
 FREE = ("free_revenue_factor", "free_process_revenue_factor")
 # Those that `pitplan pushbacks` and `pitplan schedule` write besides.
-PHASE, YEAR = "phase", "year"
+PUSHBACK, YEAR = "pushback", "year"
 # If a surface cuts blocks: the tonnes in the table, before the cut. The answer has the tonnes below the surface.
 UNCUT = "tonnes before the cut"
 # Of a schedule by block the share of each block that goes to each of several processes.
@@ -80,9 +80,11 @@ def read_blocks(path: Path, project: Project, said: Optional[tuple[str, ...]] = 
     table has none of, or where they are put together or cut. Raises PlanError where a field that is to be a number is none.
     """
     columns = project.table
-    codes = {own_name(name): str for name in (columns.id, columns.rock, columns.region) if name}
+    codes = {own_name(name): str for name in (columns.id, columns.rock_type, columns.domain) if name}
     wanted = {*(said or ()), *(own_name(name) for name in (columns.x, columns.y, columns.z))}
-    is_whole = said is None or isinstance(columns.absent, AbsentRock) or bool(columns.reblock or project.cuts_blocks)
+    is_whole = (
+        said is None or isinstance(columns.missing_blocks, MissingRock) or bool(columns.reblock or project.cuts_blocks)
+    )
     usecols = None if is_whole else wanted.__contains__
     found = pd.read_csv(
         path, dtype=codes, keep_default_na=False, na_values={}, float_precision="round_trip", usecols=usecols
@@ -99,7 +101,7 @@ def own_columns(written: pd.DataFrame, rows: pd.DataFrame, order: np.ndarray) ->
 
 def own_name(column: str) -> str:
     """A column of the planner's, as blocks.csv names it."""
-    return f"planner_{column}" if column in (*SAID, *FREE, *HAULED, PHASE, YEAR, PROCESS) else column
+    return f"planner_{column}" if column in (*SAID, *FREE, *HAULED, PUSHBACK, YEAR, PROCESS) else column
 
 
 def beside(
@@ -120,7 +122,7 @@ def beside(
     if lost or len(np.unique(at)) < len(at):
         raise PlanError(f"{source}: {lost:,} blocks of the table are not in it: has the table changed since?")
     more = np.setdiff1d(np.arange(len(written)), at)
-    if len(more) and not isinstance(columns.absent, AbsentRock):
+    if len(more) and not isinstance(columns.missing_blocks, MissingRock):
         raise PlanError(f"{source}: {len(more):,} of its blocks are not in the table: has the table changed since?")
     known, rows, order = len(table), table, np.concatenate([at, more])
     if len(more):
@@ -128,7 +130,9 @@ def beside(
         own = own.loc[:, ~own.columns.duplicated(keep="last")]
         rows = pd.concat([table, own.iloc[more].reindex(columns=table.columns, fill_value=0.0)], ignore_index=True)
     if project.cuts_blocks:
-        uncut = np.concatenate([table[columns.tonnes], np.full(len(more), getattr(columns.absent, "tonnes", 0.0))])
+        uncut = np.concatenate(
+            [table[columns.tonnes], np.full(len(more), getattr(columns.missing_blocks, "tonnes", 0.0))]
+        )
         rows = rows.assign(**{UNCUT: uncut, columns.tonnes: written[own_name(columns.tonnes)].to_numpy()[order]})
     return rows, known, order
 

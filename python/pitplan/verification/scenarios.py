@@ -35,9 +35,17 @@ OF_EACH = {
     "walls": "no block of any shell leaves one standing in its own region's whole cone",
     "fixed": "what must be dug is in every shell, and what may not be is in none",
     "shells": "tonnes, grades, metal and worth of each shell are the sums of its blocks",
-    "worth": "the program's worth of each shell is that of its blocks, by the scenario's own grades and prices",
+    "undiscounted_cash_flow": "the program's worth of each shell is that of its blocks, by the scenario's own grades and prices",
 }
-AMOUNTS = ("blocks", "tonnes", "ore_tonnes", "in_situ_ore_tonnes", "waste_tonnes", "worth", "value_at_revenue_factor")
+AMOUNTS = (
+    "blocks",
+    "tonnes",
+    "feed_tonnes",
+    "in_situ_ore_tonnes",
+    "waste_tonnes",
+    "undiscounted_cash_flow",
+    "value_at_revenue_factor",
+)
 
 
 def verify(folder: Path, written: Optional[Path] = None) -> list[Rule]:
@@ -99,7 +107,7 @@ class Verification:
         """The blocks as if a plan had told of them in which none is dug."""
         folder = self.folder
         said = pd.DataFrame({"id": folder.told["id"].to_numpy(), "revenue_factor": 0})
-        rows, known = folder.rows, len(folder.table)
+        rows = folder.rows
         own = own_columns(folder.told, rows, np.arange(len(rows)))
         return Answer(
             folder.folder,
@@ -129,8 +137,10 @@ class Verification:
             )
         for scenario, entry in zip(own, listed):
             prices = {metal: Decimal(price) for metal, price in entry["prices"].items()}
-            if entry["model"] != scenario.model.name or prices != scenario.prices:
-                differences.append(f"scenarios.json lists {entry['model']} at {entry['prices']} for {scenario.label}")
+            if entry["realisation"] != scenario.model.name or prices != scenario.prices:
+                differences.append(
+                    f"scenarios.json lists {entry['realisation']} at {entry['prices']} for {scenario.label}"
+                )
         return rule(
             "scenarios", "each model at each set of prices is a scenario, at the project's factors", differences
         )
@@ -148,7 +158,7 @@ class Verification:
         for scenario in self.sample:
             whole = self.of_scenario(scenario)
             dug = weighed(whole)
-            worth = rule("worth", "", sums.unlike_worth(dug))
+            worth = rule("undiscounted_cash_flow", "", sums.unlike_worth(dug))
             for it in (walls.verify(whole), fixed.verify(whole), sums.verify(dug), worth):
                 told = tuple(f"{scenario.label}: {difference}" for difference in it.differences)
                 found[it.name].append(replace(it, differences=told))
@@ -172,7 +182,7 @@ class Verification:
         project = self.folder.project
         metals = tuple(replace(metal, price=prices.get(metal.name, metal.price)) for metal in project.metals)
         charges = project.money
-        if charges.mining_cost_per_level and charges.mining_cost_reference is None:
+        if charges.mining_cost_per_bench and charges.mining_cost_reference is None:
             charges = replace(charges, mining_cost_reference=self.reference)
         return replace(project, metals=metals, money=charges)
 
@@ -192,7 +202,7 @@ class Verification:
         dearest = {it.name: max(prices.get(it.name, it.price) for prices in sets) for it in folder.project.metals}
         metals = tuple(replace(it, price=dearest[it.name], selling_cost=Decimal(0)) for it in folder.project.metals)
         # What is ore does not hang on what mining costs.
-        charges = replace(folder.project.money, mining_cost_per_level=Decimal(0))
+        charges = replace(folder.project.money, mining_cost_per_bench=Decimal(0))
         project = replace(folder.project, metals=metals, money=charges)
         answer = replace(self.ground, project=project, rows=self.with_grades(grades), found={})
         return Decimal(repr(float(money.highest_needed(replace(answer, said=gains(answer))))))
@@ -261,7 +271,7 @@ def in_pits(answer: Told, factors: int) -> np.ndarray:
 
 def unlike_rows(folder: Simulated, tables: list[tuple[Scenario, pd.DataFrame]]) -> list[str]:
     """Where scenarios.csv does not say what the answers do."""
-    codes = {"model": str, "value_at_revenue_factor": str}
+    codes = {"realisation": str, "value_at_revenue_factor": str}
     written = pd.read_csv(folder.tables / SCENARIOS, dtype=codes, keep_default_na=False, na_values=[""])
     found = []
     for number in sorted({*written["scenario"]} ^ {scenario.number for scenario, _ in tables}):
@@ -277,7 +287,9 @@ def unlike_rows(folder: Simulated, tables: list[tuple[Scenario, pd.DataFrame]]) 
 
 def unlike_row(rows: pd.DataFrame, scenario: Scenario, table: pd.DataFrame) -> list[str]:
     expected = table.assign(**{f"price_{metal}": float(price) for metal, price in scenario.prices.items()})
-    found = [] if (rows["model"] == scenario.model.name).all() else [f"the model is {rows['model'].iloc[0]}"]
+    found = (
+        [] if (rows["realisation"] == scenario.model.name).all() else [f"the model is {rows['realisation'].iloc[0]}"]
+    )
     for name in expected:
         if name == "value_at_revenue_factor":
             off = np.array([Decimal(said) != Decimal(worth) for said, worth in zip(rows[name], expected[name])])
@@ -315,10 +327,10 @@ def unlike_quantiles(folder: Simulated, tables: list[tuple[Scenario, pd.DataFram
 
 
 def unlike_spread(rows: pd.DataFrame, models: list[Any], what: str) -> list[str]:
-    if len(rows) != 1 or rows["models"].iloc[0] != len(models):
+    if len(rows) != 1 or rows["realisations"].iloc[0] != len(models):
         return [f"{what}: has {len(rows)} rows, and there are {len(models)} models"]
     found = []
-    for name in [*AMOUNTS, *(name for name in models[0].index if name.startswith("metal_"))]:
+    for name in [*AMOUNTS, *(name for name in models[0].index if name.startswith("recovered_"))]:
         amounts = sorted(float(model[name]) for model in models)
         expected = {"mean": math.fsum(amounts) / len(amounts), "least": amounts[0], "greatest": amounts[-1]}
         expected |= {said: between(amounts, share) for said, share in SHARES.items()}

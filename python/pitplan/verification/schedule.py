@@ -1,4 +1,4 @@
-"""The yearly schedule anew, from its rows, the phases of blocks and the project: order, limits, amounts, and what they earn."""
+"""The yearly schedule anew, from its rows, the pushbacks of blocks and the project: order, limits, amounts, and what they earn."""
 
 from __future__ import annotations
 
@@ -17,7 +17,7 @@ from pitplan.verification.answer import Answer
 from pitplan.verification.rules import TOLD, Rule, rule
 
 from . import milling, ways_table, years
-from .money_of_years import capital, more_by_prices, most_premium
+from .money_of_years import capex, more_by_prices, most_premium
 
 FILE = "schedule.json"
 CENT, SLIGHT = 0.01, 1e-6
@@ -48,10 +48,10 @@ class Way:
 
     @cached_property
     def done(self) -> np.ndarray:
-        """The share of each bench that is dug by the end of each year: an array of phases from 0, levels and years from 0."""
-        phases, levels = int(self.answer.said["phase"].max()), self.answer.shape[0]
-        dug = np.zeros((phases + 1, levels, self.last + 1))
-        place = tuple(self.rows[name].to_numpy() for name in ("phase", "level", "year"))
+        """The share of each bench that is dug by the end of each year: an array of pushbacks from 0, levels and years from 0."""
+        pushbacks, levels = int(self.answer.said["pushback"].max()), self.answer.shape[0]
+        dug = np.zeros((pushbacks + 1, levels, self.last + 1))
+        place = tuple(self.rows[name].to_numpy() for name in ("pushback", "level", "year"))
         np.add.at(dug, place, self.rows["share"].to_numpy())
         return dug.cumsum(axis=2)
 
@@ -79,44 +79,48 @@ def ways_of(answer: Answer, told: dict[str, Any]) -> tuple[list[str], list[Way]]
     lost = (abs(steps - rows["level"]) > SLIGHT) | ~rows["level"].between(0, answer.shape[0] - 1)
     # Of ore that is reclaimed from a stockpile nothing is dug.
     nothing = (rows["share"] < 0) | (
-        (rows["share"] == 0) & ((rows["ore_tonnes"] <= 0) | ~rows["way"].isin(told["bins"]))
+        (rows["share"] == 0) & ((rows["feed_tonnes"] <= 0) | ~rows["method"].isin(told["bins"]))
     )
-    lost |= ~rows["phase"].between(1, answer.said["phase"].max()) | (rows["year"] < 1) | nothing
+    lost |= ~rows["pushback"].between(1, answer.said["pushback"].max()) | (rows["year"] < 1) | nothing
     differences = [
-        f"{row.way}, year {row.year}: no bench {row.bench:.10g} of phase {row.phase}, or no share {row.share:g}"
+        f"{row.method}, year {row.year}: no bench {row.bench:.10g} of pushback {row.pushback}, or no share {row.share:g}"
         for row in rows[lost].itertuples()
     ]
-    if not set(rows["way"]) <= set(told["ways"]):
-        differences.append(f"ways {sorted(set(rows['way']))} for {sorted(told['ways'])}")
+    if not set(rows["method"]) <= set(told["methods"]):
+        differences.append(f"ways {sorted(set(rows['method']))} for {sorted(told['methods'])}")
     rows = rows[~lost]
-    return differences, [Way(answer, name, rows[rows["way"] == name], said) for name, said in told["ways"].items()]
+    return differences, [
+        Way(answer, name, rows[rows["method"] == name], said) for name, said in told["methods"].items()
+    ]
 
 
 def sums_of_benches(answer: Answer) -> pd.DataFrame:
-    """By phase and level what the blocks add up to, of benches that hold rock."""
+    """By pushback and level what the blocks add up to, of benches that hold rock."""
     columns = {
-        "rock_tonnes": answer.tonnes,
-        "ore_tonnes": np.where(answer.ore, answer.feed, 0.0),
-        "cash": answer.earned,
+        "total_tonnes": answer.tonnes,
+        "feed_tonnes": np.where(answer.ore, answer.feed, 0.0),
+        "cash_flow": answer.earned,
     }
     columns |= answer.feeds
-    columns |= {f"metal_{name}": np.where(answer.ore, metal, 0.0) for name, metal in answer.quantities.items()}
-    frame = pd.DataFrame(columns | {"phase": answer.said["phase"].to_numpy(), "level": answer.cells[0]})
-    return frame[(frame["phase"] > 0) & (frame["rock_tonnes"] > 0)].groupby(["phase", "level"]).sum()
+    columns |= {f"recovered_{name}": np.where(answer.ore, metal, 0.0) for name, metal in answer.quantities.items()}
+    frame = pd.DataFrame(columns | {"pushback": answer.said["pushback"].to_numpy(), "level": answer.cells[0]})
+    return frame[(frame["pushback"] > 0) & (frame["total_tonnes"] > 0)].groupby(["pushback", "level"]).sum()
 
 
 def verify_amounts(ways: list[Way], told: dict[str, Any], sums: pd.DataFrame, misplaced: list[str]) -> Rule:
     """Each row is a share of the bench's blocks, or what is milled of them, and all shares of a bench are one at most."""
     differences = list(misplaced)
     for way in ways:
-        whole = sums.reindex(pd.MultiIndex.from_frame(way.rows[["phase", "level"]])).fillna(0.0).reset_index(drop=True)
+        whole = (
+            sums.reindex(pd.MultiIndex.from_frame(way.rows[["pushback", "level"]])).fillna(0.0).reset_index(drop=True)
+        )
         rows = way.rows.reset_index(drop=True)
         amounts, slack = whole.mul(rows["share"], axis=0), AMOUNT + SHARE * whole.abs()
         if way.name in told["bins"]:
             amounts, more, wrong = milling.amounts(way.answer, rows, amounts, told["bins"][way.name])
             slack, differences = slack + more, [*differences, *wrong]
-        amounts["cash"] += more_by_prices(way.answer.project, amounts.assign(year=rows["year"]))
-        slack["cash"] += AMOUNT * most_premium(way.answer.project)
+        amounts["cash_flow"] += more_by_prices(way.answer.project, amounts.assign(year=rows["year"]))
+        slack["cash_flow"] += AMOUNT * most_premium(way.answer.project)
         for name in sums.columns:
             expected = amounts[name]
             off = (rows[name] - expected).abs() > slack[name] + 1e-9 * expected.abs()
@@ -126,32 +130,32 @@ def verify_amounts(ways: list[Way], told: dict[str, Any], sums: pd.DataFrame, mi
             ]
         twice = np.argwhere(way.done[:, :, -1] > 1 + SLIGHT)
         differences += [
-            f"{way.name}: phase {phase}, level {level} is dug {way.done[phase, level, -1]:.9g} times"
-            for phase, level in twice
+            f"{way.name}: pushback {pushback}, level {level} is dug {way.done[pushback, level, -1]:.9g} times"
+            for pushback, level in twice
         ]
     holds = "each row of the schedule is a share of the blocks of its bench, and no tonne is dug twice"
     return rule("schedule amounts", holds, differences[:TOLD], len(differences))
 
 
 def place(row: Any) -> str:
-    return f"{row.way}, year {row.year}, phase {row.phase}, bench {row.bench:.10g}"
+    return f"{row.method}, year {row.year}, pushback {row.pushback}, bench {row.bench:.10g}"
 
 
 def verify_order(ways: list[Way], sums: pd.DataFrame) -> Rule:
-    """No bench is begun before all benches above it in its phase, and all of phases before down to `lag` below it, are through."""
+    """No bench is begun before all benches above it in its pushback, and all of pushbacks before down to `lag` below it, are through."""
     differences = []
     for way in ways:
-        lag = way.project_rules.lag if way.project_rules else 0
+        lag = way.project_rules.bench_lag if way.project_rules else 0
         is_there = np.zeros(way.done.shape[:2], dtype=bool)
         is_there[tuple(np.array(sums.index.to_list()).T)] = True
-        # The least that is through, from the top of each phase down; where there is no bench there is nothing to wait for.
+        # The least that is through, from the top of each pushback down; where there is no bench there is nothing to wait for.
         least = np.minimum.accumulate(np.where(is_there[:, :, None], way.done, 1.0), axis=1)
         for row in way.rows.itertuples():
             down = min(row.level + lag, least.shape[1] - 1)
             waited = [
                 1.0,
-                *([least[row.phase, row.level - 1, row.year]] if row.level else []),
-                *least[: row.phase, down, row.year],
+                *([least[row.pushback, row.level - 1, row.year]] if row.level else []),
+                *least[: row.pushback, down, row.year],
             ]
             if min(waited) < 1 - SLIGHT:
                 differences.append(f"{place(row)}: is begun when one that it waits for is dug to {min(waited):.6g}")
@@ -162,15 +166,15 @@ def verify_order(ways: list[Way], sums: pd.DataFrame) -> Rule:
 def limits_of(way: Way) -> Iterator[tuple[str, float, float]]:
     """Name of an amount, the most of a year, and by how much its sum may be off for rounding."""
     rules, shells = way.project_rules, way.answer.project.schedule
-    ore, rock = (rules and rules.ore_per_year) or shells.ore_per_year, (
-        rules and rules.rock_per_year
-    ) or shells.rock_per_year
-    yield "ore_tonnes", ore, CENT
-    yield "rock_tonnes", rock or math.inf, CENT
+    ore, rock = (rules and rules.processing_capacity) or shells.processing_capacity, (
+        rules and rules.mining_capacity
+    ) or shells.mining_capacity
+    yield "feed_tonnes", ore, CENT
+    yield "total_tonnes", rock or math.inf, CENT
     for process in way.answer.project.processes:
-        yield f"ore_tonnes_{process.name}", process.per_year, CENT
-    for name, most in (rules.metal_per_year if rules else {}).items():
-        yield f"metal_{name}", most, CENT
+        yield f"feed_tonnes_{process.name}", process.capacity, CENT
+    for name, most in (rules.max_metal_per_year if rules else {}).items():
+        yield f"recovered_{name}", most, CENT
 
 
 def unlike_limits(way: Way, told: dict[str, Any]) -> Iterator[str]:
@@ -179,8 +183,8 @@ def unlike_limits(way: Way, told: dict[str, Any]) -> Iterator[str]:
     due: dict[str, Any] = {"limits": {name: most for name, most, _ in limits_of(way) if most < math.inf}}
     due |= {
         "ramp_up": list(rules.ramp_up) if rules else [1.0],
-        "lag": rules.lag if rules else 0,
-        "sinking_rate": rules and rules.sinking_rate,
+        "lag": rules.bench_lag if rules else 0,
+        "vertical_advance_rate": rules and rules.vertical_advance_rate,
     }
     due |= {"years": rules.years} if rules and rules.years else {}
     yield from (
@@ -198,13 +202,13 @@ def verify_limits(ways: list[Way], told: dict[str, Any]) -> Rule:
         by_year = way.rows.groupby("year")
         for name, most, slack in limits_of(way):
             for year, amount in by_year[name].sum().items():
-                share = ramp_up[min(int(year), len(ramp_up)) - 1] if name.startswith("ore_tonnes") else 1.0
+                share = ramp_up[min(int(year), len(ramp_up)) - 1] if name.startswith("feed_tonnes") else 1.0
                 if amount > most * share * (1 + 1e-8) + slack:
                     differences.append(f"{way.name}, year {year}: {name} {amount:.10g} above {most * share:.10g}")
-        sunk = way.rows.groupby(["phase", "year"])["share"].sum()
-        deepest = (rules and rules.sinking_rate) or math.inf
+        sunk = way.rows.groupby(["pushback", "year"])["share"].sum()
+        deepest = (rules and rules.vertical_advance_rate) or math.inf
         differences += [
-            f"{way.name}: phase {at[0]} sinks {by:.9g} benches in year {at[1]}"
+            f"{way.name}: pushback {at[0]} sinks {by:.9g} benches in year {at[1]}"
             for at, by in sunk[sunk > deepest + SLIGHT].items()
         ]
         if way.last > told["years"]:
@@ -218,15 +222,15 @@ def verify_value(ways: list[Way], told: dict[str, Any], sums: pd.DataFrame) -> R
     differences = []
     for way in ways:
         rows = way.rows
-        present = rows["cash"] * rows["year"].map(lambda year: discount(way.answer, int(year)))
-        off = (rows["discounted"] - present).abs() > 2 * AMOUNT + 1e-9 * present.abs()
+        present = rows["cash_flow"] * rows["year"].map(lambda year: discount(way.answer, int(year)))
+        off = (rows["discounted_cash_flow"] - present).abs() > 2 * AMOUNT + 1e-9 * present.abs()
         differences += [
-            f"{place(row)}: discounted {row.discounted:.10g} for {present[row.Index]:.10g}"
+            f"{place(row)}: discounted_cash_flow {row.discounted_cash_flow:.10g} for {present[row.Index]:.10g}"
             for row in rows[off].itertuples()
         ]
-        left = sums["rock_tonnes"].sum() - rows["rock_tonnes"].sum()
+        left = sums["total_tonnes"].sum() - rows["total_tonnes"].sum()
         costs = sum(present_costs(way.answer, year) for year in range(1, way.last + 1))
-        expected = {"value": rows["discounted"].sum() - costs, "years": way.last, "left_tonnes": left}
+        expected = {"npv": rows["discounted_cash_flow"].sum() - costs, "years": way.last, "unmined_tonnes": left}
         for name, amount in expected.items():
             if abs(way.said[name] - amount) > CENT + AMOUNT * len(rows) + 1e-9 * abs(amount):
                 differences.append(f"{way.name}: {name} {way.said[name]:.12g} for {amount:.12g}")
@@ -236,13 +240,17 @@ def verify_value(ways: list[Way], told: dict[str, Any], sums: pd.DataFrame) -> R
             and left > CENT + AMOUNT * len(rows)
         ):
             differences.append(f"{way.name} leaves {left:.10g} t")
-        for name in ("bound", "milp_bound"):
-            if told[name] is not None and way.said["value"] > told[name] + CENT + 1e-7 * abs(told[name]):
-                differences.append(f"{way.name}: value {way.said['value']:.12g} is above {name} {told[name]:.12g}")
+        for name in ("upper_bound", "milp_upper_bound"):
+            if told[name] is not None and way.said["npv"] > told[name] + CENT + 1e-7 * abs(told[name]):
+                differences.append(f"{way.name}: value {way.said['npv']:.12g} is above {name} {told[name]:.12g}")
         differences += unlike_years(way, told["revenue_factor"])
     if ways:
         of_record = {
-            way.name: {"value": way.said["value"], "bound": told["bound"], "left_tonnes": way.said["left_tonnes"]}
+            way.name: {
+                "npv": way.said["npv"],
+                "upper_bound": told["upper_bound"],
+                "unmined_tonnes": way.said["unmined_tonnes"],
+            }
             for way in ways
         }
         differences += ways_table.differences(ways[0].answer, of_record)
@@ -254,14 +262,14 @@ def discount(answer: Answer, year: int) -> float:
     """What one of money of a year is worth at the start."""
     settings = answer.project.schedule
     if settings.discounting == "continuous":
-        return years.mean(year - 1, year, settings.rate)
-    return (1 + settings.rate) ** -(year - (0.5 if settings.discounting == "mid_year" else 0.0))
+        return years.mean(year - 1, year, settings.discount_rate)
+    return (1 + settings.discount_rate) ** -(year - (0.5 if settings.discounting == "mid_year" else 0.0))
 
 
 def present_costs(answer: Answer, year: int) -> float:
-    """Fixed cost and capital of a whole year, as they are worth at the start."""
+    """Fixed cost and capex of a whole year, as they are worth at the start."""
     of_year = float(answer.project.money.fixed_cost_per_year) * discount(answer, year)
-    return of_year + capital(answer.project, year) * (1 + answer.project.schedule.rate) ** -(year - 1)
+    return of_year + capex(answer.project, year) * (1 + answer.project.schedule.discount_rate) ** -(year - 1)
 
 
 def unlike_years(way: Way, factor: float) -> list[str]:
@@ -289,18 +297,18 @@ def of_years(way: Way, name: str, years: pd.Index) -> pd.Series:
     """What an amount of years.csv should be by year: the sum of the schedule's rows, and what years cost."""
     project = way.answer.project
     fixed = pd.Series(float(project.money.fixed_cost_per_year), index=years)
-    spent = pd.Series([capital(project, int(year)) for year in years], index=years, dtype=float)
-    if name in ("fixed_cost", "capital"):
+    spent = pd.Series([capex(project, int(year)) for year in years], index=years, dtype=float)
+    if name in ("fixed_cost", "capex"):
         return fixed if name == "fixed_cost" else spent
     total = way.rows.groupby("year")[name].sum().reindex(years, fill_value=0.0)
-    if name == "cash":
+    if name == "cash_flow":
         return total - fixed - spent
-    return total - [present_costs(way.answer, int(year)) for year in years] if name == "discounted" else total
+    return total - [present_costs(way.answer, int(year)) for year in years] if name == "discounted_cash_flow" else total
 
 
 def verify_years_of_blocks(ways: list[Way], told: dict[str, Any], sums: pd.DataFrame) -> Rule:
-    """Each block has the year by whose end its bench of its phase is through, by the way that earns most."""
-    values = {name: way["value"] for name, way in told["ways"].items()}
+    """Each block has the year by whose end its bench of its pushback is through, by the way that earns most."""
+    values = {name: way["npv"] for name, way in told["methods"].items()}
     best = max(values, key=values.__getitem__)
     # Values that differ by a rounding alone may be told in either order.
     differences = (
@@ -311,7 +319,7 @@ def verify_years_of_blocks(ways: list[Way], told: dict[str, Any], sums: pd.DataF
             continue
         through = way.done > 1 - SLIGHT
         year = np.where(through.any(axis=2), through.argmax(axis=2), 0)
-        expected = year[way.answer.said["phase"].to_numpy(), way.answer.cells[0]]
+        expected = year[way.answer.said["pushback"].to_numpy(), way.answer.cells[0]]
         off = np.flatnonzero(expected != way.answer.said["year"].to_numpy())
         differences += [
             f"{way.answer.called(row)}: year {way.answer.said['year'][row]} for {expected[row]}" for row in off

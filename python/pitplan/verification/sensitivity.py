@@ -30,14 +30,14 @@ from .weighing import gains, weighed
 from .written import read_table
 
 SHARES = ("-0.2", "-0.1", "0.1", "0.2")
-AXES = ("number", "share", "second", "second_share")
-KEPT = ("worth", "npv_best", "npv_worst", "years")
+AXES = ("parameter", "change", "second_parameter", "second_change")
+KEPT = ("undiscounted_cash_flow", "npv_best", "npv_worst", "years")
 OF_EACH = {
     "walls": "no block of any pit leaves one standing in its own region's whole cone, as the case has it",
     "steepness": "where the project leaves the levels open, no wall of a case comes out more than half a degree steeper",
     "fixed": "what must be dug is in every pit, and what may not be is in none",
     "shells": "tonnes, grades, metal and worth of each pit are the sums of its blocks by the case's own prices, costs and recoveries",
-    "worth": "the program's worth of each pit is that of its blocks",
+    "undiscounted_cash_flow": "the program's worth of each pit is that of its blocks",
     "years": "net present values follow from the benches by the case's own capacities",
     "kept": "so they do for the pit of the project as given at the numbers of each case",
     "skin": "what the skin of that pit is worth is the sum of its blocks at these numbers",
@@ -117,8 +117,8 @@ class Told:
         found = {"parts": parts, "beyond": beyond, "own": own_columns(blocks, known, order)}
         told = Answer(folder, project, known, count, said, pd.DataFrame(), None, record, factors, **found)
         ground = replace(told, said=said[["id"]].assign(revenue_factor=0))
-        rows = read_table(written / "sensitivity.csv", ["number", "second"])
-        rows[["number", "second"]] = rows[["number", "second"]].fillna("")
+        rows = read_table(written / "sensitivity.csv", ["parameter", "second_parameter"])
+        rows[["parameter", "second_parameter"]] = rows[["parameter", "second_parameter"]].fillna("")
         return Told(ground, told, rows, list(cases_in(folder, record)), factor, text)
 
     def rules(self) -> list[Rule]:
@@ -189,7 +189,10 @@ class Told:
             differences.append(
                 f"the skin has {part:,.0f} t of {whole:,.0f}, and sensitivity.json says {record['tonnes']:,.0f}"
             )
-        expected = {"share": part / whole if part else 0.0, "worth": float(self.rows["skin_worth"].iloc[0])}
+        expected = {
+            "share": part / whole if part else 0.0,
+            "undiscounted_cash_flow": float(self.rows["skin_value"].iloc[0]),
+        }
         differences += [
             f"the skin's {name} {record[name]:.12g} for {it:.12g}"
             for name, it in expected.items()
@@ -218,13 +221,13 @@ class Told:
             "steepness": walls.verify_steepness(whole),
             "fixed": fixed.verify(whole),
             "shells": sums.verify(pit),
-            "worth": rule("worth", "", sums.unlike_worth(pit)),
+            "undiscounted_cash_flow": rule("undiscounted_cash_flow", "", sums.unlike_worth(pit)),
             "years": rule("years", "", [*npv.differences, *unlike], npv.count + len(unlike)),
             "kept": self.kept(
                 project, row.set_index("revenue_factor"), any(name == "slopes" for name, _ in case.changes)
             ),
             "skin": self.skin(
-                project, float(row["skin_worth"].iloc[0]), any(name == "slopes" for name, _ in case.changes)
+                project, float(row["skin_value"].iloc[0]), any(name == "slopes" for name, _ in case.changes)
             ),
         }
 
@@ -236,32 +239,34 @@ class Told:
                 "kept", "", [] if said.isna().all(axis=None) else ["kept_ amounts are given, and walls are others"]
             )
         pit = replace(weighed(self.dug(self.cases[0].entry, project, self.cases[0].walls)), shells=said)
-        worth, gross = sums.sums(pit, self.factor)["worth"], float(np.abs(pit.worths).sum())
-        off = abs(float(said["worth"].iloc[0]) - worth) > 6e-4 + 1e-12 * gross
+        worth, gross = sums.sums(pit, self.factor)["undiscounted_cash_flow"], float(np.abs(pit.worths).sum())
+        off = abs(float(said["undiscounted_cash_flow"].iloc[0]) - worth) > 6e-4 + 1e-12 * gross
         wrong = (
-            [f"kept_worth {said['worth'].iloc[0]:.12g} for {worth:.12g}"] if off or said["worth"].isna().any() else []
+            [f"kept_undiscounted_cash_flow {said['undiscounted_cash_flow'].iloc[0]:.12g} for {worth:.12g}"]
+            if off or said["undiscounted_cash_flow"].isna().any()
+            else []
         )
         return rule("kept", "", [*wrong, *years.verify(pit).differences])
 
     def skin(self, project: Project, said: float, moves_walls: bool) -> Rule:
         """What the skin of the pit as given is worth at the numbers of a case; nothing where walls are others."""
         if moves_walls:
-            return rule("skin", "", [] if np.isnan(said) else ["skin_worth is given, and walls are others"])
+            return rule("skin", "", [] if np.isnan(said) else ["skin_value is given, and walls are others"])
         given = self.cases[0]
         assert given.skin is not None
         skin = weighed(self.dug(np.where(given.skin, self.factor, 0), project, given.walls))
-        worth, gross = sums.sums(skin, self.factor)["worth"], float(np.abs(skin.worths).sum())
+        worth, gross = sums.sums(skin, self.factor)["undiscounted_cash_flow"], float(np.abs(skin.worths).sum())
         is_near = abs(said - worth) <= 6e-4 + 1e-12 * gross
-        return rule("skin", "", [] if is_near else [f"skin_worth {said:.12g} for {worth:.12g}"])
+        return rule("skin", "", [] if is_near else [f"skin_value {said:.12g} for {worth:.12g}"])
 
     def dug(self, entry: np.ndarray, project: Project, patterns: list[Data]) -> Answer:
         """The ground with pits, by the numbers of a case."""
         said = self.ground.said.assign(revenue_factor=entry[self.ground.said["id"].to_numpy()])
         record = {**self.ground.record, "walls": patterns}
         whole = replace(self.ground, project=project, said=said, record=record, found={})
-        if project.money.mining_cost_per_level and project.money.mining_cost_reference is None:
+        if project.money.mining_cost_per_bench and project.money.mining_cost_reference is None:
             # What is ore does not hang on what mining costs, and what ore needs is told of all blocks.
-            flat = replace(project, money=replace(project.money, mining_cost_per_level=Decimal(0)))
+            flat = replace(project, money=replace(project.money, mining_cost_per_bench=Decimal(0)))
             at = money.highest_needed(replace(whole, project=flat, said=gains(replace(whole, project=flat)), found={}))
             charges = replace(project.money, mining_cost_reference=Decimal(repr(float(at))))
             whole = replace(whole, project=replace(project, money=charges))
@@ -296,12 +301,14 @@ def padded(changes: list[tuple[str, float]]) -> tuple[str, float, str, float]:
 def due_of(text: Text) -> list[tuple[str, float, str, float]]:
     """The cases that the project's text asks for."""
     asked = text.data.get("sensitivity", {})
-    by = [float(share) for share in asked.get("by", map(Decimal, SHARES))]
-    names = asked.get("vary") or [name for name in NUMBERS if is_given(text, name)]
+    changes = [float(share) for share in asked.get("changes", map(Decimal, SHARES))]
+    names = asked.get("parameters") or [name for name in NUMBERS if is_given(text, name)]
     names, pairs = [names] if isinstance(names, str) else names, asked.get("pairs", [])
     alone = {*names, *(name for pair in pairs for name in pair)}
-    due = [padded([]), *(padded([(name, share)]) for name, share in product(alone, by))]
-    return due + [padded([(one, first), (other, second)]) for one, other in pairs for first, second in product(by, by)]
+    due = [padded([]), *(padded([(name, share)]) for name, share in product(alone, changes))]
+    return due + [
+        padded([(one, first), (other, second)]) for one, other in pairs for first, second in product(changes, changes)
+    ]
 
 
 def share_of(text: Text) -> Decimal:
@@ -314,7 +321,7 @@ def is_given(text: Text, name: str) -> bool:
         return any(metal.get(name, 0) != 0 for metal in data["metals"])
     if name == "haulage":
         return "haulage" in data
-    return name != "slopes" or any({"angle", "azimuths", "bench"} & {*wall} for wall in data["slopes"]["walls"])
+    return name != "slopes" or any({"angle", "azimuths", "bench"} & {*wall} for wall in data["slopes"]["domains"])
 
 
 def changed(text: Text, changes: tuple[tuple[str, Decimal], ...]) -> Project:
@@ -365,21 +372,21 @@ def in_recoveries(data: Data, by: Decimal, metal: str) -> None:
 
 
 def in_walls(data: Data, by: Decimal, metal: str) -> None:
-    for wall in data["slopes"]["walls"]:
+    for wall in data["slopes"]["domains"]:
         if "bench" in wall:
             bench = wall.pop("bench")
-            back = 1 / math.tan(math.radians(float(bench["face"]))) + float(bench["berm"] / bench["height"])
+            back = 1 / math.tan(math.radians(float(bench["face_angle"]))) + float(bench["berm_width"] / bench["height"])
             wall["angle"] = Decimal(repr(math.degrees(math.atan2(1.0, back))))
         wall |= {key: times(wall[key], by) for key in ("angle", "azimuths") if key in wall}
 
 
 NUMBERS: dict[str, Any] = {
     "price": in_metals("price", "prices"),
-    "mining_cost": in_section("money", "mining_cost", "mining_cost_per_level", "mining_cost_by_elevation"),
-    "processing_cost": in_section("money", "processing_cost", of_process="cost"),
+    "mining_cost": in_section("economics", "mining_cost", "mining_cost_per_bench", "mining_cost_by_elevation"),
+    "processing_cost": in_section("economics", "processing_cost", of_process="cost"),
     "selling_cost": in_metals("selling_cost"),
     "recovery": in_recoveries,
     "slopes": in_walls,
-    "capacity": in_section("shells", "ore_per_year", "rock_per_year", of_process="per_year"),
+    "capacity": in_section("shells", "processing_capacity", "mining_capacity", of_process="capacity"),
     "haulage": in_section("haulage", "cost"),
 }

@@ -28,7 +28,7 @@ from .put_together import mean_grades
 
 PROBABILITY, SCENARIOS, QUANTILES = "probability.csv", "scenarios.csv", "quantiles.csv"
 # In place of probability.csv, where blocks are scheduled.
-ONE = "one_schedule.csv"
+ONE = "common_schedule.csv"
 
 
 @dataclass(frozen=True)
@@ -77,7 +77,7 @@ class Simulated:
     table   the table as it is now, with the columns of the models, where they are columns
     rows    one row a block without grades: those of the table, and behind them those of cells that it has no row of
     known   how many of these are of the table
-    told    the same rows of probability.csv, or of schedules of one_schedule.csv
+    told    the same rows of probability.csv, or of schedules of common_schedule.csv
     parts   with reblocking the table's rows without grades, which lie in the blocks; otherwise None
     """
 
@@ -122,7 +122,7 @@ class Simulated:
 
     def solved_grades(self, scenario: Scenario) -> np.ndarray:
         """The grades with which a scenario was solved, as its folder keeps them. Raises PlanError where these are of other blocks."""
-        file = self.folder / "models" / f"{self.record['scenarios'][scenario.number - 1]['grades']}.npy"
+        file = self.folder / "realisations" / f"{self.record['scenarios'][scenario.number - 1]['grades']}.npy"
         try:
             found: np.ndarray = np.load(file, allow_pickle=False)
         except ValueError as error:

@@ -22,7 +22,7 @@ def verify(answer: Answer) -> Rule:
         gross = float(np.abs(answer.worths[within(answer, float(factor))]).sum())
         for name, amount in sums(answer, float(factor)).items():
             said = float(answer.shells[name][factor])
-            slack = 0.6 * smallest(name) + (1e-12 * gross if name == "worth" else 0.0)
+            slack = 0.6 * smallest(name) + (1e-12 * gross if name == "undiscounted_cash_flow" else 0.0)
             if not np.isclose(said, amount, rtol=1e-9, atol=slack, equal_nan=True):
                 differences.append(f"revenue factor {factor_text(factor)}: {name} {said:.10g} for {amount:.10g}")
     return rule(
@@ -34,7 +34,7 @@ def verify(answer: Answer) -> Rule:
 
 def smallest(name: str) -> float:
     """The last place that shells.csv keeps."""
-    return 1e-6 if name.startswith("grade_") or name in ("strip_ratio", "years") else 1e-3
+    return 1e-6 if name.startswith("head_grade_") or name in ("strip_ratio", "years") else 1e-3
 
 
 def within(answer: Answer, factor: float) -> np.ndarray:
@@ -51,18 +51,18 @@ def sums(answer: Answer, factor: float) -> dict[str, float]:
     found = {
         "blocks": np.count_nonzero(inside & (tonnes > 0)),
         "tonnes": of_all,
-        "ore_tonnes": of_ore,
+        "feed_tonnes": of_ore,
         "in_situ_ore_tonnes": in_situ,
         "waste_tonnes": tonnes[inside & ~answer.ore].sum(),
         "strip_ratio": (of_all - in_situ) / in_situ if in_situ else np.nan,
-        "processed_tonnes": answer.feed[(processed > 0) & (processed <= factor)].sum(),
-        "worth": answer.worths[inside].sum(),
+        "processed_at_revenue_factor": answer.feed[(processed > 0) & (processed <= factor)].sum(),
+        "undiscounted_cash_flow": answer.worths[inside].sum(),
     }
     found |= {name: feed[inside].sum() for name, feed in answer.feeds.items()}
     for metal in answer.project.metals:
         content = answer.undiluted[ore] @ answer.rows[metal.column].to_numpy()[ore]
-        found[f"grade_{metal.name}"] = content / of_ore if of_ore else np.nan
-        found[f"metal_{metal.name}"] = answer.quantities[metal.name][ore].sum()
+        found[f"head_grade_{metal.name}"] = content / of_ore if of_ore else np.nan
+        found[f"recovered_{metal.name}"] = answer.quantities[metal.name][ore].sum()
     return {name: float(amount) for name, amount in found.items()}
 
 
@@ -72,7 +72,7 @@ def verify_worth(answer: Answer) -> Rule:
     differences, count = late(answer)
     other = unlike_worth(answer)
     holds = "the program's worth of each shell is that of its blocks, to the last digit that blocks.csv holds"
-    return rule("worth", holds, [*differences, *other], count + len(other))
+    return rule("undiscounted_cash_flow", holds, [*differences, *other], count + len(other))
 
 
 def unlike_worth(answer: Answer) -> list[str]:
@@ -93,7 +93,7 @@ def unlike_worth(answer: Answer) -> list[str]:
 def chosen(answer: Answer, factor: float, rows: np.ndarray) -> tuple[np.ndarray, np.ndarray]:
     """Revenue and processing cost of the blocks of these rows in the process that is worth most at a factor; 0 where none pays. With a fixed
     cut-off in that of the price as given."""
-    is_moving = answer.project.money.cutoff == "moving"
+    is_moving = answer.project.money.cutoff == "per_revenue_factor"
     ways, price = (answer.amounts_of_ways, factor) if is_moving else ([("revenue", "processing_cost")], BASE_PRICE)
     revenue = processing = gain = np.zeros(len(rows), dtype=np.int64)
     for names in ways:
@@ -137,7 +137,7 @@ def first_processed(answer: Answer) -> np.ndarray:
     """For each block the first of the folder's factors, from that on at which it is dug, at which processing it pays; 0 at none."""
     first = answer.said["revenue_factor"].to_numpy()
     expected = np.zeros(len(first))
-    if answer.project.money.cutoff == "moving":
+    if answer.project.money.cutoff == "per_revenue_factor":
         for factor in sorted(answer.factors, reverse=True):
             inside = np.flatnonzero((first > 0) & (first <= factor))
             expected[inside[np.asarray(chosen(answer, factor, inside)[0] > 0, dtype=bool)]] = factor

@@ -33,7 +33,8 @@ def flatness(wall: Wall, azimuth: np.ndarray) -> np.ndarray:
     """Metres that the wall steps back for each metre up, by azimuth in degrees: between two that are named linear, round the circle."""
     if wall.bench:
         return np.full(
-            np.shape(azimuth), 1 / math.tan(math.radians(wall.bench.face)) + wall.bench.berm / wall.bench.height
+            np.shape(azimuth),
+            1 / math.tan(math.radians(wall.bench.face_angle)) + wall.bench.berm_width / wall.bench.height,
         )
     # A face dips away from its wall.
     turned = 180 if wall.azimuth_of == "dip" else 0
@@ -49,8 +50,8 @@ def cone(wall: Wall, size: tuple[float, float, float], up: int, turn: float = 0.
     if wall.pattern:
         corner = NEIGHBOURS[wall.pattern]
         return np.array([[abs(north) + abs(east) <= corner for east in (-1, 0, 1)] for north in (-1, 0, 1)])
-    if wall.steps:
-        steps = {(north, east) for east, north, above in wall.steps if above == up}
+    if wall.offsets:
+        steps = {(north, east) for east, north, above in wall.offsets if above == up}
         far = max((max(abs(north), abs(east)) for north, east in steps), default=0)
         return np.array([[(north, east) in steps for east in range(-far, far + 1)] for north in range(-far, far + 1)])
     back = up * size[2] * max(flatness(wall, np.arange(0.0, 360.0, 0.25)))
@@ -90,7 +91,7 @@ def verify(answer: Answer) -> Rule:
     """No shell leaves a block of rock, or ground that is not known, in the unreduced cone of a block that it digs."""
     dug, entry = answer.dug, answer.entries
     wrong = np.zeros(answer.shape, dtype=bool)
-    for number, wall in enumerate(answer.project.slopes.walls):
+    for number, wall in enumerate(answer.project.slopes.domains):
         mine = (entry == number) & (dug != UNDUG) & (dug != NOTHING)
         if not mine.any():
             continue
@@ -115,12 +116,12 @@ def verify(answer: Answer) -> Rule:
 def verify_steepness(answer: Answer) -> Rule:
     """Where the project leaves the levels open, no high wall comes out too much steeper than asked, or there are the most levels."""
     slopes, differences = answer.project.slopes, []
-    if slopes.levels is not None:
-        return rule("levels", f"the needs reach over {slopes.levels} levels, as the project says", [])
-    for number, wall in enumerate(slopes.walls):
+    if slopes.precedence_benches is not None:
+        return rule("levels", f"the needs reach over {slopes.precedence_benches} levels, as the project says", [])
+    for number, wall in enumerate(slopes.domains):
         levels = answer.levels(wall)
         steeper = 0.0
-        if not wall.pattern and not wall.steps:
+        if not wall.pattern and not wall.offsets:
             steeper = float((high_walls(wall, answer.size, levels, answer.azimuth) - asked(wall, answer.azimuth)).max())
         if steeper > STEEPER + 1e-6 and levels < MOST_LEVELS:
             differences.append(
@@ -159,7 +160,7 @@ def needed_by(answer: Answer, blocks: np.ndarray) -> np.ndarray:
     """The given blocks and all that they need, directly or through others: a truth for each cell."""
     found = blocks.copy()
     entries = answer.entries
-    walls, turn = answer.project.slopes.walls, answer.azimuth
+    walls, turn = answer.project.slopes.domains, answer.azimuth
     cones = [[runs(cone(wall, answer.size, up, turn)) for up in range(1, answer.levels(wall) + 1)] for wall in walls]
     for level in range(answer.shape[0] - 1, 0, -1):
         for number, of_wall in enumerate(cones):
@@ -192,5 +193,5 @@ def told(answer: Answer, wrong: np.ndarray) -> tuple[list[str], int]:
 
 
 def holds(answer: Answer) -> str:
-    most = max(answer.levels(wall) for wall in answer.project.slopes.walls)
+    most = max(answer.levels(wall) for wall in answer.project.slopes.domains)
     return f"no block of any shell leaves one standing in its own region's whole cone, up to {most} levels above it"

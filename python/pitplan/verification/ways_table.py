@@ -1,4 +1,4 @@
-"""The row of each way to schedule in ways.csv: the sums of its years, and what the schedule's record says of it."""
+"""The row of each way to schedule in methods.csv: the sums of its years, and what the schedule's record says of it."""
 
 from __future__ import annotations
 
@@ -9,33 +9,33 @@ import pandas as pd
 from .answer import Answer
 from .written import read_table
 
-FILE = "ways.csv"
-# years.csv has thousandths, and ways.csv too.
+FILE = "methods.csv"
+# years.csv has thousandths, and methods.csv too.
 AMOUNT, SHARE = 0.6e-3, 0.6e-9
-SUMS = {"tonnes": "rock_tonnes", "ore_tonnes": "ore_tonnes"}
+SUMS = {"tonnes": "total_tonnes", "feed_tonnes": "feed_tonnes"}
 
 
 def differences(answer: Answer, told: dict[str, dict[str, Any]]) -> list[str]:
-    """What ways.csv says, and is not so; `told` has of each way, by column, what the record says of it."""
+    """What methods.csv says, and is not so; `told` has of each way, by column, what the record says of it."""
     assert answer.years is not None
     if not (answer.folder / FILE).is_file():
         return [f"{FILE} is missing"]
-    said = read_table(answer.folder / FILE, ["way"]).set_index("way")
+    said = read_table(answer.folder / FILE, ["method"]).set_index("method")
     if said.index.tolist() != list(told):
         return [f"{FILE} has the ways {said.index.tolist()} for {list(told)}"]
     found = []
     for way, record in told.items():
         years = answer.years[answer.years["case"] == way]
-        expected = record | {"years": len(years), "below_bound": below(record["value"], record["bound"])}
+        expected = record | {"years": len(years), "optimality_gap": below(record["npv"], record["upper_bound"])}
         expected |= {name: years[column].sum() for name, column in SUMS.items()}
-        expected |= {name: years[name].sum() for name in years.columns if name.startswith("metal_")}
+        expected |= {name: years[name].sum() for name in years.columns if name.startswith("recovered_")}
         if set(said.columns) != set(expected):
             found.append(f"{FILE} has the columns {sorted(said.columns)} for {sorted(expected)}")
             continue
         for name, amount in expected.items():
             slack = AMOUNT * (len(years) + 2) + 1e-9 * abs(amount or 0)
-            if name == "below_bound":
-                slack = SHARE + 2 * AMOUNT / abs(record["bound"] or 1.0)
+            if name == "optimality_gap":
+                slack = SHARE + 2 * AMOUNT / abs(record["upper_bound"] or 1.0)
             if unlike(said.at[way, name], amount, slack):
                 found.append(f"{FILE}, {way}: {name} {said.at[way, name]:.12g} for {amount}")
     return found

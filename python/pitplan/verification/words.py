@@ -9,8 +9,8 @@ from pitplan.verification.rules import Rule, rule
 
 from .written import WORDS
 
-TABLES = ("shells.csv", "pits.csv", "years.csv", "schedule.csv", "ways.csv")
-DISCOUNTED = {"npv_best", "discounted", "value"}
+TABLES = ("shells.csv", "pits.csv", "years.csv", "schedule.csv", "methods.csv")
+DISCOUNTED = {"npv_best", "discounted_cash_flow", "npv"}
 
 
 def verify(answer: Answer) -> Rule:
@@ -29,15 +29,15 @@ def verify(answer: Answer) -> Rule:
         said = set(table.get("discounting", pd.Series(dtype=str)))
         if DISCOUNTED & header and (said - {due} or "discounting" not in header):
             differences.append(f"{name}: discounting {', '.join(sorted(map(str, said))) or 'is missing'} for {due}")
-        if name in ("shells.csv", "years.csv") and answer.phases is not None:
+        if name in ("shells.csv", "years.csv") and answer.pushbacks is not None:
             differences += unlike_outline(answer, name, table)
     return rule("conventions", "each table of discounted amounts names how they are discounted", differences)
 
 
 def unlike_outline(answer: Answer, name: str, table: pd.DataFrame) -> list[str]:
     """Rows of shells and of schedules say which they are where pushbacks are wider than shells."""
-    rules = answer.project.phases
-    if rules is None or not (rules.width or rules.bottom):
+    rules = answer.project.pushbacks
+    if rules is None or not (rules.min_mining_width or rules.min_bottom_width):
         return [f"{name}: has a column outline, and pushbacks are shells"] if "outline" in table else []
     if "outline" not in table:
         return [f"{name}: has no column outline"]

@@ -14,7 +14,7 @@ from ..errors import PlanError
 
 # How the names of columns begin that are empty where there is no such amount: a ratio to no ore, a width of nothing, a bound that was not
 # sought, what is of other cases alone.
-MAY_LACK = ("strip_ratio", "grade_", "least_width", "bound", "below_bound", "sum_", "kept_", "skin_worth")
+MAY_LACK = ("strip_ratio", "head_grade_", "min_width", "upper_bound", "optimality_gap", "sum_", "kept_", "skin_value")
 # Numbers whose digits count each are left as texts.
 EXACT = "value_at_revenue_factor"
 

@@ -11,7 +11,7 @@ import pandas as pd
 from pitplan.config.economics import MOST_YEARS
 from pitplan.config.project import Project
 
-from .money_of_years import HAIR, capital, premiums
+from .money_of_years import HAIR, capex, premiums
 
 
 @dataclass(frozen=True)
@@ -49,7 +49,7 @@ def parts_of(uses: list[list[float]]) -> Parts:
 
 def discounts(until: np.ndarray, years: np.ndarray, project: Project) -> np.ndarray:
     """What one of money is worth at the start that flows in each year, which lasts until a moment."""
-    rate, how = project.schedule.rate, project.schedule.discounting
+    rate, how = project.schedule.discount_rate, project.schedule.discounting
     if how != "continuous":
         return np.asarray((1 + rate) ** -(years - (0.5 if how == "mid_year" else 0.0)))
     since = years - 1.0
@@ -62,15 +62,15 @@ def uses_of(pieces: pd.DataFrame, project: Project) -> list[list[float]]:
     """How many years of each capacity each piece uses."""
     schedule = project.schedule
     capacities = {
-        "ore": schedule.ore_per_year,
-        **{f"ore_tonnes_{process.name}": process.per_year for process in project.processes},
+        "ore": schedule.processing_capacity,
+        **{f"feed_tonnes_{process.name}": process.capacity for process in project.processes},
     }
-    capacities |= {} if schedule.rock_per_year is None else {"rock": schedule.rock_per_year}
+    capacities |= {} if schedule.mining_capacity is None else {"rock": schedule.mining_capacity}
     return np.column_stack([pieces[name] / capacity for name, capacity in capacities.items()]).tolist()
 
 
 def years_of(pieces: pd.DataFrame, project: Project) -> tuple[pd.DataFrame, float]:
-    """A row a year, from 1: the amounts of the pieces, the last of which is cash at the price as given; fixed_cost and capital where the
+    """A row a year, from 1: the amounts of the pieces, the last of which is cash at the price as given; fixed_cost and capex where the
     project has such; cash after these, at the prices of the year; and that discounted. With the years from the start to the end.
     """
     parts = parts_of(uses_of(pieces, project))
@@ -79,13 +79,16 @@ def years_of(pieces: pd.DataFrame, project: Project) -> tuple[pd.DataFrame, floa
     sums = {name: np.bincount(parts.year, flow, minlength=len(years) + 1)[1:] for name, flow in flows.items()}
     found = pd.DataFrame(sums, index=pd.Index(years, name="year"))
     for name in premiums(project, 1):
-        found["cash"] += found[name] * [premiums(project, int(year))[name] for year in years]
+        found["cash_flow"] += found[name] * [premiums(project, int(year))[name] for year in years]
     money, until = project.money, np.clip(parts.life, years - 1.0, years)
     fixed, spent = float(money.fixed_cost_per_year) * (until - (years - 1.0)), np.array(
-        [capital(project, int(year)) for year in years]
+        [capex(project, int(year)) for year in years]
     )
-    present = (found["cash"] - fixed) * discounts(until, years, project) - spent * (1 + project.schedule.rate) ** -(
-        years - 1.0
+    present = (found["cash_flow"] - fixed) * discounts(until, years, project) - spent * (
+        1 + project.schedule.discount_rate
+    ) ** -(years - 1.0)
+    of_years = {"fixed_cost": fixed, "capex": spent} if money.fixed_cost_per_year or money.capex else {}
+    return (
+        found.assign(**of_years, cash_flow=found["cash_flow"] - fixed - spent, discounted_cash_flow=present),
+        parts.life,
     )
-    of_years = {"fixed_cost": fixed, "capital": spent} if money.fixed_cost_per_year or money.capital else {}
-    return found.assign(**of_years, cash=found["cash"] - fixed - spent, discounted=present), parts.life

@@ -18,7 +18,7 @@ from .yearly_flows import years_of
 CENT = 0.01
 CASES = ("best", "worst")
 # What years.csv calls the tonnes of benches.
-NAMES = {"rock": "rock_tonnes", "ore": "ore_tonnes"}
+NAMES = {"rock": "total_tonnes", "ore": "feed_tonnes"}
 
 
 def verify(answer: Answer) -> Rule:
@@ -27,7 +27,7 @@ def verify(answer: Answer) -> Rule:
     if answer.years is None:
         return verify_npv(answer, flows)
     # Those of a schedule are looked at with it.
-    ways = [] if answer.schedule is None else answer.schedule["way"].unique().tolist()
+    ways = [] if answer.schedule is None else answer.schedule["method"].unique().tolist()
     of_shells = answer.years[~answer.years["case"].isin([*ways, *(["block"] if answer.is_by_block else [])])]
     differences = [*over_capacity(answer, of_shells), *unlike_years(answer, of_shells, flows)]
     npv = verify_npv(answer, flows)
@@ -37,8 +37,8 @@ def verify(answer: Answer) -> Rule:
 
 def over_capacity(answer: Answer, years: pd.DataFrame) -> list[str]:
     schedule, found = answer.project.schedule, []
-    limits = {"ore_tonnes": schedule.ore_per_year, "rock_tonnes": schedule.rock_per_year or math.inf}
-    limits |= {f"ore_tonnes_{process.name}": process.per_year for process in answer.project.processes}
+    limits = {"feed_tonnes": schedule.processing_capacity, "total_tonnes": schedule.mining_capacity or math.inf}
+    limits |= {f"feed_tonnes_{process.name}": process.capacity for process in answer.project.processes}
     for name, most in limits.items():
         over = years[years[name] > most * (1 + 1e-9) + CENT]
         found += [
@@ -104,11 +104,11 @@ def flows_of(answer: Answer) -> pd.DataFrame:
     """Rock, ore, metals, cash, and cash without signs, of each shell's part of each level."""
     rock, cash = answer.tonnes, answer.earned
     frame = pd.DataFrame(
-        {"rock": rock, "ore": np.where(answer.ore, answer.feed, 0.0), "cash": cash, "gross": np.abs(cash)}
+        {"rock": rock, "ore": np.where(answer.ore, answer.feed, 0.0), "cash_flow": cash, "gross": np.abs(cash)}
     )
     frame = frame.assign(
         **answer.feeds,
-        **{f"metal_{name}": np.where(answer.ore, metal, 0.0) for name, metal in answer.quantities.items()},
+        **{f"recovered_{name}": np.where(answer.ore, metal, 0.0) for name, metal in answer.quantities.items()},
     )
     frame = frame.assign(revenue_factor=answer.said["revenue_factor"].to_numpy(), level=answer.cells[0])
     return frame[frame["revenue_factor"] > 0].groupby(["revenue_factor", "level"]).sum()
@@ -119,7 +119,7 @@ def npv(pieces: pd.DataFrame, answer: Answer) -> tuple[float, float]:
     if not pieces["rock"].sum():
         return 0.0, 0.0
     years, life = years_of(pieces.drop(columns="gross"), answer.project)
-    return float(years["discounted"].sum()), life
+    return float(years["discounted_cash_flow"].sum()), life
 
 
 def mean(start: float, end: float, rate: float) -> float:

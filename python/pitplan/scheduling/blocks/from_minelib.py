@@ -15,7 +15,7 @@ from .problem import BlockProblem, Limit, Needs
 
 
 def of_minelib(model: Path, prec: Path, second: Optional[str] = None) -> BlockProblem:
-    """The problem of two files of MineLib; a value in period t, from 0, is divided by (1 + rate)^t. `second` is as
+    """The problem of two files of MineLib; a value in period t, from 0, is divided by (1 + rate)^t. `second_parameter` is as
     `schedule_models.read` has it.
 
     Raises MinelibError, with file and line, where one is not well formed, and PlanError where an amount is negative.

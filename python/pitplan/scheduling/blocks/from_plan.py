@@ -9,7 +9,7 @@ from numpy.typing import NDArray
 
 import pitshell
 from pitplan.config.project import Project
-from pitplan.config.schedule import MOST_YEARS, ScheduleRules, Sum
+from pitplan.config.schedule import FEED, MOST_YEARS, TOTAL, ScheduleRules, Sum
 from pitplan.economics.period_costs import YearlyMoney, of_project
 from pitplan.errors import PlanError
 from pitplan.pits.best_worst_case import year_discounts
@@ -101,7 +101,7 @@ def demand_small(plan: Plan, cells: NDArray[np.int64], held: dict[str, NDArray[n
         if (held[name] > most * (1 + HAIR)).any():
             row = int(held[name].argmax())
             block = f"{plan.source}: {plan.called(int(cells[row]))} holds {held[name][row]:,.10g} of {name}, and a year at most {most:,.10g}"
-            why = "by block each is mined in one year: give smaller blocks or a greater limit, or schedule by phase"
+            why = "by block each is mined in one year: give smaller blocks or a greater limit, or schedule by pushback"
             raise PlanError(f"{plan.project.path}: {why}; {block}")
 
 
@@ -113,13 +113,13 @@ def dues_of(forced: NDArray[np.bool_], destinations: int) -> tuple[Due, ...]:
 
 def limits_of_blocks(project: Project, rules: ScheduleRules) -> Limits:
     """The limits of `[schedule]` and `[shells]`, those of sums and the least amounts among them."""
-    limits, names = limits_of(project, rules), {"ore": ORE, "rock": ROCK}
-    names |= {metal.name: f"metal_{metal.name}" for metal in project.metals} | {
+    limits, names = limits_of(project, rules), {FEED: ORE, TOTAL: ROCK}
+    names |= {metal.name: f"recovered_{metal.name}" for metal in project.metals} | {
         it.name: f"{ORE}_{it.name}" for it in project.processes
     }
-    most = limits.most | {f"{SUM}{it.name}": it.most for it in rules.sums if it.most is not None}
-    least = {names[name]: amount for name, amount in rules.least.items()} | {
-        f"{SUM}{it.name}": it.least for it in rules.sums if it.least
+    most = limits.most | {f"{SUM}{it.name}": it.max for it in rules.limits if it.max is not None}
+    least = {names[name]: amount for name, amount in rules.minimum.items()} | {
+        f"{SUM}{it.name}": it.min for it in rules.limits if it.min
     }
     return replace(limits, most=most, least={name: amount for name, amount in least.items() if amount > 0})
 
@@ -150,14 +150,14 @@ def pays_of(plan: Plan) -> NDArray[np.bool_]:
 
 def demand_of_blocks(project: Project, rules: ScheduleRules) -> None:
     """Raises PlanError, with the key, where the project asks for what is not done by block."""
-    path, costs_years = project.path, bool(project.money.fixed_cost_per_year or project.money.capital)
+    path, costs_years = project.path, bool(project.money.fixed_cost_per_year or project.money.capex)
     asked = {
-        "[schedule] lag: is of phases": rules.lag > 0,
-        "[schedule] sinking_rate: is of the benches of a phase": rules.sinking_rate is not None,
+        "[schedule] bench_lag: is of pushbacks": rules.bench_lag > 0,
+        "[schedule] vertical_advance_rate: is of the benches of a pushback": rules.vertical_advance_rate is not None,
         "[schedule] bins: are of benches, and a block is ore or waste as a whole": rules.bins is not None,
-        "[money] fixed_cost_per_year, capital: what years cost is no part of a schedule by block": costs_years,
-        "[pushbacks] mining_cost_added: is by phase, and blocks are in none": bool(
-            project.phases and project.phases.mining_cost_added
+        "[economics] fixed_cost_per_year, capex: what years cost is no part of a schedule by block": costs_years,
+        "[pushbacks] mining_cost_added: is by pushback, and blocks are in none": bool(
+            project.pushbacks and project.pushbacks.mining_cost_added
         ),
     }
     for why, is_asked in asked.items():
@@ -174,16 +174,16 @@ def flows_of(plan: Plan) -> Flows:
     """What each cell holds of each amount that may be limited, and its cash at the price as given."""
     flows = of_money(plan)
     rules = plan.project.schedule_rules
-    return flows | {f"{SUM}{it.name}": sum_of(plan, it) for it in (rules.sums if rules else ())}
+    return flows | {f"{SUM}{it.name}": sum_of(plan, it) for it in (rules.limits if rules else ())}
 
 
 def sum_of(plan: Plan, asked: Sum) -> NDArray[np.float64]:
     """What each cell adds to a sum in each destination."""
     values, (_, *processes) = plan.values, destinations_of(plan.project)
     amounts = plan.grid.spread(plan.table[asked.column].to_numpy())
-    if asked.a_tonne:
-        amounts = amounts * (values.tonnes if asked.of == "rock" else values.undiluted)
-    counts = [asked.of == "rock", *(asked.of in ("rock", "ore", name) for name in processes)]
+    if asked.per_tonne:
+        amounts = amounts * (values.tonnes if asked.of == TOTAL else values.undiluted)
+    counts = [asked.of == TOTAL, *(asked.of in (TOTAL, FEED, name) for name in processes)]
     return amounts[:, None] * np.array(counts, dtype=float)
 
 
@@ -196,7 +196,7 @@ def of_money(plan: Plan) -> Flows:
         columns[f"{ORE}_{process.name}"] = [
             values.feed if place == number else nothing for place in range(1 + len(processes))
         ]
-    columns |= {f"metal_{name}": [nothing, *(way.metal[name] for way in values.ways)] for name in values.metal}
+    columns |= {f"recovered_{name}": [nothing, *(way.metal[name] for way in values.ways)] for name in values.metal}
     columns[CASH] = [
         -values.mining / MILLION,
         *((way.revenue - way.cost - values.mining) / MILLION for way in values.ways),
@@ -237,5 +237,5 @@ def years_of(sums: dict[str, float], limits: Limits, project: Project) -> int:
     years = -int(-taken * (1 + MORE_YEARS) // 1)
     if years > MOST_YEARS:
         why = f"the pit would take more than {MOST_YEARS} years: are the limits in tonnes a year? [schedule] years sets how many there are"
-        raise PlanError(f"{project.path}: [shells] ore_per_year, rock_per_year: {why}")
+        raise PlanError(f"{project.path}: [shells] processing_capacity, mining_capacity: {why}")
     return years

@@ -71,22 +71,22 @@ class ScheduledBlocks:
         }
         discounted = sums[CASH] * year_discounts(project.schedule, problem.years)[: self.count]
         head = {"case": CASE, "revenue_factor": BASE_PRICE, "year": np.arange(1, self.count + 1)}
-        return pd.DataFrame(head | sums | {"discounted": discounted})
+        return pd.DataFrame(head | sums | {"discounted_cash_flow": discounted})
 
     @property
     def table(self) -> pd.DataFrame:
-        """One row: value, discounted, and bound, in money; below_bound, by which share of the bound the value is less; years; blocks of
-        rock that are dug; tonnes of rock, and ore_tonnes; metal_NAME recovered."""
+        """One row: value, discounted, and bound, in money; optimality_gap, by which share of the bound the value is less; years; blocks of
+        rock that are dug; tonnes of rock, and feed_tonnes; metal_NAME recovered."""
         dug = (self.found.schedule.year < self.planned.problem.years) & (self.planned.flows[ROCK][:, 0] > 0)
         row = {
-            "value": self.found.value,
-            "bound": self.found.bound,
-            "below_bound": self.found.gap,
+            "npv": self.found.value,
+            "upper_bound": self.found.bound,
+            "optimality_gap": self.found.gap,
             "years": self.count,
             "blocks": int(dug.sum()),
             "tonnes": self.years[ROCK].sum(),
-            "ore_tonnes": self.years[ORE].sum(),
-            **self.years.filter(like="metal_").sum(),
+            "feed_tonnes": self.years[ORE].sum(),
+            **self.years.filter(like="recovered_").sum(),
         }
         return pd.DataFrame([row])
 
@@ -94,7 +94,7 @@ class ScheduledBlocks:
     def ways(self) -> pd.DataFrame:
         """The same as the row of a way, which is called as its case in years.csv."""
         table = self.table
-        table.insert(0, "way", CASE)
+        table.insert(0, "method", CASE)
         return table
 
     @property
@@ -104,8 +104,8 @@ class ScheduledBlocks:
         found, limits = self.found, self.planned.limits
         value, bound = round(found.value, 3), round(found.bound, 3)
         return {
-            "value": value,
-            "bound": bound,
+            "npv": value,
+            "upper_bound": bound,
             "gap": round(gap_of(value, bound), 9),
             "years": self.planned.problem.years,
             "limits": limits.most,
@@ -114,7 +114,7 @@ class ScheduledBlocks:
             "blocks": found.blocks,
             "nodes": found.nodes,
             "rounds": [
-                {"bound": round(one.bound, 3), "relaxation": round(one.value, 3), "groups": one.groups}
+                {"upper_bound": round(one.bound, 3), "relaxation": round(one.value, 3), "groups": one.groups}
                 for one in found.rounds
             ],
             "interrupted": found.interrupted,

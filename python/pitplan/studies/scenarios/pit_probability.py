@@ -86,7 +86,7 @@ def read_answer(shared: Shared, scenario: Scenario) -> tuple[np.ndarray, pd.Data
 def heads_of(scenario: Scenario) -> dict[str, object]:
     """With what a scenario's rows of a table begin: scenario, model, and price_NAME of each metal that some set of prices names."""
     prices = {f"price_{metal}": float(price) for metal, price in scenario.prices.items()}
-    return {"scenario": scenario.number, "model": scenario.model, **prices}
+    return {"scenario": scenario.number, "realisation": scenario.realisation, **prices}
 
 
 def quantiles(table: pd.DataFrame) -> pd.DataFrame:
@@ -94,10 +94,13 @@ def quantiles(table: pd.DataFrame) -> pd.DataFrame:
     by = [name for name in table.columns if name.startswith("price_")] + ["revenue_factor"]
     amounts = [
         name
-        for name in ("blocks", "tonnes", "ore_tonnes", "in_situ_ore_tonnes", "waste_tonnes")
+        for name in ("blocks", "tonnes", "feed_tonnes", "in_situ_ore_tonnes", "waste_tonnes")
         if name in table.columns
     ]
-    amounts += [name for name in table.columns if name.startswith("metal_")] + ["worth", "value_at_revenue_factor"]
+    amounts += [name for name in table.columns if name.startswith("recovered_")] + [
+        "undiscounted_cash_flow",
+        "value_at_revenue_factor",
+    ]
     return spread_of(table.assign(value_at_revenue_factor=table["value_at_revenue_factor"].astype(float)), by, amounts)
 
 
@@ -108,7 +111,7 @@ def spread_of(table: pd.DataFrame, by: list[str], amounts: list[str]) -> pd.Data
     Quantile 0.1 is the amount that a tenth of the models do not reach (linear between two).
     """
     groups = table.groupby(by or np.zeros(len(table)), dropna=False)
-    result = groups.size().to_frame("models")
+    result = groups.size().to_frame("realisations")
     for name in amounts:
         group = groups[name]
         parts = {"mean": group.mean(), "least": group.min()}

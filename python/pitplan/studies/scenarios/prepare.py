@@ -13,7 +13,7 @@ import numpy as np
 from pitplan.blockmodel import summary
 from pitplan.blockmodel.figure_bounds import demand_within
 from pitplan.config import project_writer
-from pitplan.config.economics import ByRegion
+from pitplan.config.economics import ByDomain
 from pitplan.config.project import Project
 from pitplan.core import csv_writer
 from pitplan.core.atomic_files import hashes, staged, write_json
@@ -116,8 +116,8 @@ def arrays_of(base: Base) -> dict[str, np.ndarray]:
     table = base.project.table
     arrays = {"cells": base.grid.rows, table.tonnes: base.frame[table.tonnes].to_numpy()}
     money = base.project.money
-    by_region = any(isinstance(value, ByRegion) for value in (money.mining_recovery, money.dilution))
-    for name in (table.rock, table.region if by_region else None):
+    by_region = any(isinstance(value, ByDomain) for value in (money.mining_recovery, money.dilution))
+    for name in (table.rock_type, table.domain if by_region else None):
         if name:
             arrays[name] = base.frame[name].to_numpy().astype(str)
     return arrays

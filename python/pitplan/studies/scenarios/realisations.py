@@ -251,8 +251,8 @@ def envelope(base: Base, greatest: np.ndarray) -> Plan:
     plan = plan_of(blocks)
     plan.values = plan.values.with_shared_nodes()
     block_values.demand_few_nodes(plan.values, plan.grid)
-    if plan.values.cutoff == "fixed" and len(plan.values.ways) > 1:
+    if plan.values.cutoff == "base_price" and len(plan.values.ways) > 1:
         # At other grades a block may go to another process, whose value rises faster with the factor.
-        paying = np.array(plan.values.value_bound(project.schedule.factors[-1]) > 0, dtype=bool)
+        paying = np.array(plan.values.value_bound(project.schedule.revenue_factors[-1]) > 0, dtype=bool)
         plan.used |= closure.used_blocks(plan.grid, plan.walls, paying)
     return with_notes(plan, blocks)

@@ -24,9 +24,9 @@ PROBABILITY, IMAGE, TABLE, QUANTILES = "probability.csv", "probability.vti", "sc
 # Of schedules by block those of all scenarios, and the one for all by block and by year.
 SCHEDULES, ONE, ONE_YEARS, ONE_RECORD = (
     "schedules.csv",
-    "one_schedule.csv",
-    "one_schedule_years.csv",
-    "one_schedule.json",
+    "common_schedule.csv",
+    "common_schedule_years.csv",
+    "common_schedule.json",
 )
 
 
@@ -53,7 +53,7 @@ class ScenarioResult:
     def table(self) -> pd.DataFrame:
         """One row a scenario and factor: model, prices, tonnes, grades, metal, and worth; `value_at_revenue_factor` is exact (Decimal)."""
         table = self.frame(
-            TABLE, dtype={"model": str, "value_at_revenue_factor": str}, keep_default_na=False, na_values=[""]
+            TABLE, dtype={"realisation": str, "value_at_revenue_factor": str}, keep_default_na=False, na_values=[""]
         )
         return table.assign(value_at_revenue_factor=table["value_at_revenue_factor"].map(Decimal))
 
@@ -67,7 +67,7 @@ class ScenarioResult:
     def schedules(self) -> pd.DataFrame:
         """Of schedules by block one row a scenario: model, prices, value and bound of its own schedule, and behind `one_` what the one
         schedule for all earns in it."""
-        return self.frame(SCHEDULES, dtype={"model": str}, keep_default_na=False, na_values=[""])
+        return self.frame(SCHEDULES, dtype={"realisation": str}, keep_default_na=False, na_values=[""])
 
     def likely(self, revenue_factor: float = BASE_PRICE) -> Likely:
         """What the pictures of probability show of a factor. Raises PlanError where it is none of the factors."""

@@ -40,7 +40,7 @@ from pitplan.solver.choice import Solver
 RECORD, PROJECT, BASE = "scenarios.json", "project.toml", "base.npz"
 STARTS, NEEDS = "starts.npy", "needs.npy"
 DIGGABLE, MEAN = "diggable.npz", "mean.npz"
-FOLDERS = MODELS, DONE, FAILED = "models", "done", "failed"
+FOLDERS = MODELS, DONE, FAILED = "realisations", "done", "failed"
 # Of the files of answers: since 2 they hold their own key.
 FORM = 2
 # The sources of what searches for schedules.
@@ -54,7 +54,7 @@ class Scenario:
     """One model at one set of prices: its place in the list from 1, names, and the key of its answer."""
 
     number: int
-    model: str
+    realisation: str
     grades: str
     prices: dict[str, str]
     key: str
@@ -68,7 +68,7 @@ class Scenario:
     def label(self) -> str:
         """The model and the prices, as a person would call it."""
         said = ", ".join(f"{metal} {price}" for metal, price in self.prices.items())
-        return f"{self.model} at {said}" if said else self.model
+        return f"{self.realisation} at {said}" if said else self.realisation
 
     def priced(self) -> dict[str, Decimal]:
         return {metal: Decimal(price) for metal, price in self.prices.items()}
@@ -188,7 +188,7 @@ def key_of(parts: dict[str, Any]) -> str:
 
 def referred(project: Project, reference: float) -> Project:
     """The project with the elevation in metres from which on mining costs more, which is one for all scenarios."""
-    if not project.money.mining_cost_per_level:
+    if not project.money.mining_cost_per_bench:
         return project
     return replace(project, money=replace(project.money, mining_cost_reference=Decimal(repr(reference))))
 
@@ -200,7 +200,7 @@ def meaning(project: Project, reference: float) -> dict[str, Any]:
     parts = {"money": asdict(project.money), "metals": without_prices, "slopes": asdict(project.slopes)}
     parts |= {"haulage": asdict(project.haulage)} if project.haulage else {}
     # No pit depends on what a process takes in a year.
-    processes = [asdict(replace(process, per_year=0.0)) for process in project.processes]
+    processes = [asdict(replace(process, capacity=0.0)) for process in project.processes]
     parts |= {"processes": processes} if processes else {}
     return parts | ({"reblock": asdict(project.table.reblock)} if project.table.reblock else {})
 
@@ -209,7 +209,7 @@ def surfaces_of(project: Project) -> dict[str, Any]:
     """The topography, the original ground and the as-mined surface: what of each file is taken, and hashes of its parts."""
     rules = project.fixed
     named = {"topography": project.table.topography}
-    named |= {"original": rules.topography, "as mined": rules.surface} if rules and rules.surface else {}
+    named |= {"original": rules.topography, "as mined": rules.as_mined} if rules and rules.as_mined else {}
     return {
         name: {"layers": file.layers, "height": file.height, "files": [hash_of(path) for path in file.parts]}
         for name, file in named.items()
@@ -220,12 +220,12 @@ def surfaces_of(project: Project) -> dict[str, Any]:
 def meaning_of_years(project: Project, years: int) -> dict[str, Any]:
     """What besides changes a schedule of so many years: limits, discounting, and how schedules are searched for, which no proof settles."""
     shells, rules = project.schedule, project.schedule_rules or ScheduleRules()
-    limits = {"ore": shells.ore_per_year, "rock": shells.rock_per_year, "rules": asdict(rules)}
+    limits = {"ore": shells.processing_capacity, "rock": shells.mining_capacity, "rules": asdict(rules)}
     search = {
         "highs": f"scipy {scipy.__version__}",
         "sources": [hash_of(path) for path in sorted(SEARCH.glob("*.py"))],
     }
-    return {**limits, **search, "rate": shells.rate, "discounting": shells.discounting, "years": years}
+    return {**limits, **search, "rate": shells.discount_rate, "discounting": shells.discounting, "years": years}
 
 
 def hash_of_arrays(arrays: dict[str, np.ndarray]) -> str:

@@ -36,8 +36,8 @@ from .perturb import Change, given, varied
 
 CASES = "cases"
 # What the pit as given earns at a case's numbers, and what its skin does.
-KEPT = ("worth", "npv_best", "npv_worst", "years")
-SKIN_WORTH = "skin_worth"
+KEPT = ("undiscounted_cash_flow", "npv_best", "npv_worst", "years")
+SKIN_WORTH = "skin_value"
 WHOLE = ("blocks",)
 
 
@@ -94,18 +94,18 @@ class Sensitivity:
 def rules_of(project: Project) -> SensitivityRules:
     """What is varied: what the project asks for, or else each number that it gives."""
     rules = project.sensitivity or SensitivityRules()
-    return rules if rules.vary else replace(rules, vary=given(project))
+    return rules if rules.parameters else replace(rules, parameters=given(project))
 
 
 def cases_of(rules: SensitivityRules) -> list[Case]:
     """The project as given, each number by each share, and of each pair both by each share."""
-    singles = [Case(((name, share),)) for name, share in product(rules.vary, rules.by)]
-    of_pairs = {name for pair in rules.pairs for name in pair if name not in rules.vary}
-    beside = [Case(((name, share),)) for name, share in product(sorted(of_pairs), rules.by)]
+    singles = [Case(((name, share),)) for name, share in product(rules.parameters, rules.changes)]
+    of_pairs = {name for pair in rules.pairs for name in pair if name not in rules.parameters}
+    beside = [Case(((name, share),)) for name, share in product(sorted(of_pairs), rules.changes)]
     both = [
         Case(((one, first), (other, second)))
         for one, other in rules.pairs
-        for first, second in product(rules.by, rules.by)
+        for first, second in product(rules.changes, rules.changes)
     ]
     return [Case(), *singles, *beside, *both]
 
@@ -254,13 +254,19 @@ def read(path: Path, cells: int) -> Found:
 
 def table(found: Sensitivity) -> pd.DataFrame:
     """One row a case: number, share, and of a pair second and second_share; what the pit holds and earns; kept_ what the pit as given
-    does; and skin_worth what that pit's skin is worth. Amounts are in tonnes, grams and money at the price as given; npv is the mean of best
+    does; and skin_value what that pit's skin is worth. Amounts are in tonnes, grams and money at the price as given; npv is the mean of best
     and worst case."""
     rows = []
     for case, answer in found.answers.items():
         (name, share), (second, other) = (*case.changes, ("", Decimal(0)), ("", Decimal(0)))[:2]
         rows.append(
-            {"number": name, "share": float(share), "second": second, "second_share": float(other), **answer.row}
+            {
+                "parameter": name,
+                "change": float(share),
+                "second_parameter": second,
+                "second_change": float(other),
+                **answer.row,
+            }
         )
     frame = pd.DataFrame(rows)
     kept = [name for name in frame if name.startswith("kept_") or name == SKIN_WORTH]

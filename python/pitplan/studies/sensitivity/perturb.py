@@ -81,9 +81,9 @@ def mining_cost(project: Project, by: Decimal, metal: str) -> Project:
     """With what is added for each level or by elevation."""
     money = project.money
     deeper = tuple((elevation, cost * by) for elevation, cost in money.mining_cost_by_elevation)
-    level = money.mining_cost_per_level * by
+    level = money.mining_cost_per_bench * by
     changed = replace(
-        money, mining_cost=times(money.mining_cost, by), mining_cost_per_level=level, mining_cost_by_elevation=deeper
+        money, mining_cost=times(money.mining_cost, by), mining_cost_per_bench=level, mining_cost_by_elevation=deeper
     )
     return replace(project, money=changed)
 
@@ -97,21 +97,23 @@ def processing_cost(project: Project, by: Decimal, metal: str) -> Project:
 def slopes(project: Project, by: Decimal, metal: str) -> Project:
     """All angles, those of benches too, but not patterns and steps."""
     walls = []
-    for wall in project.slopes.walls:
+    for wall in project.slopes.domains:
         angles = tuple((azimuth, angle * float(by)) for azimuth, angle in wall.angles)
         if any(not FLATTEST <= angle <= STEEPEST for _, angle in angles):
-            raise PlanError(f"{project.path}: [sensitivity] by: slopes times {by} leave 1 to 90 degrees")
+            raise PlanError(f"{project.path}: [sensitivity] changes: slopes times {by} leave 1 to 90 degrees")
         walls.append(replace(wall, angles=angles, bench=None))
-    return replace(project, slopes=replace(project.slopes, walls=tuple(walls)))
+    return replace(project, slopes=replace(project.slopes, domains=tuple(walls)))
 
 
 def capacity(project: Project, by: Decimal, metal: str) -> Project:
     """Of mill, or of all processes, and shovels."""
     shells, more = project.schedule, float(by)
-    rock = None if shells.rock_per_year is None else shells.rock_per_year * more
+    rock = None if shells.mining_capacity is None else shells.mining_capacity * more
     of_processes = tuple(tonnes * more for tonnes in shells.per_process)
-    schedule = replace(shells, ore_per_year=shells.ore_per_year * more, rock_per_year=rock, per_process=of_processes)
-    return with_processes(replace(project, schedule=schedule), lambda it: replace(it, per_year=it.per_year * more))
+    schedule = replace(
+        shells, processing_capacity=shells.processing_capacity * more, mining_capacity=rock, per_process=of_processes
+    )
+    return with_processes(replace(project, schedule=schedule), lambda it: replace(it, capacity=it.capacity * more))
 
 
 def haulage(project: Project, by: Decimal, metal: str) -> Project:
@@ -138,7 +140,7 @@ def given(project: Project) -> tuple[str, ...]:
     """The numbers of a project that are not nothing, and that a share changes."""
     is_there = {
         "selling_cost": any(metal.selling_cost for metal in project.metals),
-        "slopes": any(wall.angles for wall in project.slopes.walls),
+        "slopes": any(wall.angles for wall in project.slopes.domains),
         "haulage": project.haulage is not None,
     }
     return tuple(name for name in VARIED if is_there.get(name, True))

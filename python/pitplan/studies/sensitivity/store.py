@@ -48,7 +48,7 @@ def skin_of(found: Sensitivity) -> dict[str, Any]:
         "revenue_factor": skin.factor,
         "tonnes": tonnes,
         "share": tonnes / row["tonnes"] if tonnes else 0.0,
-        "worth": row[SKIN_WORTH],
+        "undiscounted_cash_flow": row[SKIN_WORTH],
     }
 
 
@@ -58,15 +58,16 @@ def told_of_skin(skin: dict[str, Any], currency: str) -> str:
         if skin["revenue_factor"]
         else "which no lesser shell divides"
     )
-    return f"the pit's skin, {100 * skin['share']:.1f} % of its rock, {where}, is worth {skin['worth']:,.0f} {currency}".rstrip()
+    return f"the pit's skin, {100 * skin['share']:.1f} % of its rock, {where}, is worth {skin['undiscounted_cash_flow']:,.0f} {currency}".rstrip()
 
 
 def shown(cases: pd.DataFrame) -> pd.DataFrame:
     """Sums to a thousandth, grades, ratios and years to a millionth."""
     result = cases.copy()
     for name in result.columns:
-        if result[name].dtype == np.float64 and name not in ("share", "second_share"):
+        if result[name].dtype == np.float64 and name not in ("change", "second_change"):
             result[name] = (
-                result[name].round(6 if name.startswith("grade_") or name.endswith(("ratio", "years")) else 3) + 0.0
+                result[name].round(6 if name.startswith("head_grade_") or name.endswith(("ratio", "years")) else 3)
+                + 0.0
             )
     return result

@@ -26,7 +26,7 @@ from .problem import Weights, limits_of_scenarios
 
 # By such a share of it a limit may be missed, as sums of floats do, and a year may lack of what was planned.
 HAIR = 1e-9
-LEFT, PLANNED = "ore_left_tonnes", "planned_ore_tonnes"
+LEFT, PLANNED = "unprocessed_tonnes", "planned_feed_tonnes"
 
 
 @dataclass(frozen=True)
@@ -101,8 +101,8 @@ def by_worth(gain: NDArray[np.float64], takes: NDArray[np.float64], most: float)
 
 
 def years_of_dug(dug: Dug, planned: NDArray[np.float64]) -> pd.DataFrame:
-    """A row a year up to the last of the schedule: rock_tonnes, ore_tonnes that are milled, ore_left_tonnes that pay and are not,
-    planned_ore_tonnes, cash, and discounted, in money.
+    """A row a year up to the last of the schedule: total_tonnes, feed_tonnes that are milled, unprocessed_tonnes that pay and are not,
+    planned_feed_tonnes, cash, and discounted, in money.
 
     planned  tonnes of ore of each year, from the first, that the schedule has on the mean of all scenarios
     """
@@ -112,7 +112,7 @@ def years_of_dug(dug: Dug, planned: NDArray[np.float64]) -> pd.DataFrame:
     sums = {name: np.bincount(dug.year, amounts, minlength=last + 1)[1:] for name, amounts in of_block.items()}
     table = pd.DataFrame({"year": np.arange(1, last + 1), **sums})
     table.insert(4, PLANNED, planned[:last])
-    return table.assign(discounted=table[CASH] * year_discounts(dug.project.schedule, last))
+    return table.assign(discounted_cash_flow=table[CASH] * year_discounts(dug.project.schedule, last))
 
 
 def row_of(years: pd.DataFrame) -> dict[str, float]:
@@ -120,8 +120,8 @@ def row_of(years: pd.DataFrame) -> dict[str, float]:
     are left since the mill is full; and in how many years less is milled than was planned."""
     short = years[ORE] < years[PLANNED] * (1 - HAIR)
     return {
-        "one_value": float(years["discounted"].sum()),
-        "one_ore_tonnes": float(years[ORE].sum()),
-        "one_ore_left_tonnes": float(years[LEFT].sum()),
-        "one_years_short": int(short.sum()),
+        "common_npv": float(years["discounted_cash_flow"].sum()),
+        "common_feed_tonnes": float(years[ORE].sum()),
+        "common_unprocessed_tonnes": float(years[LEFT].sum()),
+        "common_years_short": int(short.sum()),
     }

@@ -56,7 +56,7 @@ class Diggable:
 class Weights:
     """What blocks hold and earn where they go to the mill if that pays, and else are waste: shape (blocks,) each.
 
-    flows   by name: rock_tonnes, ore_tonnes that come to the mill, metal_NAME recovered (tonnes, or grams), and last cash, in money
+    flows   by name: total_tonnes, feed_tonnes that come to the mill, metal_NAME recovered (tonnes, or grams), and last cash, in money
     mining  what it costs to dig each, in money
     """
 
@@ -126,8 +126,8 @@ def demand_of_scenarios(project: Project) -> None:
     of_metals = "[[metals]] prices: of years: a scenario has one price for all"
     asked = {
         "[schedule] milp: its seconds would let answers hang on the machine": rules.milp is not None,
-        "[schedule] least: a schedule for all scenarios cannot keep it in each": bool(rules.least),
-        "[[schedule.sums]]: are of a table's columns, and scenarios have grades of their own": bool(rules.sums),
+        "[schedule] least: a schedule for all scenarios cannot keep it in each": bool(rules.minimum),
+        "[[schedule.limits]]: are of a table's columns, and scenarios have grades of their own": bool(rules.limits),
         of_metals: any(metal.prices for metal in project.metals),
         "[[processes]]: a schedule over scenarios sends a block to one mill or leaves it as waste": bool(
             project.processes

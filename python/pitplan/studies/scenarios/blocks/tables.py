@@ -21,7 +21,7 @@ from .worker import Kept, diggable_of, mean_of, read_answer
 
 SOLVED = "solved"
 # What quantiles and means are told of.
-VALUES = ("value", "bound", "one_value")
+VALUES = ("npv", "upper_bound", "common_npv")
 
 
 @dataclass(frozen=True)
@@ -46,21 +46,21 @@ class Schedules:
         return self.table[self.table["status"] == SOLVED]
 
     def record(self, shared: Shared) -> dict[str, Any]:
-        """What one_schedule.json says: how the one schedule was made, and over all scenarios that have an answer what it earns, what a
+        """What common_schedule.json says: how the one schedule was made, and over all scenarios that have an answer what it earns, what a
         schedule of each one's own earns, and the bounds of these; and what knowing the ground before digging would be worth at most.
         """
         spread = pit_probability.spread_of(self.answered, [], list(VALUES)).iloc[0]
-        words = [name.removeprefix("bound_") for name in spread.index if name.startswith("bound_")]
+        words = [name.removeprefix("upper_bound_") for name in spread.index if name.startswith("upper_bound_")]
         return {
             "scenarios": len(self.table),
             "answered": len(self.answered),
             "years": shared.record["years"],
             "limits": shared.record["limits"],
             "ramp_up": shared.record["ramp_up"],
-            "value_as_planned": round(self.one.row["value"], 3),
-            "bound_as_planned": round(self.one.row["bound"], 3),
+            "npv_as_planned": round(self.one.row["npv"], 3),
+            "upper_bound_as_planned": round(self.one.row["upper_bound"], 3),
             **{name: {word: round(float(spread[f"{name}_{word}"]), 3) for word in words} for name in VALUES},
-            "perfect_information": round(float(spread["bound_mean"] - spread["one_value_mean"]), 3),
+            "perfect_information": round(float(spread["upper_bound_mean"] - spread["common_npv_mean"]), 3),
         }
 
     def by_block(self, shared: Shared, blocks: pd.DataFrame) -> pd.DataFrame:
@@ -109,12 +109,15 @@ def quantiles(schedules: Schedules) -> pd.DataFrame:
 def notes(schedules: Schedules, shared: Shared) -> list[str]:
     """What a planner should know of the schedules."""
     told, count = schedules.record(shared), len(schedules.answered)
-    one, bound, value = (told[name]["mean"] for name in ("one_value", "bound", "value"))
-    left, short = schedules.answered["one_ore_left_tonnes"].mean(), schedules.answered["one_years_short"].mean()
-    spread = f"{told['one_value']['least']:,.0f} to {told['one_value']['greatest']:,.0f}"
+    one, bound, value = (told[name]["mean"] for name in ("common_npv", "upper_bound", "npv"))
+    left, short = (
+        schedules.answered["common_unprocessed_tonnes"].mean(),
+        schedules.answered["common_years_short"].mean(),
+    )
+    spread = f"{told['common_npv']['least']:,.0f} to {told['common_npv']['greatest']:,.0f}"
     share = f", {100 * told['perfect_information'] / bound:.2f} %" if bound > 0 else ""
     return [
-        f"the one schedule for all earns {one:,.0f} on the mean of {count:,} scenarios, from {spread}; {told['value_as_planned']:,.0f} as "
+        f"the one schedule for all earns {one:,.0f} on the mean of {count:,} scenarios, from {spread}; {told['npv_as_planned']:,.0f} as "
         "it was planned by the mean of what blocks are worth",
         f"of its ore {left:,.0f} t are left as waste on the mean, since the mill is full, and in {short:.1f} of its years less is milled "
         "than was planned",

@@ -33,8 +33,8 @@ class Kept:
 
     year   in which each row of the table is dug, from 1; 0: in none
     share  of each that goes to the mill
-    row    value and bound, discounted, in money; below_bound, by which share of the bound the value is less; years, the last in which
-           anything is dug; blocks of rock that are dug; tonnes, ore_tonnes and metal_NAME; and the seconds that it took
+    row    value and bound, discounted, in money; optimality_gap, by which share of the bound the value is less; years, the last in which
+           anything is dug; blocks of rock that are dug; tonnes, feed_tonnes and metal_NAME; and the seconds that it took
     """
 
     year: NDArray[np.int64]
@@ -102,14 +102,18 @@ class Made:
         found, flows, milled = self.found, self.weights.flows, self.found.schedule.share[:, MILL]
         year = found.schedule.year[self.is_dug]
         return {
-            "value": found.value,
-            "bound": found.bound,
-            "below_bound": found.gap,
+            "npv": found.value,
+            "upper_bound": found.bound,
+            "optimality_gap": found.gap,
             "years": int(year.max(initial=-1)) + 1,
             "blocks": int((self.is_dug & (flows[ROCK] > 0)).sum()),
             "tonnes": float(flows[ROCK][self.is_dug].sum()),
             ORE: float((flows[ORE] * milled).sum()),
-            **{name: float((amounts * milled).sum()) for name, amounts in flows.items() if name.startswith("metal_")},
+            **{
+                name: float((amounts * milled).sum())
+                for name, amounts in flows.items()
+                if name.startswith("recovered_")
+            },
         }
 
 

@@ -1,4 +1,4 @@
-"""A yearly schedule of a pit's phases: by rule, and by a linear programme whose optimum bounds them all."""
+"""A yearly schedule of a pit's pushbacks: by rule, and by a linear programme whose optimum bounds them all."""
 
 from __future__ import annotations
 
@@ -19,8 +19,8 @@ from pitplan.economics import period_costs
 from pitplan.errors import PlanError
 from pitplan.pits.best_worst_case import year_discounts
 from pitplan.pushbacks import bench_table
-from pitplan.pushbacks.bench_table import CASH, ORE, ROCK, PhaseBenches
-from pitplan.pushbacks.nested import Phases
+from pitplan.pushbacks.bench_table import CASH, ORE, ROCK, PushbackBenches
+from pitplan.pushbacks.nested import Pushbacks
 
 from . import bench_lp, bench_milp, value_bins
 from .bench_lp import Relaxed
@@ -37,26 +37,26 @@ class YearlySchedule:
     """What is dug in which year, by each way in which that was found.
 
     shares       by way, rule first: an array of benches and years, of the share of each bench that is dug in each year
-    lead         by how many benches each phase follows the one before, of the rule
+    lead         by how many benches each pushback follows the one before, of the rule
     years        of which there are so many at most
     optimum      that of the linear programme; None where it was not solved
-    milp_bound   what the integer programme had shown by its end that no schedule exceeds; None where it was not solved
+    milp_upper_bound   what the integer programme had shown by its end that no schedule exceeds; None where it was not solved
     interrupted  whether a way is missing since the run was interrupted
     milling      what becomes of the ore, of ways in which it is not all milled as it is dug
     """
 
-    phases: Phases
+    pushbacks: Pushbacks
     problem: Problem
     shares: dict[str, np.ndarray]
     lead: int
     years: int
     optimum: Optional[Relaxed] = None
-    milp_bound: Optional[float] = None
+    milp_upper_bound: Optional[float] = None
     interrupted: bool = False
     milling: dict[str, Milling] = field(default_factory=dict)
 
     @property
-    def benches(self) -> PhaseBenches:
+    def benches(self) -> PushbackBenches:
         return self.problem.benches
 
     @property
@@ -65,8 +65,8 @@ class YearlySchedule:
 
     @property
     def factor(self) -> float:
-        """That of the last phase's shell."""
-        return self.phases.factors[-1]
+        """That of the last pushback's shell."""
+        return self.pushbacks.factors[-1]
 
     @property
     def shown(self) -> str:
@@ -79,17 +79,17 @@ class YearlySchedule:
 
     def value(self, way: str) -> float:
         """What a way earns, discounted, in money."""
-        return float(self.yearly(way)["discounted"].sum())
+        return float(self.yearly(way)["discounted_cash_flow"].sum())
 
     def yearly(self, way: str) -> pd.DataFrame:
-        """A row a year of a way: what flows, and where years cost anything fixed_cost and capital; cash after these, and discounted."""
+        """A row a year of a way: what flows, and where years cost anything fixed_cost and capex; cash after these, and discounted."""
         flows = self.flows(way)
         count, amounts = flows.shape[1], dict(zip(self.benches.names, flows.sum(axis=0).T))
         runs, money = running(flows.transpose(0, 2, 1)), self.problem.money
-        costs = {"fixed_cost": money.fixed_cost * runs, "capital": money.spent(count) * runs} if money.columns else {}
+        costs = {"fixed_cost": money.fixed_cost * runs, "capex": money.spent(count) * runs} if money.columns else {}
         cash = amounts.pop(CASH)
         present = cash * self.discounts(count) - self.problem.costs_of_years(count) * runs
-        return pd.DataFrame(amounts | costs | {CASH: cash - sum(costs.values()), "discounted": present})
+        return pd.DataFrame(amounts | costs | {CASH: cash - sum(costs.values()), "discounted_cash_flow": present})
 
     def flows(self, way: str) -> np.ndarray:
         """What flows of each bench in each year: an array of benches, years and the benches' names."""
@@ -98,7 +98,7 @@ class YearlySchedule:
         return self.problem.priced(self.shares[way][:, :, None] * self.benches.amounts[:, None, :])
 
     def left(self, way: str) -> float:
-        """Tonnes of the phases that a way does not dig."""
+        """Tonnes of the pushbacks that a way does not dig."""
         return float(self.benches.of(ROCK) @ (1 - self.shares[way].sum(axis=1)))
 
 
@@ -107,30 +107,30 @@ def rules_of(project: Project) -> ScheduleRules:
     return project.schedule_rules or ScheduleRules()
 
 
-def make(phases: Phases, progress: Progress = silent) -> YearlySchedule:
-    """The schedule of a pit's phases. Where it is interrupted while programmes are solved, the ways that are found by then.
+def make(pushbacks: Pushbacks, progress: Progress = silent) -> YearlySchedule:
+    """The schedule of a pit's pushbacks. Where it is interrupted while programmes are solved, the ways that are found by then.
 
     Raises PlanError where it takes more than a thousand years, nothing can be dug, HiGHS finds nothing, or the project asks for what is done
     by block alone.
     """
-    project, rules = phases.plan.project, rules_of(phases.plan.project)
-    if rules.least or rules.sums:
+    project, rules = pushbacks.plan.project, rules_of(pushbacks.plan.project)
+    if rules.minimum or rules.limits:
         raise PlanError(
             f"{project.path}: [schedule] least, sums: are kept by --by block alone: leave them out, or schedule by block"
         )
-    benches = bench_table.of_phases(phases, rules.lag)
+    benches = bench_table.of_pushbacks(pushbacks, rules.bench_lag)
     problem = Problem(benches, limits_of(project, rules), project.schedule, period_costs.of_project(project))
-    with progress.step(f"scheduling {len(benches):,} benches of {len(phases.factors)} phases by rule"):
+    with progress.step(f"scheduling {len(benches):,} benches of {len(pushbacks.factors)} pushbacks by rule"):
         shares, lead = by_rule(problem, rules.years)
     years = rules.years or math.ceil((1 + MORE_YEARS) * shares.shape[1])
-    schedule = YearlySchedule(phases, problem, {RULE: shares}, lead, years)
+    schedule = YearlySchedule(pushbacks, problem, {RULE: shares}, lead, years)
     try:
         for schedule in better(schedule, rules, progress):
             pass
     except KeyboardInterrupt:
         schedule = replace(schedule, interrupted=True)
     if not any(shares.any() for shares in schedule.shares.values()):
-        why = f"within these limits nothing can be dug in {years} year{'s' * (years > 1)}: are ore_per_year and ramp_up as they are meant?"
+        why = f"within these limits nothing can be dug in {years} year{'s' * (years > 1)}: are processing_capacity and ramp_up as they are meant?"
         raise PlanError(f"{project.path}: [schedule] years: {why}")
     return schedule
 
@@ -151,14 +151,14 @@ def better(schedule: YearlySchedule, rules: ScheduleRules, progress: Progress) -
         with progress.step(f"solving the integer programme, up to {rules.milp.seconds:,.0f} s"):
             best, bound = bench_milp.best_diggable(problem, years, rules.milp)
         found = {} if best is None else {MILP: best}
-        yield replace(schedule, shares=schedule.shares | found, milp_bound=bound)
+        yield replace(schedule, shares=schedule.shares | found, milp_upper_bound=bound)
 
 
 def with_bins(schedule: YearlySchedule, rules: ScheduleRules, progress: Progress) -> Iterator[YearlySchedule]:
     """The same where ore is divided into bins, of which some may be left as waste or stocked."""
     assert rules.bins is not None
-    parcels = value_bins.of_phases(schedule.phases, schedule.benches, rules.bins)
-    problem = MillingProblem(schedule.problem, parcels, schedule.years, rules.rehandling)
+    parcels = value_bins.of_pushbacks(schedule.pushbacks, schedule.benches, rules.bins)
+    problem = MillingProblem(schedule.problem, parcels, schedule.years, rules.reclaim_cost)
     unknowns = problem.dug + problem.kinds * len(parcels) * problem.years
     with progress.step(
         f"solving the linear programme of {schedule.years} years and {len(parcels):,} parcels, {unknowns:,} unknowns"
@@ -172,7 +172,7 @@ def with_bins(schedule: YearlySchedule, rules: ScheduleRules, progress: Progress
 def table(schedule: YearlySchedule) -> pd.DataFrame:
     """One row for what is dug of a bench in a year.
 
-    way; year from 1; phase; bench, the z of its centres in metres; share of the bench; rock_tonnes and, of these, ore_tonnes; metal_NAME
+    way; year from 1; pushback; bench, the z of its centres in metres; share of the bench; total_tonnes and, of these, feed_tonnes; metal_NAME
     recovered (tonnes, or grams); cash at the year's prices, and discounted, in money, both without what years cost.
     """
     return pd.concat([rows_of(schedule, way) for way in schedule.shares], ignore_index=True)
@@ -185,17 +185,17 @@ def rows_of(schedule: YearlySchedule, way: str) -> pd.DataFrame:
     amounts = dict(zip(benches.names, flows[bench, year].T))
     discounts = schedule.discounts(shares.shape[1])
     head = {
-        "way": np.full(len(year), way, dtype=object),
+        "method": np.full(len(year), way, dtype=object),
         "year": year + 1,
-        "phase": benches.phase[bench],
-        "bench": schedule.phases.plan.grid.elevations()[benches.level[bench]],
+        "pushback": benches.pushback[bench],
+        "bench": schedule.pushbacks.plan.grid.elevations()[benches.level[bench]],
         "share": shares[bench, year],
     }
-    return pd.DataFrame(head | amounts | {"discounted": amounts[CASH] * discounts[year]})
+    return pd.DataFrame(head | amounts | {"discounted_cash_flow": amounts[CASH] * discounts[year]})
 
 
 def years(schedule: YearlySchedule) -> pd.DataFrame:
-    """One row a way and year, as `pitplan.years` has of cases; the factor is that of the last phase."""
+    """One row a way and year, as `pitplan.years` has of cases; the factor is that of the last pushback."""
     found = []
     for way in schedule.shares:
         years = schedule.yearly(way)
@@ -208,31 +208,31 @@ def years(schedule: YearlySchedule) -> pd.DataFrame:
 
 
 def ways(schedule: YearlySchedule) -> pd.DataFrame:
-    """One row a way: way; value, discounted, and bound, in money; below_bound, by which share of the bound it is less; years; tonnes that are
-    dug, ore_tonnes that are milled, and left_tonnes that are not dug; metal_NAME recovered."""
+    """One row a way: way; value, discounted, and bound, in money; optimality_gap, by which share of the bound it is less; years; tonnes that are
+    dug, feed_tonnes that are milled, and unmined_tonnes that are not dug; metal_NAME recovered."""
     rows = []
     for way, shares in schedule.shares.items():
         whole, value = shares.sum(axis=1), schedule.value(way)
         bound = np.nan if schedule.optimum is None else schedule.optimum.bound
         rows.append(
             {
-                "way": way,
-                "value": value,
-                "bound": bound,
-                "below_bound": (bound - value) / abs(bound) if bound else np.nan,
+                "method": way,
+                "npv": value,
+                "upper_bound": bound,
+                "optimality_gap": (bound - value) / abs(bound) if bound else np.nan,
                 "years": shares.shape[1],
                 "tonnes": schedule.benches.of(ROCK) @ whole,
-                "ore_tonnes": schedule.flows(way)[:, :, schedule.benches.names.index(ORE)].sum(),
-                "left_tonnes": schedule.left(way),
-                **schedule.yearly(way).filter(like="metal_").sum(),
+                "feed_tonnes": schedule.flows(way)[:, :, schedule.benches.names.index(ORE)].sum(),
+                "unmined_tonnes": schedule.left(way),
+                **schedule.yearly(way).filter(like="recovered_").sum(),
             }
         )
     return pd.DataFrame(rows)
 
 
 def milling(schedule: YearlySchedule) -> pd.DataFrame:
-    """Of the ways that divide ore into bins one row for a bin of a bench in a year: way; year; phase; bench, the z of its centres in metres;
-    bin, from 1, the poorest; dug_tonnes of it; milled_tonnes, of these, and reclaimed_tonnes, which are milled from the stockpile.
+    """Of the ways that divide ore into bins one row for a bin of a bench in a year: way; year; pushback; bench, the z of its centres in metres;
+    bin, from 1, the poorest; mined_tonnes of it; milled_tonnes, of these, and reclaimed_tonnes, which are milled from the stockpile.
     """
     found = []
     for way, made in schedule.milling.items():
@@ -241,26 +241,26 @@ def milling(schedule: YearlySchedule) -> pd.DataFrame:
         year, parcel = np.nonzero((dug + made.reclaimed).T)
         bench = parcels.bench[parcel]
         columns = {
-            "way": np.full(len(year), way, dtype=object),
+            "method": np.full(len(year), way, dtype=object),
             "year": year + 1,
-            "phase": schedule.benches.phase[bench],
-            "bench": schedule.phases.plan.grid.elevations()[schedule.benches.level[bench]],
+            "pushback": schedule.benches.pushback[bench],
+            "bench": schedule.pushbacks.plan.grid.elevations()[schedule.benches.level[bench]],
             "bin": parcels.bin[parcel],
         }
-        for name, shares in (("dug", dug), ("milled", made.straight), ("reclaimed", made.reclaimed)):
+        for name, shares in (("mined", dug), ("milled", made.straight), ("reclaimed", made.reclaimed)):
             columns[f"{name}_tonnes"] = shares[parcel, year] * tonnes[parcel]
         found.append(pd.DataFrame(columns))
     return pd.concat(found, ignore_index=True)
 
 
 def blocks_year(schedule: YearlySchedule) -> np.ndarray:
-    """For each cell the year by whose end its bench of its phase is through, by the way that earns most; 0 where it never is."""
-    shares, grid = schedule.shares[schedule.shown], schedule.phases.plan.grid
+    """For each cell the year by whose end its bench of its pushback is through, by the way that earns most; 0 where it never is."""
+    shares, grid = schedule.shares[schedule.shown], schedule.pushbacks.plan.grid
     # Before the first year nothing is dug.
     through = (np.pad(shares, ((0, 0), (1, 0))).cumsum(axis=1) > 1 - 1e-6).argmax(axis=1)
-    year_of = np.zeros((len(schedule.phases.factors) + 1, grid.shape[0]), dtype=np.int16)
-    year_of[schedule.benches.phase, schedule.benches.level] = through
-    return year_of[schedule.phases.phase, np.arange(grid.count) // grid.per_level]
+    year_of = np.zeros((len(schedule.pushbacks.factors) + 1, grid.shape[0]), dtype=np.int16)
+    year_of[schedule.benches.pushback, schedule.benches.level] = through
+    return year_of[schedule.pushbacks.pushback, np.arange(grid.count) // grid.per_level]
 
 
 def record(schedule: YearlySchedule) -> dict[str, Any]:
@@ -268,26 +268,26 @@ def record(schedule: YearlySchedule) -> dict[str, Any]:
     limits, bound = schedule.problem.limits, None if schedule.optimum is None else round(schedule.optimum.bound, 3)
     found = {
         way: {
-            "value": round(schedule.value(way), 3),
+            "npv": round(schedule.value(way), 3),
             "years": shares.shape[1],
-            "left_tonnes": round(schedule.left(way), 3),
+            "unmined_tonnes": round(schedule.left(way), 3),
         }
         for way, shares in schedule.shares.items()
     }
     return {
         "revenue_factor": schedule.factor,
-        "ways": found,
-        "bound": bound,
-        "milp_bound": None
-        if schedule.milp_bound is None or math.isinf(schedule.milp_bound)
-        else round(schedule.milp_bound, 3),
+        "methods": found,
+        "upper_bound": bound,
+        "milp_upper_bound": None
+        if schedule.milp_upper_bound is None or math.isinf(schedule.milp_upper_bound)
+        else round(schedule.milp_upper_bound, 3),
         "years": schedule.years,
         "shown": schedule.shown,
         "lead": schedule.lead,
         "lag": schedule.benches.lag,
         "limits": limits.most,
         "ramp_up": list(limits.ramp_up),
-        "sinking_rate": None if math.isinf(limits.sinking_rate) else limits.sinking_rate,
+        "vertical_advance_rate": None if math.isinf(limits.vertical_advance_rate) else limits.vertical_advance_rate,
         "bins": {way: record_of(made) for way, made in schedule.milling.items()},
         "interrupted": schedule.interrupted,
         "solver": f"HiGHS of scipy {scipy.__version__}",
@@ -299,23 +299,23 @@ def record_of(made: Milling) -> dict[str, Any]:
     return {
         "edges": made.parcels.edges.tolist(),
         "cutoffs": made.cutoffs,
-        "rehandling_cost": made.cost if made.is_stocked else None,
+        "reclaim_cost": made.cost if made.is_stocked else None,
     }
 
 
 def notes(schedule: YearlySchedule) -> list[str]:
     """What a planner should know of the schedule."""
-    found = [f"by rule each phase follows the one before by {schedule.lead} benches, the lead that earns most"]
+    found = [f"by rule each pushback follows the one before by {schedule.lead} benches, the lead that earns most"]
     if schedule.interrupted:
         found.append("WARNING: the run was interrupted before all ways were found: these are the best so far")
     if schedule.optimum is not None:
         how = "divides ore by these bins" if schedule.milling else "sends each block to its assigned process"
         scope = f"no schedule of these pushbacks of up to {schedule.years} years that keeps these limits and {how}"
         found.append(f"upper bound: {scope} earns more than {schedule.optimum.bound:,.0f}")
-    if schedule.milp_bound is not None and MILP not in schedule.shares:
+    if schedule.milp_upper_bound is not None and MILP not in schedule.shares:
         found.append("WARNING: the integer programme found no schedule in its time")
-    elif schedule.milp_bound is not None:
-        found.append(f"upper bound of the integer programme, for the same schedules: {schedule.milp_bound:,.0f}")
+    elif schedule.milp_upper_bound is not None:
+        found.append(f"upper bound of the integer programme, for the same schedules: {schedule.milp_upper_bound:,.0f}")
     for way, made in [pair for pair in schedule.milling.items() if pair[1].cutoffs]:
         told = ", ".join("-" if worth is None else f"{worth:.2f}" for worth in made.cutoffs)
         found.append(
@@ -328,5 +328,5 @@ def notes(schedule: YearlySchedule) -> list[str]:
                 f"{way} mines nothing: at these prices and costs no schedule that it finds earns more than it spends"
             )
         elif rock > 0.5:
-            found.append(f"{way} leaves {rock:,.0f} t of the phases undug")
+            found.append(f"{way} leaves {rock:,.0f} t of the pushbacks undug")
     return found

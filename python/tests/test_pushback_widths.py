@@ -1,4 +1,4 @@
-"""Phases made wide enough, against cones and costs worked by hand, and against the promise tried cell by cell."""
+"""Pushbacks made wide enough, against cones and costs worked by hand, and against the promise tried cell by cell."""
 
 import shutil
 
@@ -7,15 +7,15 @@ import pandas as pd
 import pytest
 from conftest import PROJECT, rows
 from hypothesis import given, settings, strategies as st
-from test_pushbacks import UPRIGHT, blocks_of, with_phases, wrong
+from test_pushbacks import UPRIGHT, blocks_of, with_pushbacks, wrong
 
 import pitplan
 from pitplan import PlanError, load, prepare
-from pitplan.config.pushbacks import PhaseRules
+from pitplan.config.pushbacks import PushbackRules
 from pitplan.pushbacks import mining_width, nested
 from pitplan.results.folder import read_record
 from pitplan.slopes import closure
-from pitplan.verification.phase_widths import blocks_across, cells_in
+from pitplan.verification.pushback_widths import blocks_across, cells_in
 
 pytestmark = pytest.mark.usefixtures("without_figures")
 RICH, POOR = 2, 0.4
@@ -33,30 +33,30 @@ def square(west, south, side):
 
 
 def pushed(plan_folder, table, words, text=PROJECT):
-    """The phases, of the pit of revenue factor 1.00 unless the words name another, with each block's phase and the notes of widths."""
+    """The pushbacks, of the pit of revenue factor 1.00 unless the words name another, with each block's pushback and the notes of widths."""
     words += "" if "ultimate_pit" in words or "factors" in words else "\nultimate_pit = 1.0"
-    project = load(plan_folder(table, with_phases(words, text)))
-    found = pitplan.write_pushbacks(project).set_index("phase")
+    project = load(plan_folder(table, with_pushbacks(words, text)))
+    found = pitplan.write_pushbacks(project).set_index("pushback")
     notes = [
         note
         for note in read_record(project.folder / "pushbacks")["notes"]
         if "blocks are dug" in note or "too small" in note
     ]
-    return found, blocks_of(project.folder / "pushbacks")["phase"], notes
+    return found, blocks_of(project.folder / "pushbacks")["pushback"], notes
 
 
 def test_a_notch_in_the_pit_is_filled_where_that_costs_less(plan_folder):
     """Nine cells of ore but one at the east side: beside it two are in no square of two. Waste is dug there, with the one block above it
     that the others do not need."""
     table = floor(*square(3, 2, 3) - {(5, 3)})
-    found, phase, notes = pushed(plan_folder, table, "count = 1\nwidth = 20")
-    assert found["blocks"][1] == 8 + 20 + 2 and found["worth"][1] == 8 * 6800 - 20 * 200 - 400
-    assert found["cost_of_width"][1] == 400 and found["least_width"][1] == 30 and found["pieces"][1] == 1
-    assert phase["b5-3-0"] == phase["b6-3-1"] == 1
+    found, pushback, notes = pushed(plan_folder, table, "count = 1\nmin_mining_width = 20")
+    assert found["blocks"][1] == 8 + 20 + 2 and found["undiscounted_cash_flow"][1] == 8 * 6800 - 20 * 200 - 400
+    assert found["value_lost_to_width"][1] == 400 and found["min_width"][1] == 30 and found["pieces"][1] == 1
+    assert pushback["b5-3-0"] == pushback["b6-3-1"] == 1
     assert notes == ["for width 20 m blocks are dug: 0 earlier (0 t), 0 later (0 t), 2 besides (200 t), 0 never (0 t)"]
-    narrow, phase, _ = pushed(plan_folder, table, "count = 1")
-    assert (narrow["blocks"][1], narrow["cost_of_width"][1], narrow["least_width"][1]) == (28, 0, 10)
-    assert phase["b5-3-0"] == 0
+    narrow, pushback, _ = pushed(plan_folder, table, "count = 1")
+    assert (narrow["blocks"][1], narrow["value_lost_to_width"][1], narrow["min_width"][1]) == (28, 0, 10)
+    assert pushback["b5-3-0"] == 0
 
 
 def test_a_rich_spur_is_widened_and_a_poor_one_is_left(plan_folder):
@@ -66,9 +66,9 @@ def test_a_rich_spur_is_widened_and_a_poor_one_is_left(plan_folder):
         (POOR, 200, 30, "0 besides (0 t), 2 never"),
     ):
         grades = dict.fromkeys(square(3, 2, 3), RICH) | {(6, 3): grade}
-        found, phase, notes = pushed(plan_folder, floor(grades), "count = 1\nwidth = 20")
-        assert (found["cost_of_width"][1], found["blocks"][1]) == (cost, blocks)
-        assert told in notes[0] and (phase["b6-3-0"] > 0) == (grade == RICH)
+        found, pushback, notes = pushed(plan_folder, floor(grades), "count = 1\nmin_mining_width = 20")
+        assert (found["value_lost_to_width"][1], found["blocks"][1]) == (cost, blocks)
+        assert told in notes[0] and (pushback["b6-3-0"] > 0) == (grade == RICH)
         left = [
             "too small to mine and left: 1 block, 100 t, about 65, 35, 5",
             "too small to mine and left: 1 block, 100 t, about 75, 35, 15",
@@ -79,66 +79,66 @@ def test_a_rich_spur_is_widened_and_a_poor_one_is_left(plan_folder):
 def test_of_two_spurs_of_a_pit_each_is_widened_or_left(plan_folder):
     """The rich one in the west, the poor one in the east."""
     grades = dict.fromkeys(square(3, 2, 3), RICH) | {(6, 3): POOR, (2, 3): RICH}
-    found, phase, _ = pushed(plan_folder, floor(grades), "count = 1\nwidth = 20")
-    assert found["cost_of_width"][1] == 600 + 200
-    assert phase["b2-3-0"] == 1 and phase["b6-3-0"] == 0
+    found, pushback, _ = pushed(plan_folder, floor(grades), "count = 1\nmin_mining_width = 20")
+    assert found["value_lost_to_width"][1] == 600 + 200
+    assert pushback["b2-3-0"] == 1 and pushback["b6-3-0"] == 0
 
 
-def test_a_notch_between_two_phases_goes_to_the_first_with_its_cone(plan_folder):
-    """The notch is ore as poor as a square further east. With it phase 1 digs two blocks more."""
+def test_a_notch_between_two_pushbacks_goes_to_the_first_with_its_cone(plan_folder):
+    """The notch is ore as poor as a square further east. With it pushback 1 digs two blocks more."""
     poor = {(5, 3)} | square(10, 2, 2)
     grades = dict.fromkeys(square(3, 2, 3), RICH) | dict.fromkeys(poor, 0.6)
     table = floor(grades, columns=15)
-    narrow, phase, _ = pushed(plan_folder, table, "revenue_factors = [0.4, 1.5]")
-    assert narrow["blocks"].tolist() == [28, 2 + 4 + 12] and phase["b5-3-0"] == phase["b6-3-1"] == 2
-    found, phase, notes = pushed(plan_folder, table, "revenue_factors = [0.4, 1.5]\nwidth = 20")
-    assert found["blocks"].tolist() == [30, 16] and phase["b5-3-0"] == phase["b6-3-1"] == 1
+    narrow, pushback, _ = pushed(plan_folder, table, "revenue_factors = [0.4, 1.5]")
+    assert narrow["blocks"].tolist() == [28, 2 + 4 + 12] and pushback["b5-3-0"] == pushback["b6-3-1"] == 2
+    found, pushback, notes = pushed(plan_folder, table, "revenue_factors = [0.4, 1.5]\nmin_mining_width = 20")
+    assert found["blocks"].tolist() == [30, 16] and pushback["b5-3-0"] == pushback["b6-3-1"] == 1
     # The ore of 0.6 % yields 2400 - 1000 - 200, and the block above it costs 200.
-    assert found["deferred_value"].tolist() == [-(1200 - 200), 0] and found["cost_of_width"].tolist() == [0, 0]
+    assert found["deferred_value"].tolist() == [-(1200 - 200), 0] and found["value_lost_to_width"].tolist() == [0, 0]
     assert "2 earlier (200 t), 0 later" in notes[0]
 
 
-def test_the_pit_before_shrinks_where_a_phase_is_too_thin(plan_folder):
-    """One level: a square of four in a square of six, with one block between them all round. Two are left for phase 1."""
+def test_the_pit_before_shrinks_where_a_pushback_is_too_thin(plan_folder):
+    """One level: a square of four in a square of six, with one block between them all round. Two are left for pushback 1."""
     rich = square(2, 2, 4)
     table = rows(10, 10, 1, cu=lambda i, j, k: RICH if (i, j) in rich else 0.6 if (i, j) in square(1, 1, 6) else 0)
-    found, phase, notes = pushed(plan_folder, table, "revenue_factors = [0.4, 1.0]\nwidth = 20")
-    # Nothing is lost: the 12 blocks of 6800 come in phase 2.
-    assert found["cost_of_width"].tolist() == [0, 0]
-    assert found["blocks"].tolist() == [4, 32] and found["least_width"].tolist() == [20, 20]
-    assert {name for name, number in phase.items() if number == 1} == {f"b{i}-{j}-0" for i, j in square(3, 3, 2)}
+    found, pushback, notes = pushed(plan_folder, table, "revenue_factors = [0.4, 1.0]\nmin_mining_width = 20")
+    # Nothing is lost: the 12 blocks of 6800 come in pushback 2.
+    assert found["value_lost_to_width"].tolist() == [0, 0]
+    assert found["blocks"].tolist() == [4, 32] and found["min_width"].tolist() == [20, 20]
+    assert {name for name, number in pushback.items() if number == 1} == {f"b{i}-{j}-0" for i, j in square(3, 3, 2)}
     assert found["deferred_value"].tolist() == [12 * 6800, 0] and "0 earlier (0 t), 12 later (1,200 t)" in notes[0]
 
 
-def test_a_phase_that_hardly_keeps_anything_is_told(plan_folder):
+def test_a_pushback_that_hardly_keeps_anything_is_told(plan_folder):
     rich = square(2, 2, 4)
     table = rows(10, 10, 1, cu=lambda i, j, k: RICH if (i, j) in rich else 0.6 if (i, j) in square(1, 1, 6) else 0)
-    project = load(plan_folder(table, with_phases("revenue_factors = [0.4, 1.0]\nwidth = 30", PROJECT)))
+    project = load(plan_folder(table, with_pushbacks("revenue_factors = [0.4, 1.0]\nmin_mining_width = 30", PROJECT)))
     assert pitplan.write_pushbacks(project)["blocks"].tolist() == [0, 36]
-    told = "WARNING: for its width phase 1 has 0 t of 1,600 t in its shell: the pit holds fewer phases so wide"
+    told = "WARNING: for its width pushback 1 has 0 t of 1,600 t in its shell: the pit holds fewer pushbacks so wide"
     assert told in read_record(project.folder / "pushbacks")["notes"]
 
 
 def test_a_narrow_bottom_is_widened_or_left(plan_folder):
     """A single block of ore at the floor: rich, it is dug with the three beside it and seven more above; poor, with all it is left, and
     then there is no pit."""
-    found, _, _ = pushed(plan_folder, floor((4, 3)), "count = 1\nbottom = 20")
-    assert (found["blocks"][1], found["cost_of_width"][1]) == (4 + 12, 3 * 200 + 7 * 200)
+    found, _, _ = pushed(plan_folder, floor((4, 3)), "count = 1\nmin_bottom_width = 20")
+    assert (found["blocks"][1], found["value_lost_to_width"][1]) == (4 + 12, 3 * 200 + 7 * 200)
     with pytest.raises(PlanError, match="width, bottom: no part of the pit of revenue factor 1.50 is so wide"):
-        pushed(plan_folder, floor({(4, 3): 0.7}), "count = 1\nbottom = 20\nultimate_pit = 1.5")
+        pushed(plan_folder, floor({(4, 3): 0.7}), "count = 1\nmin_bottom_width = 20\nultimate_pit = 1.5")
 
 
-def test_what_must_be_dug_stays_in_phase_1_however_narrow(plan_folder):
+def test_what_must_be_dug_stays_in_pushback_1_however_narrow(plan_folder):
     """A single block at the top that must be dug; and at the floor nothing but ore may be, so that the notch stays."""
     grades = dict.fromkeys(square(3, 2, 3) - {(5, 3)}, RICH)
     never = lambda i, j, k: int(k == 0 and (i, j) not in grades)
     table = floor(grades, must=lambda i, j, k: int((i, j, k) == (1, 5, 1)), never=never)
-    text = PROJECT + '\n[fixed]\nforced = "must"\nbarred = "never"\n'
-    found, phase, _ = pushed(plan_folder, table, "count = 1\nwidth = 20", text)
-    assert phase["b1-5-1"] == 1 and phase["b5-3-0"] == 0
+    text = PROJECT + '\n[constraints]\nmust_mine = "must"\nexclude = "never"\n'
+    found, pushback, _ = pushed(plan_folder, table, "count = 1\nmin_mining_width = 20", text)
+    assert pushback["b1-5-1"] == 1 and pushback["b5-3-0"] == 0
     # The two cells of ore beside the notch are left. The other six need sixteen blocks above them.
-    assert phase["b5-2-0"] == phase["b5-4-0"] == 0
-    assert found["blocks"][1] == 6 + 16 + 1 and found["worth"][1] == 6 * 6800 - 17 * 200
+    assert pushback["b5-2-0"] == pushback["b5-4-0"] == 0
+    assert found["blocks"][1] == 6 + 16 + 1 and found["undiscounted_cash_flow"][1] == 6 * 6800 - 17 * 200
 
 
 @pytest.mark.parametrize(
@@ -183,25 +183,30 @@ def random_plan(seed, plan_text):
     table["cu"] = np.where(rng.random(len(table)) < 0.1, rng.random(len(table)).round(3) * 5, 0.0)
     plan = prepare(load(plan_text(table)))
     first = rng.integers(0, 4, plan.grid.count) * (plan.grid.spread(table["cu"].to_numpy()) > 0) * ~plan.settled.left
-    phase = np.zeros(plan.grid.count, dtype=np.int16)
+    pushback = np.zeros(plan.grid.count, dtype=np.int16)
     for number in (3, 2, 1):
-        phase[closure.used_blocks(plan.grid, plan.walls, (0 < first) & (first <= number) | plan.settled.dug)] = number
-    return plan, phase
+        pushback[
+            closure.used_blocks(plan.grid, plan.walls, (0 < first) & (first <= number) | plan.settled.dug)
+        ] = number
+    return plan, pushback
 
 
 @settings(max_examples=30)
 @given(st.integers(0, 10**6), st.sampled_from([(20, None), (30, None), (None, 20), (20, 30), (30, 20)]))
-def test_random_phases_are_wide_closed_and_nested(tmp_path_factory, seed, asked):
+def test_random_pushbacks_are_wide_closed_and_nested(tmp_path_factory, seed, asked):
     place = tmp_path_factory.mktemp("random")
 
     def write(table):
-        text = PROJECT.replace("[0.5, 1.0, 1.5]", "[0.5, 0.8, 1.0]") + '[fixed]\nforced = "must"\nbarred = "never"\n'
+        text = (
+            PROJECT.replace("[0.5, 1.0, 1.5]", "[0.5, 0.8, 1.0]")
+            + '[constraints]\nmust_mine = "must"\nexclude = "never"\n'
+        )
         (place / "project.toml").write_text(text)
         table.to_csv(place / "blocks.csv", index=False)
         return place / "project.toml"
 
-    plan, phase = random_plan(seed, write)
-    found = plan.grid.cube(mining_width.widened(phase, plan, PhaseRules(3, None, None, None, *asked))[0])
+    plan, pushback = random_plan(seed, write)
+    found = plan.grid.cube(mining_width.widened(pushback, plan, PushbackRules(3, None, None, None, *asked))[0])
     solid, must, left = (plan.grid.cube(it) for it in (plan.values.tonnes > 0, plan.settled.dug, plan.settled.left))
     assert (found[must] == 1).all() and (found[left] == 0).all()
     for level, row, column in np.argwhere((found > 0) & solid):
@@ -221,14 +226,14 @@ def test_random_phases_are_wide_closed_and_nested(tmp_path_factory, seed, asked)
 @pytest.mark.parametrize(
     ("words", "said"),
     [
-        ("count = 2\nwidth = 0", "[pushbacks] width: a width is above 0 metres"),
-        ("count = 2\nbottom = -5", "[pushbacks] bottom: a width is above 0 metres"),
-        ('count = 2\nwidth = "40"', "[pushbacks] width: '40' is not a number"),
+        ("count = 2\nmin_mining_width = 0", "[pushbacks] min_mining_width: a width is above 0 metres"),
+        ("count = 2\nmin_bottom_width = -5", "[pushbacks] min_bottom_width: a width is above 0 metres"),
+        ('count = 2\nmin_mining_width = "40"', "[pushbacks] min_mining_width: '40' is not a number"),
     ],
 )
 def test_what_is_refused(plan_folder, words, said):
     with pytest.raises(PlanError) as error:
-        load(plan_folder(floor((4, 3)), with_phases(words, UPRIGHT)))
+        load(plan_folder(floor((4, 3)), with_pushbacks(words, UPRIGHT)))
     assert said in str(error.value)
 
 
@@ -237,7 +242,9 @@ def divided(without_figures, tmp_path_factory):
     place = tmp_path_factory.mktemp("wide")
     grades = dict.fromkeys(square(3, 2, 3) - {(5, 3)}, RICH) | dict.fromkeys(square(10, 2, 2), 0.6)
     floor(grades, columns=15).to_csv(place / "blocks.csv", index=False)
-    (place / "project.toml").write_text(with_phases("revenue_factors = [0.4, 1.5]\nwidth = 20\nbottom = 20", PROJECT))
+    (place / "project.toml").write_text(
+        with_pushbacks("revenue_factors = [0.4, 1.5]\nmin_mining_width = 20\nmin_bottom_width = 20", PROJECT)
+    )
     pitplan.write_pushbacks(place / "project.toml")
     return place
 
@@ -250,22 +257,22 @@ def copied(divided, tmp_path):
 @pytest.mark.parametrize(
     ("column", "rule"),
     [
-        ("pieces", "phase widths"),
-        ("least_width", "phase widths"),
-        ("cost_of_width", "phases"),
-        ("deferred_value", "phases"),
+        ("pieces", "pushback widths"),
+        ("min_width", "pushback widths"),
+        ("value_lost_to_width", "pushbacks"),
+        ("deferred_value", "pushbacks"),
     ],
 )
 @pytest.mark.parametrize("more", [-10, 10, 0.4])
 def test_each_shape_that_is_bent_is_found(copied, column, rule, more):
     assert wrong(copied) == {}
-    table = pd.read_csv(copied / "phases.csv")
+    table = pd.read_csv(copied / "pushbacks.csv")
     table.loc[0, column] += more
-    table.to_csv(copied / "phases.csv", index=False)
+    table.to_csv(copied / "pushbacks.csv", index=False)
     assert set(wrong(copied)) == {rule}
 
 
-def test_a_block_of_a_later_factor_than_the_last_phase_is_found(copied):
+def test_a_block_of_a_later_factor_than_the_last_pushback_is_found(copied):
     table = pd.read_csv(copied / "blocks.csv")
     table.loc[table["revenue_factor"] > 0.0, "revenue_factor"] += 1.0
     table.to_csv(copied / "blocks.csv", index=False)
@@ -273,34 +280,38 @@ def test_a_block_of_a_later_factor_than_the_last_phase_is_found(copied):
 
 
 @pytest.mark.parametrize(("name", "number"), [("b5-3-0", 0), ("b3-2-0", 2), ("b10-2-0", 0)])
-def test_a_block_that_makes_a_phase_too_narrow_is_found(copied, name, number):
-    """The filled notch, a corner of the first square, and one of the second, in another phase or in none."""
+def test_a_block_that_makes_a_pushback_too_narrow_is_found(copied, name, number):
+    """The filled notch, a corner of the first square, and one of the second, in another pushback or in none."""
     table = pd.read_csv(copied / "blocks.csv")
-    table.loc[table["name"] == name, "phase"] = number
+    table.loc[table["name"] == name, "pushback"] = number
     table.to_csv(copied / "blocks.csv", index=False)
-    found = wrong(copied)["phase widths"]
+    found = wrong(copied)["pushback widths"]
     assert any("lies where it is too narrow" in text for text in found.differences)
 
 
-def test_a_bottom_that_is_wide_by_a_later_phase_alone_is_found(plan_folder):
-    """Two squares of two side by side, one a phase; then the first has but three of its cells."""
+def test_a_bottom_that_is_wide_by_a_later_pushback_alone_is_found(plan_folder):
+    """Two squares of two side by side, one a pushback; then the first has but three of its cells."""
     grades = dict.fromkeys(square(3, 2, 2), RICH) | dict.fromkeys(square(5, 2, 2), 0.6)
-    project = load(plan_folder(floor(grades), with_phases("revenue_factors = [0.4, 1.5]\nbottom = 20", PROJECT)))
-    # Above the second square a block of phase 2 lies between one of phase 1 and the ground.
-    assert pitplan.write_pushbacks(project)["least_width"].tolist() == [20, 10]
+    project = load(
+        plan_folder(floor(grades), with_pushbacks("revenue_factors = [0.4, 1.5]\nmin_bottom_width = 20", PROJECT))
+    )
+    # Above the second square a block of pushback 2 lies between one of pushback 1 and the ground.
+    assert pitplan.write_pushbacks(project)["min_width"].tolist() == [20, 10]
     folder = project.folder / "pushbacks"
     table = pd.read_csv(folder / "blocks.csv")
-    table.loc[table["name"] == "b4-2-0", "phase"] = 2
+    table.loc[table["name"] == "b4-2-0", "pushback"] = 2
     table.to_csv(folder / "blocks.csv", index=False)
-    told = [text for text in wrong(folder)["phase widths"].differences if "too narrow" in text]
-    assert told == [f"block {name} of phase 1 lies where it is too narrow" for name in ("b3-2-0", "b3-3-0", "b4-3-0")]
+    told = [text for text in wrong(folder)["pushback widths"].differences if "too narrow" in text]
+    assert told == [
+        f"block {name} of pushback 1 lies where it is too narrow" for name in ("b3-2-0", "b3-3-0", "b4-3-0")
+    ]
 
 
-def test_a_phase_that_is_not_there_is_found(copied):
+def test_a_pushback_that_is_not_there_is_found(copied):
     table = pd.read_csv(copied / "blocks.csv")
-    table.loc[table["phase"] == 2, "phase"] = 3
+    table.loc[table["pushback"] == 2, "pushback"] = 3
     table.to_csv(copied / "blocks.csv", index=False)
-    assert any("phase 3 for" in text for text in wrong(copied)["phase of blocks"].differences)
+    assert any("pushback 3 for" in text for text in wrong(copied)["pushback of blocks"].differences)
 
 
 def test_a_rule_counts_the_blocks_across_by_itself():
@@ -310,11 +321,11 @@ def test_a_rule_counts_the_blocks_across_by_itself():
     assert [blocks_across(Sizes, wide) for wide in (40, 45, 50.0, 1, 15)] == [(3, 2), (3, 2), (4, 2), (1, 1), (1, 1)]
 
 
-def test_the_widths_of_phases_are_those_that_are_told(plan_folder):
+def test_the_widths_of_pushbacks_are_those_that_are_told(plan_folder):
     """Squares of three and of two blocks, and half of a square with nothing."""
     mask = np.zeros((2, 8, 8), dtype=bool)
     mask[0, :3, :3] = mask[1, 4:6, 4:6] = True
-    assert mining_width.least_width(mask, ~np.ones_like(mask), (10.0, 10.0)) == 20
-    assert mining_width.least_width(mask[:1], ~np.ones_like(mask[:1]), (10.0, 10.0)) == 30
-    assert np.isnan(mining_width.least_width(mask[:1, 4:], ~np.ones_like(mask[:1, 4:]), (10.0, 10.0)))
-    assert nested.MOST_PHASES == 100
+    assert mining_width.min_width(mask, ~np.ones_like(mask), (10.0, 10.0)) == 20
+    assert mining_width.min_width(mask[:1], ~np.ones_like(mask[:1]), (10.0, 10.0)) == 30
+    assert np.isnan(mining_width.min_width(mask[:1, 4:], ~np.ones_like(mask[:1, 4:]), (10.0, 10.0)))
+    assert nested.MOST_PUSHBACKS == 100

@@ -1,4 +1,4 @@
-"""How wide the phases are and into how many pieces they fall, by counting cells in rectangles and by who touches whom."""
+"""How wide the pushbacks are and into how many pieces they fall, by counting cells in rectangles and by who touches whom."""
 
 from __future__ import annotations
 
@@ -21,34 +21,37 @@ LAST_PLACE = 0.6e-3
 
 
 def verify(answer: Answer) -> Rule:
-    """The widths that were asked for are kept, and each phase's pieces and least width are told as they are."""
-    assert answer.phases is not None
+    """The widths that were asked for are kept, and each pushback's pieces and least width are told as they are."""
+    assert answer.pushbacks is not None
     cube, room = cube_of(answer), room_of(answer)
     differences: list[str] = []
     count = 0
-    for number, said in answer.phases.iterrows():
+    for number, said in answer.pushbacks.iterrows():
         narrow, more = too_narrow(answer, cube, room, int(number))
         differences, count = differences + narrow, count + more
         shape = unlike_shape(answer, cube == number, room, said)
-        differences += [f"phase {number}: {text}" for text in shape]
+        differences += [f"pushback {number}: {text}" for text in shape]
         count += len(shape)
-    return rule("phase widths", holds(answer), differences, count)
+    return rule("pushback widths", holds(answer), differences, count)
 
 
 def holds(answer: Answer) -> str:
-    asked, wide = answer.project.phases, []
-    for metres, of_what in ((asked and asked.width, "its phase"), (asked and asked.bottom, "the pit up to its phase")):
+    asked, wide = answer.project.pushbacks, []
+    for metres, of_what in (
+        (asked and asked.min_mining_width, "its pushback"),
+        (asked and asked.min_bottom_width, "the pit up to its pushback"),
+    ):
         if metres:
             wide.append(
                 f"each block lies in a square {metres:g} m wide of {of_what} on its level, with air and what must be dug; "
             )
-    return "".join(wide) + "pieces and least width of each phase are what its blocks make"
+    return "".join(wide) + "pieces and least width of each pushback are what its blocks make"
 
 
 def cube_of(answer: Answer) -> np.ndarray:
-    """The phase of each cell; of those without a block 0."""
+    """The pushback of each cell; of those without a block 0."""
     cube = np.zeros(answer.shape, dtype=np.int64)
-    cube[answer.cells] = answer.said["phase"].to_numpy()
+    cube[answer.cells] = answer.said["pushback"].to_numpy()
     return cube
 
 
@@ -64,17 +67,20 @@ def room_of(answer: Answer) -> np.ndarray:
 
 
 def too_narrow(answer: Answer, cube: np.ndarray, room: np.ndarray, number: int) -> tuple[list[str], int]:
-    """Blocks of a phase that lie in no rectangle of the widths asked for: the first ten, and how many there are. That a project asks for
-    no phases at all is told elsewhere."""
-    asked, wrong = answer.project.phases, np.zeros(answer.shape, dtype=bool)
+    """Blocks of a pushback that lie in no rectangle of the widths asked for: the first ten, and how many there are. That a project asks for
+    no pushbacks at all is told elsewhere."""
+    asked, wrong = answer.project.pushbacks, np.zeros(answer.shape, dtype=bool)
     if asked is None:
         return [], 0
-    for wide, there in ((asked.width, cube == number), (asked.bottom, (cube > 0) & (cube <= number))):
+    for wide, there in (
+        (asked.min_mining_width, cube == number),
+        (asked.min_bottom_width, (cube > 0) & (cube <= number)),
+    ):
         if wide is not None:
             covered = np.stack([cells_in(level, blocks_across(answer, wide)) for level in there | room])
             wrong |= (cube == number) & ~room & ~covered
     rows = np.flatnonzero(wrong[answer.cells])
-    return [f"{answer.called(row)} of phase {number} lies where it is too narrow" for row in rows[:TOLD]], len(rows)
+    return [f"{answer.called(row)} of pushback {number} lies where it is too narrow" for row in rows[:TOLD]], len(rows)
 
 
 def blocks_across(answer: Answer, wide: float) -> Rectangle:
@@ -105,20 +111,20 @@ def sums_over(values: np.ndarray, shape: Rectangle) -> np.ndarray:
     return sums[north:, east:] - sums[:-north, east:] - sums[north:, :-east] + sums[:-north, :-east]
 
 
-def unlike_shape(answer: Answer, phase: np.ndarray, room: np.ndarray, said: pd.Series) -> list[str]:
-    """What is told of a phase's pieces and its least width, and is not so."""
-    rock = phase & (answer.dug != NOTHING)
-    pieces, least, step = count_pieces(rock), float(said["least_width"]), min(answer.size[:2])
+def unlike_shape(answer: Answer, pushback: np.ndarray, room: np.ndarray, said: pd.Series) -> list[str]:
+    """What is told of a pushback's pieces and its least width, and is not so."""
+    rock = pushback & (answer.dug != NOTHING)
+    pieces, least, step = count_pieces(rock), float(said["min_width"]), min(answer.size[:2])
     found = [f"pieces {said['pieces']:g} for {pieces}"] if said["pieces"] != pieces else []
-    asking = phase & ~room
+    asking = pushback & ~room
     if math.isnan(least) or not asking.any():
-        return found + ([f"least_width {least:g}"] if asking.any() or not math.isnan(least) else [])
+        return found + ([f"min_width {least:g}"] if asking.any() or not math.isnan(least) else [])
     if abs(least - step * round(least / step)) > LAST_PLACE:
-        found.append(f"least_width {least:g} is no whole number of {step:g} m")
+        found.append(f"min_width {least:g} is no whole number of {step:g} m")
     for wide, is_so in ((least, True), (least + step, False)):
-        covered = np.stack([cells_in(level, blocks_across(answer, wide)) for level in phase | room])
+        covered = np.stack([cells_in(level, blocks_across(answer, wide)) for level in pushback | room])
         if (asking & ~covered).any() == is_so:
-            found.append(f"least_width {least:g}, and {wide:g} m is {'too wide' if is_so else 'not too wide'}")
+            found.append(f"min_width {least:g}, and {wide:g} m is {'too wide' if is_so else 'not too wide'}")
     return found
 
 
