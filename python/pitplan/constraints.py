@@ -100,7 +100,7 @@ def of_table(frame: pd.DataFrame, grid: Grid, project: Project, source: str = "t
     both = forced & barred
     if both.any():
         raise PlanError(f"{source}: {called(frame, project, int(both.argmax()))} must be dug and may not be dug")
-    notes.insert(0, f"{int(forced.sum()):,} blocks must be dug and {int(barred.sum()):,} may not be")
+    notes.insert(0, f"{int(forced.sum()):,} must-mine blocks and {int(barred.sum()):,} excluded blocks")
     return FixedBlocks(np.sort(grid.rows[forced]), np.sort(grid.rows[barred]), tuple(notes))
 
 
@@ -118,10 +118,12 @@ def in_area(grid: Grid, area: Area) -> tuple[NDArray[Any], list[str]]:
         count += np.logical_xor.reduce([within(x, y, ring) for ring in polygon])
     barred, notes = (count > 0)[grid.rows % grid.per_level], list(areas.notes)
     if (count > 1).any():
-        twice = f"{np.count_nonzero(count > 1):,} columns of blocks lie in several of its polygons, and none of these is a hole"
+        twice = (
+            f"{np.count_nonzero(count > 1):,} columns of blocks lie in several polygons, which are not read as holes"
+        )
         notes.append(f"WARNING: {file}: {twice}")
     if not barred.any():
-        said = f"{file}: no block lies in it: {tin.beside(np.concatenate([polygon[0] for polygon in areas.polygons]), grid)}"
+        said = f"{file}: no block lies in its polygons: {tin.beside(np.concatenate([polygon[0] for polygon in areas.polygons]), grid)}"
         if area.exclude == "outside":
             raise PlanError(said)
         notes.append(f"WARNING: {said}")

@@ -154,6 +154,6 @@ def note_of(model: Model, box: Box) -> str:
         f"z from {grids.metres(top - (box.levels.stop - box.levels.start) * grid.size[2])} to {grids.metres(top)} m"
     )
     return (
-        f"{np.count_nonzero(~kept):,} of {len(kept):,} blocks, which no shell can reach at any factor, were left out: all "
-        f"but {', '.join(parts)}"
+        f"{np.count_nonzero(~kept):,} of {len(kept):,} blocks cannot be in any shell at these revenue factors and were "
+        f"omitted; the model is cropped to {', '.join(parts)}"
     )

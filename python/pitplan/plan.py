@@ -201,15 +201,15 @@ class Plan:
     def notes_of_needs(self, pairs: Pairs) -> list[str]:
         """What became of needs that lead off the model, and of those that nothing uses."""
         left, last = self.grid.count - int(self.used.sum()), self.project.schedule.revenue_factors[-1]
-        notes = [f"{pairs.written:,} needs of {self.grid.count - left:,} blocks were written"]
+        notes = [f"{pairs.written:,} slope precedences for {self.grid.count - left:,} blocks"]
         if pairs.clipped:
             notes.append(
-                f"{pairs.clipped:,} needs lead off the model's sides and were clipped: that ground is not known"
+                f"{pairs.clipped:,} slope precedences leave the block model and are ignored, so slopes there are unconstrained"
             )
         if left:
             notes.append(
-                f"the needs of {left:,} blocks were left out, since no block that pays uses them; "
-                f"this holds for revenue factors up to {factor_text(last)}"
+                f"{left:,} blocks cannot be in any shell up to revenue factor {factor_text(last)}; "
+                "their precedences were omitted"
             )
         return notes
 
@@ -298,50 +298,47 @@ def wanted(values: Values, project: Project, fixed: FixedBlocks) -> NDArray[Any]
 
 
 def notes_of(plan: Plan) -> list[str]:
-    """Sentences that a planner should read before trusting the plan."""
+    """The notes of a plan: grid, cut-off, slopes, constraints, costs and rounding."""
     grid, count = plan.grid, len(plan.table)
     levels, rows, columns = grid.shape
     notes = [f"{count:,} blocks lie on a grid of {columns} x {rows} x {levels} = {grid.count:,} cells"]
     notes += missing_blocks.notes(plan.table, grid, plan.project)
     if plan.values.cutoff == PER_REVENUE_FACTOR:
         steps = len(plan.values.processed) - len(plan.values.ore)
-        more = (
-            f", and {steps:,} nodes more for processes that are better from a greater price on"
-            if plan.project.processes
-            else ""
-        )
+        more = f", and {steps:,} more for processes that are better at higher prices" if plan.project.processes else ""
         notes.append(
-            f"{len(plan.values.ore):,} blocks have a node for processing: the cut-off moves with the price{more}"
+            f"{len(plan.values.ore):,} potential ore blocks have a processing node{more}; "
+            "the cut-off is re-evaluated at every revenue factor"
         )
     else:
-        notes.append("the cut-off is fixed at the price as given, whatever the factor")
+        notes.append("the cut-off is fixed at the base price for all revenue factors")
     if plan.filled:
-        notes.append(f"{plan.filled:,} empty fields were taken as 0")
+        notes.append(f"{plan.filled:,} empty fields were read as 0")
     notes += [pattern.sentence() for pattern in plan.walls.patterns]
     notes += plan.values.notes
     grades = [plan.table[metal.column].to_numpy() for metal in plan.project.metals]
     notes += plausibility.of_prices(plan.values.pays, plan.project.metals, grades, plan.project.money.currency)
     if plan.project.money.mining_cost_per_bench and plan.project.money.mining_cost_reference is None:
         notes.append(
-            f"mining costs more for each level below that of {plan.reference - grid.size[2]:.10g} to {plan.reference:.10g} m, the "
-            "highest of which ore needs a block: [economics] mining_cost_reference names another elevation"
+            f"the mining cost rises with each bench below {plan.reference - grid.size[2]:.10g} to {plan.reference:.10g} m, the highest "
+            "bench that ore depends on; [economics] mining_cost_reference sets another elevation"
         )
     notes += plan.fixed.notes
     if plan.settled is not None:
         rock = plan.values.tonnes > 0
         dug, left = (int(np.count_nonzero(cells & rock)) for cells in (plan.settled.dug, plan.settled.left))
-        notes.append(f"for their sake {dug:,} blocks are dug in every pit and {left:,} in none")
+        notes.append(f"with their slope cones, {dug:,} blocks are in every shell and {left:,} in none")
     if plan.project.schedule.base_price_added:
         notes.append("revenue factor 1.0, the base price, was added to the revenue factors")
     notes += period_costs.notes(plan.project)
     settings = plan.project.schedule
     notes.append(
-        f"net present values: {100 * settings.discount_rate:.10g} % a year, cash discounted {IN_WORDS[settings.discounting]}"
+        f"NPV: {100 * settings.discount_rate:.10g} % a year, cash flow discounted {IN_WORDS[settings.discounting]}"
     )
     for name, rounding in plan.values.roundings.items():
         if rounding.changed:
             notes.append(
-                f"{name}: {rounding.changed:,} of {rounding.values:,} amounts were rounded, by {rounding.largest:.2g} at most"
+                f"{name}: {rounding.changed:,} of {rounding.values:,} amounts were rounded, by at most {rounding.largest:.2g}"
             )
     return notes
 

@@ -43,7 +43,7 @@ def mine(plan_folder, tmp_path):
 def test_a_survey_of_the_original_ground_mines_nothing(mine):
     plan = mine(slope, SURFACE, TOPOGRAPHY)
     assert plan.fixed.forced.size == 0
-    assert any("0 blocks are mined out and 0 in part" in note for note in plan.notes)
+    assert any("0 blocks are mined out and 0 are partly mined" in note for note in plan.notes)
     # Neither does one that differs by 0.3 m, as two surveys do; its tonnes are the surface's.
     near = mine(lambda x, y: slope(x, y) - 0.3, SURFACE, TOPOGRAPHY)
     assert near.fixed.forced.size == 0

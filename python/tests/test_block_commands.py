@@ -183,14 +183,13 @@ def test_the_command_line_tells_value_bound_and_gap(plan_folder, capsys):
     lines = [line.split() for line in said.out.splitlines()]
     assert lines[0][:3] == ["NPV", "upper_bound", "below"] and lines[2][:4] == ["3,971.45", "3,971.45", "0.00", "3"]
     assert (
-        "no schedule by block of up to 4 years that keeps these limits earns more than 3,971, wherever it sends its blocks; this one earns 3,971, 0.00 %"
+        "upper bound on the NPV of any schedule by block of up to 4 years within these limits: 3,971; this schedule has an NPV of 3,971, an optimality gap of 0.00 %"
         in said.err
     )
     assert "round 1: bound " in said.err and "relaxation 3,971 over" in said.err
     page = (path.parent / "plan" / "block_schedule" / "report.html").read_text()
     assert (
-        "head grade of the pit at revenue factor 1.00</span>" in page
-        and 'title="methods.csv row 2 column npv"' in page
+        "head grade of the pit at revenue factor 1.00</span>" in page and 'title="methods.csv row 2 column npv"' in page
     )
     assert "methods.csv" in page and "the schedule and its bound, the other numbers" in page
 
@@ -212,7 +211,7 @@ def test_an_interrupted_run_keeps_the_best_so_far(plan_folder, capsys, monkeypat
     assert main(["schedule", str(path), "--by", "block", "--quiet"]) == 130
     folder = path.parent / "plan" / "block_schedule"
     assert json.loads((folder / "block_schedule.json").read_text())["interrupted"] and wrong(folder) == set()
-    assert "the run was interrupted before it was through" in capsys.readouterr().err
+    assert "the run was interrupted; this is the best schedule so far" in capsys.readouterr().err
 
 
 @pytest.fixture(scope="module")
@@ -384,7 +383,7 @@ def test_where_no_block_pays_nothing_is_mined_which_is_an_answer(plan_folder):
     row = pitplan.write_block_schedule(project).iloc[0]
     assert row[["npv", "upper_bound", "years", "blocks"]].tolist() == [0, 0, 0, 0]
     notes = read_record(project.folder / "block_schedule")["notes"]
-    assert "nothing is mined: at these prices and costs no block pays for itself and what it needs" in notes
+    assert "nothing is mined: at these prices and costs no block pays for itself and its predecessors" in notes
     made = tables.make(prepare(project))
     axes = block_schedule.plot(made, Figure().subplots(1, 2))
     assert [text.get_text() for text in axes[0].texts] == ["nothing is mined"]

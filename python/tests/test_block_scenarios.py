@@ -458,7 +458,7 @@ def test_some_schedules_are_gathered_on_request_alone(plan_folder):
         gather(shared.folder, Request(partial=True))
     assert worker.solve(str(shared.folder), 3).status == 0
     notes = gather(shared.folder, Request(partial=True)).notes
-    assert "WARNING: 1 scenarios have no answer and are left out of everything" in notes
+    assert "WARNING: 1 scenarios have no result and are left out of all tables and figures" in notes
     table = table_of(shared.folder)
     assert table.columns[:4].tolist() == ["scenario", "status", "npv", "upper_bound"]
     assert table["status"].tolist() == ["was not solved", "solved"] and np.isnan(table["upper_bound"]["sim_1"])
@@ -503,15 +503,15 @@ def test_the_command_line_tells_what_a_planner_should_know(plan_folder):
     said = err.getvalue()
     assert "3 of 3 schedules have their answer already" in said
     assert (
-        "the one schedule for all earns 1,132 on the mean of 2 scenarios, from -231 to 2,496; 2,496 as it was planned"
+        "common schedule: mean NPV 1,132 over 2 scenarios, from -231 to 2,496; 2,496 as planned from the mean block values"
         in said
     )
     assert (
-        "of its ore 50 t are left as waste on the mean, since the mill is full, and in 0.5 of its years less is milled"
+        "on average 50 t of its ore are left as waste for lack of processing capacity, and 0.5 of its years have less feed than planned"
         in said
     )
     assert (
-        "earns 2,529 on the mean, and at most 2,529: so to know the ground would be worth at most 1,397, 55.23 %"
+        "mean NPV 2,529, upper bound 2,529; the expected value of perfect information (EVPI) is at most 1,397, 55.23 %"
         in said
     )
 

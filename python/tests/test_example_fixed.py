@@ -65,7 +65,7 @@ def test_the_fixed_blocks_are_those_of_the_map():
     assert {rows[place]["id"] for place in forced} == set(called[plan.fixed.forced])
     assert {rows[place]["id"] for place in barred} == set(called[plan.fixed.barred])
     assert len(forced) == 24 and len(barred) == 179
-    assert "24 blocks must be dug and 179 may not be" in plan.notes
+    assert "24 must-mine blocks and 179 excluded blocks" in plan.notes
 
 
 def test_without_fixed_blocks_the_pit_is_that_of_the_plain_example_less_the_cut(folder):

@@ -178,7 +178,9 @@ def test_values_of_an_audit_are_exact(tmp_path):
         ((np.array([0]), np.array([10**15])), 0.001),
         ((np.array([10**15]), np.array([0])), 1.0),
     ):
-        with pytest.raises(PlanError, match=f"a value at revenue factor {factor_text(factor)}, a thousandfold, is 10.12 or more"):
+        with pytest.raises(
+            PlanError, match=f"a value at revenue factor {factor_text(factor)}, a thousandfold, is 10.12 or more"
+        ):
             problem.values_at(amounts, factor)
 
 
@@ -437,12 +439,12 @@ def test_the_command_line_tells_table_steps_and_warnings(solved_once):
     needs = {"library": "listing the needs", "program": "writing blocks and needs"}[by]
     steps = ["reading", "laying the walls", needs, f"solving 3 revenue factors by the {by}", "drawing"]
     assert all(f"{step}" in solved_once.err for step in steps)
-    assert "WARNING: the greatest pit touches the north side of the model" in solved_once.err
-    assert "3 blocks have a node for processing: the cut-off moves with the price" in solved_once.err
+    assert "WARNING: the largest shell reaches the north side of the block model" in solved_once.err
     assert (
-        "blocks were left out, since no block that pays uses them; this holds for revenue factors up to 1.50"
+        "3 potential ore blocks have a processing node; the cut-off is re-evaluated at every revenue factor"
         in solved_once.err
     )
+    assert "blocks cannot be in any shell up to revenue factor 1.50; their precedences were omitted" in solved_once.err
 
 
 def test_the_command_line_exports_in_silence(solved, capsys):

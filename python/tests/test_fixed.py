@@ -80,7 +80,7 @@ def test_each_column_has_the_surface_of_its_own_points(plan_folder, tmp_path):
     blocks = plan.blocks
     ground = [heights[int(x // 10), int(y // 10)] for x, y in zip(blocks["x"], blocks["y"])]
     assert plan.fixed.forced.tolist() == blocks.loc[blocks["z"] > ground, "id"].tolist()
-    assert not any("surface was laid" in note or "beyond all points" in note for note in plan.notes)
+    assert not any("surface was interpolated" in note or "beyond all points" in note for note in plan.notes)
 
 
 def test_a_surface_between_points_is_their_plane(plan_folder, tmp_path):
@@ -150,7 +150,8 @@ def test_a_surface_of_few_points_is_laid_between_them(plan_folder, tmp_path):
     )
     assert plan.fixed.forced.tolist() == [1, 2, 5]
     assert any(
-        "over 3 columns of blocks the surface was laid between the points round them" in note for note in plan.notes
+        "over 3 columns of blocks the surface was interpolated from the points around them" in note
+        for note in plan.notes
     )
 
 
@@ -305,7 +306,7 @@ def test_shells_keep_to_fixed_blocks_and_are_compared_with_the_pit_of_the_progra
     assert (blocks.loc[blocks["must"] == 1, "revenue_factor"] == 0.5).all()
     assert (blocks.loc[blocks["never"] == 1, "revenue_factor"] == 0).all()
     # For their sake: the forced block at the floor needs the one beside its upper neighbour, and the floor's second needs the barred.
-    assert "for their sake 3 blocks are dug in every pit and 3 in none" in capsys.readouterr().err
+    assert "with their slope cones, 3 blocks are in every shell and 3 in none" in capsys.readouterr().err
 
 
 def test_a_pit_of_the_least_factor_of_all_is_compared_too(plan_folder):

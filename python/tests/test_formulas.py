@@ -22,8 +22,8 @@ def test_a_text_that_begins_as_a_formula_is_named_once_by_row_and_column(plan_fo
         table.loc[5, "rock"] = table.loc[3, "region"] = table.loc[8, "name"] = text
         path = plan_folder(table)
         assert warned(pitplan.prepare(path)) == [
-            f"WARNING: {path.parent / 'blocks.csv'} row 5 column 'region': {text!r} begins with =, +, - or @, as 2 other texts do: CSV files keep it,"
-            " and a spreadsheet that opens them may compute it; workbooks have it as text"
+            f"WARNING: {path.parent / 'blocks.csv'} row 5 column 'region': {text!r} begins with =, +, - or @, as do 2 other texts: CSV files keep it,"
+            " and a spreadsheet may evaluate it; workbooks store it as text"
         ]
 
 
@@ -32,7 +32,7 @@ def test_names_of_columns_and_columns_that_are_not_used_count_too(plan_folder):
         note=["", "ok", "-5", "=A1"] * 3, **{"@more": 1, "sign": [" =1", "a=b", "1-2", "e@f"] * 3}
     )
     (said,) = warned(pitplan.prepare(plan_folder(table)))
-    assert "row 1 column '@more': '@more' begins with =, +, - or @, as 3 other texts do" in said
+    assert "row 1 column '@more': '@more' begins with =, +, - or @, as do 3 other texts" in said
     assert warned(pitplan.prepare(plan_folder(table.drop(columns=["note", "@more"])))) == []
     (said,) = warned(
         pitplan.prepare(

@@ -30,7 +30,7 @@ def test_cells_without_a_row_are_air_of_worth_0(plan_folder):
 def test_a_hole_below_a_block_is_warned_of(plan_folder):
     table = rows(3, 2, 3)
     notes = pitplan.prepare(plan_folder(table[~table["name"].isin(["b1-1-1", "b1-1-0", "b0-0-2"])])).notes
-    assert "2 cells below a row, or in columns without rows, are not known: no shell may reach them" in notes
+    assert "2 missing blocks (below a row, or in columns without rows); a shell that reaches one is rejected" in notes
 
 
 def test_centres_may_lie_off_by_the_tolerance(plan_folder):

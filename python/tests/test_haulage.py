@@ -56,7 +56,7 @@ def test_roads_are_kept_to_a_millimetre_and_costs_are_exact(plan_folder):
     assert block["ore_haulage_cost"] == 0
     said = plan.values.roundings["haulage cost"]
     assert said.values == 36 and said.changed > 0
-    assert any("roads from blocks to the exit at 15, 45, 30 are" in note for note in plan.notes)
+    assert any("haul distances to the pit exit at 15, 45, 30 are" in note for note in plan.notes)
 
 
 def test_a_road_is_rounded_once_and_verified(plan_folder, without_figures):

@@ -94,7 +94,7 @@ def test_grams_a_tonne_and_regions(tmp_path):
 def test_semicolons_do_not_make_decimals_of_commas(tmp_path):
     exported(tmp_path / "m.csv", SURPAC, ";")
     told = wizard.write(tmp_path / "m.csv", tmp_path / "project.toml")
-    assert "the fields are parted by semicolons" in told and "decimals are written with a comma" not in told
+    assert "the fields are separated by semicolons" in told and "decimals are written with a comma" not in told
     assert load(tmp_path / "project.toml").table.decimal in (None, ".")
 
 
@@ -127,8 +127,8 @@ def test_the_project_runs_as_it_stands(tmp_path, capsys):
         "x: from 0 to 80 m, 8 cells of 10 m, centres in Easting, by its name",
         "y: from 0 to 80 m, 8 cells of 10 m, centres in Northing, by its name",
         "z: from 0 to 40 m, 4 cells of 10 m, centres in RL, by its name",
-        "copper: Cu pct, mean 0.0625 and at most 2 %, priced by the tonne, unit by the column's name",
-        "columns not used: Roche é",
+        "copper: Cu pct, mean 0.0625, maximum 2 %, priced per tonne, unit from the column name",
+        "unused columns: Roche é",
     ]
     assert main(["shells", str(tmp_path / "project.toml"), "--quiet"]) == 0
     shells = pd.read_csv(tmp_path / "plan" / "shells.csv")
@@ -140,26 +140,26 @@ def test_each_guess_says_why(tmp_path):
     wizard.write(tmp_path / "m.csv", tmp_path / "project.toml")
     why, _ = said(tmp_path / "project.toml")
     assert why.count("by its name") == 6
-    assert "unit by the column's name" in why
-    assert any("put your own" in line for line in why)
+    assert "unit from the column name" in why
+    assert any("set your own" in line for line in why)
 
 
 def test_centres_without_a_name_are_told_by_their_steps():
     table = rows(4, 5, 3).rename(columns={"x": "p", "y": "q", "z": "r"})
     found = column_guesses.columns_of(table[["tonnes", "p", "q", "r"]])
     assert {axis: guess.column for axis, guess in found.centres.items()} == {"x": "p", "y": "q", "z": "r"}
-    assert "steps" in found.centres["x"].why
+    assert "equally spaced" in found.centres["x"].why
 
 
 @pytest.mark.parametrize(
     ("name", "mean", "unit", "why"),
     [
-        ("AU", 1.5, "gram_per_tonne", "unit as is usual for this metal"),
-        ("AU", 45.0, "gram_per_tonne", "unit as is usual for this metal"),
-        ("CU", 40.0, "percent", "unit as is usual for this metal"),
-        ("CU", 40.5, "gram_per_tonne", "unit by its values"),
-        ("FE", 75.0, "percent", "unit as is usual for this metal"),
-        ("FE", 75.5, "gram_per_tonne", "unit by its values"),
+        ("AU", 1.5, "gram_per_tonne", "usual unit for this metal"),
+        ("AU", 45.0, "gram_per_tonne", "usual unit for this metal"),
+        ("CU", 40.0, "percent", "usual unit for this metal"),
+        ("CU", 40.5, "gram_per_tonne", "unit from its values"),
+        ("FE", 75.0, "percent", "usual unit for this metal"),
+        ("FE", 75.5, "gram_per_tonne", "unit from its values"),
     ],
 )
 def test_the_unit_of_a_name_that_tells_none(name, mean, unit, why):
@@ -184,7 +184,7 @@ def test_what_makes_tonnes_is_counted_where_it_is_empty(tmp_path, headings, colu
         **{**more, column: lambda i, j, k: float("nan") if (i, j) == (0, 0) and k < count else 2.5},
     )
     told = wizard.write(tmp_path / "m.csv", tmp_path / "project.toml")
-    assert f"WARNING: {count} tonnes or grades are empty, and taken as 0" in told
+    assert f"WARNING: {count} empty tonnes or grades are read as 0" in told
 
 
 @pytest.mark.parametrize(
@@ -243,9 +243,9 @@ def test_sub_blocks_and_empty_grades_are_told(tmp_path):
     more = {**INCREMENTS, "density": lambda i, j, k: 2.5, "dx": lambda i, j, k: 10.0 if i else 5.0}
     exported(tmp_path / "m.csv", DATAMINE, **{**more, "cu": lambda i, j, k: 2.0 if k else float("nan")})
     told = wizard.write(tmp_path / "m.csv", tmp_path / "project.toml")
-    assert "WARNING: blocks are of several sizes, and sub-blocks need [table] reblock" in told
+    assert "WARNING: blocks have several sizes; sub-blocks require [table] reblock" in told
     assert "x: centres in XC from 5 to 75 m, by its name" in told
-    assert "WARNING: 64 tonnes or grades are empty, and taken as 0" in told
+    assert "WARNING: 64 empty tonnes or grades are read as 0" in told
     assert load(tmp_path / "project.toml").table.empty == "zero"
 
 
@@ -347,7 +347,9 @@ def test_a_section_or_a_level_alone_runs_too(tmp_path, counts, size):
     why, project = said(tmp_path / "project.toml")
     assert project.grid.size == size and prepare(tmp_path / "project.toml").grid.shape == counts[::-1]
     flat = " and ".join(axis for axis, count in zip("xyz", counts) if count == 1)
-    assert f"metres, the least steps between centres; of {flat}, where all lie at one place, put your own" in why
+    assert (
+        f"metres, the smallest steps between centroids; set your own along {flat}, where all centroids are equal" in why
+    )
     assert any(f"1 cell of {size[1]} m" in line for line in told)
 
 

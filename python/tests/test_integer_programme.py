@@ -110,7 +110,7 @@ def test_it_is_written_as_a_way_of_its_own(plan_folder):
     ) == {"best", "worst", *told["methods"]}
     assert [rule.name for rule in verify(folder) if rule.differences] == []
     notes = read_record(folder)["notes"]
-    assert any("upper bound of the integer programme, for the same schedules" in note for note in notes)
+    assert any("upper bound of milp on the same schedules" in note for note in notes)
 
 
 @pytest.mark.usefixtures("without_figures")
@@ -118,10 +118,7 @@ def test_where_none_is_found_in_time_the_others_stand(plan_folder, monkeypatch):
     monkeypatch.setattr(bench_milp, "solve", lambda programme, effort, patience: highs.Optimum(None, np.inf))
     project = load(plan_folder(pillars(), PUSHBACKS + "[schedule]\nmilp = { seconds = 1 }\n"))
     assert pitplan.write_schedule(project)["method"].tolist() == ["rule", "lp"]
-    assert (
-        "WARNING: the integer programme found no schedule in its time"
-        in read_record(project.folder / "schedule")["notes"]
-    )
+    assert "WARNING: milp found no schedule within its time limit" in read_record(project.folder / "schedule")["notes"]
     assert json.loads((project.folder / "schedule" / "schedule.json").read_text())["milp_upper_bound"] is None
 
 

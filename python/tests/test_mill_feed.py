@@ -27,15 +27,9 @@ def test_a_block_by_hand(plan_folder):
     assert values.processing.tolist() == [0, 99 * 10_500_000]
     assert values.mining.tolist() == [200 * MILLION] * 2
     assert (values.undiluted[1], values.feed[1], values.metal["copper"][1]) == (90, 99, 0.36)
-    assert any(
-        "there come to the mill 0.9 (mining recovery), and with each of these 0.1 of grade 0" in note
-        for note in values.notes
-    )
-    assert any(
-        "a royalty of 5 % is taken off the gross revenue of every block, before selling costs" in note
-        for note in values.notes
-    )
-    assert any("a royalty of 0.5 USD a tonne of ore is part of the processing cost" in note for note in values.notes)
+    assert any("mining recovery 0.9, dilution 0.1 at zero grade" in note for note in values.notes)
+    assert any("royalty 5 % of gross revenue, before selling costs" in note for note in values.notes)
+    assert any("royalty 0.5 USD per tonne of ore, as part of the processing cost" in note for note in values.notes)
 
 
 def test_nothing_is_said_of_what_the_project_does_not_name(plan_folder):

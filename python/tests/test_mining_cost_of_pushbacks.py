@@ -63,8 +63,8 @@ def test_shells_and_costs_of_blocks_are_those_without_it(pushed, plan_folder):
 
 def test_it_is_told_and_shown(pushed):
     notes = read_record(pushed)["notes"]
-    where = "in pushbacks, years, net present values and schedules, not in the worth of blocks, shells and pushbacks"
-    assert f"by pushback a tonne costs 0, 1.5, 2.5 USD more to dig: {where}" in notes
+    where = "in the annual cash flow, the NPV and schedules, but not in block values and the cash flow of shells"
+    assert f"mining cost added by pushback: 0, 1.5, 2.5 USD per tonne, {where}" in notes
     assert "mining cost of pushbacks" in (pushed / "report.html").read_text()
 
 

@@ -84,7 +84,7 @@ def test_the_level_from_which_mining_costs_more_is_told_where_it_was_chosen(plan
     notes = pitplan.prepare(
         plan_folder(rows(1, 1, 3), PROJECT, ("mining_cost = 2\n", f"mining_cost = 2\n{text}"))
     ).notes
-    assert any("mining costs more for each level below" in note for note in notes) == is_told
+    assert any("the mining cost rises with each bench below" in note for note in notes) == is_told
 
 
 def test_one_far_block_above_changes_no_cost(plan_folder):
@@ -98,7 +98,7 @@ def test_one_far_block_above_changes_no_cost(plan_folder):
     )
     for plan in (near, both):
         assert (plan.blocks.set_index("name").loc["b3-0-0", "mining_cost"]) == 250
-        assert any("below that of 20 to 30 m, the highest of which ore needs a block" in note for note in plan.notes)
+        assert any("bench below 20 to 30 m, the highest bench that ore depends on" in note for note in plan.notes)
     assert pitplan.solve(near).worth.tolist() == pitplan.solve(both).worth.tolist()
 
 
@@ -159,8 +159,8 @@ def test_whole_money_is_rounded_and_said(plan_folder):
     assert plan.values.revenue.max() == 445 * MILLION
     assert (said.values, said.changed, said.largest) == (8, 4, Decimal("0.445"))
     assert (
-        "revenue: 4 of 8 amounts were rounded, by 0.44 at most" in plan.notes
-        or "revenue: 4 of 8 amounts were rounded, by 0.45 at most" in plan.notes
+        "revenue: 4 of 8 amounts were rounded, by at most 0.44" in plan.notes
+        or "revenue: 4 of 8 amounts were rounded, by at most 0.45" in plan.notes
     )
     assert plan.values.roundings["mining cost"].changed == 0
 
@@ -230,13 +230,13 @@ def test_a_block_that_yields_a_millionth_is_weighed(plan_folder):
     ("unit", "grade", "said"),
     [
         ("percent", 100.5, "WARNING: 2 grades of copper are above 100 %, the first in row 3"),
-        ("percent", 11, 'WARNING: the mean grade of copper, where there is any, is 11 %: is the unit "percent" right?'),
+        ("percent", 11, 'WARNING: the mean grade of copper in blocks above 0 is 11 %: check the unit "percent"'),
         (
             "fraction",
             0.336,
-            'WARNING: the mean grade of copper, where there is any, is 0.336 t/t: is the unit "fraction" right?',
+            'WARNING: the mean grade of copper in blocks above 0 is 0.336 t/t: check the unit "fraction"',
         ),
-        ("gram_per_tonne", 4000, 'is 4000 g/t: is the unit "gram_per_tonne" right?'),
+        ("gram_per_tonne", 4000, 'is 4000 g/t: check the unit "gram_per_tonne"'),
         ("percent", 9, ""),
         ("gram_per_tonne", 90, ""),
     ],
@@ -251,6 +251,6 @@ def test_grades_that_a_unit_hardly_allows_are_warned_of(plan_folder, unit, grade
 def test_rocks_without_recovery_are_told(plan_folder):
     table = rows(2, 1, 2, cu=lambda i, j, k: 0.5, rock=lambda i, j, k: "RS"[k])
     plan = pitplan.prepare(plan_folder(table, PROJECT, ("recovery = 0.5", "recovery = { R = 0.5, OLD = 0.4 }")))
-    assert "2 blocks of rock S have no recovery of copper and yield none of it" in plan.notes
-    assert "recovery of copper names rock OLD, which no block is of" in plan.notes
+    assert "2 blocks of rock type S have no recovery of copper and yield none" in plan.notes
+    assert "recovery of copper names rock type OLD, which no block has" in plan.notes
     assert plan.values.ore.tolist() == [2, 3]

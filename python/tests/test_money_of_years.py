@@ -89,10 +89,10 @@ def test_shells_and_ore_keep_the_one_price(mine):
         plain.values.mining.tolist() == other.values.mining.tolist()
         and plain.values.revenue.tolist() == other.values.revenue.tolist()
     )
-    (note,) = [note for note in other.notes if note.startswith("years have")]
+    (note,) = [note for note in other.notes if "enter the annual cash flow" in note]
     assert note == (
-        "years have a fixed cost of 100 USD a year and capex and prices of their own: in years, net present values and schedules, not in "
-        "the worth of blocks, shells and pushbacks"
+        "fixed costs of 100 USD a year and capex and yearly prices enter the annual cash flow, the NPV and schedules, "
+        "but not block values and the choice of shell"
     )
 
 

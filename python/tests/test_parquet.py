@@ -44,7 +44,7 @@ def test_it_is_planned_as_the_same_table_as_text(in_parquet, plan_folder):
     found = pitplan.prepare(in_parquet(table.assign(more=1)))
     text = pitplan.prepare(plan_folder(table.assign(cu=[round(float(it), 1) for it in table["cu"]])))
     pd.testing.assert_frame_equal(found.blocks, text.blocks)
-    assert any("columns not used: more" in line for line in found.summary)
+    assert any("unused columns: more" in line for line in found.summary)
 
 
 @pytest.mark.skipif(not HAS_PYARROW, reason="needs pyarrow, which Debian 12 does not have")

@@ -168,8 +168,8 @@ def test_the_widths_of_the_page_are_those_of_the_example():
         divided(4, None, None, 1.0, 40, 40),
     )
     before, after, many = (pitplan.pushbacks.nested.table(it) for it in (shells, wide, four))
-    (note,) = [note for note in wide.notes if "blocks are dug" in note]
-    later, more = (int(re.search(rf"([\d,]+) {word}", note)[1]) for word in ("later", "besides"))
+    (note,) = [note for note in wide.notes if "blocks moved" in note]
+    later, more = (int(re.search(rf"([\d,]+) {word}", note)[1]) for word in ("later", "additionally"))
     assert (
         f"are {' and '.join(map(str, after['blocks']))} blocks: of the {' and '.join(map(str, before['blocks']))} that the shells add"
         in PAGE

@@ -130,7 +130,7 @@ def test_nodes_by_hand(plan_folder, tmp_path):
     ]
     assert block[told].tolist() == [2560, 300, 5760, 1300, 5760, 1300]
     assert (
-        "1 blocks have a node for processing: the cut-off moves with the price, and 1 nodes more for processes that are better from a greater price on"
+        "1 potential ore blocks have a processing node, and 1 more for processes that are better at higher prices; the cut-off is re-evaluated at every revenue factor"
         in plan.notes
     )
     assert plan.project.schedule.processing_capacity == 400

@@ -40,7 +40,7 @@ def pushed(plan_folder, table, words, text=PROJECT):
     notes = [
         note
         for note in read_record(project.folder / "pushbacks")["notes"]
-        if "blocks are dug" in note or "too small" in note
+        if "blocks moved" in note or "too small" in note
     ]
     return found, blocks_of(project.folder / "pushbacks")["pushback"], notes
 
@@ -53,7 +53,9 @@ def test_a_notch_in_the_pit_is_filled_where_that_costs_less(plan_folder):
     assert found["blocks"][1] == 8 + 20 + 2 and found["undiscounted_cash_flow"][1] == 8 * 6800 - 20 * 200 - 400
     assert found["value_lost_to_width"][1] == 400 and found["min_width"][1] == 30 and found["pieces"][1] == 1
     assert pushback["b5-3-0"] == pushback["b6-3-1"] == 1
-    assert notes == ["for width 20 m blocks are dug: 0 earlier (0 t), 0 later (0 t), 2 besides (200 t), 0 never (0 t)"]
+    assert notes == [
+        "blocks moved to meet the minimum mining width 20 m: 0 earlier (0 t), 0 later (0 t), 2 additionally (200 t), 0 never (0 t)"
+    ]
     narrow, pushback, _ = pushed(plan_folder, table, "count = 1")
     assert (narrow["blocks"][1], narrow["value_lost_to_width"][1], narrow["min_width"][1]) == (28, 0, 10)
     assert pushback["b5-3-0"] == 0
@@ -62,16 +64,16 @@ def test_a_notch_in_the_pit_is_filled_where_that_costs_less(plan_folder):
 def test_a_rich_spur_is_widened_and_a_poor_one_is_left(plan_folder):
     """Beside a square of three: to widen a spur of one block costs one at the floor and two above it. The poor one gains 400 - 200."""
     for grade, cost, blocks, told in (
-        (RICH, 600, 30 + 1 + 1 + 3, "3 besides (300 t), 0 never"),
-        (POOR, 200, 30, "0 besides (0 t), 2 never"),
+        (RICH, 600, 30 + 1 + 1 + 3, "3 additionally (300 t), 0 never"),
+        (POOR, 200, 30, "0 additionally (0 t), 2 never"),
     ):
         grades = dict.fromkeys(square(3, 2, 3), RICH) | {(6, 3): grade}
         found, pushback, notes = pushed(plan_folder, floor(grades), "count = 1\nmin_mining_width = 20")
         assert (found["value_lost_to_width"][1], found["blocks"][1]) == (cost, blocks)
         assert told in notes[0] and (pushback["b6-3-0"] > 0) == (grade == RICH)
         left = [
-            "too small to mine and left: 1 block, 100 t, about 65, 35, 5",
-            "too small to mine and left: 1 block, 100 t, about 75, 35, 15",
+            "too small to mine: 1 block, 100 t, about 65, 35, 5",
+            "too small to mine: 1 block, 100 t, about 75, 35, 15",
         ]
         assert sorted(notes[1:]) == ([] if grade == RICH else left)
 
@@ -115,7 +117,7 @@ def test_a_pushback_that_hardly_keeps_anything_is_told(plan_folder):
     table = rows(10, 10, 1, cu=lambda i, j, k: RICH if (i, j) in rich else 0.6 if (i, j) in square(1, 1, 6) else 0)
     project = load(plan_folder(table, with_pushbacks("revenue_factors = [0.4, 1.0]\nmin_mining_width = 30", PROJECT)))
     assert pitplan.write_pushbacks(project)["blocks"].tolist() == [0, 36]
-    told = "WARNING: for its width pushback 1 has 0 t of 1,600 t in its shell: the pit holds fewer pushbacks so wide"
+    told = "WARNING: at this width pushback 1 keeps 0 of 1,600 t of its shell; reduce the number or width of pushbacks"
     assert told in read_record(project.folder / "pushbacks")["notes"]
 
 

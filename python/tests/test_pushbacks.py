@@ -51,7 +51,11 @@ def test_three_shells_of_like_tonnage_are_three_pushbacks(plan_folder):
     folder = project.folder / "pushbacks"
     assert blocks_of(folder)["pushback"].to_dict() == {f"b{i}-0-{k}": i + 1 for i in range(3) for k in range(2)}
     pd.testing.assert_frame_equal(pd.read_csv(folder / "pushbacks.csv").set_index("pushback"), table, check_dtype=False)
-    assert not [note for note in read_record(folder)["notes"] if "pushbacks are asked" in note or "no factor" in note]
+    assert not [
+        note
+        for note in read_record(folder)["notes"]
+        if "pushbacks" in note and "the shells make" in note or "no revenue factor" in note
+    ]
 
 
 @pytest.mark.parametrize(
@@ -60,23 +64,23 @@ def test_three_shells_of_like_tonnage_are_three_pushbacks(plan_folder):
         (
             "tonnes = 300",
             [0.5, 1.0],
-            "between the revenue factors 0.50 and 0.501 the shells grow by 200 t at once, from 200 to 400",
+            "between revenue factors 0.50 and 0.501 the shells grow by 200 t in one step, from 200 to 400",
         ),
         ("tonnes = 200", [0.5, 0.7, 1.0], None),
         ("tonnes = 1e6", [1.0], None),
-        ("count = 5", [0.351, 0.501, 1.0], "5 pushbacks are asked for, and the shells make 3"),
-        ("count = 7", [0.351, 0.501, 1.0], "7 pushbacks are asked for, and the shells make 3"),
+        ("count = 5", [0.351, 0.501, 1.0], "the shells make 3 of 5 pushbacks"),
+        ("count = 7", [0.351, 0.501, 1.0], "the shells make 3 of 7 pushbacks"),
         ("count = 1", [1.0], None),
         ("count = 2\nultimate_pit = 0.6", [0.5, 0.6], None),
         (
             "revenue_factors = [1.5, 0.351, 0.9]",
             [0.351, 0.9],
-            "the shell of revenue factor 1.50 has no rock that the one before has not",
+            "the shell of revenue factor 1.50 equals the one before and makes no pushback",
         ),
         (
             "revenue_factors = { from = 0.6, to = 0.8, step = 0.1 }",
             [0.6, 0.8],
-            "the shell of revenue factor 0.70 has no rock",
+            "the shell of revenue factor 0.70 equals the one before",
         ),
     ],
 )
@@ -87,8 +91,7 @@ def test_what_is_asked_for_by_count_tonnes_and_factors(plan_folder, words, facto
     found = [
         note
         for note in notes
-        if note.startswith(("between the revenue factors", "the shell of revenue factor"))
-        or "pushbacks are asked for" in note
+        if note.startswith(("between revenue factors", "the shell of revenue factor")) or "the shells make" in note
     ]
     assert [told] == [note[: len(told)] for note in found if told in note] if told else found == []
 
@@ -105,7 +108,7 @@ def test_a_jump_is_named_with_its_tonnes(plan_folder):
     found, notes = nested.even_shells(PushbackRules(2, None, None, None), 1.0, tonnes_at, project)
     assert found == {0.613: 900, 1.0: 1000} and len(set(asked)) == len(asked) < 40
     assert notes == [
-        "between the revenue factors 0.612 and 0.613 the shells grow by 900 t at once, from 0 to 900: no factor divides this rock"
+        "between revenue factors 0.612 and 0.613 the shells grow by 900 t in one step, from 0 to 900; no revenue factor divides it"
     ]
 
 
@@ -165,7 +168,7 @@ def test_the_last_pushback_ends_with_the_shell_that_is_selected(plan_folder):
     record = read_record(path.parent / "plan" / "pushbacks")
     assert record["shells"]["selected"] == 0.8
     assert (
-        "the last pushback ends with the shell of revenue factor 0.80, which shells selects: [pushbacks] ultimate_pit names another"
+        "the last pushback ends at the selected shell, revenue factor 0.80; [pushbacks] ultimate_pit sets another"
         in record["notes"]
     )
     # The project may name another, by the pushbacks' key or the shells'.
@@ -183,7 +186,7 @@ def test_where_no_shell_pays_the_last_pushback_is_that_of_the_price_as_given(pla
     )
     path = plan_folder(pillars(), with_pushbacks("count = 2", costs))
     assert pitplan.write_pushbacks(path)["revenue_factor"].iloc[-1] == 1.0
-    told = "WARNING: no shell has a net present value above 0: the last pushback ends with the shell of revenue factor 1.00"
+    told = "WARNING: no shell has an NPV above 0; the last pushback ends at the shell of revenue factor 1.00"
     assert told in read_record(path.parent / "plan" / "pushbacks")["notes"]
     ways = pitplan.write_schedule(path).set_index("method")
     assert ways.loc["lp", ["npv", "tonnes", "years"]].tolist() == [0, 0, 0]

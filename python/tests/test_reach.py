@@ -51,7 +51,7 @@ def test_shells_are_the_same(plan_folder, monkeypatch):
     monkeypatch.setattr(pitplan.blockmodel.grid, "MOST_BLOCKS", 3000)
     part, same = solved(path)
     assert part.grid.count == 384 and factors.equals(same) and len(factors) > 40
-    (note,) = [note for note in part.notes if "were left out: all" in note]
+    (note,) = [note for note in part.notes if "cropped to" in note]
     left, all_blocks = (int(number.replace(",", "")) for number in re.findall(r"([\d,]+) of ([\d,]+) blocks", note)[0])
     assert (left, all_blocks) == (len(whole.table) - len(part.table), len(whole.table))
     # Ore lies in columns 9 and 10, in row 8 on level 4 and in row 9 on level 5. Three levels up and more the cone is 0.84 x 30 m wide to a

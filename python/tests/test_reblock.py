@@ -34,9 +34,9 @@ def test_four_blocks_in_one_by_hand(plan_folder):
     assert block == {"name": "1-1-1", "x": 10, "y": 10, "z": 5, "tonnes": 1000, "cu": 0.7, "rock": "B", "region": "1"}
     assert plan.grid.size == (20, 20, 10) and plan.grid.shape == (1, 1, 1)
     for said in (
-        "4 rows were put together to 1 blocks of 20 x 20 x 10 m",
-        "of 1,000 t 400 are of another rock than their block",
-        "of 1,000 t 300 are of another region than their block",
+        "4 rows were reblocked into 1 blocks of 20 x 20 x 10 m",
+        "400 of 1,000 t differ in rock from their block",
+        "300 of 1,000 t differ in region from their block",
     ):
         assert said in plan.summary
 
@@ -93,8 +93,8 @@ def test_sub_blocks_by_hand(plan_folder):
     assert plan.table["x"].tolist() == [110, 130] and plan.table["tonnes"].tolist() == [4000, 2000.5]
     assert plan.table["cu"].tolist() == [0.3, round(1500 / 2000.5, 9)] and plan.table["rock"].tolist() == ["R", "R"]
     assert (
-        "of 6,000 t 500 are of another rock than their block" in plan.summary
-        or "of 6,000 t 501 are of another rock than their block" in plan.summary
+        "500 of 6,000 t differ in rock from their block" in plan.summary
+        or "501 of 6,000 t differ in rock from their block" in plan.summary
     )
 
 

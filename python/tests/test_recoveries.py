@@ -36,7 +36,7 @@ def test_between_two_grades_by_hand(plan_folder):
     (note,) = [note for note in pitplan.prepare(path).notes if "recovery of copper" in note]
     assert (
         note
-        == "recovery of copper goes by the grade at the mill; 2 of 5 blocks lie beyond 0.2 to 0.6 %, and have the recovery there"
+        == "recovery of copper depends on the head grade; 2 of 5 blocks lie outside 0.2 to 0.6 %, where it is constant"
     )
 
 
@@ -54,10 +54,7 @@ def test_a_fixed_tail_by_hand(plan_folder):
         row_of(0.5, 0.06), PROJECT, ("recovery = 0.5", "recovery = 0.5\ntail_grade = 0.05"), ("mining_cost = 2\n", text)
     )
     assert revenues(path) == [1750, 0]
-    assert (
-        "of each tonne that comes to the mill 0.05 % of copper are lost, whatever it holds"
-        in pitplan.prepare(path).notes
-    )
+    assert "constant tail of copper: 0.05 % of every tonne of feed are lost" in pitplan.prepare(path).notes
 
 
 def test_by_rock(plan_folder):

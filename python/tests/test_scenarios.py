@@ -317,7 +317,7 @@ def test_some_answers_are_gathered_on_request_alone(plan_folder):
     with pytest.raises(PlanError, match="1 of 3 scenarios have no answer, first sim_2: was not solved"):
         pitplan.gather(shared.folder)
     notes = pitplan.gather(shared.folder, Request(partial=True, revenue_factor=1.5)).notes
-    assert "WARNING: 1 scenarios have no answer and are left out of everything" in notes
+    assert "WARNING: 1 scenarios have no result and are left out of all tables and figures" in notes
     blocks = pd.read_csv(shared.folder / "probability.csv")
     assert (
         blocks["name"].tolist() == ["b0-0-2", "b0-0-1", "b0-0-0"] and blocks["probability_1.50"].tolist() == [0.5] * 3
@@ -479,7 +479,7 @@ def test_answers_are_gathered_from_the_command_line(plan_folder, capsys):
     assert main([*words, "--partial"]) == 0
     said = capsys.readouterr()
     assert said.out == f"{shared.folder}\n"
-    assert "WARNING: 1 scenarios have no answer and are left out of everything" in said.err
+    assert "WARNING: 1 scenarios have no result and are left out of all tables and figures" in said.err
     assert likely(shared.folder) == [[0.5, 0.5, 0.5]] * 3
     assert worker.solve(str(shared.folder), 2).status == 0
     assert main([*words, "--revenue-factor", "0.50"]) == 0

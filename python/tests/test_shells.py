@@ -164,12 +164,12 @@ def test_pits_that_touch_the_model_are_warned_of(plan_folder):
     table = rows(5, 5, 3, cu=lambda i, j, k: 8 if (i, j, k) == (1, 2, 0) else 0)
     plan = pitplan.prepare(plan_folder(table))
     notes = shell_tables.edge_notes(plan, pitplan.solve(plan))
-    touched = [note.split(" of the model")[0] for note in notes]
+    touched = [note.split(" of the block model")[0] for note in notes]
     assert touched == [
-        f"WARNING: the greatest pit touches the {side}" for side in ("west side", "south side", "north side", "floor")
+        f"WARNING: the largest shell reaches the {side}" for side in ("west side", "south side", "north side", "floor")
     ]
     assert (
-        notes[0].endswith("in 3 blocks, from revenue factor 0.50 on: a larger model may give another pit")
+        notes[0].endswith("(3 blocks, from revenue factor 0.50); extend the model")
         or "blocks, from revenue factor 0.50" in notes[0]
     )
 

@@ -91,7 +91,7 @@ def test_the_command_line_tells_of_it(project, capsys):
     for words in ([], ["--quiet"]):
         assert main(["sensitivity", str(path), *words]) == 0
         told = capsys.readouterr().err.splitlines()
-        skin = "the pit's skin, 50.0 % of its rock, beyond the shell of revenue factor 0.60, is worth 800"
+        skin = "pit skin, 50.0 % of its tonnes, beyond the shell of revenue factor 0.60: undiscounted cash flow 800"
         assert [line for line in told if "skin" in line] == [line for line in told if line.startswith(skin)] != []
     assert told == record_of(path)["notes"] and "15 blocks lie on a grid of 5 x 3 x 1 = 15 cells" in told
 

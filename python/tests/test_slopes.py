@@ -201,7 +201,9 @@ def test_forty_levels_are_the_end_and_the_walls_say_what_came_out():
     wall = Wall(None, None, ((0.0, 45.0),))
     pattern = slope_patterns.pattern_of(wall, (100.0, 100.0, 1.0), Slopes(None, False, (wall,)))
     assert pattern.levels == 40 and pattern.offsets == ((0, 0, 1),)
-    words = "1 needs a block over 40 levels make walls of 90.0 to 90.0 degrees, +45.0 to +45.0 degrees off the asked"
+    words = (
+        "1 precedences per block over 40 benches, slopes of 90.0 to 90.0 degrees, slope error +45.0 to +45.0 degrees"
+    )
     assert words in pattern.sentence()
 
 
@@ -217,8 +219,8 @@ def test_each_wall_entry_takes_its_own_levels_and_the_record_names_them(plan_fol
     entries = f'domain = "hard"\n{steep}\n[[slopes.domains]]\ndomain = "soft"\npattern = "1:9"'
     plan = pitplan.prepare(plan_folder(table, PROJECT, ("precedence_benches = 3\n", ""), ('pattern = "1:5"', entries)))
     assert [walls["levels"] for walls in plan.record(mine_files.write(plan, tmp_path))["walls"]] == [23, 1]
-    assert any("needs a block over 23 levels make walls" in note for note in plan.notes)
-    assert any("9 needs a block over 1 level make walls" in note for note in plan.notes)
+    assert any("precedences per block over 23 benches, slopes" in note for note in plan.notes)
+    assert any("9 precedences per block over 1 bench, slopes" in note for note in plan.notes)
 
 
 def test_azimuth_90_is_the_east_wall(plan_folder):
@@ -310,7 +312,10 @@ def test_needs_that_leave_the_grid_at_its_sides_are_counted(plan_folder, tmp_pat
     # Of the nine lower blocks the four corners lack two neighbours each, and the four edges one.
     record = plan.record(mine_files.write(plan, tmp_path))
     assert record["needs"]["clipped_at_the_sides"] == 4 * 2 + 4 * 1
-    assert "12 needs lead off the model's sides and were clipped: that ground is not known" in record["notes"]
+    assert (
+        "12 slope precedences leave the block model and are ignored, so slopes there are unconstrained"
+        in record["notes"]
+    )
 
 
 def test_steps_to_a_cell_of_a_cone_and_beside_it():
@@ -323,9 +328,7 @@ def test_steps_to_a_cell_of_a_cone_and_beside_it():
     )
 
 
-@pytest.mark.parametrize(
-    ("levels", "said"), [(1, "over 1 level make"), (2, "over 2 levels make"), (3, "over 3 levels make")]
-)
+@pytest.mark.parametrize(("levels", "said"), [(1, "over 1 bench,"), (2, "over 2 benches,"), (3, "over 3 benches,")])
 def test_walls_are_told_with_their_levels(plan_folder, levels, said):
     plan = pitplan.prepare(
         plan_folder(

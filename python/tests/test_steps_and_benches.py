@@ -69,7 +69,7 @@ def test_what_is_told_of_steps(plan_folder):
     assert (pattern.angles[90], pattern.angles[270]) == pytest.approx((45, 90))
     assert (
         pattern.sentence()
-        == "other regions, 3 steps of the project: 2 needs a block over 2 levels make walls of 45.0 to 90.0 degrees"
+        == "other domains, 3 offsets of the project: 2 precedences per block over 2 benches, slopes of 45.0 to 90.0 degrees"
     )
 
 
@@ -88,7 +88,7 @@ def test_benches_are_as_their_overall_angle(plan_folder):
     """Faces of 2 to 1: 10 m back for 20 up, and as much of a berm, are 45 degrees."""
     plans = [pitplan.prepare(plan_folder(deposit(), PROJECT, walls(text))) for text in (BENCH, "angle = 45")]
     assert plans[0].walls.patterns[0].offsets == plans[1].walls.patterns[0].offsets
-    note = "other regions, benches of 20 m with faces of 63.4349 degrees and berms of 10 m, 45 degrees: "
+    note = "other domains, benches of 20 m, face angle 63.4349 degrees, berms of 10 m, 45 degrees: "
     assert any(said.startswith(note) for said in plans[0].notes)
 
 

@@ -32,7 +32,7 @@ def expected(folder):
         "x: from 0 to 40 m, 4 cells of 10 m, centres in x",
         "y: from 0 to 30 m, 3 cells of 10 m, centres in y",
         "z: from 0 to 20 m, 2 cells of 10 m, centres in z",
-        "copper: cu, mean 1.625 and at most 2 %, priced by the tonne",
+        "copper: cu, mean 1.625, maximum 2 %, priced per tonne",
     ]
 
 
@@ -69,8 +69,8 @@ def test_columns_that_are_not_used_or_not_named(plan_folder, tmp_path):
     lines = prepare(box(plan_folder, *changes, notes=lambda i, j, k: "core")).summary
     assert lines == [
         *expected(tmp_path)[:4],
-        "columns not used: name, rock, region, notes",
-        "the project names no column of id, rock, region",
+        "unused columns: name, rock, region, notes",
+        "no column in the project: id, rock, region",
         *expected(tmp_path)[4:],
     ]
 
@@ -85,8 +85,8 @@ def test_gaps_between_blocks_are_cells(plan_folder):
 @pytest.mark.parametrize(
     ("words", "said"),
     [
-        ('density = "sg"', "60,000 tonnes in sg (tonnes a cubic metre) times the blocks' size"),
-        ('density = "sg"\nvolume = "m3"', "54,000 tonnes in sg (tonnes a cubic metre) times m3 (cubic metres)"),
+        ('density = "sg"', "60,000 tonnes in sg (t/m3) times the block size"),
+        ('density = "sg"\nvolume = "m3"', "54,000 tonnes in sg (t/m3) times m3 (m3)"),
     ],
 )
 def test_tonnes_of_a_density_name_their_columns(plan_folder, words, said):
@@ -106,10 +106,10 @@ def test_metals_in_grams_and_grades_that_cannot_be(plan_folder):
     more = {"au": lambda i, j, k: 1e6 if k else 0, "cu": lambda i, j, k: 100.5 if i + j + k == 0 else 0}
     lines = told(prepare(box(plan_folder, ("[slopes]\nlevels", GOLD + "\nlevels"), **more)))
     # 1,200 of 4,800 t, and 300 of 4,800 t with 100.5 %.
-    assert "gold: au, mean 2.5e+05 and at most 1e+06 g/t, priced by the gram" in lines
-    assert "copper: cu, mean 6.281 and at most 100.5 %, priced by the tonne" in lines
-    assert [line for line in lines if "more than the block" in line] == [
-        "WARNING: copper: 100.5 % is more than the block: the unit may be another"
+    assert "gold: au, mean 2.5e+05, maximum 1e+06 g/t, priced per gram" in lines
+    assert "copper: cu, mean 6.281, maximum 100.5 %, priced per tonne" in lines
+    assert [line for line in lines if "more metal than the block" in line] == [
+        "WARNING: copper: 100.5 % is more metal than the block weighs: check the unit"
     ]
 
 
@@ -120,7 +120,7 @@ def test_each_unit_has_its_limit(plan_folder, unit, most, whole):
     changes = [('unit = "percent"', f'unit = "{unit}"'), ("price = 8000", "price = 1")]
     for greatest, count in ((whole, 0), (most, 1)):
         lines = told(prepare(box(plan_folder, *changes, cu=lambda i, j, k: greatest)))
-        assert sum("is more than the block" in line for line in lines) == count
+        assert sum("is more metal than the block" in line for line in lines) == count
 
 
 def test_empty_fields_and_the_text_are_told(plan_folder):
@@ -128,8 +128,8 @@ def test_empty_fields_and_the_text_are_told(plan_folder):
     path = plan_folder(table, PROJECT, ('file = "blocks.csv"', 'file = "blocks.csv"\nempty = "zero"'))
     table.to_csv(path.parent / "blocks.csv", index=False, sep=";")
     lines = told(prepare(path))
-    assert "the table's fields are parted by semicolons: [table] separator names another sign" in lines
-    assert "WARNING: 6 tonnes or grades are empty, and taken as 0" in lines
+    assert "the fields are separated by semicolons; [table] separator sets another separator" in lines
+    assert "WARNING: 6 empty tonnes or grades are read as 0" in lines
 
 
 def test_a_table_without_tonnes_has_a_mean_of_nothing():
@@ -148,8 +148,8 @@ def test_scenarios_tell_the_grades_of_all_models(plan_folder, tmp_path, capsys):
     assert main(["scenarios", str(path), "--on", "parallel"]) == 0
     lines = capsys.readouterr().err.splitlines()
     assert f"{tmp_path / 'blocks.csv'}: 24 blocks in 24 cells, 4,800 tonnes in tonnes" in lines
-    assert "y: from 0 to 30 m, 3 cells of 10 m, centres in y" in lines and "columns not used: cu" in lines
-    assert "copper: sim_1 and so on, of 2 models, mean 0.1875 and at most 4 %, priced by the tonne" in lines
+    assert "y: from 0 to 30 m, 3 cells of 10 m, centres in y" in lines and "unused columns: cu" in lines
+    assert "copper: sim_1 and so on, of 2 realisations, mean 0.1875, maximum 4 %, priced per tonne" in lines
 
 
 def test_scenarios_of_a_folder_tell_its_models(plan_folder, tmp_path, capsys):
@@ -160,4 +160,4 @@ def test_scenarios_of_a_folder_tell_its_models(plan_folder, tmp_path, capsys):
         table = rows(4, 3, 2, cu=lambda i, j, k: 1.0 * number)[["name", "cu"]]
         table.to_csv(tmp_path / "realisations" / f"m{number}.csv", index=False)
     assert load(path).scenarios is not None and main(["scenarios", str(path), "--on", "parallel"]) == 0
-    assert "copper: cu and so on, of 3 models, mean 2 and at most 3 %, priced by the tonne" in capsys.readouterr().err
+    assert "copper: cu and so on, of 3 realisations, mean 2, maximum 3 %, priced per tonne" in capsys.readouterr().err

@@ -145,7 +145,7 @@ def test_a_plane_of_a_drawing_is_that_of_its_formula(plan_folder, tmp_path, shap
     assert plan.fixed.forced.tolist() == blocks.loc[above, "id"].tolist()
     assert 0 < len(plan.fixed.forced) < 72
     assert any(
-        "mined.dxf: " in note and "layer TOPO were read by ezdxf; no coordinates are transformed" in note
+        "mined.dxf: " in note and "layer TOPO, read by ezdxf; coordinates are not transformed" in note
         for note in plan.notes
     )
     assert [rule.differences for rule in looked_at(prepare(path)) if rule.name == "fixed"] == [()]
@@ -226,7 +226,7 @@ def test_strings_have_north_before_east(tmp_path):
     assert len(read(tmp_path / "topo.str", "*").points) == 6
     (polygon,) = areas(tmp_path / "topo.str").polygons
     assert polygon[0].tolist() == [[0, 0], [10, 0], [10, 10], [0, 0]]
-    assert "1 polygons of the layer 7 were read by pitplan" in areas(tmp_path / "topo.str").notes[0]
+    assert "1 polygons of the layer 7, read by pitplan" in areas(tmp_path / "topo.str").notes[0]
 
 
 def test_strings_that_are_written_are_read(plan_folder, tmp_path, without_figures):
@@ -297,7 +297,7 @@ def test_points_of_a_map(tmp_path, driver, ending):
     )
     assert read(path).points.tolist() == [[600001, 2, 3.25], [600004, 5, 6]]
     assert (
-        f"spots.{ending}: 2 points of the layer spots were read by GDAL; no coordinates are transformed"
+        f"spots.{ending}: 2 points of the layer spots, read by GDAL; coordinates are not transformed"
         in read(path).notes[0]
     )
 
@@ -428,7 +428,7 @@ def test_a_lease_of_a_drawing(plan_folder, tmp_path, shape):
     plan = prepare(load(path))
     assert plan.fixed.barred.tolist() == [3, 7]
     assert any(
-        "lease.dxf: 1 polygons of the layer LEASE were read by ezdxf; no coordinates are transformed" in note
+        "lease.dxf: 1 polygons of the layer LEASE, read by ezdxf; coordinates are not transformed" in note
         for note in plan.notes
     )
     assert [rule.differences for rule in looked_at(prepare(path)) if rule.name == "fixed"] == [()]
@@ -454,7 +454,7 @@ def test_a_polyline_in_another_is_no_hole(plan_folder, tmp_path):
     drawing(tmp_path / "lease.dxf", two)
     plan = prepare(load(plan_folder(rows(5, 1, 1), PROJECT + AREA + '"lease.dxf"\nexclude = "inside"\n')))
     assert plan.fixed.barred.tolist() == [0, 1, 2, 3]
-    said = "1 columns of blocks lie in several of its polygons, and none of these is a hole"
+    said = "1 columns of blocks lie in several polygons, which are not read as holes"
     assert f"WARNING: {tmp_path / 'lease.dxf'}: {said}" in plan.notes
 
 
@@ -479,7 +479,7 @@ def test_lines_that_are_not_closed(tmp_path):
         areas(drawing(tmp_path / "lease.dxf", open_line))
     found = areas(drawing(tmp_path / "both.dxf", open_line, closed_lease))
     assert len(found.polygons) == 1
-    assert "both.dxf: 1 open lines of the layer LEASE are passed over: close them" in found.notes[-1]
+    assert "both.dxf: 1 open lines of the layer LEASE are ignored: close them" in found.notes[-1]
 
 
 HOLED = "POLYGON ((-1 -1,41 -1,41 31,-1 31,-1 -1),(9 9,21 9,21 21,9 21,9 9))"
@@ -497,7 +497,7 @@ def test_a_polygon_with_a_hole_and_one_beside_it(plan_folder, tmp_path, driver, 
     path = plan_folder(rows(6, 4, 1), PROJECT + AREA + f'"lease.{ending}"\nexclude = "inside"\n')
     plan = prepare(load(path))
     assert plan.fixed.barred.tolist() == [0, 1, 2, 3, 4, 6, 8, 9, 12, 13, 14, 15]
-    assert any("2 polygons of the layer lease were read by GDAL" in note for note in plan.notes)
+    assert any("2 polygons of the layer lease, read by GDAL" in note for note in plan.notes)
     assert [rule.differences for rule in looked_at(prepare(path)) if rule.name == "fixed"] == [()]
 
 

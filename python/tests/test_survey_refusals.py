@@ -155,7 +155,7 @@ def far_lease(space):
 def test_what_lies_beside_the_model(plan_folder, tmp_path):
     """A lease outside of which nothing may be dug and a surface as mined are mistakes then; a river may well be elsewhere."""
     drawing(tmp_path / "lease.dxf", far_lease)
-    said = "lease.dxf: no block lies in it: its x go from 599999 to 600031 and y from -1 to 11, and those of the blocks from 5 to 35 and 5 to 5: are"
+    said = "lease.dxf: no block lies in its polygons: its x go from 599999 to 600031 and y from -1 to 11, and those of the blocks from 5 to 35 and 5 to 5: are"
     with pytest.raises(PlanError, match=said):
         prepare(load(plan_folder(rows(4, 1, 1), PROJECT + AREA + '"lease.dxf"\nexclude = "outside"\n')))
     plan = prepare(load(plan_folder(rows(4, 1, 1), PROJECT + AREA + '"lease.dxf"\nexclude = "inside"\n')))

@@ -60,9 +60,9 @@ def test_separator_and_decimal_commas_are_told_by_the_text(plan_folder, separato
     plain = pitplan.prepare(plan_folder(table))
     told = pitplan.prepare(plan_folder(table.to_csv(index=False, sep=separator, decimal=",")))
     pd.testing.assert_frame_equal(told.blocks, plain.blocks)
-    assert [note.split(":")[0] for note in told.notes[:2]] == [
-        f"the table's fields are parted by { {';': 'semicolons', chr(9): 'tabs', '|': 'bars'}[separator] }",
-        "the table's decimals are written with a comma",
+    assert [note.split(";")[0] for note in told.notes[:2]] == [
+        f"the fields are separated by { {';': 'semicolons', chr(9): 'tabs', '|': 'bars'}[separator] }",
+        "the decimals are written with a comma",
     ]
 
 
@@ -139,7 +139,7 @@ def test_empty_fields_are_taken_as_0_where_the_project_says_so(plan_folder):
     table = rows(2, 2, 2).astype(object)
     table.loc[[1, 2], "cu"] = ""
     plan = pitplan.prepare(plan_folder(table, PROJECT, ('id = "name"', 'id = "name"\nempty = "zero"')))
-    assert "2 empty fields were taken as 0" in plan.notes
+    assert "2 empty fields were read as 0" in plan.notes
     assert plan.table["cu"].tolist() == [0.0] * 8
 
 

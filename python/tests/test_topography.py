@@ -94,7 +94,7 @@ def test_what_is_told(plan_folder, tmp_path):
     """Of nine blocks of 100 t three are cut to the half, three are air and three are whole; one of those had no tonnes before."""
     plane(tmp_path, lambda x, y: x)
     plan = pitplan.prepare(plan_folder(rows(3, 1, 3, tonnes=lambda i, j, k: 100 * ((i, k) != (0, 2))), PROJECT, CUT))
-    said = "3 blocks are cut by this topography and 2 lie above it, which are air: of 800 t 450 lie below it"
+    said = "3 blocks are cut by this topography and 2 lie above it, as air; 450 of 800 t lie below it"
     assert [note for note in plan.notes if "topo.csv" in note] == [f"{tmp_path / 'topo.csv'}: {said}"]
     assert plan.table["tonnes"].sum() == 450
 
@@ -203,7 +203,7 @@ def test_faces_of_a_drawing(plan_folder, tmp_path):
         "b1-0-1": 0,
     }
     assert {name: found[name] for name in expected} == pytest.approx(expected, abs=1e-6)
-    assert any("2 triangles of the layer TOPO were read by ezdxf" in note for note in pitplan.prepare(path).notes)
+    assert any("2 triangles of the layer TOPO, read by ezdxf" in note for note in pitplan.prepare(path).notes)
 
 
 def test_faces_that_stand_twice_count_once(plan_folder, tmp_path):
@@ -252,8 +252,8 @@ def test_columns_beyond_the_points_are_left_whole(plan_folder, tmp_path):
     file = tmp_path / "topo.csv"
     warnings = [note for note in plan.notes if note.startswith("WARNING: ") and "topo" in note]
     assert warnings == [
-        f"WARNING: {file}: 2 columns of blocks lie beyond it, whose blocks are left whole",
-        f"WARNING: {file}: 1 columns of blocks are covered in part, and their blocks cut by that part",
+        f"WARNING: {file}: 2 columns of blocks lie beyond it; their blocks are not cut",
+        f"WARNING: {file}: 1 columns of blocks are partly covered; their blocks are cut by that part",
     ]
     assert [rule.differences for rule in looked_at(plan)] == [()] * 11
 
@@ -263,7 +263,9 @@ def test_rock_that_the_table_lacks_is_told(plan_folder, tmp_path):
     plane(tmp_path, lambda x, y: 21)
     table = rows(2, 1, 3)
     plan = pitplan.prepare(plan_folder(table[(table["x"] < 10) | (table["z"] < 10)], PROJECT, CUT))
-    said = "over 1 columns of blocks it lies more than a block above their highest row: rock there is not in the table"
+    said = (
+        "over 1 columns of blocks it lies more than one block above the highest row: material there is not in the table"
+    )
     assert any(note == f"WARNING: {tmp_path / 'topo.csv'}: {said}" for note in plan.notes)
 
 

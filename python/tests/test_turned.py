@@ -88,7 +88,7 @@ def test_the_azimuth_is_found(plan_folder, degrees, size, decimals):
         abs(plan.grid.azimuth - degrees) < 0.001 and plan.grid.size == (10, 10, 10) and plan.grid.shape == (2, 35, 40)
     )
     assert any(
-        f"the grid's north has azimuth {plan.grid.azimuth:.10g}, as the centres tell" in line for line in plan.summary
+        f"grid north has azimuth {plan.grid.azimuth:.10g}, found from the centroids" in line for line in plan.summary
     )
 
 

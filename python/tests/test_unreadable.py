@@ -113,7 +113,7 @@ def test_what_a_run_says_of_a_column_stays_on_its_line(plan_folder, capsys):
     pitplan.prepare(
         plan_folder(rows(3, 2, 2).assign(**{"a\nb": 1})), progress=pitplan.core.progress.on_standard_error()
     )
-    assert "columns not used: a\\nb\n" in capsys.readouterr().err
+    assert "unused columns: a\\nb\n" in capsys.readouterr().err
 
 
 def made_of(kind, place):

@@ -104,7 +104,9 @@ def test_rock_of_scenarios_that_the_project_does_not_give_is_found(plan_folder, 
 
 
 def with_absent(project, changed):
-    return replace(project, table=replace(project.table, missing_blocks=replace(project.table.missing_blocks, **changed)))
+    return replace(
+        project, table=replace(project.table, missing_blocks=replace(project.table.missing_blocks, **changed))
+    )
 
 
 def surfaced(plan_folder, tmp_path, points):

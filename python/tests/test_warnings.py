@@ -19,7 +19,7 @@ def test_a_price_by_the_pound_is_warned_of(plan_folder):
     """Copper at 4 USD a tonne pays in no block, and at 4 USD a pound, 8818 a tonne, in each."""
     (said,) = warnings_of(plan_folder(ore(), PROJECT, ("price = 8000", "price = 4.0")))
     hint = 'set price_per = "lb" if a price is per lb'
-    assert said == f"WARNING: processing pays in no block, copper at 4 USD per t: {hint}"
+    assert said == f"WARNING: no block pays for its processing, copper at 4 USD per t: {hint}"
     assert not warnings_of(plan_folder(ore(), PROJECT, ("price = 8000", 'price = 4.0\nprice_per = "lb"')))
 
 
@@ -30,16 +30,16 @@ def test_a_table_without_metal_is_not_warned_of_its_price(plan_folder):
 @pytest.mark.parametrize(("tonnes", "is_warned"), [(2.65, True), (2650, False), (265_000, True), (100, False)])
 def test_tonnes_that_do_not_fit_the_blocks_are_warned_of(plan_folder, tonnes, is_warned):
     """Blocks of 1,000 cubic metres in kilotonnes, tonnes, and hundredfold."""
-    found = [note for note in warnings_of(plan_folder(ore(tonnes=lambda i, j, k: tonnes))) if "cubic metre" in note]
+    found = [note for note in warnings_of(plan_folder(ore(tonnes=lambda i, j, k: tonnes))) if "density" in note]
     assert len(found) == is_warned
     if is_warned:
-        assert f"blocks of 10 x 10 x 10 m hold {tonnes / 1000:.3g} tonnes a cubic metre" in found[0]
+        assert f"blocks of 10 x 10 x 10 m have a density of {tonnes / 1000:.3g} t/m3" in found[0]
 
 
 def test_cut_blocks_do_not_make_a_model_light(plan_folder):
     """Nine of ten blocks hold a hundredth of their rock, as a ground between levels leaves them; the tenth tells."""
     table = rows(10, 2, 1, cu=lambda i, j, k: 1, tonnes=lambda i, j, k: 2600 if i < 2 else 26)
-    assert not [note for note in warnings_of(plan_folder(table)) if "cubic metre" in note]
+    assert not [note for note in warnings_of(plan_folder(table)) if "density" in note]
 
 
 def test_warnings_come_last_and_apart(plan_folder, capsys, without_figures):
@@ -50,7 +50,7 @@ def test_warnings_come_last_and_apart(plan_folder, capsys, without_figures):
     first = next(number for number, line in enumerate(lines) if line.startswith("WARNING"))
     assert lines[first - 1] == "" and lines[first - 2].strip()
     assert all(line.startswith("WARNING") for line in lines[first:] if line)
-    assert sum("140 % is more than the block" in line for line in lines) == 1
+    assert sum("140 % is more metal than the block" in line for line in lines) == 1
 
 
 def test_a_new_project_warns_of_codes_for_missing_values(tmp_path, capsys):
@@ -60,5 +60,5 @@ def test_a_new_project_warns_of_codes_for_missing_values(tmp_path, capsys):
     table.drop(columns=["rock", "region"]).rename(columns={"cu": "cu_pct"}).to_csv(tmp_path / "model.csv", index=False)
     assert main(["init", str(tmp_path / "model.csv")]) == 0
     said = capsys.readouterr().err
-    assert "WARNING: cu_pct: 3 values are below 0, most often -99 (3): is that the code of a missing value?" in said
-    assert "WARNING: tonnes: 3 values are below 0, most often -99 (3)" in said
+    assert "WARNING: cu_pct: 3 values are negative, most often -99 (3): is that the code of a missing value?" in said
+    assert "WARNING: tonnes: 3 values are negative, most often -99 (3)" in said

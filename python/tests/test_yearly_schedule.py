@@ -136,8 +136,8 @@ def test_the_command_line_tells_the_ways(plan_folder, capsys):
         ["lp", "3,971.45"],
     ]
     assert (
-        "the lead that earns most" in said.err
-        and "no schedule of these pushbacks of up to 4 years that keeps these limits and sends each block to its assigned process earns more than"
+        "the lead with the highest NPV" in said.err
+        and "upper bound on the NPV of any schedule of these pushbacks of up to 4 years within these limits that sends each block to its assigned process: "
         in said.err
     )
     assert (path.parent / "plan" / "schedule" / "report.html").exists()
@@ -393,5 +393,5 @@ def test_an_interruption_keeps_what_is_found_so_far(plan_folder, capsys, monkeyp
     folder = path.parent / "plan" / "schedule"
     told = json.loads((folder / "schedule.json").read_text())
     assert list(told["methods"]) == ["rule"] and told["upper_bound"] is None and told["interrupted"]
-    assert "interrupted before all ways were found" in capsys.readouterr().err
+    assert "interrupted before all methods had finished" in capsys.readouterr().err
     assert wrong(folder) == set() and (folder / "report.html").exists()

@@ -117,7 +117,7 @@ def by_values(frame: pd.DataFrame, known: dict[str, Guess]) -> dict[str, Guess]:
     taken = {guess.column for guess in known.values()}
     lattices = [name for name in map(str, frame.columns) if name not in taken and is_lattice(frame, name)]
     missing = [axis for axis in CENTRES if axis not in known]
-    return {axis: Guess(name, "by its values, which lie at equal steps") for axis, name in zip(missing, lattices)}
+    return {axis: Guess(name, "by its equally spaced values") for axis, name in zip(missing, lattices)}
 
 
 def is_lattice(frame: pd.DataFrame, name: str) -> bool:
@@ -150,16 +150,16 @@ def metal_of(frame: pd.DataFrame, name: str) -> Optional[MetalGuess]:
     metal, joined = METALS[sign], "".join(rest)
     unit = "percent" if "%" in rest else next((UNITS[word] for word in (*rest, joined) if word in UNITS), "")
     if unit:
-        return MetalGuess(metal, name, unit, "unit by the column's name")
+        return MetalGuess(metal, name, unit, "unit from the column name")
     mean = float(frame.loc[frame[name] > 0, name].mean())
     if metal in PRECIOUS or mean > RICH.get(metal, RICHEST):
         return MetalGuess(
             metal,
             name,
             "gram_per_tonne",
-            "unit as is usual for this metal" if metal in PRECIOUS else "unit by its values",
+            "usual unit for this metal" if metal in PRECIOUS else "unit from its values",
         )
-    return MetalGuess(metal, name, "percent", "unit as is usual for this metal")
+    return MetalGuess(metal, name, "percent", "usual unit for this metal")
 
 
 def first_of_each(found: list[MetalGuess]) -> tuple[MetalGuess, ...]:

@@ -63,8 +63,8 @@ def sentence_of(file: Path, before: np.ndarray, after: np.ndarray, mined: np.nda
     """Numbers of blocks mined wholly and in part, and the tonnes before and after."""
     whole, part = (np.count_nonzero((mined >= MINED) & some) for some in (after == 0, after > 0))
     return (
-        f"{file}: {whole:,} blocks are mined out and {part:,} in part, at least {100 * MINED:g} % of each: of {before.sum():,.0f} t "
-        f"{after.sum():,.0f} t remain"
+        f"{file}: {whole:,} blocks are mined out and {part:,} are partly mined, by at least {100 * MINED:g} % each; "
+        f"{after.sum():,.0f} of {before.sum():,.0f} t remain"
     )
 
 
@@ -109,13 +109,13 @@ class Surface:
         over = np.unique(grid.rows % grid.per_level)
         between, unknown = np.count_nonzero(self.between[over]), np.count_nonzero(np.isinf(self.height[over]))
         found = (
-            [f"{file}: over {between:,} columns of blocks the surface was laid between the points round them"]
+            [f"{file}: over {between:,} columns of blocks the surface was interpolated from the points around them"]
             if between
             else []
         )
         if unknown:
             found.append(
-                f"WARNING: {file}: {unknown:,} columns of blocks lie beyond all points and are taken as not mined"
+                f"WARNING: {file}: {unknown:,} columns of blocks lie beyond all points and are treated as not mined"
             )
         return found
 

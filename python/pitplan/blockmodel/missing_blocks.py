@@ -57,12 +57,16 @@ def notes(frame: pd.DataFrame, grid: Grid, project: Project) -> list[str]:
     air = grid.count - len(frame) - len(left)
     found = [f"{air:,} cells lie above the highest row of their column and are air"] if air else []
     if isinstance(absent, MissingRock):
-        found.append(f"cells below a row, or in columns without rows, were taken as {absent.tonnes:g} t of rock each")
+        found.append(
+            f"missing blocks (below a row, or in columns without rows) are filled with {absent.tonnes:g} t each"
+        )
     elif len(left) and absent == "air":
-        found.append(f"WARNING: {len(left):,} cells below a row, or in columns without rows, are taken as air")
+        found.append(
+            f"WARNING: {len(left):,} missing blocks (below a row, or in columns without rows) are treated as air"
+        )
     elif len(left):
         found.append(
-            f"{len(left):,} cells below a row, or in columns without rows, are not known: no shell may reach them"
+            f"{len(left):,} missing blocks (below a row, or in columns without rows); a shell that reaches one is rejected"
         )
     return found
 

@@ -28,8 +28,8 @@ def of_tonnes(tonnes: np.ndarray, grid: Grid) -> list[str]:
     size = " x ".join(f"{side:.10g}" for side in grid.size)
     found = light if light < LIGHT else heavy
     return [
-        f"{WARNING}blocks of {size} m hold {found:.3g} tonnes a cubic metre, and rock has {LIGHT:g} to {HEAVY:g}: are the tonnes whole "
-        "blocks', in tonnes, and the block size right?"
+        f"{WARNING}blocks of {size} m have a density of {found:.3g} t/m3, outside {LIGHT:g} to {HEAVY:g}: check that the tonnes "
+        "are of whole blocks, in tonnes, and the block size"
     ]
 
 
@@ -42,7 +42,7 @@ def of_prices(pays: np.ndarray, metals: Sequence[Metal], grades: Sequence[np.nda
     )
     natural = dict.fromkeys(metal.quantity for metal in metals if metal.price_per is None)
     hints = [f'set price_per = "{SOLD_BY[unit]}" if a price is per {SOLD_BY[unit]}' for unit in natural]
-    return [f"{WARNING}processing pays in no block, {listed}{': ' if hints else ''}{', '.join(hints)}"]
+    return [f"{WARNING}no block pays for its processing, {listed}{': ' if hints else ''}{', '.join(hints)}"]
 
 
 def of_codes(name: str, values: np.ndarray) -> list[str]:
@@ -52,5 +52,5 @@ def of_codes(name: str, values: np.ndarray) -> list[str]:
         return []
     codes, counts = np.unique(below, return_counts=True)
     most = int(counts.argmax())
-    said = f"{len(below):,} values are below 0, most often {codes[most]:g} ({counts[most]:,})"
+    said = f"{len(below):,} values are negative, most often {codes[most]:g} ({counts[most]:,})"
     return [f"{WARNING}{name}: {said}: is that the code of a missing value?"]

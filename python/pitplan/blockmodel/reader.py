@@ -96,9 +96,9 @@ def notes_of(form: TableFormat, columns: TableColumns) -> list[str]:
     """What was told by looking at the table, where it is not what one expects."""
     found = []
     if columns.separator is None and form.separator != ",":
-        found.append(f"the table's fields are parted by {NAMES[form.separator]}: [table] separator names another sign")
+        found.append(f"the fields are separated by {NAMES[form.separator]}; [table] separator sets another separator")
     if columns.decimal is None and form.decimal != ".":
-        found.append('the table\'s decimals are written with a comma: [table] decimal = "." takes them otherwise')
+        found.append('the decimals are written with a comma; [table] decimal = "." reads them otherwise')
     return found
 
 

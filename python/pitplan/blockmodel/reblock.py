@@ -76,7 +76,7 @@ def of_table(table: Table, project: Project) -> Reblocked:
     places, parts = parts_of(table.frame[project.table.tonnes].to_numpy(), lattice)
     frame, mixed = put_together(table.frame, lattice.centres(places), places, parts, project)
     x, y, z = (grids.metres(side) for side in lattice.size)
-    notes = [f"{len(table.frame):,} rows were put together to {len(frame):,} blocks of {x} x {y} x {z} m", *mixed]
+    notes = [f"{len(table.frame):,} rows were reblocked into {len(frame):,} blocks of {x} x {y} x {z} m", *mixed]
     project = replace(project, grid=GridRules(lattice.size, project.grid.tolerance, lattice.frame.azimuth))
     blocks = replace(table, frame=frame, source=f"reblocked {table.source}", notes=(*table.notes, *notes))
     return Reblocked(blocks, project, parts)
@@ -155,7 +155,7 @@ def put_together(
     )
     for code in filter(None, (columns.rock_type, columns.domain)):
         result[code], other = parts.most(frame[code].to_numpy())
-        mixed.append(f"of {parts.tonnes.sum():,.0f} t {other:,.0f} are of another {code} than their block")
+        mixed.append(f"{other:,.0f} of {parts.tonnes.sum():,.0f} t differ in {code} from their block")
     for mark in filter(None, dict.fromkeys((fixed.must_mine, fixed.exclude) if fixed else ())):
         result[mark] = parts.greatest(frame[mark].to_numpy())
     return result, mixed

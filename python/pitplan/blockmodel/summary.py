@@ -52,8 +52,8 @@ class Grade:
     @property
     def line(self) -> str:
         sign, quantity = GRADE_SIGNS[self.unit], METAL_UNITS[self.unit]
-        amounts = f"mean {self.mean:.4g} and at most {self.greatest:.4g} {sign}"
-        return f"{self.metal}: {self.column}, {amounts}, priced by the {'gram' if quantity == 'g' else 'tonne'}"
+        amounts = f"mean {self.mean:.4g}, maximum {self.greatest:.4g} {sign}"
+        return f"{self.metal}: {self.column}, {amounts}, priced per {'gram' if quantity == 'g' else 'tonne'}"
 
     @property
     def doubts(self) -> list[str]:
@@ -62,7 +62,7 @@ class Grade:
         if self.greatest <= whole:
             return []
         return [
-            f"WARNING: {self.metal}: {self.greatest:.4g} {GRADE_SIGNS[self.unit]} is more than the block: the unit may be another"
+            f"WARNING: {self.metal}: {self.greatest:.4g} {GRADE_SIGNS[self.unit]} is more metal than the block weighs: check the unit"
         ]
 
 
@@ -94,9 +94,9 @@ def of_ground(table: Table, grid: Grid, project: Project) -> list[str]:
     lines += [axis.line for axis in axes_of(grid, columns)]
     lines += not_used(table.unused)
     missing = [name for name in OPTIONAL if getattr(columns, name) is None]
-    lines += [f"the project names no column of {', '.join(missing)}"] if missing else []
+    lines += [f"no column in the project: {', '.join(missing)}"] if missing else []
     lines += table.notes
-    return lines + ([f"WARNING: {table.filled:,} tonnes or grades are empty, and taken as 0"] if table.filled else [])
+    return lines + ([f"WARNING: {table.filled:,} empty tonnes or grades are read as 0"] if table.filled else [])
 
 
 def of_grades(grades: Sequence[Grade]) -> list[str]:
@@ -106,9 +106,9 @@ def of_grades(grades: Sequence[Grade]) -> list[str]:
 
 def turned_line(grid: Grid, project: Project) -> str:
     """By how much a grid is turned, who says so, and from where it counts."""
-    told = "as the centres tell" if project.grid.azimuth is None else "as [grid] azimuth says"
+    told = "found from the centroids" if project.grid.azimuth is None else "set by [grid] azimuth"
     x, y = (metres(round(place, 2)) for place in (grid.frame.x, grid.frame.y))
-    return f"the grid's north has azimuth {grid.azimuth:.10g}, {told}: pictures count along its axes from its corner at {x}, {y}"
+    return f"grid north has azimuth {grid.azimuth:.10g}, {told}; figures use the axes of the grid, from its corner at {x}, {y}"
 
 
 def axes_of(grid: Grid, columns: TableColumns) -> list[Axis]:
@@ -129,10 +129,10 @@ def rock_of(columns: TableColumns) -> str:
     """The column of tonnes, or those that make them, with units."""
     if columns.density is None:
         return columns.tonnes
-    volume = f"{columns.volume} (cubic metres)" if columns.volume else "the blocks' size"
-    return f"{columns.density} (tonnes a cubic metre) times {volume}"
+    volume = f"{columns.volume} (m3)" if columns.volume else "the block size"
+    return f"{columns.density} (t/m3) times {volume}"
 
 
 def not_used(names: Sequence[str]) -> list[str]:
     """A line that names the table's columns of which nothing is taken; none where there are no such."""
-    return [f"columns not used: {', '.join(names)}"] if names else []
+    return [f"unused columns: {', '.join(names)}"] if names else []

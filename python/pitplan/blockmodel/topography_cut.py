@@ -78,8 +78,8 @@ def told(before: np.ndarray, after: np.ndarray) -> str:
     """How many blocks of rock are cut, how many are air, and the tonnes before and after."""
     air, part = (after == 0) & (before > 0), (after > 0) & (after < before)
     return (
-        f"{np.count_nonzero(part):,} blocks are cut by this topography and {np.count_nonzero(air):,} lie above it, which are air: of "
-        f"{before.sum():,.0f} t {after.sum():,.0f} lie below it"
+        f"{np.count_nonzero(part):,} blocks are cut by this topography and {np.count_nonzero(air):,} lie above it, as air; "
+        f"{after.sum():,.0f} of {before.sum():,.0f} t lie below it"
     )
 
 
@@ -92,9 +92,9 @@ def doubts(found: Below, grid: Grid) -> list[str]:
     beyond, part = covered <= HAIR, (covered > HAIR) & (covered < 1 - SLIP)
     higher = ~beyond & (found.height[over] > grid.shape[0] - highest + 1)
     said = {
-        "columns of blocks lie beyond it, whose blocks are left whole": beyond,
-        "columns of blocks are covered in part, and their blocks cut by that part": part,
-        "columns of blocks it lies more than a block above their highest row: rock there is not in the table": higher,
+        "columns of blocks lie beyond it; their blocks are not cut": beyond,
+        "columns of blocks are partly covered; their blocks are cut by that part": part,
+        "columns of blocks it lies more than one block above the highest row: material there is not in the table": higher,
     }
     return [
         f"{'over ' if some is higher else ''}{np.count_nonzero(some):,} {words}"

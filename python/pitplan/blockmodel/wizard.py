@@ -54,7 +54,7 @@ class Model:
 
 
 def write(file: Path, out: Path) -> list[str]:
-    """Writes a project for a table, and gives what a planner should look at first, in whole sentences.
+    """Writes a project for a table. Returns the summary of the block model and what is doubtful in it.
 
     Raises PlanError where the table cannot be read, where no columns of centres, tonnes or grades are found, and where `out` exists.
     """
@@ -66,7 +66,7 @@ def write(file: Path, out: Path) -> list[str]:
     told = summary(model)
     with staged_file(out) as place:
         place.write_text(text_of(model, out), encoding="utf-8")
-    return [*told, f"{out} was written: look at each line of it that has a #, above all at prices, costs and walls"]
+    return [*told, f"wrote {out}: check each line with a #, first of all prices, costs and slope angles"]
 
 
 def read(file: Path) -> Model:
@@ -152,7 +152,7 @@ def text_of(model: Model, out: Path) -> str:
         "metals": [priced(metal) for metal in model.columns.metals],
         "regions": regions_of(model),
         "processing_capacity": f"{ore:_}",
-        "ore_why": "by Taylor's rule for the blocks that pay at these prices; put your own",
+        "ore_why": "by Taylor's rule for the blocks that pay at these prices; set your own",
     }
     return environment.get_template("project.toml").render(words)
 
@@ -177,7 +177,7 @@ def table_lines(model: Model) -> list[tuple[str, str, str]]:
     columns, lines = model.columns, []
     lines += [(axis, guess.column, guess.why) for axis, guess in sorted(columns.centres.items())]
     keys = ["tonnes"] if "tonnes" in columns.named else ["density", "volume"]
-    units = {"density": ", in tonnes a cubic metre", "volume": ", in cubic metres"}
+    units = {"density": ", in t/m3", "volume": ", in m3"}
     lines += [
         (key, columns.named[key].column, columns.named[key].why + units.get(key, ""))
         for key in keys
@@ -197,7 +197,7 @@ def table_lines(model: Model) -> list[tuple[str, str, str]]:
             (
                 "empty",
                 "zero",
-                f"{empty_fields(model):,} tonnes or grades are empty: taken as 0; left out, they are refused",
+                f"{empty_fields(model):,} tonnes or grades are empty and read as 0; without this key they are rejected",
             )
         )
     return lines
@@ -227,9 +227,13 @@ def size_of(model: Model) -> tuple[Optional[list[float]], str]:
         return None, ""
     # Of an axis along which all lie at one place nothing is known.
     filled = [min((known for known in gaps if known), default=1.0) if gap is None else gap for gap in gaps]
-    guessed = f"; of {' and '.join(flat)}, where all lie at one place, put your own" if flat else ""
-    volumes = "" if "tonnes" in columns.named or "volume" in columns.named else ", which make volumes for the density"
-    return filled, f"the least steps between centres{volumes}{guessed}"
+    guessed = f"; set your own along {' and '.join(flat)}, where all centroids are equal" if flat else ""
+    volumes = (
+        ""
+        if "tonnes" in columns.named or "volume" in columns.named
+        else ", from which volumes are computed for the density"
+    )
+    return filled, f"the smallest steps between centroids{volumes}{guessed}"
 
 
 def turned_grid(model: Model) -> Optional[Places]:
@@ -312,7 +316,7 @@ def summary(model: Model) -> list[str]:
     if turned:
         east, north = (f"{side:.10g}" for side in turned.size)
         said.append(
-            f"blocks of {east} x {north} m lie on a grid whose north has azimuth {turned.azimuth:.10g}, as the centres tell"
+            f"blocks of {east} x {north} m lie on a grid whose north has azimuth {turned.azimuth:.10g}, found from the centroids"
         )
     grades = []
     for metal in columns.metals:
@@ -345,13 +349,13 @@ def doubts(model: Model) -> list[str]:
     """What may not be as it seems."""
     columns, said = model.columns, []
     if model.form.separator != ",":
-        said.append(f"the fields are parted by {NAMES[model.form.separator]}")
+        said.append(f"the fields are separated by {NAMES[model.form.separator]}")
     if model.form.decimal == ",":
-        said.append("decimals are written with a comma")
+        said.append("the decimals are written with a comma")
     if has_several_sizes(model):
-        said.append("WARNING: blocks are of several sizes, and sub-blocks need [table] reblock")
+        said.append("WARNING: blocks have several sizes; sub-blocks require [table] reblock")
     if empty_fields(model):
-        said.append(f"WARNING: {empty_fields(model):,} tonnes or grades are empty, and taken as 0")
+        said.append(f"WARNING: {empty_fields(model):,} empty tonnes or grades are read as 0")
     used = {guess.column for group in (columns.centres, columns.sizes, columns.named) for guess in group.values()}
     used |= {metal.column for metal in columns.metals}
     return [*said, *not_used([str(name) for name in model.frame.columns if str(name) not in used])]

@@ -96,7 +96,11 @@ def rules_of(shared: Shared) -> PictureRules:
 
 
 def notes_of_missing(missing: dict[int, str]) -> list[str]:
-    return [f"WARNING: {len(missing):,} scenarios have no answer and are left out of everything"] if missing else []
+    return (
+        [f"WARNING: {len(missing):,} scenarios have no result and are left out of all tables and figures"]
+        if missing
+        else []
+    )
 
 
 def note_verified(shared: Shared, missing: dict[int, str], writing: Writing, stage: Path) -> list[str]:

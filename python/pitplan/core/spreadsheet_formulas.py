@@ -24,8 +24,8 @@ def warnings_of(frame: pd.DataFrame, codes: Sequence[str], source: str) -> list[
         return []
     row, column, text = min(found, key=lambda it: it[0])
     shown = text if len(text) <= MOST_SHOWN else f"{text[:MOST_SHOWN]}.."
-    more = f", as {len(found) - 1:,} other texts do" if len(found) > 1 else ""
-    kept = "CSV files keep it, and a spreadsheet that opens them may compute it; workbooks have it as text"
+    more = f", as do {len(found) - 1:,} other texts" if len(found) > 1 else ""
+    kept = "CSV files keep it, and a spreadsheet may evaluate it; workbooks store it as text"
     return [f"WARNING: {source} row {row} column {column!r}: {shown!r} begins with =, +, - or @{more}: {kept}"]
 
 

@@ -66,11 +66,11 @@ def of_project(project: Project) -> YearlyMoney:
 def notes(project: Project) -> list[str]:
     """That years have money of their own, and which numbers have it."""
     money = of_project(project)
-    parts = [f"a fixed cost of {money.fixed_cost:,.12g} {project.money.currency} a year"] if money.fixed_cost else []
+    parts = [f"fixed costs of {money.fixed_cost:,.12g} {project.money.currency} a year"] if money.fixed_cost else []
     parts += ["capex"] if money.capex else []
-    parts += ["prices of their own"] if money.premiums else []
+    parts += ["yearly prices"] if money.premiums else []
     if not parts:
         return []
     return [
-        f"years have {' and '.join(parts)}: in years, net present values and schedules, not in the worth of blocks, shells and pushbacks"
+        f"{' and '.join(parts)} enter the annual cash flow, the NPV and schedules, but not block values and the choice of shell"
     ]

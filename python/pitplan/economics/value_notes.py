@@ -28,7 +28,7 @@ def grade_notes(rows: Rows) -> list[str]:
             )
         elif len(some) and some.mean() > usual:
             notes.append(
-                f'WARNING: the mean grade of {metal.name}, where there is any, is {some.mean():.4g} {metal.sign}: is the unit "{metal.unit}" right?'
+                f'WARNING: the mean grade of {metal.name} in blocks above 0 is {some.mean():.4g} {metal.sign}: check the unit "{metal.unit}"'
             )
     return notes
 
@@ -49,16 +49,16 @@ def feed_notes(project: Project) -> list[str]:
     if money.mining_recovery != 1 or money.dilution != 0:
         recovery, dilution = said_of(money.mining_recovery), said_of(money.dilution)
         notes.append(
-            f"of the tonnes of ore there come to the mill {recovery} (mining recovery), and with each of these {dilution} of "
-            "grade 0 (dilution); ore tonnes, grades and processing cost are those of what comes to the mill"
+            f"mining recovery {recovery}, dilution {dilution} at zero grade; "
+            "feed tonnes, head grades and processing costs are of the mill feed"
         )
     if money.royalty:
         notes.append(
-            f"a royalty of {(100 * money.royalty).normalize():f} % is taken off the gross revenue of every block, before selling costs, at every factor"
+            f"royalty {(100 * money.royalty).normalize():f} % of gross revenue, before selling costs, at every revenue factor"
         )
     if money.royalty_per_tonne:
         notes.append(
-            f"a royalty of {money.royalty_per_tonne:f} {money.currency} a tonne of ore is part of the processing cost"
+            f"royalty {money.royalty_per_tonne:f} {money.currency} per tonne of ore, as part of the processing cost"
         )
     return notes
 
@@ -70,8 +70,8 @@ def haulage_notes(rows: Rows) -> list[str]:
     rules, metres = rows.roads.rules, rows.roads.metres.floats()
     place = ", ".join(f"{axis:f}" for axis in rules.pit_exit)
     return [
-        f"roads from blocks to the exit at {place} are {metres.min():,.0f} to {metres.max():,.0f} m long: the way in plan, and a ramp of "
-        f"{(100 * rules.ramp_gradient).normalize():f} %; hauling as waste is part of mining cost, what ore costs more of processing cost"
+        f"haul distances to the pit exit at {place} are {metres.min():,.0f} to {metres.max():,.0f} m: the distance in plan and a ramp "
+        f"of {(100 * rules.ramp_gradient).normalize():f} %; mining costs hold haulage as waste, processing costs what ore costs more"
     ]
 
 
@@ -83,7 +83,7 @@ def recovery_notes(rows: Rows, feed: Feed) -> list[str]:
         notes += [curve_note(rows, feed, metal, rock) for rock, share in of_rocks.items() if isinstance(share, Curve)]
         if metal.tail_grade:
             notes.append(
-                f"of each tonne that comes to the mill {said_of(metal.tail_grade)} {metal.sign} of {metal.name} are lost, whatever it holds"
+                f"constant tail of {metal.name}: {said_of(metal.tail_grade)} {metal.sign} of every tonne of feed are lost"
             )
     return notes
 
@@ -97,8 +97,8 @@ def curve_note(rows: Rows, feed: Feed, metal: Metal, rock: str) -> str:
     mine = (grades > 0) & ((rows.rock == rock) | (not isinstance(metal.recovery, dict)))
     beyond = np.count_nonzero(mine & ((grades < least) | (grades > most)))
     return (
-        f"recovery of {metal.name}{f' of {rock}' if rock else ''} goes by the grade at the mill; {beyond:,} of {np.count_nonzero(mine):,} "
-        f"blocks lie beyond {least:g} to {most:g} {metal.sign}, and have the recovery there"
+        f"recovery of {metal.name}{f' in {rock}' if rock else ''} depends on the head grade; {beyond:,} of {np.count_nonzero(mine):,} "
+        f"blocks lie outside {least:g} to {most:g} {metal.sign}, where it is constant"
     )
 
 
@@ -107,7 +107,7 @@ def said_of(value: ByCode) -> str:
     if isinstance(value, Decimal):
         return f"{value:f}"
     by_code = value.values if isinstance(value, ByDomain) else value
-    return ", ".join(f"{number:f} of {code}" for code, number in by_code.items())
+    return ", ".join(f"{number:f} in {code}" for code, number in by_code.items())
 
 
 def rock_notes(project: Project, rock: np.ndarray, solid: np.ndarray) -> list[str]:
@@ -117,7 +117,7 @@ def rock_notes(project: Project, rock: np.ndarray, solid: np.ndarray) -> list[st
         if isinstance(metal.recovery, dict):
             for code in sorted(present - set(metal.recovery)):
                 blocks = int(np.count_nonzero(solid & (rock == code)))
-                notes.append(f"{blocks:,} blocks of rock {code} have no recovery of {metal.name} and yield none of it")
+                notes.append(f"{blocks:,} blocks of rock type {code} have no recovery of {metal.name} and yield none")
             for code in sorted(set(metal.recovery) - present):
-                notes.append(f"recovery of {metal.name} names rock {code}, which no block is of")
+                notes.append(f"recovery of {metal.name} names rock type {code}, which no block has")
     return notes

@@ -212,7 +212,7 @@ def selected_factor(table: pd.DataFrame, schedule: Schedule) -> float:
 
 
 def edge_notes(plan: Plan, solution: Solution) -> list[str]:
-    """Warnings where the greatest pit touches a side or the floor of the model: beyond it nothing is known."""
+    """Warnings where the largest shell reaches a side or the floor of the block model: the model ends there."""
     cells = cells_of(plan, solution)
     cube = plan.grid.cube(np.where(cells.tonnes > 0, cells.factor, 0))
     sides = {
@@ -227,7 +227,7 @@ def edge_notes(plan: Plan, solution: Solution) -> list[str]:
         touching = factors[factors > 0]
         if len(touching):
             notes.append(
-                f"WARNING: the greatest pit touches the {name} of the model in {len(touching):,} blocks, "
-                f"from revenue factor {factor_text(touching.min())} on: a larger model may give another pit"
+                f"WARNING: the largest shell reaches the {name} of the block model ({len(touching):,} blocks, "
+                f"from revenue factor {factor_text(touching.min())}); extend the model"
             )
     return notes

@@ -254,22 +254,22 @@ def notes_of(before: np.ndarray, after: np.ndarray, ground: Ground, rules: Pushb
     rock, tonnes = ground.tonnes > 0, ground.tonnes
     asked = [
         f"{name} {metres(wide)} m"
-        for name, wide in (("width", rules.min_mining_width), ("bottom", rules.min_bottom_width))
+        for name, wide in (("mining width", rules.min_mining_width), ("bottom width", rules.min_bottom_width))
         if wide is not None
     ]
     moved = (
         ("earlier", (after > 0) & (before > after)),
         ("later", (before > 0) & (after > before)),
-        ("besides", (before == 0) & (after > 0)),
+        ("additionally", (before == 0) & (after > 0)),
         ("never", (before > 0) & (after == 0)),
     )
     told = [f"{np.count_nonzero(cells & rock):,} {word} ({tonnes[cells].sum():,.0f} t)" for word, cells in moved]
-    notes = [f"for {' and '.join(asked)} blocks are dug: {', '.join(told)}"]
+    notes = [f"blocks moved to meet the minimum {' and '.join(asked)}: {', '.join(told)}"]
     for number in range(1, int(before.max()) + 1):
         shell, pushback = (float(tonnes[cube == number].sum()) for cube in (before, after))
         if pushback < FEW * shell:
             notes.append(
-                f"WARNING: for its width pushback {number} has {pushback:,.0f} t of {shell:,.0f} t in its shell: the pit holds fewer pushbacks so wide"
+                f"WARNING: at this width pushback {number} keeps {pushback:,.0f} of {shell:,.0f} t of its shell; reduce the number or width of pushbacks"
             )
     return notes + left_pieces((before > 0) & (after == 0) & rock, tonnes, ground)
 
@@ -286,10 +286,10 @@ def left_pieces(left: np.ndarray, tonnes: np.ndarray, ground: Ground) -> list[st
             (weight, f"{len(cells):,} block{'s' if len(cells) > 1 else ''}, {weight:,.0f} t, about {x}, {y}, {z}")
         )
     found.sort(key=lambda piece: -piece[0])
-    notes = [f"too small to mine and left: {text}" for _, text in found[:NAMED]]
+    notes = [f"too small to mine: {text}" for _, text in found[:NAMED]]
     if count > NAMED:
         rest = found[NAMED:]
         notes.append(
-            f"too small to mine and left: {len(rest):,} pieces more, together {sum(weight for weight, _ in rest):,.0f} t"
+            f"too small to mine: {len(rest):,} more pieces, {sum(weight for weight, _ in rest):,.0f} t in total"
         )
     return notes

@@ -99,10 +99,10 @@ def selected(plan: Plan, mine: Mine, progress: Progress) -> tuple[Plan, list[str
         return plan, []
     table = shell_tables.shells(plan, problem.solve(plan, mine, progress))
     last = shell_tables.selected_factor(table, plan.project.schedule)
-    note = f"the last pushback ends with the shell of revenue factor {factor_text(last)}, which shells selects: [pushbacks] ultimate_pit names another"
+    note = f"the last pushback ends at the selected shell, revenue factor {factor_text(last)}; [pushbacks] ultimate_pit sets another"
     if not table["tonnes"][table["revenue_factor"] == last].any():
         last = BASE_PRICE
-        note = f"{WARNING}no shell has a net present value above 0: the last pushback ends with the shell of revenue factor {factor_text(last)}"
+        note = f"{WARNING}no shell has an NPV above 0; the last pushback ends at the shell of revenue factor {factor_text(last)}"
     return replace(plan, project=ended(plan.project, last)), [note]
 
 
@@ -154,7 +154,7 @@ def not_empty(tonnes: dict[float, float], project: Project) -> tuple[tuple[float
             kept.append(factor)
         else:
             notes.append(
-                f"the shell of revenue factor {factor_text(factor)} has no rock that the one before has not: it makes no pushback"
+                f"the shell of revenue factor {factor_text(factor)} equals the one before and makes no pushback"
             )
         before = rock
     if not kept:
@@ -173,8 +173,8 @@ def notes_of_added(rules: PushbackRules, factors: tuple[float, ...], project: Pr
         said = f"mining_cost_added has {len(amounts)} amounts, and the pit has {len(factors)} pushbacks, of the revenue factors"
         raise PlanError(f"{project.path}: [pushbacks] {said} {factor_texts(factors)}: give one for each")
     told = ", ".join(f"{amount:f}" for amount in amounts)
-    where = "in pushbacks, years, net present values and schedules, not in the worth of blocks, shells and pushbacks"
-    return [f"by pushback a tonne costs {told} {project.money.currency} more to dig: {where}"]
+    where = "in the annual cash flow, the NPV and schedules, but not in block values and the cash flow of shells"
+    return [f"mining cost added by pushback: {told} {project.money.currency} per tonne, {where}"]
 
 
 def even_shells(
@@ -197,7 +197,7 @@ def even_shells(
         if abs(known[nearest] - share) > FAR_OFF * known[last] / count:
             notes.append(gap(known, low, high))
     if len(found) < count:
-        notes.append(f"{count} pushbacks are asked for, and the shells make {len(found)}")
+        notes.append(f"the shells make {len(found)} of {count} pushbacks")
     return {factor: rock for rock, factor in sorted(found.items())}, list(dict.fromkeys(notes))
 
 
@@ -215,10 +215,10 @@ def count_of(rules: PushbackRules, whole: float, project: Project) -> int:
 
 def gap(known: dict[float, float], low: float, high: float) -> str:
     if low == high:
-        return f"the shell of revenue factor {factor_text(low)} has {known[low]:,.0f} t already: no lesser factor divides it"
+        return f"the shell of revenue factor {factor_text(low)} has {known[low]:,.0f} t; no lower revenue factor divides it"
     return (
-        f"between the revenue factors {factor_text(low)} and {factor_text(high)} the shells grow by {known[high] - known[low]:,.0f} t at once, from {known[low]:,.0f} to "
-        f"{known[high]:,.0f}: no factor divides this rock"
+        f"between revenue factors {factor_text(low)} and {factor_text(high)} the shells grow by {known[high] - known[low]:,.0f} t in one step, "
+        f"from {known[low]:,.0f} to {known[high]:,.0f}; no revenue factor divides it"
     )
 
 

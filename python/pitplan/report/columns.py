@@ -67,11 +67,7 @@ def columns_of_pushbacks(table: pd.DataFrame, project: Project) -> Columns:
         ("revenue_factor", "revenue factor", 1.0, 2),
         *columns_of_rock(table, project),
         ("undiscounted_cash_flow", f"undiscounted cash flow, {currency}", money, 1),
-        *(
-            [("mining_cost_added", f"added mining cost, {currency}", money, 2)]
-            if "mining_cost_added" in table
-            else []
-        ),
+        *([("mining_cost_added", f"added mining cost, {currency}", money, 2)] if "mining_cost_added" in table else []),
         ("deferred_value", f"value deferred by width, {currency}", money, 2),
         ("value_lost_to_width", f"value lost to width, {currency}", money, 2),
         ("pieces", "pieces", 1.0, 0),

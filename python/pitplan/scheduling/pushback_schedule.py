@@ -305,28 +305,24 @@ def record_of(made: Milling) -> dict[str, Any]:
 
 def notes(schedule: YearlySchedule) -> list[str]:
     """What a planner should know of the schedule."""
-    found = [f"by rule each pushback follows the one before by {schedule.lead} benches, the lead that earns most"]
+    found = [f"rule: each pushback follows the one before by {schedule.lead} benches, the lead with the highest NPV"]
     if schedule.interrupted:
-        found.append("WARNING: the run was interrupted before all ways were found: these are the best so far")
+        found.append("WARNING: the run was interrupted before all methods had finished; the table has those that did")
     if schedule.optimum is not None:
         how = "divides ore by these bins" if schedule.milling else "sends each block to its assigned process"
-        scope = f"no schedule of these pushbacks of up to {schedule.years} years that keeps these limits and {how}"
-        found.append(f"upper bound: {scope} earns more than {schedule.optimum.bound:,.0f}")
+        scope = f"any schedule of these pushbacks of up to {schedule.years} years within these limits that {how}"
+        found.append(f"upper bound on the NPV of {scope}: {schedule.optimum.bound:,.0f}")
     if schedule.milp_upper_bound is not None and MILP not in schedule.shares:
-        found.append("WARNING: the integer programme found no schedule in its time")
+        found.append("WARNING: milp found no schedule within its time limit")
     elif schedule.milp_upper_bound is not None:
-        found.append(f"upper bound of the integer programme, for the same schedules: {schedule.milp_upper_bound:,.0f}")
+        found.append(f"upper bound of milp on the same schedules: {schedule.milp_upper_bound:,.0f}")
     for way, made in [pair for pair in schedule.milling.items() if pair[1].cutoffs]:
         told = ", ".join("-" if worth is None else f"{worth:.2f}" for worth in made.cutoffs)
-        found.append(
-            f"{way} mills at once what a tonne of ore is worth in the mill from these amounts on, year by year: {told}"
-        )
+        found.append(f"{way}: cut-off by year (net value per tonne milled): {told}")
     for way in schedule.shares:
         rock = schedule.left(way)
         if not schedule.shares[way].any():
-            found.append(
-                f"{way} mines nothing: at these prices and costs no schedule that it finds earns more than it spends"
-            )
+            found.append(f"{way} mines nothing: at these prices and costs it finds no schedule with an NPV above 0")
         elif rock > 0.5:
-            found.append(f"{way} leaves {rock:,.0f} t of the pushbacks undug")
+            found.append(f"{way}: {rock:,.0f} t of the pushbacks remain unmined")
     return found

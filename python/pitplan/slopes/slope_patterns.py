@@ -76,13 +76,15 @@ class Pattern:
         return result
 
     def sentence(self) -> str:
-        """What a planner should read of these walls."""
+        """The range and the error of the slopes that these precedences make."""
         low, high = self.angles.min(), self.angles.max()
-        over = f"over {self.levels} level{'s' if self.levels > 1 else ''}"
-        text = f"{self.name}: {len(self.offsets)} needs a block {over} make walls of {low:.1f} to {high:.1f} degrees"
+        over = f"over {self.levels} bench{'es' if self.levels > 1 else ''}"
+        text = (
+            f"{self.name}: {len(self.offsets)} precedences per block {over}, slopes of {low:.1f} to {high:.1f} degrees"
+        )
         if not len(self.errors):
             return text
-        return text + f", {self.errors.max():+.1f} to {self.errors.min():+.1f} degrees off the asked (+ is steeper)"
+        return text + f", slope error {self.errors.max():+.1f} to {self.errors.min():+.1f} degrees (+ is steeper)"
 
 
 def cotangents(angles: Angles, azimuths: np.ndarray) -> np.ndarray:
@@ -177,7 +179,7 @@ def from_grid_north(wall: Wall, azimuth: float) -> Wall:
 def pattern_of(asked_wall: Wall, size: tuple[float, float, float], slopes: Slopes, azimuth: float = 0.0) -> Pattern:
     """The needs of one wall entry, with their errors, on a grid whose north has an azimuth."""
     wall = from_grid_north(asked_wall, azimuth)
-    where = "other regions" if wall.domains is None else f"region {', '.join(wall.domains)}"
+    where = "other domains" if wall.domains is None else f"domain {', '.join(wall.domains)}"
     if wall.pattern:
         offsets = PATTERN_OFFSETS[wall.pattern]
         angles = wall_angles(offsets, size)
@@ -185,7 +187,7 @@ def pattern_of(asked_wall: Wall, size: tuple[float, float, float], slopes: Slope
     if wall.offsets:
         cells = cone_templates.of_steps(wall.offsets)
         return Pattern(
-            f"{where}, {len(wall.offsets)} steps of the project",
+            f"{where}, {len(wall.offsets)} offsets of the project",
             cells,
             offsets_of(cells),
             angles_of_cone(cells, size),
@@ -203,7 +205,7 @@ def pattern_of(asked_wall: Wall, size: tuple[float, float, float], slopes: Slope
         else f"{wall.angles[0][1]:g}"
     )
     if wall.bench:
-        where += f", benches of {wall.bench.height:g} m with faces of {wall.bench.face_angle:g} degrees and berms of {wall.bench.berm_width:g} m"
+        where += f", benches of {wall.bench.height:g} m, face angle {wall.bench.face_angle:g} degrees, berms of {wall.bench.berm_width:g} m"
     return Pattern(f"{where}, {said} degrees", cells, offsets_of(cells), angles, angles - asked, widened, azimuth)
 
 

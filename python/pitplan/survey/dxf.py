@@ -53,7 +53,7 @@ def notes_of(drawing: Any, path: Path) -> list[str]:
     unit = int(drawing.header.get("$INSUNITS", 0))
     if unit in FEET:
         raise PlanError(f"{path}: is in {FEET[unit]} ($INSUNITS is {unit}), and lengths are in metres: convert it")
-    return [] if unit in METRES else [f"WARNING: {path}: its $INSUNITS is {unit}, and its numbers are taken as metres"]
+    return [] if unit in METRES else [f"WARNING: {path}: its $INSUNITS is {unit}, and its numbers are read as metres"]
 
 
 def add(layer: Layer, entity: Any) -> None:

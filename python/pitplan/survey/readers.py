@@ -100,9 +100,7 @@ def areas(file: SurveyFile) -> Areas:
         demand_near(ring, file.path)
     count = sum(number for layer in some.values() for kind, number in layer.kinds.items() if kind.endswith("(open)"))
     passed = (
-        [f"WARNING: {file.path}: {count:,} open lines of {in_layers(some)} are passed over: close them"]
-        if count
-        else []
+        [f"WARNING: {file.path}: {count:,} open lines of {in_layers(some)} are ignored: close them"] if count else []
     )
     return Areas(polygons, (told(file, f"{len(polygons):,} polygons of {in_layers(some)}"), *notes, *passed))
 
@@ -160,7 +158,7 @@ def demand_points(found: Topography, file: SurveyFile) -> Topography:
 
 
 def told(file: SurveyFile, what: str) -> str:
-    return f"{file.path}: {what} were read by {reader_of(file.path)}; no coordinates are transformed"
+    return f"{file.path}: {what}, read by {reader_of(file.path)}; coordinates are not transformed"
 
 
 def reader_of(path: Path) -> str:

@@ -126,15 +126,13 @@ class ScheduledBlocks:
         """What a planner should know of the schedule."""
         found, years = self.found, self.planned.problem.years
         said = [
-            f"upper bound: no schedule by block of up to {years} years that keeps these limits earns more than {found.bound:,.0f}, wherever "
-            f"it sends its blocks; this one earns {found.value:,.0f}, {100 * found.gap:.2f} % less"
+            f"upper bound on the NPV of any schedule by block of up to {years} years within these limits: {found.bound:,.0f}; "
+            f"this schedule has an NPV of {found.value:,.0f}, an optimality gap of {100 * found.gap:.2f} %"
         ]
         if not self.count:
-            said.append("nothing is mined: at these prices and costs no block pays for itself and what it needs")
+            said.append("nothing is mined: at these prices and costs no block pays for itself and its predecessors")
         if found.interrupted:
-            said.append(
-                "WARNING: the run was interrupted before it was through: this is the best schedule so far, and the bound holds"
-            )
+            said.append("WARNING: the run was interrupted; this is the best schedule so far, and the upper bound holds")
         return said
 
 

@@ -105,7 +105,7 @@ def grades_of(base: Base, read: Models) -> list[summary.Grade]:
     for number, metal in enumerate(base.project.metals):
         first = base.lists[metal.name][0] if metal.name in base.lists else metal.column
         is_simulated = metal.name in base.lists or not base.lists
-        column = f"{first} and so on, of {len(read.names):,} models" if is_simulated else metal.column
+        column = f"{first} and so on, of {len(read.names):,} realisations" if is_simulated else metal.column
         mean, most = float(read.means[number]), float(read.greatest[:, number].max())
         found.append(summary.Grade(metal.name, column, metal.unit, mean, most))
     return found

@@ -56,9 +56,9 @@ def told_of_skin(skin: dict[str, Any], currency: str) -> str:
     where = (
         f"beyond the shell of revenue factor {factor_text(skin['revenue_factor'])}"
         if skin["revenue_factor"]
-        else "which no lesser shell divides"
+        else "as a whole"
     )
-    return f"the pit's skin, {100 * skin['share']:.1f} % of its rock, {where}, is worth {skin['undiscounted_cash_flow']:,.0f} {currency}".rstrip()
+    return f"pit skin, {100 * skin['share']:.1f} % of its tonnes, {where}: undiscounted cash flow {skin['undiscounted_cash_flow']:,.0f} {currency}".rstrip()
 
 
 def shown(cases: pd.DataFrame) -> pd.DataFrame:

@@ -117,10 +117,10 @@ def notes(schedules: Schedules, shared: Shared) -> list[str]:
     spread = f"{told['common_npv']['least']:,.0f} to {told['common_npv']['greatest']:,.0f}"
     share = f", {100 * told['perfect_information'] / bound:.2f} %" if bound > 0 else ""
     return [
-        f"the one schedule for all earns {one:,.0f} on the mean of {count:,} scenarios, from {spread}; {told['npv_as_planned']:,.0f} as "
-        "it was planned by the mean of what blocks are worth",
-        f"of its ore {left:,.0f} t are left as waste on the mean, since the mill is full, and in {short:.1f} of its years less is milled "
-        "than was planned",
-        f"a schedule of each scenario's own, with the ground known before, earns {value:,.0f} on the mean, and at most {bound:,.0f}: so to "
-        f"know the ground would be worth at most {told['perfect_information']:,.0f}{share}",
+        f"common schedule: mean NPV {one:,.0f} over {count:,} scenarios, from {spread}; "
+        f"{told['npv_as_planned']:,.0f} as planned from the mean block values",
+        f"on average {left:,.0f} t of its ore are left as waste for lack of processing capacity, and {short:.1f} of its years "
+        "have less feed than planned",
+        f"own schedule of each scenario: mean NPV {value:,.0f}, upper bound {bound:,.0f}; the expected value of perfect "
+        f"information (EVPI) is at most {told['perfect_information']:,.0f}{share}",
     ]
