@@ -251,7 +251,7 @@ def prepare(
 def prepared(project: Project, table: Optional[pd.DataFrame] = None, progress: Progress = silent) -> Plan:
     """The plan of a checked project; see `prepare`."""
     model = preparation.take(preparation.read_table(project, table, progress), preparation.OF_PLAN)
-    with progress.step("weighing the blocks"):
+    with progress.step("computing block values"):
         plan = plan_of(model)
     plan.summary, plan.left_out, plan.read = model.summary, model.left_out, model.read.frame
     return with_notes(plan, model)

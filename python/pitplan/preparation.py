@@ -119,7 +119,7 @@ def reblock_rows(model: Preparation) -> None:
 
 def lay_grid(model: Preparation) -> None:
     """Finds the grid of the blocks' centres."""
-    with model.progress.step("laying the grid"):
+    with model.progress.step("building the grid"):
         model.grid = grids.of_table(model.frame, model.laid_by, model.source, any_size=model.any_size)
 
 
@@ -143,7 +143,7 @@ def cut_by_topography(model: Preparation) -> None:
     file = model.project.table.topography
     if file is None:
         return
-    with model.progress.step(f"cutting blocks by {file.path}"):
+    with model.progress.step(f"cutting blocks at {file.path}"):
         model.frame, notes = topography_cut.cut(model.frame, model.grid, model.project, file)
     model.notes += notes
 
@@ -156,7 +156,7 @@ def cut_by_as_mined_surface(model: Preparation) -> None:
 
 def lay_slope_domains(model: Preparation) -> None:
     """Gives each cell its slope domain, and each domain its precedence pattern."""
-    with model.progress.step("laying the walls"):
+    with model.progress.step("building slope precedences"):
         model.region = domains.regions_of(model.frame, model.grid, model.project.table.domain)
         model.walls = domains.walls_of(model.region, model.grid, model.project.slopes)
 
@@ -166,7 +166,7 @@ def crop_to_reach(model: Preparation) -> None:
     whole = crop.Model(model.frame, model.grid, model.region, model.source, len(model.table.frame))
     if not crop.is_too_large(whole, model.project):
         return
-    with model.progress.step("leaving out what no shell can reach"):
+    with model.progress.step("removing blocks that no shell can reach"):
         part, note = crop.left(whole, model.walls, model.project)
         model.walls, dropped = domains.walls_of(part.region, part.grid, model.project.slopes), [note]
     model.frame, model.grid, model.region, model.source = part.frame, part.grid, part.region, part.source

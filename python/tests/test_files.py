@@ -436,8 +436,8 @@ def test_the_command_line_tells_table_steps_and_warnings(solved_once):
     assert [line.split()[0] for line in lines[2:5]] == ["0.50", "1.00", "1.50"]
     assert lines[-1] == str(solved_once.place / "plan" / "report.html")
     by = read_record(solved_once.place / "plan")["shells"]["solver"]["by"]
-    needs = {"library": "listing the needs", "program": "writing blocks and needs"}[by]
-    steps = ["reading", "laying the walls", needs, f"solving 3 revenue factors by the {by}", "drawing"]
+    needs = {"library": "listing precedences", "program": "writing blocks and precedences"}[by]
+    steps = ["reading", "building slope precedences", needs, f"solving 3 revenue factors by the {by}", "drawing"]
     assert all(f"{step}" in solved_once.err for step in steps)
     assert "WARNING: the largest shell reaches the north side of the block model" in solved_once.err
     assert (

@@ -307,7 +307,7 @@ def test_files_and_what_the_command_line_tells(small, capsys, monkeypatch):
     path = small('parameters = ["price", "mining_cost"]\npairs = [["price", "mining_cost"]]')
     assert main(["sensitivity", str(path), "--quiet"]) == 0
     out = capsys.readouterr().out.splitlines()
-    assert out[2].split() == ["as", "given", "21.75", "0.00", "100.00", "100.00", "22.80", "1.0"]
+    assert out[2].split() == ["base", "case", "21.75", "0.00", "100.00", "100.00", "22.80", "1.0"]
     assert out[3].split()[:3] == ["price", "-20", "%"] and "price -20 %, mining cost +10 %" in out[13]
     folder = path.parent / "plan" / "sensitivity"
     assert out[-1] == str(folder / "sensitivity.csv")

@@ -16,7 +16,7 @@ SOLVES = [["shells"], ["pit", "--revenue-factor", "1.00"]]
 def first_lines(err):
     """What stands between the steps of the grid and of the walls."""
     lines = err.splitlines()
-    ends = [k for k, line in enumerate(lines) if line.startswith(("laying the grid", "laying the walls"))]
+    ends = [k for k, line in enumerate(lines) if line.startswith(("building the grid", "building slope precedences"))]
     return lines[ends[0] + 1 : ends[1]]
 
 

@@ -146,7 +146,7 @@ def test_the_command_line_tells_the_ways(plan_folder, capsys):
 def test_the_size_of_the_programme_is_told_before_it_is_solved(plan_folder, capsys):
     """Six benches, and a fifth more than the rule's three years."""
     assert main(["schedule", str(plan_folder(pillars(), PUSHBACKS))]) == 0
-    assert "solving the linear programme of 4 years, 24 unknowns .." in capsys.readouterr().err
+    assert "solving the linear programme of 4 years, 24 variables .." in capsys.readouterr().err
 
 
 @pytest.fixture(scope="module")

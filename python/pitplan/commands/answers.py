@@ -58,7 +58,7 @@ def write_answer(answered: Answered, run: Run) -> pd.DataFrame:
         If a result differs from its independent recalculation.
     """
     plan, stage, progress = answered.plan, run.stage, run.writing.progress
-    with progress.step("counting the shells"):
+    with progress.step("computing the tables of shells"):
         table, years = write_tables(answered, stage)
         run.record["notes"] += shell_tables.edge_notes(plan, answered.solution)
     factor = shell_tables.selected_factor(table, plan.project.schedule)
@@ -98,7 +98,7 @@ def check_fixed(mine: Mine, solution: Solution, factor: float, progress: Progres
     """Solves the whole mine with its fixed blocks at a factor. Raises PlanError if the shell of that factor is another pit."""
     if mine.plan.settled is None:
         return
-    with progress.step(f"solving revenue factor {factor_text(factor)} by itself, with the fixed blocks"):
+    with progress.step(f"solving revenue factor {factor_text(factor)} separately, with the constraints"):
         pit = mine.pit(factor)
     problem.demand_same(solution, pit, factor)
 

@@ -37,7 +37,7 @@ def write_plan(project: Project, folder: Path, progress: Progress = silent) -> d
         plan = prepared(project, progress=progress)
         with staged(folder, names.RECORD) as stage:
             demand_within(project, plan.grid)
-            with progress.step("writing blocks and needs"):
+            with progress.step("writing blocks and precedences"):
                 pairs = mine_files.write(plan, stage)
             project_writer.write(project, stage / project_writer.AS_RUN, folder)
             write_table(plan.blocks, stage)

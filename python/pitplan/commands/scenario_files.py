@@ -52,7 +52,7 @@ def write_pits(shared: Shared, request: Request, writing: Writing) -> list[str]:
     """
     progress, factor = writing.progress, run.shown_factor(shared, request)
     with staged(shared.folder, whole=writing.removed(shared.folder, PICTURES.values())) as stage:
-        with progress.step("gathering the answers"):
+        with progress.step("gathering the results"):
             gathered = pit_probability.gather(shared, request.partial)
             write_tables(shared, gathered, stage)
         notes = note_verified(shared, gathered.missing, writing, stage)
@@ -81,7 +81,7 @@ def write_schedules(shared: Shared, request: Request, writing: Writing) -> list[
 
     progress = writing.progress
     with staged(shared.folder, whole=writing.removed(shared.folder, [PICTURE_OF_VALUES])) as stage:
-        with progress.step(f"digging the one schedule in {len(shared.scenarios):,} scenarios"):
+        with progress.step(f"applying the common schedule to {len(shared.scenarios):,} scenarios"):
             schedules = block_answers.gather(shared, request.partial)
             write_schedule_tables(schedules, block_answers.quantiles(schedules), shared, stage)
         notes = block_answers.notes(schedules, shared) + note_verified(shared, schedules.missing, writing, stage)

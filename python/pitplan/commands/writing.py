@@ -165,7 +165,7 @@ def begun(project: Project, folder: Path, writing: Writing, planned: Optional[Pr
         with staged(folder, names.RECORD, (*mine_files.OF_PROGRAM, *writing.removed(folder, FIGURES))) as stage:
             project_writer.write(project, stage / project_writer.AS_RUN, folder)
             demand_within(project, plan.grid)
-            with progress.step("writing blocks and needs" if solver.by == PROGRAM else "listing the needs"):
+            with progress.step("writing blocks and precedences" if solver.by == PROGRAM else "listing precedences"):
                 mine = problem.ready(plan, solver, stage)
             yield Run(project, mine, plan.record(mine.pairs) | {"solver": asdict(solver)}, stage, writing)
 

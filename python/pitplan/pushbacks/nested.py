@@ -140,7 +140,7 @@ def divide(plan: Plan, mine: Optional[Mine] = None, progress: Progress = silent)
     entry = solution.entry[: plan.grid.count]
     pushback = np.where(entry > 0, np.searchsorted(factors, entry) + 1, 0).astype(np.int16)
     if rules.min_mining_width is not None or rules.min_bottom_width is not None:
-        with progress.step("making the pushbacks wide enough"):
+        with progress.step("applying the minimum mining width"):
             pushback, told = mining_width.widened(pushback, part, rules)
         more = [*more, *told]
     return Pushbacks(part, solution, pushback, (*notes, *more))

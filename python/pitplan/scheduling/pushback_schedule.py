@@ -141,9 +141,9 @@ def better(schedule: YearlySchedule, rules: ScheduleRules, progress: Progress) -
     if rules.bins is not None and schedule.benches.of(ORE).any():
         yield from with_bins(schedule, rules, progress)
         return
-    with progress.step(f"solving the linear programme of {years} years, {len(problem.benches) * years:,} unknowns"):
+    with progress.step(f"solving the linear programme of {years} years, {len(problem.benches) * years:,} variables"):
         optimum = bench_lp.relaxed(problem, years)
-    with progress.step("making a schedule that can be dug of it"):
+    with progress.step("making its solution a feasible schedule"):
         shares = bench_lp.diggable(optimum, problem)
     schedule = replace(schedule, shares=schedule.shares | {LP: shares}, optimum=optimum)
     yield schedule
@@ -161,10 +161,10 @@ def with_bins(schedule: YearlySchedule, rules: ScheduleRules, progress: Progress
     problem = MillingProblem(schedule.problem, parcels, schedule.years, rules.reclaim_cost)
     unknowns = problem.dug + problem.kinds * len(parcels) * problem.years
     with progress.step(
-        f"solving the linear programme of {schedule.years} years and {len(parcels):,} parcels, {unknowns:,} unknowns"
+        f"solving the linear programme of {schedule.years} years and {len(parcels):,} parcels, {unknowns:,} variables"
     ):
         optimum = problem.relaxed()
-    with progress.step("making a schedule that can be dug of it"):
+    with progress.step("making its solution a feasible schedule"):
         shares, milling = problem.diggable(optimum)
     yield replace(schedule, shares=schedule.shares | {LP: shares}, optimum=optimum, milling={LP: milling})
 

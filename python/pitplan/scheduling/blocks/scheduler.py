@@ -108,13 +108,13 @@ def solve(problem: BlockProblem, effort: Optional[Effort] = None, progress: Prog
     """
     demand_sound(problem)
     began = time.monotonic()
-    with progress.step(f"leaving out what no schedule needs to dig, of {problem.blocks:,} blocks"):
+    with progress.step(f"removing blocks that no schedule needs, of {problem.blocks:,} blocks"):
         part = reduced(problem)
     if not part.problem.blocks:
         if problem.owes:
             raise PlanError("no schedule keeps what must be held at least: no block that adds to it can be dug in time")
         return Scheduled(nothing(problem), 0.0, 0.0, 0, 0)
-    progress.say(f"bounding all schedules of {part.problem.blocks:,} blocks by {len(part.nodes):,} nodes")
+    progress.say(f"computing the upper bound: {part.problem.blocks:,} blocks, {len(part.nodes):,} nodes")
     relaxation = relaxed(
         part.nodes, Effort(RELAXED, effort.seconds if effort else None), lambda found: progress.say(told(found))
     )
@@ -171,7 +171,7 @@ class Search:
     def fill(self) -> None:
         """Fills years in the orders that the relaxation gives, and keeps the best of each way to fill them."""
         self.filled = [nothing(self.problem) for _ in self.fillings]
-        with self.progress.step("filling years in the order of the relaxation"):
+        with self.progress.step("scheduling blocks in the order of the relaxation"):
             for sequence in sequences(self.problem, self.part.ranks, self.relaxation.cumulative):
                 for number, filling in enumerate(self.fillings):
                     self.offer_filled(number, filling.without_loss(sequence))
@@ -186,7 +186,7 @@ class Search:
 
     def move(self) -> None:
         """Moves blocks of what was filled, and chooses where they go."""
-        with self.progress.step("moving blocks to years in which they earn more"):
+        with self.progress.step("moving blocks to better years"):
             for schedule in self.filled:
                 better = moved(self.fillings[0], self.part.ranks, schedule)
                 self.offer(better)
@@ -241,7 +241,7 @@ class Search:
         if not len(window.blocks) or tried in self.tried:
             return self.best
         self.tried.add(tried)
-        with self.progress.step(f"solving years {window.first + 1} to {window.last} anew, gap {100 * self.gap:.2f} %"):
+        with self.progress.step(f"re-optimising years {window.first + 1} to {window.last}, gap {100 * self.gap:.2f} %"):
             return window.solved(effort, patience)
 
     @property

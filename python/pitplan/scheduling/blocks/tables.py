@@ -143,6 +143,6 @@ def make(plan: Plan, progress: Progress = silent) -> ScheduledBlocks:
     interrupted before there is a bound.
     """
     rules = plan.project.schedule_rules or ScheduleRules()
-    with progress.step("gathering the blocks that may be dug"):
+    with progress.step("collecting the blocks that can be mined"):
         planned = of_plan(plan)
     return ScheduledBlocks(planned, solve(planned.problem, rules.milp, progress))

@@ -53,15 +53,15 @@ def prepare(project: Project, folder: Path, progress: Progress, by: str = store.
     base = read_base(project, progress)
     demand_within(project, base.grid)
     progress.lines(summary.of_ground(base.table, base.grid, project))
-    with progress.step("reading the models"):
+    with progress.step("reading the realisations"):
         read = write_models(base, folder)
     progress.lines(summary.of_grades(grades_of(base, read)))
-    with progress.step("laying the needs that all scenarios share"):
+    with progress.step("building the precedences that all scenarios share"):
         laid = Laid(base, envelope(base, read.greatest), list_of(base, read), solver)
     if of_blocks:
         of_blocks.write(laid, folder, progress)
     else:
-        with progress.step("writing blocks and needs"), staged(folder, store.RECORD) as stage:
+        with progress.step("writing blocks and precedences"), staged(folder, store.RECORD) as stage:
             written = [*write_shared(laid, stage), *write_needs(laid.plan, solver, stage)]
             parts = common_parts(laid)
             parts["project"] |= {"revenue_factors": list(project.schedule.revenue_factors)}

@@ -49,7 +49,7 @@ class Case:
 
     @property
     def label(self) -> str:
-        return ", ".join(f"{name} {share:+.4g}" for name, share in self.changes) or "as given"
+        return ", ".join(f"{name} {share:+.4g}" for name, share in self.changes) or "base case"
 
     @property
     def moves_walls(self) -> bool:

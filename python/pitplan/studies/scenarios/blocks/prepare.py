@@ -65,7 +65,7 @@ def spread(laid: Laid, folder: Path, progress: Progress) -> tuple[Diggable, Weig
     """The blocks that may be dug, and what these hold and earn on the mean of all scenarios, each of which counts once. Years are those of
     the project, or else as many as the longest of all pits, that of the mean among them, and a fifth more."""
     plan, project, count = laid.plan, laid.base.project, len(laid.scenarios)
-    with progress.step("gathering the blocks that may be dug"):
+    with progress.step("collecting the blocks that can be mined"):
         # What pays in a scenario pays at the greatest grades and prices and without selling cost, since no recovery falls with the grade.
         cells, needs = diggable(plan, np.array(plan.values.greatest_value(BASE_PRICE) > 0, dtype=bool))
         forced = np.isin(cells, plan.fixed.forced)
@@ -76,7 +76,7 @@ def spread(laid: Laid, folder: Path, progress: Progress) -> tuple[Diggable, Weig
 
     shared, longest = shared_of(laid, folder), 0
     total: Optional[Weights] = None
-    with progress.step(f"weighing the blocks of {count:,} scenarios"):
+    with progress.step(f"computing block values of {count:,} scenarios"):
         for scenario in laid.scenarios:
             weights = weights_of(plan_of(shared, scenario), cells)
             longest, total = max(longest, years(weights)), weights if total is None else total.plus(weights)
