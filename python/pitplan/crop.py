@@ -70,16 +70,16 @@ def left(model: Model, walls: Walls, project: Project) -> tuple[Model, str]:
     wanted[grid.rows[can_pay(model, project)]] = True
     wanted[constraints.of_table(model.frame, grid, project, model.source).forced] = True
     if not wanted.any():
-        most = f"the program takes at most {grids.MOST_BLOCKS:,} blocks"
+        most = f"the solver takes at most {grids.MOST_BLOCKS:,} blocks"
         raise PlanError(
-            f"{model.source}: the grid has {grid.count:,} cells, and {most}: none pays for its processing, so all could be left out"
+            f"{model.source}: the grid has {grid.count:,} cells, and {most}: no block pays for its processing, so no shell holds any"
         )
     box = box_of(closure.used_blocks(grid, walls, wanted), grid)
     inside = grid.cube(np.arange(grid.count))[box.parts]
     if inside.size > grids.MOST_BLOCKS:
         raise PlanError(
-            f"{model.source}: the grid has {grid.count:,} cells, of which shells may reach {inside.size:,}, and the program takes at most "
-            f"{grids.MOST_BLOCKS:,} blocks: reblock it by [table] reblock, or give a smaller model"
+            f"{model.source}: shells can reach {inside.size:,} of the {grid.count:,} cells, and the solver takes at most "
+            f"{grids.MOST_BLOCKS:,} blocks: set [table] reblock, or give a smaller model"
         )
     return named_anew(cropped(model, box, inside), project), note_of(model, box)
 

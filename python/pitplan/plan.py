@@ -153,12 +153,12 @@ class Plan:
         """Raises PlanError where there are more needs than program and library take."""
         count = pairs.written + pairs.processing
         if count > MOST_PAIRS:
-            fewer = "give fewer [slopes] precedence_benches"
+            fewer = "reduce [slopes] precedence_benches"
             if self.project.slopes.precedence_benches is None:
                 chosen = max(pattern.levels for pattern in self.walls.patterns)
-                fewer = f"give [slopes] precedence_benches, fewer than the {chosen} that were chosen"
+                fewer = f"set [slopes] precedence_benches below the {chosen} that were chosen"
             raise PlanError(
-                f"{count:,} needs, and the program takes at most {MOST_PAIRS:,}: {fewer}, or a smaller model"
+                f"{count:,} precedences, and the solver takes at most {MOST_PAIRS:,}: {fewer}, or a smaller model"
             )
 
     def record(self, pairs: Pairs) -> dict[str, Any]:
@@ -286,8 +286,8 @@ def demand_no_clash(plan: Plan, settled: Settled) -> None:
     if len(clash):
         needs = closure.used_blocks(plan.grid, plan.walls, constraints.marks(plan.grid, clash[:1]))
         first, second = plan.called(clash[0]), plan.called(barred[needs[barred]][0])
-        more = f", and so it is with {len(clash) - 1:,} blocks more" if len(clash) > 1 else ""
-        raise PlanError(f"{plan.source}: {first} must be dug and needs {second}, which may not be dug{more}")
+        more = f" ({len(clash) - 1:,} more must-mine blocks likewise)" if len(clash) > 1 else ""
+        raise PlanError(f"{plan.source}: {first} is must-mine and depends on {second}, which is excluded{more}")
 
 
 def wanted(values: Values, project: Project, fixed: FixedBlocks) -> NDArray[Any]:

@@ -47,7 +47,7 @@ def test_shells_that_reach_a_hole_are_refused(plan_folder, capsys):
     assert main(["shells", str(path), "--quiet"]) == 1
     said = capsys.readouterr().err
     assert (
-        "blocks.csv: the shells reach 1 cells that have no row and are not above the highest of their column, the first at 25, 5, 15 from revenue factor 0.50 on"
+        "blocks.csv: the shells reach 1 missing blocks (below a row, or in columns without rows), the first at 25, 5, 15 from revenue factor 0.50"
         in said
     )
     assert 'missing_blocks = "air"' in said
@@ -58,7 +58,7 @@ def test_shells_that_reach_a_column_without_rows_are_refused(plan_folder):
     table = deposit()
     path = plan_folder(table[table["x"] != 15])
     with pytest.raises(
-        PlanError, match="the shells reach 1 cells .* the first at 15, 5, 25 from revenue factor 0.50 on"
+        PlanError, match="the shells reach 1 missing blocks .* the first at 15, 5, 25 from revenue factor 0.50"
     ):
         shells_of(path)
 

@@ -117,7 +117,7 @@ def test_what_a_run_writes_of_it_is_verified(plan_folder, tmp_path, without_figu
     [
         (
             '[constraints]\ntopography = "ground.csv"\n',
-            r"\[constraints\] topography: is the original ground of an as-mined surface: give surface too",
+            r"\[constraints\] topography: requires as_mined, whose original ground it is",
         ),
         (
             '[constraints]\nas_mined = "mined.csv"\ntopography = "ground.csv"\n',

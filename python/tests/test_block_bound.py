@@ -311,13 +311,13 @@ def test_seconds_end_the_relaxation_behind_a_round():
 @pytest.mark.parametrize(
     ("change", "said"),
     [
-        (dict(values=np.array([[[np.nan]]])), "finite numbers"),
-        (dict(values=np.zeros((1, 1, 0))), "one year at least"),
+        (dict(values=np.array([[[np.nan]]])), "finite values"),
+        (dict(values=np.zeros((1, 1, 0))), "at least one destination and one year"),
         (dict(limits=(Limit("rock", np.array([[-1.0]]), np.array([1.0])),)), "rock: an amount is negative"),
-        (dict(limits=(Limit("rock", np.array([[1.0]]), np.array([-1.0])),)), "rock: the most of a year is negative"),
+        (dict(limits=(Limit("rock", np.array([[1.0]]), np.array([-1.0])),)), "rock: the maximum of a year is negative"),
         (
             dict(limits=(Limit("rock", np.array([[1.0]]), np.array([1.0, 2.0])),)),
-            "rock: amounts are by block and destination",
+            "rock: expected amounts by block and destination",
         ),
     ],
 )

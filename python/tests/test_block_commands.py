@@ -157,11 +157,14 @@ def test_a_block_goes_to_the_process_that_has_room(plan_folder):
 @pytest.mark.parametrize(
     ("words", "said"),
     [
-        ("[schedule]\nbench_lag = 1", "[schedule] bench_lag: is of pushbacks"),
-        ("[schedule]\nvertical_advance_rate = 2", "[schedule] vertical_advance_rate: is of the benches of a pushback"),
-        ("[schedule]\nbins = 2", "[schedule] bins: are of benches"),
-        ("[schedule]\nbins = 2\nstockpile = { reclaim_cost = 1 }", "[schedule] bins: are of benches"),
-        ("[schedule]\nprocessing_capacity = 1", "holds 100 of feed_tonnes, and a year at most 1"),
+        ("[schedule]\nbench_lag = 1", "[schedule] bench_lag: applies to pushbacks"),
+        (
+            "[schedule]\nvertical_advance_rate = 2",
+            "[schedule] vertical_advance_rate: applies to the benches of a pushback",
+        ),
+        ("[schedule]\nbins = 2", "[schedule] bins: apply to benches"),
+        ("[schedule]\nbins = 2\nstockpile = { reclaim_cost = 1 }", "[schedule] bins: apply to benches"),
+        ("[schedule]\nprocessing_capacity = 1", "holds 100 of feed_tonnes, and a year takes at most 1"),
     ],
 )
 def test_what_is_refused(plan_folder, words, said):
@@ -172,7 +175,7 @@ def test_what_is_refused(plan_folder, words, said):
 
 @pytest.mark.parametrize("words", ["fixed_cost_per_year = 5", "capex = [[1, 5]]"])
 def test_what_years_cost_is_refused(plan_folder, words):
-    with pytest.raises(PlanError, match="fixed_cost_per_year, capex: what years cost"):
+    with pytest.raises(PlanError, match="fixed_cost_per_year, capex: period costs"):
         scheduled(plan_folder, text=YEARLY.replace("mining_cost = 2\n", f"mining_cost = 2\n{words}\n"))
 
 
@@ -333,15 +336,17 @@ def test_a_pit_without_ore_has_an_empty_schedule(plan_folder, capsys):
 def test_a_pit_of_too_many_years_is_refused(plan_folder, monkeypatch):
     """Three years at the limits, and a fifth more."""
     monkeypatch.setattr(from_plan, "MOST_YEARS", 3)
-    with pytest.raises(PlanError, match="the pit would take more than 3 years: are the limits in tonnes a year?"):
+    with pytest.raises(
+        PlanError, match="the pit would take more than 3 years: check that the limits are in tonnes per year"
+    ):
         scheduled(plan_folder)
 
 
 @pytest.mark.parametrize(
     ("change", "said"),
     [
-        ("processing_capacity = 99", "100 of feed_tonnes, and a year at most 99"),
-        ("mining_capacity = 90", "100 of total_tonnes, and a year at most 90"),
+        ("processing_capacity = 99", "100 of feed_tonnes, and a year takes at most 99"),
+        ("mining_capacity = 90", "100 of total_tonnes, and a year takes at most 90"),
     ],
 )
 def test_a_block_that_a_year_cannot_hold_is_refused(plan_folder, change, said):
@@ -353,7 +358,7 @@ def test_a_block_that_a_year_cannot_hold_is_refused(plan_folder, change, said):
     )
     with pytest.raises(
         PlanError,
-        match=rf"by block each is mined in one year: give smaller blocks .*: block b\d-0-\d \(row \d\) holds {said}",
+        match=rf"by block each block is mined in one year: give smaller blocks .*: block b\d-0-\d \(row \d\) holds {said}",
     ):
         scheduled(plan_folder, text=text)
 

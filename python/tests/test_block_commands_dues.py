@@ -44,7 +44,7 @@ def test_each_least_amount_by_hand(plan_folder, words, cash):
 
 def test_what_none_can_keep_is_told(plan_folder):
     with pytest.raises(
-        PlanError, match="^no schedule keeps what must be held at least: feed_tonnes in years 1, 2, 3, 4$"
+        PlanError, match="^infeasible: no schedule meets the minimum of feed_tonnes in years 1, 2, 3, 4$"
     ):
         scheduled(plan_folder, "[schedule]\nyears = 4\nminimum = { feed = 100 }\n", WIDE)
 
@@ -106,7 +106,7 @@ def test_a_sum_of_blocks_that_are_put_together(plan_folder, words):
 def test_the_least_of_a_sum_by_hand(plan_folder):
     """At least 3 kg in each of three years do not come of 5, 4 and 1; 1 kg does, one pillar a year."""
     text = '[schedule]\nyears = 3\n[[schedule.limits]]\ncolumn = "as_kg"\nof = "feed"\nmin = {}\n'
-    with pytest.raises(PlanError, match="no schedule .*keeps what must be held at least.*sum_as_kg"):
+    with pytest.raises(PlanError, match="no schedule .*meets the minimum.*sum_as_kg"):
         scheduled(plan_folder, text.format(3.5), WIDE, pillars(**ARSENIC))
     row, folder = scheduled(plan_folder, text.format(1), WIDE, pillars(**ARSENIC))
     assert years(folder) == [1, 2, 3] and wrong(folder) == set()
@@ -133,7 +133,7 @@ def test_hours_of_one_process(plan_folder):
 def test_barren_rock_is_not_milled_for_a_least_amount(plan_folder):
     """300 t of ore are there; 350 t are not made of waste."""
     text = with_processes()
-    with pytest.raises(PlanError, match="^no schedule keeps what must be held at least: feed_tonnes in year 1$"):
+    with pytest.raises(PlanError, match="^infeasible: no schedule meets the minimum of feed_tonnes in year 1$"):
         scheduled(plan_folder, "[schedule]\nyears = 1\nminimum = { feed = 350 }\n", text)
 
 
@@ -172,7 +172,7 @@ def test_fixed_blocks_by_hand(plan_folder):
 
 def test_fixed_blocks_that_no_year_has_room_for_are_told(plan_folder):
     table = pillars(must=lambda i, j, k: int(k == 0), never=lambda i, j, k: 0)
-    with pytest.raises(PlanError, match="^no schedule keeps what must be held at least: 3 blocks that must be dug$"):
+    with pytest.raises(PlanError, match="^infeasible: no schedule meets the minimum of 3 must-mine blocks$"):
         scheduled(plan_folder, FIXED + "[schedule]\nyears = 2\n", YEARLY, table)
 
 
@@ -198,7 +198,7 @@ def test_a_sum_that_is_not_that_of_its_blocks_is_found(plan_folder, name):
     [
         (
             "minimum = { feed = 100 }",
-            r"\[schedule\] years: is missing: in each of so many years there must be what is asked for at least",
+            r"\[schedule\] years: is missing: the minimum applies to each of these years",
         ),
         ("years = 2\nminimum = { gold = 1 }", r"\[schedule.minimum\] gold: is none of feed, total, copper"),
         ("years = 2\nminimum = { feed = 400 }", r"\[schedule.minimum\] feed: 400 is above the most of a year, 300"),
@@ -233,7 +233,7 @@ def test_a_least_amount_of_a_name_that_is_a_metals_too_is_refused(plan_folder, n
     )
     with pytest.raises(
         PlanError,
-        match=rf"\[schedule.minimum\] {name}: stands for several things: call the metal or the process otherwise",
+        match=rf"\[schedule.minimum\] {name}: is ambiguous: rename the metal or the process",
     ):
         load(path)
 
@@ -247,14 +247,15 @@ def test_a_sum_of_a_name_that_is_a_processes_too_is_refused(plan_folder):
         + process
     )
     path = plan_folder(pillars(), text + '[[schedule.limits]]\ncolumn = "cu"\nof = "feed"\nmax = 1\n')
-    with pytest.raises(PlanError, match=r"\[schedule.limits\] cu: of feed stands for several things"):
+    with pytest.raises(PlanError, match=r"\[schedule.limits\] cu: of feed is ambiguous"):
         load(path)
 
 
 def test_a_least_amount_to_which_no_block_adds_is_refused(plan_folder):
     """There is rock enough, and no copper in it."""
     with pytest.raises(
-        PlanError, match="no schedule keeps what must be held at least: no block that adds to it can be dug in time"
+        PlanError,
+        match="infeasible: no schedule meets the minimums, since no block that adds to them can be mined in time",
     ):
         scheduled(plan_folder, "[schedule]\nyears = 2\nminimum = { copper = 0.1 }\n", WIDE, pillars().assign(cu=0))
 
@@ -273,7 +274,7 @@ def test_pushbacks_keep_no_least_amounts(plan_folder):
     project = load(
         plan_folder(pillars(), WIDE + "[pushbacks]\ncount = 2\n[schedule]\nyears = 2\nminimum = { feed = 10 }\n")
     )
-    with pytest.raises(PlanError, match=r"\[schedule\] least, sums: are kept by --by block alone"):
+    with pytest.raises(PlanError, match=r"\[schedule\] minimum, limits: apply to --by block only"):
         pitplan.write_schedule(project)
 
 

@@ -85,7 +85,7 @@ def test_the_bound_is_the_optimum_of_the_whole_programme(batch):
         problem = with_dues(random_problem(seed, most=40), seed)
         optimum = linear_optimum(problem)
         if optimum is None:
-            with pytest.raises(PlanError, match="^no schedule keeps what must be held at least: "):
+            with pytest.raises(PlanError, match="^infeasible: no schedule meets the minimum of "):
                 relaxed(without_first(problem), EXACT)
             continue
         found = relaxed(without_first(problem), EXACT)
@@ -139,7 +139,8 @@ def test_small_schedules_are_the_best_that_keep_what_is_due(batch):
         best = integer_optimum(problem)
         if best is None:
             with pytest.raises(
-                PlanError, match="^no schedule (keeps|of whole blocks was found that keeps) what must be held at least"
+                PlanError,
+                match="^(infeasible: no schedule meets the minimum|no schedule of whole blocks was found that meets the minimum)",
             ):
                 solve(problem, Effort(0.0, 60.0))
             continue
@@ -189,7 +190,7 @@ def test_more_than_there_is_by_hand():
     """30 t of three blocks do not make 15 t in each of three years."""
     problem = problem_of(np.ones((3, 3)), [], ([10, 10, 10], [20, 20, 20]))
     problem = replace(problem, limits=(replace(problem.limits[0], least=np.full(3, 15.0)),))
-    with pytest.raises(PlanError, match="^no schedule keeps what must be held at least: limit 0 in years 1, 2, 3$"):
+    with pytest.raises(PlanError, match="^infeasible: no schedule meets the minimum of limit 0 in years 1, 2, 3$"):
         solve(problem)
     # Shares of blocks hold 10 of 12 t of each block a year, whole ones do not.
     problem = problem_of(np.ones((2, 2)), [], ([12, 12], [24, 24]), ([12, 12], [13, 13]))
@@ -198,7 +199,7 @@ def test_more_than_there_is_by_hand():
     problem = problem_of(np.ones((1, 2)), [], ([12], [24, 24]))
     problem = replace(problem, limits=(replace(problem.limits[0], least=np.array([6.0, 6.0])),))
     with pytest.raises(
-        PlanError, match="no schedule of whole blocks was found .*: year 2 has 0 of limit 0 for 6: ask for less"
+        PlanError, match="no schedule of whole blocks was found .*: year 2 has 0 of limit 0 for 6: reduce the minimums"
     ):
         solve(problem)
 
@@ -220,8 +221,8 @@ def test_a_block_that_must_be_dug_is_dug_with_its_cone_as_late_as_may_be():
 @pytest.mark.parametrize(
     ("least", "said"),
     [
-        ([3.0, 0.0], "limit 0: the least of year 1 is 3, above its most of 2"),
-        ([-1.0, 0.0], "limit 0: the least of a year is negative or no number"),
+        ([3.0, 0.0], "limit 0: the minimum of year 1 is 3, above its maximum of 2"),
+        ([-1.0, 0.0], "limit 0: the minimum of a year is negative or not a number"),
     ],
 )
 def test_a_least_that_is_none_is_refused(least, said):

@@ -148,12 +148,12 @@ def test_a_least_amount_that_is_not_there_is_told(published, capsys):
     """Six blocks of four."""
     paths = published(("0 2 L 2\n", "0 2 G 6\n"))
     assert main([*map(str, paths), "--quiet"]) == 1
-    assert "no schedule keeps what must be held at least: resource 0 in year 3" in capsys.readouterr().err
+    assert "infeasible: no schedule meets the minimum of resource 0 in year 3" in capsys.readouterr().err
 
 
 def test_a_negative_amount_is_refused(published, capsys):
     assert main([*map(str, published(("3 1 7\n", "3 1 -7\n"))), "--quiet"]) == 1
-    assert "resource 1: an amount is negative or no number" in capsys.readouterr().err
+    assert "resource 1: an amount is negative or not a number" in capsys.readouterr().err
 
 
 # Waste is destination 0, the mill 1, leach 2. The mill takes 10 a period (resource 1), the shovels two blocks (resource 0).

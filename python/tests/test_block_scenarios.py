@@ -293,7 +293,7 @@ def test_it_goes_on_where_it_stopped(plan_folder):
     assert len(written) == 3 and not prepared(path).missing()
     write_models(path, third=model.assign(cu=0.7))
     shared = prepared(path)
-    assert [job.label for job in shared.missing()] == ["third", "one schedule for all"]
+    assert [job.label for job in shared.missing()] == ["third", "common schedule"]
     solved_in_turn(shared)
     assert {file: file.stat().st_mtime_ns for file in written} == written
     path.write_text(text.replace("discount_rate = 0.1", "discount_rate = 0.09"))
@@ -340,13 +340,13 @@ def test_factors_are_no_part_of_a_schedule(plan_folder):
 @pytest.mark.parametrize(
     ("words", "said"),
     [
-        ("milp = { seconds = 5 }", "[schedule] milp: its seconds would let answers hang on the machine"),
-        ("bench_lag = 1", "[schedule] bench_lag: is of pushbacks"),
-        ("vertical_advance_rate = 2", "[schedule] vertical_advance_rate: is of the benches of a pushback"),
-        ("bins = 2", "[schedule] bins: are of benches"),
-        ("bins = 2\nstockpile = { reclaim_cost = 1 }", "[schedule] bins: are of benches"),
-        ("minimum = { feed = 10 }", "[schedule] least: a schedule for all scenarios cannot keep it in each"),
-        ('[[schedule.limits]]\ncolumn = "tonnes"\nmax = 5', "[[schedule.limits]]: are of a table's columns"),
+        ("milp = { seconds = 5 }", "[schedule] milp: its time limit would make results depend on the machine"),
+        ("bench_lag = 1", "[schedule] bench_lag: applies to pushbacks"),
+        ("vertical_advance_rate = 2", "[schedule] vertical_advance_rate: applies to the benches of a pushback"),
+        ("bins = 2", "[schedule] bins: apply to benches"),
+        ("bins = 2\nstockpile = { reclaim_cost = 1 }", "[schedule] bins: apply to benches"),
+        ("minimum = { feed = 10 }", "[schedule] minimum: a common schedule cannot meet it in each scenario"),
+        ('[[schedule.limits]]\ncolumn = "tonnes"\nmax = 5', "[[schedule.limits]]: apply to columns of the table"),
     ],
 )
 def test_what_is_refused(plan_folder, words, said):
@@ -362,13 +362,16 @@ def test_what_is_refused(plan_folder, words, said):
     [
         (
             [("mining_cost = 2\n", "mining_cost = 2\nfixed_cost_per_year = 5\n")],
-            "fixed_cost_per_year, capex: what years cost",
+            "fixed_cost_per_year, capex: period costs",
         ),
-        ([("price = 8000", "price = 8000\nprices = [8000, 9000]")], "[[metals]] prices: of years"),
-        ([(COLUMNS, "")], "[scenarios] is missing: it names the models"),
+        (
+            [("price = 8000", "price = 8000\nprices = [8000, 9000]")],
+            "[[metals]] prices: a scenario has one price for all years",
+        ),
+        ([(COLUMNS, "")], "[scenarios] is missing: it names the realisations"),
         (
             [("years = 2\n", "years = 2\n" + MILL), ("processing_cost = 10\n", ""), *IN_MILL],
-            "[[processes]]: a schedule over scenarios sends a block to one mill or leaves it as waste: leave it out",
+            "[[processes]]: a schedule over scenarios has one mill: remove it",
         ),
     ],
 )
@@ -383,7 +386,9 @@ def test_limits_under_which_a_pit_would_take_too_long_are_refused(plan_folder):
         "processing_capacity = 100", "processing_capacity = 1"
     )
     path = plan_folder(pillars([1, 1, 1]), text)
-    with pytest.raises(PlanError, match="the pit would take more than 200 years: are the limits in tonnes a year?"):
+    with pytest.raises(
+        PlanError, match="the pit would take more than 200 years: check that the limits are in tonnes per year"
+    ):
         write_scenarios(path, request=BY_BLOCK)
     assert not (path.parent / "plan" / "block_scenarios" / "scenarios.json").exists()
 
@@ -392,10 +397,7 @@ def test_a_factor_another_kind_of_folder_and_the_program_are_refused(plan_folder
     path = plan_folder(pillars([1, 0.5, 0]), TWO_YEARS)
     words = ["scenarios", str(path), "--by", "block", "--quiet"]
     assert main([*words, "--revenue-factor", "1.00"]) == 1
-    assert (
-        "pitplan: --revenue-factor: schedules by block are made at the base price: leave it out"
-        in capsys.readouterr().err
-    )
+    assert "pitplan: --revenue-factor: schedules by block are at the base price: remove it" in capsys.readouterr().err
     assert main([*words, "--solver", "program"]) == 1
     assert "pitplan: --solver program: finds pits alone" in capsys.readouterr().err
     folder = prepared(path).folder
@@ -453,7 +455,7 @@ def test_some_schedules_are_gathered_on_request_alone(plan_folder):
     shared = prepared(plan_folder(pillars([1, 0.5, 0], [0, 0.5, 1]), TWO_YEARS))
     assert worker.solve(str(shared.folder), 2).status == 0
     with pytest.raises(
-        PlanError, match="the one schedule for all was not made: was not solved: run pitplan scenarios again"
+        PlanError, match="the common schedule was not made: was not solved: run pitplan scenarios again"
     ):
         gather(shared.folder, Request(partial=True))
     assert worker.solve(str(shared.folder), 3).status == 0
@@ -484,7 +486,7 @@ def test_a_schedule_that_reaches_ground_that_is_not_known_is_refused(plan_folder
     table = rows(1, 1, 3).drop(columns="cu").assign(sim_1=[1.5, 0, 0])
     shared = prepared(plan_folder(table[table["z"] != 15], TWO_YEARS))
     outcome = worker.solve(str(shared.folder), 1)
-    assert outcome.status == 5 and "sim_1: blocks.csv: the shells reach 1 cells that have no row" in outcome.why
+    assert outcome.status == 5 and "sim_1: blocks.csv: the shells reach 1 missing blocks" in outcome.why
 
 
 def test_nothing_that_pays_is_a_schedule_of_nothing(plan_folder):

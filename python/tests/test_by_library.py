@@ -137,7 +137,7 @@ def test_too_many_needs_are_refused_before_anything_is_solved(monkeypatch):
     monkeypatch.setattr("pitplan.solver.problem.MOST_PAIRS", 25_000)
     monkeypatch.setattr("pitplan.plan.MOST_PAIRS", 25_000)
     plan = pitplan.prepare(replace(load(EXAMPLES / "plan" / "project.toml"), solver="library"))
-    said = r"25,857 needs, and the program takes at most 25,000: give fewer \[slopes\] levels, or a smaller model"
+    said = r"25,857 precedences, and the solver takes at most 25,000: reduce \[slopes\] levels, or a smaller model"
     with pytest.raises(PlanError, match=said):
         pitplan.solve(plan)
 
@@ -376,7 +376,7 @@ def test_a_worker_with_another_library_solves_nothing(plan_folder, monkeypatch):
     assert shared.solver.by == "library" and worker.solve(str(shared.folder), 1).status == 0
     other_library(monkeypatch)
     outcome = worker.solve(str(shared.folder), 2)
-    said = "the library here (libpitshell 9, SHA-256 ffffffffffff..) is another than that with which this was begun"
+    said = "the library here (libpitshell 9, SHA-256 ffffffffffff..) differs from the one that began this"
     assert outcome.status == 5 and said in outcome.why
     monkeypatch.undo()
     monkeypatch.setattr(library, "package", lambda: None)
@@ -388,7 +388,7 @@ def test_cases_of_a_sensitivity_are_not_begun_with_another_library(plan_folder, 
     asked = cases.Asked(project, reader.read(project).frame, choice.chosen("library"))
     assert cases.find(cases.Case(), asked).row["blocks"] == 6
     other_library(monkeypatch)
-    with pytest.raises(ProgramError, match="the library here .* is another than that with which this was begun"):
+    with pytest.raises(ProgramError, match="the library here .* differs from the one that began this"):
         cases.find(cases.Case(), asked)
 
 

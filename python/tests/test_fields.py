@@ -44,7 +44,7 @@ def text_with(row, column, field):
 def test_a_nul_byte_in_a_field_is_named_by_row_and_column(plan_folder, column, field):
     path = plan_folder(text_with(5, column, field))
     assert refused(path) == (
-        f"{path.parent / 'blocks.csv'} row 5 column {column}: holds a NUL byte, which no text has: export it again as text, or name its encoding"
+        f"{path.parent / 'blocks.csv'} row 5 column {column}: contains a NUL byte: export it again as text, or name its encoding"
         ' by [table] encoding, such as "utf-16"'
     )
 
@@ -55,12 +55,12 @@ def test_a_nul_byte_is_named_in_whatever_piece_form_and_place_it_stands(plan_fol
     text = text_with(11, "tonnes", "1\x000")
     path = plan_folder(text, PROJECT, packed)
     (path.parent / "blocks.csv.gz").write_bytes(gzip.compress(text.replace(",", ";").encode()))
-    assert "blocks.csv.gz row 11 column tonnes: holds a NUL byte" in refused(path)
-    assert "blocks.csv row 1: holds a NUL byte" in refused(
+    assert "blocks.csv.gz row 11 column tonnes: contains a NUL byte" in refused(path)
+    assert "blocks.csv row 1: contains a NUL byte" in refused(
         plan_folder(rows(2, 2, 2).to_csv(index=False).replace("tonnes", "ton\x00nes", 1))
     )
     # In a column that the project does not name, and in a line's end.
-    assert "row 3 column more: holds a NUL byte" in refused(
+    assert "row 3 column more: contains a NUL byte" in refused(
         plan_folder(rows(2, 2, 2).assign(more=["a", "b\x00c"] * 4).to_csv(index=False))
     )
 
@@ -69,7 +69,7 @@ def test_a_table_in_utf_16_without_a_mark_is_refused_with_the_remedy(plan_folder
     path = plan_folder(rows(2, 2, 2))
     table = path.parent / "blocks.csv"
     table.write_bytes(table.read_text().encode("utf-16-le"))
-    assert "blocks.csv row 1: holds a NUL byte" in refused(path)
+    assert "blocks.csv row 1: contains a NUL byte" in refused(path)
     path.write_text(path.read_text().replace('id = "name"', 'id = "name"\nencoding = "utf-16-le"'))
     assert len(pitplan.prepare(path).blocks) == 8
 
@@ -77,7 +77,7 @@ def test_a_table_in_utf_16_without_a_mark_is_refused_with_the_remedy(plan_folder
 def test_points_of_a_surface_hold_no_nul_byte(plan_folder):
     path = plan_folder(rows(3, 2, 2), PROJECT, ("[grid]", 'topography = "ground.csv"\n[grid]'))
     (path.parent / "ground.csv").write_bytes(b"x,y,z\n0,0,20\n30,0,2\x000\n30,20,20\n0,20,20\n")
-    assert "ground.csv row 3 column z: holds a NUL byte" in refused(path)
+    assert "ground.csv row 3 column z: contains a NUL byte" in refused(path)
 
 
 @pytest.mark.parametrize("word", ["True", "TRUE", "true", "False"])
@@ -85,7 +85,7 @@ def test_points_of_a_surface_hold_no_nul_byte(plan_folder):
 def test_a_column_of_truths_is_none_of_numbers(plan_folder, column, word):
     path = plan_folder(rows(3, 2, 2).assign(**{column: word}))
     assert (
-        f'row 2 column {column}: "{word.capitalize()}" is not a number (True and False are no numbers: write 1 and 0)'
+        f'row 2 column {column}: "{word.capitalize()}" is not a number (True and False are not numbers: write 1 and 0)'
         in refused(path)
     )
 
@@ -164,9 +164,7 @@ def test_a_code_of_a_frame_holds_no_nul_byte(plan_folder, column):
     table = rows(3, 2, 2)
     table.loc[4, column] = "O\x00X"
     for given in (table, table.astype({column: "string"}), table.astype({column: "category"})):
-        assert f"table row 6 column {column}: holds a NUL byte, which no text has" in refused(
-            plan_folder(rows(3, 2, 2)), table=given
-        )
+        assert f"table row 6 column {column}: contains a NUL byte" in refused(plan_folder(rows(3, 2, 2)), table=given)
 
 
 def begun(tmp_path, table):
@@ -183,4 +181,4 @@ def test_a_new_project_is_refused_for_truths_and_nul_bytes(tmp_path):
         assert f'row 2 column {column}: "True" is not a number' in begun(tmp_path, model.assign(**{column: "TRUE"}))
     table = model.astype(object)
     table.loc[4, "rock"] = "O\x00X"
-    assert "is no text" in begun(tmp_path, table)
+    assert "is not a text file" in begun(tmp_path, table)

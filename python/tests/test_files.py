@@ -166,7 +166,7 @@ def test_values_of_an_audit_are_exact(tmp_path):
         333 * 12345678901 - 100000000,
     ]
     (tmp_path / "mine.blocks").write_text("0 0 0 0 999999999999 0\n")
-    with pytest.raises(PlanError, match="does not fit a model: give prices and costs in a greater unit of money"):
+    with pytest.raises(PlanError, match="too large for the solver: give prices and costs in a larger unit of money"):
         problem.values_at(read_nodes(tmp_path / "mine.blocks"), 1.0)
     # Products that 64 bits would not hold, and the greatest and least value that a model takes.
     most = np.array([10**18 - 1]), np.array([0])
@@ -179,7 +179,7 @@ def test_values_of_an_audit_are_exact(tmp_path):
         ((np.array([10**15]), np.array([0])), 1.0),
     ):
         with pytest.raises(
-            PlanError, match=f"a value at revenue factor {factor_text(factor)}, a thousandfold, is 10.12 or more"
+            PlanError, match=f"a value at revenue factor {factor_text(factor)}, times 1,000, is 10.12 or more"
         ):
             problem.values_at(amounts, factor)
 
@@ -298,9 +298,7 @@ def test_the_planners_own_table_is_never_written_over(plan_folder):
     path = plan_folder(rows(4, 4, 3, **ORE))
     before = (path.parent / "blocks.csv").read_bytes()
     for command in (write_plan, pitplan.write_shells):
-        with pytest.raises(
-            PlanError, match="blocks.csv: the plan would be written over it: give another folder by --out"
-        ):
+        with pytest.raises(PlanError, match="blocks.csv: the run would overwrite it: give another folder with --out"):
             command(load(path), path.parent, silent)
     assert (path.parent / "blocks.csv").read_bytes() == before and len(list(path.parent.iterdir())) == 2
 
@@ -311,9 +309,9 @@ def test_the_planners_own_table_is_never_written_over(plan_folder):
         (
             "economics.block_values",
             "MOST_BLOCKS",
-            "144 blocks and 3 processing nodes are 147 nodes, and the program takes at most 100",
+            "144 blocks and 3 processing nodes are 147 nodes, and the solver takes at most 100",
         ),
-        ("plan", "MOST_PAIRS", "needs, and the program takes at most 100: give fewer"),
+        ("plan", "MOST_PAIRS", "precedences, and the solver takes at most 100: reduce"),
         ("report.viewer3d", "MOST_FACTORS", "the 3D page can show 2 shells, and there are 3: give fewer factors"),
     ],
 )
@@ -329,7 +327,7 @@ def test_levels_that_were_chosen_are_named_where_their_needs_are_too_many(plan_f
     path = plan_folder(
         rows(6, 6, 4, **ORE), PROJECT, ("precedence_benches = 3\n", ""), ('pattern = "1:5"', "angle = 30")
     )
-    words = r"needs, and the program takes at most 100: give \[slopes\] levels, fewer than the 7 that were chosen"
+    words = r"needs, and the program takes at most 100: set \[slopes\] precedence_benches below the 7 that were chosen"
     with pytest.raises(PlanError, match=words):
         write_plan(load(path), path.parent / "out", silent)
 
@@ -364,7 +362,7 @@ def test_missing_libraries_are_named_with_their_packages(monkeypatch, tmp_path):
 
 def test_a_missing_program_is_named(monkeypatch):
     monkeypatch.setenv("PITSHELL", "/nowhere/pitshell")
-    with pytest.raises(PlanError, match="/nowhere/pitshell: is no program that may be run: name another by PITSHELL"):
+    with pytest.raises(PlanError, match="/nowhere/pitshell: is not an executable program: set PITSHELL to another"):
         program.program()
 
 
@@ -473,7 +471,7 @@ def test_an_audit_by_another_release_is_warned_of_with_quiet_and_in_python(solve
     path = pitplan.audit(folder, 0.5)
     assert path == folder / "audit-0.50"
     assert [*path.notes] == [
-        f"WARNING: libpitshell 0.0.7 found the shells, and {program.identity()['version']} has audited them"
+        f"WARNING: libpitshell 0.0.7 found the shells, and {program.identity()['version']} audited them"
     ]
     assert main(["audit", str(project.path), "--revenue-factor", "0.50", "--quiet"]) == 0
     assert capsys.readouterr().err.splitlines() == [*path.notes]

@@ -180,7 +180,7 @@ def test_a_polygon_with_a_bay():
         (
             '[constraints]\nmust_mine = "must"\nexclude = "must"\n',
             "",
-            "block b0-0-0 .row 2. must be dug and may not be dug",
+            "block b0-0-0 .row 2. is both must-mine and excluded",
         ),
         ('[constraints]\nas_mined = "area.csv"\ntopography = "blocks"\n', "x,y\n1,2\n", "there is no column z"),
         (
@@ -250,7 +250,7 @@ def test_fixed_blocks_that_clash(plan_folder, capsys):
     text = '[constraints]\nmust_mine = "must"\nexclude = "never"\n'
     table = ore_below_waste().assign(never=[0] * 9 + [1])
     assert main(["pit", str(plan_folder(table, with_section(text))), "--quiet"]) == 1
-    said = "blocks.csv: block b4-0-0 (row 6) must be dug and needs block b4-0-1 (row 11), which may not be dug\n"
+    said = "blocks.csv: block b4-0-0 (row 6) is must-mine and depends on block b4-0-1 (row 11), which is excluded\n"
     assert capsys.readouterr().err.endswith(said)
 
 
@@ -268,7 +268,7 @@ def test_shells_with_fixed_blocks_are_the_best_of_all_closed_sets_that_keep_to_t
     table = rows(*BOX, cu=lambda i, j, k: by_id[(2 - k) * 3 + i], must=at["in"], never=at["out"])
     project = replace(project_of(tmp_path, cutoff=cutoff), fixed=FixedRules("must", "never", None, ()))
     if not allowed:
-        with pytest.raises(PlanError, match="must be dug and needs block .* which may not be dug"):
+        with pytest.raises(PlanError, match="is must-mine and depends on block .* which is excluded"):
             prepare(project, table=table)
         return
     solution = pitplan.solve(prepare(project, table=table))

@@ -358,9 +358,9 @@ def test_what_is_reclaimed_is_stocked_the_year_before_by_hand():
     ("words", "said"),
     [
         ("bins = 0", "[schedule] bins: must be a whole number from 1 to 50"),
-        ("stockpile = { reclaim_cost = 1 }", "[schedule] stockpile: needs bins"),
+        ("stockpile = { reclaim_cost = 1 }", "[schedule] stockpile: requires bins"),
         ("bins = 2\nstockpile = { cost = 1 }", "[schedule.stockpile] reclaim_cost: is missing"),
-        ("bins = 2\nmilp = { seconds = 5 }", "[schedule] milp: knows no bins"),
+        ("bins = 2\nmilp = { seconds = 5 }", "[schedule] milp: cannot be combined with bins"),
     ],
 )
 def test_what_is_refused(tmp_path, words, said):

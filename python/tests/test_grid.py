@@ -88,7 +88,7 @@ def test_too_many_cells_are_refused(plan_folder):
     table = pd.concat(
         [rows(2, 2, 2), rows(2, 2, 2).assign(x=lambda t: t.x + 30_000_000, name=lambda t: t.name + "far")]
     )
-    with pytest.raises(PlanError, match="cells, and the program takes at most 4,194,304 blocks"):
+    with pytest.raises(PlanError, match="cells, and the solver takes at most 4,194,304 blocks"):
         pitplan.prepare(plan_folder(table))
 
 

@@ -52,9 +52,7 @@ def test_a_hole_of_one_block_by_hand():
     assert len(surface.faces) == 26 and Counter(surface.bench.tolist()) == {pit_topography.NONE: 16, 1: 10}
     uses = Counter(edges_of(surface.faces).values())
     assert uses == {1: 12, 2: (26 * 3 - 12) // 2}
-    assert (
-        said == "26 triangles; 500 m3 lie between it and the ground as it was, and the 1 cells that are dug hold 500 m3"
-    )
+    assert said == "26 triangles; 500 m3 lie between it and the original ground, and the 1 mined cells hold 500 m3"
     triangles = pit_states.places_of(grid, surface.corners)[surface.faces]
     assert prisms(triangles) == pytest.approx(8 * 1000 + 500)
     normal = np.cross(triangles[:, 1] - triangles[:, 0], triangles[:, 2] - triangles[:, 0])
@@ -111,17 +109,15 @@ def test_the_difference_after_smoothing_is_told():
         pit_states.places_of(grid, surface.corners)[surface.faces]
     )
     expected = 500 * int(dug.sum())
-    assert f"smoothed within half a block, {held:,.0f} m3 lie between it and the ground as it was, smoothed too" in said
-    assert said.endswith(
-        f"the {dug.sum():,} cells that are dug hold {expected:,} m3, {100 * (held / expected - 1):+.2f} %"
-    )
+    assert f"smoothed within half a block, {held:,.0f} m3 lie between it and the original ground, also smoothed" in said
+    assert said.endswith(f"the {dug.sum():,} mined cells hold {expected:,} m3, {100 * (held / expected - 1):+.2f} %")
 
 
 def test_rock_over_what_is_dug_is_refused():
     rock, dug = np.ones((3, 2, 2), dtype=bool), np.zeros((3, 2, 2), dtype=bool)
     dug[1, 1, 0] = True
     with pytest.raises(
-        PlanError, match="the block at 5, 15, 12.5 stays over one that is dug: the ground is no surface"
+        PlanError, match="the block at 5, 15, 12.5 remains above a mined one: the ground is not a surface"
     ):
         pit_topography.heights_of(rock, Stage("revenue_factor", 1.0, dug), grid_of((3, 2, 2)))
 
@@ -255,7 +251,7 @@ def test_by_how_much_smoothing_changes_the_volume_is_told_with_quiet_and_to_pyth
     assert main([*words, "--quiet"]) == 0
     quiet = capsys.readouterr()
     assert (
-        len(re.findall(r"smoothed within half a block, .* m3 lie between it and the ground as it was", quiet.err)) == 1
+        len(re.findall(r"smoothed within half a block, .* m3 lie between it and the original ground", quiet.err)) == 1
     )
     assert main(words) == 0
     aloud = capsys.readouterr()

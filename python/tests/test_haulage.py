@@ -172,7 +172,7 @@ def test_scenarios_haul_too(plan_folder, tmp_path):
         (
             "pit_exit = [15, 45, 30]",
             "pit_exit = [1e10, 45, 30]",
-            r"\[haulage\] pit_exit: 1E\+10 is no coordinate in metres: it is beyond 1,000,000,000",
+            r"\[haulage\] pit_exit: 1E\+10 is not a coordinate in metres: expected at most 1,000,000,000",
         ),
         (
             "ramp_gradient = 0.1",
@@ -194,7 +194,7 @@ def test_what_is_refused(plan_folder, old, new, said):
 def test_ore_that_costs_less_than_nothing_to_mill_is_refused(plan_folder):
     """Ore is hauled for nothing, waste at 50 a kilometre: 450 m are 22.5 a tonne, more than the 10 of processing."""
     section = SECTION.replace("ore = 0.5, waste = 0.4", "ore = 0, waste = 50")
-    said = r"row 2 column x, y, z: \[haulage\] a tonne of ore costs \S+ less to haul from here than one of waste, and its processing 10"
+    said = r"row 2 column x, y, z: \[haulage\] hauling ore costs \S+ per tonne less than waste from here, more than its processing cost of 10"
     with pytest.raises(PlanError, match=said):
         pitplan.prepare(hauled(plan_folder, rows(6, 2, 3, cu=lambda i, j, k: 2.0), section))
 

@@ -252,9 +252,9 @@ def test_sub_blocks_and_empty_grades_are_told(tmp_path):
 @pytest.mark.parametrize(
     ("dropped", "why"),
     [
-        ("z", "no column seems to hold z of the centres"),
-        ("tonnes", "no column seems to hold tonnes or a density"),
-        ("cu", "no column seems to hold grades, such as cu_pct or AU"),
+        ("z", "found no column for z of the centroids"),
+        ("tonnes", "found no column for tonnes or density"),
+        ("cu", "found no column for grades, such as cu_pct or AU"),
     ],
 )
 def test_what_cannot_be_guessed_is_named(tmp_path, dropped, why):
@@ -269,7 +269,7 @@ def test_a_project_that_is_there_is_kept(tmp_path, capsys):
     (tmp_path / "project.toml").write_text("mine")
     rows(3, 3, 3).to_csv(tmp_path / "m.csv", index=False)
     assert main(["init", str(tmp_path / "m.csv")]) == 1
-    assert "exists already: name another file by --out" in capsys.readouterr().err
+    assert "already exists: name another file with --out" in capsys.readouterr().err
     assert (tmp_path / "project.toml").read_text() == "mine"
 
 
@@ -333,7 +333,7 @@ def test_a_table_may_have_any_name(tmp_path, name):
 def test_a_name_that_no_project_can_hold_is_told(tmp_path):
     table = tmp_path / os.fsdecode(b"caf\xe9.csv")
     rows(3, 3, 3, cu=lambda i, j, k: 1.0).to_csv(table, index=False)
-    with pytest.raises(PlanError, match="has a name that is not UTF-8, as all of a project is: rename it"):
+    with pytest.raises(PlanError, match="its name is not UTF-8, as a project must be: rename it"):
         wizard.write(table, tmp_path / "project.toml")
     assert list(tmp_path.iterdir()) == [table]
 
@@ -359,7 +359,7 @@ def test_a_workbook_and_a_file_that_is_no_text_are_told_so(tmp_path):
     (tmp_path / "m.dm").write_bytes(table.to_csv(index=False).encode("utf-16-le"))
     for name, why in (
         ("m.xlsx", "is a workbook or another packed file: save the sheet, or what it packs, as CSV"),
-        ("m.dm", "is no text: save"),
+        ("m.dm", "is not a text file: save"),
     ):
         with pytest.raises(PlanError, match=f"{name}: {why}"):
             wizard.write(tmp_path / name, tmp_path / "project.toml")

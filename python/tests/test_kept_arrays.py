@@ -41,10 +41,12 @@ def test_arrays_that_are_kept_are_read_whole_or_refused(tmp_path):
 def test_an_answer_of_something_else_is_refused(tmp_path):
     file = tmp_path / "answer.npz"
     keyed_arrays.write(file, "one", entry=[1])
-    with pytest.raises(keyed_arrays.NoAnswer, match="it answers something else: has a file been copied here?"):
+    with pytest.raises(
+        keyed_arrays.NoAnswer, match="it is the result of another input: check whether a file was copied here"
+    ):
         keyed_arrays.read(file, "other")
     np.savez_compressed(file, entry=[1])
-    with pytest.raises(keyed_arrays.NoAnswer, match="it answers something else"):
+    with pytest.raises(keyed_arrays.NoAnswer, match="it is the result of another input"):
         keyed_arrays.read(file, "one")
     with pytest.raises(FileNotFoundError):
         keyed_arrays.read(tmp_path / "nowhere.npz", "one")
@@ -56,7 +58,9 @@ def test_an_answer_of_another_scenario_is_refused(plan_folder):
     first, second, third = map(shared.answer, shared.scenarios)
     whole = second.read_bytes()
     second.write_bytes(first.read_bytes())
-    sentence = rf"{second.name}: is no answer: remove it, and run pitplan scenarios again: it answers something else"
+    sentence = (
+        rf"{second.name}: is no answer: remove it, and run pitplan scenarios again: it is the result of another input"
+    )
     with pytest.raises(PlanError, match=sentence):
         pit_probability.gather(shared)
     second.write_bytes(whole[: len(whole) // 2])
@@ -91,6 +95,7 @@ def test_a_case_of_another_change_is_refused(plan_folder):
     one, other = (path.parent / "cases").iterdir()
     os.replace(one, other)
     with pytest.raises(
-        PlanError, match="npz: is no answer: remove it, and run pitplan sensitivity again: it answers something else"
+        PlanError,
+        match="npz: is no answer: remove it, and run pitplan sensitivity again: it is the result of another input",
     ):
         cases.solve(load(path), path.parent, None)

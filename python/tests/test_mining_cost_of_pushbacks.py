@@ -109,20 +109,20 @@ def test_blocks_that_come_in_another_pushback_for_its_width_pay_there(plan_folde
     [
         (
             "count = 5\nmining_cost_added = [0, 1, 2, 3, 4]",
-            "has 5 amounts, and the pit has 3 pushbacks, of the revenue factors 0.351, 0.501, 1.00",
+            "has 5 amounts for 3 pushbacks, of the revenue factors 0.351, 0.501, 1.00",
         ),
         (
             "count = 3\nmining_cost_added = [0, 1]",
-            "has 2 amounts, and the pit has 3 pushbacks, of the revenue factors 0.50, 0.70, 1.00",
+            "has 2 amounts for 3 pushbacks, of the revenue factors 0.50, 0.70, 1.00",
         ),
         ("count = 3\nmining_cost_added = [0, 1, -1]", r"\[pushbacks\] mining_cost_added: may not be negative"),
         (
             "count = 3\nmining_cost_added = 1",
-            r"\[pushbacks\] mining_cost_added: must be a list with what a tonne costs more in each pushback",
+            r"\[pushbacks\] mining_cost_added: must be a list of the added cost per tonne of each pushback",
         ),
         (
             "count = 3\nmining_cost_added = []",
-            r"\[pushbacks\] mining_cost_added: must be a list with what a tonne costs more in each pushback",
+            r"\[pushbacks\] mining_cost_added: must be a list of the added cost per tonne of each pushback",
         ),
         ('count = 3\nmining_cost_added = [0, "1", 2]', r"\[pushbacks\] mining_cost_added: '1' is not a number"),
     ],
@@ -136,9 +136,7 @@ def test_what_is_refused(plan_folder, words, said):
 
 def test_blocks_one_by_one_have_no_pushbacks(plan_folder):
     path = plan_folder(pillars(), with_pushbacks(ADDED))
-    with pytest.raises(
-        PlanError, match=r"\[pushbacks\] mining_cost_added: is by pushback, and blocks are in none: leave it out"
-    ):
+    with pytest.raises(PlanError, match=r"\[pushbacks\] mining_cost_added: applies to pushbacks: leave it out"):
         pitplan.write_block_schedule(path)
 
 

@@ -111,7 +111,10 @@ def test_shells_and_ore_keep_the_one_price(mine):
         ),
         (("price = 8000", "price = 8000\nprices = []"), r"\[metals 1\] prices: must be a list of prices, one a year"),
         (("price = 8000", "price = 8000\nprices = [-1]"), r"\[metals 1\] prices: may not be negative"),
-        (("price = 8000", "price = 0\nprices = [0, 8000]"), r"\[metals 1\] price: is 0, and by it is told what is ore"),
+        (
+            ("price = 8000", "price = 0\nprices = [0, 8000]"),
+            r"\[metals 1\] price: must be above 0: it sets the cut-off",
+        ),
     ],
 )
 def test_what_is_wrong_is_named(mine, change, said):

@@ -220,7 +220,7 @@ def test_plans_are_those_of_the_oracle(tmp_path, seed, three, levels, cutoff, is
     needs = needs_of(read, walls, levels)
     pits = [pit_of(read, needs, factor, cutoff) for factor in FACTORS]
     if pits[0] is None:
-        with pytest.raises(pitplan.PlanError, match="must be dug and needs|must be dug and may not be dug"):
+        with pytest.raises(pitplan.PlanError, match="is must-mine and depends on|is both must-mine and excluded"):
             pitplan.prepare(tmp_path / "project.toml")
         return
     plan = pitplan.prepare(tmp_path / "project.toml")

@@ -189,7 +189,7 @@ def test_a_table_that_is_not_right_is_not_written(solved, monkeypatch):
         table.to_csv(path, index=False)
 
     monkeypatch.setitem(registry.WRITERS, "table", careless)
-    with pytest.raises(PlanError, match="what was written is not right in"):
+    with pytest.raises(PlanError, match="verification failed:"):
         pitplan.write_export(folder, "table")
     assert not (folder / "table.csv").exists()
 
@@ -212,5 +212,5 @@ def test_a_project_or_a_table_that_has_changed_is_refused(solved, tmp_path, caps
 def test_the_planners_own_table_of_that_name_is_never_written_over(plan_folder):
     path = plan_folder(rows(3, 3, 2), PROJECT, ('file = "blocks.csv"', 'file = "table.csv"'))
     (path.parent / "blocks.csv").rename(path.parent / "table.csv")
-    with pytest.raises(PlanError, match="table.csv: the plan would be written over it"):
+    with pytest.raises(PlanError, match="table.csv: the run would overwrite it"):
         pitplan.write_shells(path, path.parent)

@@ -17,7 +17,7 @@ def test_a_byte_order_mark_is_passed_over_and_another_encoding_is_refused(plan_f
     path.write_bytes(PROJECT.encode("utf-8-sig"))
     assert pitplan.load(path).title == "Test hill"
     path.write_bytes(PROJECT.replace("Test hill", "H\u00fcgel").encode("cp1252"))
-    with pytest.raises(PlanError, match="is not written in UTF-8"):
+    with pytest.raises(PlanError, match="is not UTF-8"):
         pitplan.load(path)
 
 
@@ -34,7 +34,7 @@ def test_a_byte_order_mark_is_passed_over_and_another_encoding_is_refused(plan_f
         (
             'id = "name"',
             'id = "name"\nencoding = "utf-9"',
-            '[table] encoding: "utf-9" is no encoding: such are utf-8, cp1252',
+            '[table] encoding: "utf-9" is not an encoding: expected one such as utf-8, cp1252',
         ),
         ('id = "name"', 'id = "name"\ndecimal = ";"', '[table] decimal: ";" is none of ., ,'),
         ("mining_cost = 2", "mining_cost = true", "[economics] mining_cost: True is not a number"),
@@ -60,7 +60,7 @@ def test_a_byte_order_mark_is_passed_over_and_another_encoding_is_refused(plan_f
         (
             "mining_cost = 2",
             "mining_cost = 2\nmining_cost_reference = 100",
-            "[economics] mining_cost_reference: says from where on mining_cost_per_bench is added, which is missing",
+            "[economics] mining_cost_reference: requires mining_cost_per_bench, which is missing",
         ),
         (
             "mining_cost = 2",
@@ -70,7 +70,7 @@ def test_a_byte_order_mark_is_passed_over_and_another_encoding_is_refused(plan_f
         (
             "mining_cost = 2",
             "mining_cost = 2\nmining_cost_by_elevation = [[10, 1], [10, 2]]",
-            "[economics] mining_cost_by_elevation: an elevation is named twice",
+            "[economics] mining_cost_by_elevation: an elevation occurs twice",
         ),
         (
             "mining_cost = 2",
@@ -92,11 +92,11 @@ def test_a_byte_order_mark_is_passed_over_and_another_encoding_is_refused(plan_f
             "",
             "[slopes.domains 1] angle: give exactly one of angle, azimuths, bench, pattern and offsets",
         ),
-        ('pattern = "1:5"', "angle = 95", "[slopes.domains 1] angle: a wall angle is from 1 to 90 degrees"),
+        ('pattern = "1:5"', "angle = 95", "[slopes.domains 1] angle: a slope angle must be from 1 to 90 degrees"),
         (
             'pattern = "1:5"',
             "azimuths = [[0, 40], [0, 50]]",
-            "[slopes.domains 1] azimuths: azimuths are from 0 to below 360",
+            "[slopes.domains 1] azimuths: azimuths must be from 0 to below 360",
         ),
         (
             'pattern = "1:5"',
@@ -211,7 +211,7 @@ def test_factors_by_steps(plan_folder):
 
 def test_regions_are_codes_and_named_once(plan_folder):
     two = 'domain = 1\npattern = "1:5"\n[[slopes.domains]]\ndomain = ["1"]\nangle = 40'
-    with pytest.raises(PlanError, match=r"\[slopes\] domains: a domain is named twice"):
+    with pytest.raises(PlanError, match=r"\[slopes\] domains: a domain occurs twice"):
         pitplan.load(plan_folder(rows(2, 2, 2), PROJECT, ('pattern = "1:5"', two)))
 
 

@@ -89,7 +89,7 @@ def test_the_text_of_a_run_is_never_written_over_by_a_run_of_it(mine):
     pitplan.write_shells(path)
     again = load(path.parent / "plan" / "project-as-run.toml")
     with pytest.raises(
-        PlanError, match="project-as-run.toml: the plan would be written over it: give another folder by --out"
+        PlanError, match="project-as-run.toml: the run would overwrite it: give another folder with --out"
     ):
         pitplan.write_shells(again)
     pitplan.write_shells(again, path.parent / "again")

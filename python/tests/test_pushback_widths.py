@@ -126,7 +126,9 @@ def test_a_narrow_bottom_is_widened_or_left(plan_folder):
     then there is no pit."""
     found, _, _ = pushed(plan_folder, floor((4, 3)), "count = 1\nmin_bottom_width = 20")
     assert (found["blocks"][1], found["value_lost_to_width"][1]) == (4 + 12, 3 * 200 + 7 * 200)
-    with pytest.raises(PlanError, match="width, bottom: no part of the pit of revenue factor 1.50 is so wide"):
+    with pytest.raises(
+        PlanError, match="width, bottom: no part of the pit of revenue factor 1.50 meets the minimum width"
+    ):
         pushed(plan_folder, floor({(4, 3): 0.7}), "count = 1\nmin_bottom_width = 20\nultimate_pit = 1.5")
 
 
@@ -228,8 +230,8 @@ def test_random_pushbacks_are_wide_closed_and_nested(tmp_path_factory, seed, ask
 @pytest.mark.parametrize(
     ("words", "said"),
     [
-        ("count = 2\nmin_mining_width = 0", "[pushbacks] min_mining_width: a width is above 0 metres"),
-        ("count = 2\nmin_bottom_width = -5", "[pushbacks] min_bottom_width: a width is above 0 metres"),
+        ("count = 2\nmin_mining_width = 0", "[pushbacks] min_mining_width: must be above 0 metres"),
+        ("count = 2\nmin_bottom_width = -5", "[pushbacks] min_bottom_width: must be above 0 metres"),
         ('count = 2\nmin_mining_width = "40"', "[pushbacks] min_mining_width: '40' is not a number"),
     ],
 )

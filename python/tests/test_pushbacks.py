@@ -195,7 +195,7 @@ def test_where_no_shell_pays_the_last_pushback_is_that_of_the_price_as_given(pla
 def test_an_empty_pit_is_refused(plan_folder, capsys):
     path = plan_folder(pillars(), with_pushbacks("count = 2\nultimate_pit = 0.3"))
     assert main(["pushbacks", str(path), "--quiet"]) == 1
-    assert "[pushbacks] the pit of revenue factor 0.30 is empty: there is nothing to divide" in capsys.readouterr().err
+    assert "[pushbacks] the pit of revenue factor 0.30 is empty" in capsys.readouterr().err
     assert not (path.parent / "plan" / "pushbacks" / "pushbacks.csv").exists()
 
 
@@ -205,10 +205,10 @@ def test_an_empty_pit_is_refused(plan_folder, capsys):
         ("", "[pushbacks] count: give exactly one of count, tonnes, revenue_factors"),
         ("count = 2\ntonnes = 3", "[pushbacks] tonnes: give exactly one of count, tonnes, revenue_factors"),
         ("count = 0", "[pushbacks] count: must be a whole number from 1 to 100"),
-        ("tonnes = 0", "[pushbacks] tonnes: a pushback has more than 0 tonnes"),
+        ("tonnes = 0", "[pushbacks] tonnes: must be above 0 tonnes"),
         (
             "tonnes = 1",
-            "[pushbacks] tonnes: the pit of 600 t would have 600 pushbacks of 1 t, and there are at most 100",
+            "[pushbacks] tonnes: the pit of 600 t would have 600 pushbacks of 1 t, expected at most 100",
         ),
         (
             "revenue_factors = [0.0, 0.5]",
@@ -217,7 +217,7 @@ def test_an_empty_pit_is_refused(plan_folder, capsys):
         ("revenue_factors = [500]", "did you mean 0.50?"),
         (
             "revenue_factors = [0.5]\nultimate_pit = 0.9",
-            "[pushbacks] ultimate_pit: is the last of the revenue_factors: leave it out",
+            "[pushbacks] ultimate_pit: is the last of the revenue_factors: remove it",
         ),
         ("count = 2\nultimate_pit = 0.0", "[pushbacks] ultimate_pit: found 0, expected 0.001 or more"),
         ("number = 2\ncount = 2", "[pushbacks] number: is no key here"),
@@ -375,7 +375,7 @@ def test_nothing_is_written_where_a_pushback_is_wrong(plan_folder, monkeypatch):
     whole = nested.blocks
     monkeypatch.setattr(nested, "blocks", lambda it: whole(it).replace({"pushback": {3: 1}}))
     project = load(plan_folder(pillars(), with_pushbacks("count = 3")))
-    with pytest.raises(PlanError, match="what was written is not right"):
+    with pytest.raises(PlanError, match="verification failed"):
         pitplan.write_pushbacks(project)
     assert not (project.folder / "pushbacks" / "pushbacks.csv").exists()
 

@@ -114,14 +114,14 @@ def test_what_is_too_large_all_the_same_is_refused(plan_folder, monkeypatch):
     monkeypatch.setattr(pitplan.blockmodel.grid, "MOST_BLOCKS", 300)
     with pytest.raises(
         PlanError,
-        match="the grid has 4,320 cells, of which shells may reach 384, and the program takes at most 300 blocks",
+        match="shells can reach 384 of the 4,320 cells, and the solver takes at most 300 blocks",
     ):
         pitplan.prepare(plan_folder(deposit(), PROJECT, ANGLES))
 
 
 def test_a_model_in_which_nothing_pays_is_refused(plan_folder, few):
     with pytest.raises(
-        PlanError, match="4,320 cells, and the program takes at most 3,000 blocks: none pays for its processing"
+        PlanError, match="4,320 cells, and the solver takes at most 3,000 blocks: no block pays for its processing"
     ):
         pitplan.prepare(plan_folder(deposit().assign(cu=0.0), PROJECT, ANGLES))
 

@@ -51,11 +51,11 @@ def test_columns_that_a_schedule_sums(plan_folder):
     text = PROJECT + sums.format("as_ppm", "per_tonne = true\n") + sums.format("as_ppm", 'name = "whole"\n')
     with pytest.raises(
         PlanError,
-        match=r"\[schedule.limits\] whole: as_ppm is of a tonne too, and \[table\] reblock makes means of that",
+        match=r"\[schedule.limits\] whole: as_ppm is also per tonne, and \[table\] reblock averages it",
     ):
         pitplan.load(plan_folder(table, text, TWOS))
     with pytest.raises(
-        PlanError, match=r"\[schedule.limits\] cu: cu is of a tonne too, and \[table\] reblock makes means of that"
+        PlanError, match=r"\[schedule.limits\] cu: cu is also per tonne, and \[table\] reblock averages it"
     ):
         pitplan.load(plan_folder(table, PROJECT + sums.format("cu", ""), TWOS))
 
@@ -109,7 +109,7 @@ def test_sub_blocks_by_hand(plan_folder):
         ),
         (
             [("reblock = [2, 2, 1]", "reblock = { size = [20, 20, 10], corner = [5, 0, 0] }")],
-            "row 2 column x: lies on the edge of two blocks of 20 m from 5 on",
+            "row 2 column x: lies on the boundary of two blocks of 20 m from 5",
         ),
     ],
 )
@@ -120,7 +120,7 @@ def test_what_is_wrong_is_named(plan_folder, changes, said):
 
 def test_rows_in_one_place_are_refused(plan_folder):
     table = pd.concat([sub_blocks(), sub_blocks().tail(1).assign(name="e")])
-    with pytest.raises(PlanError, match="row 6 column x, y, z: another row has this centre too"):
+    with pytest.raises(PlanError, match="row 6 column x, y, z: another row has the same centroid"):
         pitplan.prepare(plan_folder(table, PROJECT, PARENTS, SIZE))
 
 
@@ -208,7 +208,7 @@ def test_a_table_that_is_too_large_by_itself(plan_folder, monkeypatch):
     monkeypatch.setattr(pitplan.blockmodel.grid, "MOST_BLOCKS", 200)
     with pytest.raises(
         PlanError,
-        match="the grid has 858 cells, of which shells may reach 858, and the program takes at most 200 blocks",
+        match="shells can reach 858 of the 858 cells, and the solver takes at most 200 blocks",
     ):
         pitplan.prepare(plan_folder(hill(), PROJECT))
     plan = pitplan.prepare(

@@ -104,7 +104,7 @@ def test_as_numpy_has_it_but_for_a_millionth(named, grades, dilution):
     ("recovery", "said"),
     [
         ("[[0.2, 0.5], [0.6, 0.4]]", "falls as the grade rises"),
-        ("[[0.2, 0.5], [0.2, 0.6]]", "a grade is named twice"),
+        ("[[0.2, 0.5], [0.2, 0.6]]", "a grade occurs twice"),
         ("[[0.2, 1.5]]", "grades may not be negative, and recoveries must lie from 0 to 1"),
         ("[[-0.2, 0.5]]", "grades may not be negative, and recoveries must lie from 0 to 1"),
         ("{ R = [[0.2]] }", r"must be a list of pairs \[grade, recovery\]"),

@@ -349,7 +349,7 @@ def test_schedules_by_block_refuse_processes_before_anything_is_read(plan_folder
         "discount_rate = 0.1", "discount_rate = 0.1\nmining_capacity = 5000"
     )
     path = plan_folder("no table", text)
-    with pytest.raises(PlanError, match=r"\[\[processes\]\]: a schedule over scenarios sends a block to one mill"):
+    with pytest.raises(PlanError, match=r"\[\[processes\]\]: a schedule over scenarios has one mill"):
         prepare.prepare(load(path), path.parent / "by_block", silent, "block")
 
 

@@ -158,7 +158,8 @@ def test_models_are_named_by_their_whole_files_and_no_two_alike(plan_folder):
     assert [scenario.model for scenario in prepared(path).scenarios] == ["sim.1", "sim.2", "sim"]
     model[["name", "cu"]].to_csv(path.parent / "realisations" / "sim.2.csv.gz", index=False)
     with pytest.raises(
-        PlanError, match="models/sim.2.csv.gz: is a model of the same name as sim.2.csv: remove or rename one of them"
+        PlanError,
+        match="models/sim.2.csv.gz: is a realisation of the same name as sim.2.csv: remove or rename one of them",
     ):
         prepared(path)
 
@@ -202,9 +203,9 @@ def test_a_model_that_does_not_fit_is_named_by_file_and_row(plan_folder, bend, w
 @pytest.mark.parametrize(
     "text, words",
     [
-        (PROJECT, r"\[scenarios\] is missing: it names the models"),
+        (PROJECT, r"\[scenarios\] is missing: it names the realisations"),
         (PROJECT + "[scenarios]\n", r"\[scenarios\] models: give exactly one of models, a folder, and columns"),
-        (MODELS, "models: holds no model, a .csv or .csv.gz file each"),
+        (MODELS, "models: has no realisation: expected a .csv or .csv.gz file for each"),
         (COLUMNS.replace("sim_", "none_"), r"blocks.csv row 1: no column is called none_\*"),
         (
             COLUMNS.replace("copper = ", "gold = "),
@@ -306,8 +307,8 @@ def test_what_went_wrong_is_told_by_status(plan_folder, monkeypatch):
     with pytest.raises(PlanError) as said:
         pitplan.write_scenarios(project, project.folder)
     assert str(said.value) == (
-        "1 solved (status 0); 1 out of budget (status 3): sim_2: exhausted; 1 killed again and again (status 75): gone: "
-        "run again, or gather the others by --partial"
+        "1 solved (status 0); 1 out of budget (status 3): sim_2: exhausted; 1 killed repeatedly (status 75): gone: "
+        "run again, or gather the others with --partial"
     )
 
 
@@ -575,7 +576,7 @@ def test_lists_of_models_that_differ_in_length_are_refused(plan_folder):
     text = COLUMNS.replace('copper = "sim_*"', 'copper = "sim_*", gold = ["sim_1", "sim_2"]')
     with pytest.raises(
         PlanError,
-        match=r"\[scenarios\] columns: each metal needs as many columns as the others: 3 of copper, 2 of gold",
+        match=r"\[scenarios\] columns: expected the same number of columns for each metal: 3 of copper, 2 of gold",
     ):
         prepared(plan_folder(pillar(), text, ("[slopes]", second)))
 

@@ -304,8 +304,8 @@ def test_years_that_could_not_be_counted_are_refused():
     with pytest.raises(PlanError) as said:
         pitplan.shells(plan, solution)
     assert str(said.value) == (
-        "project.toml: [shells] processing_capacity, mining_capacity: the greatest pit would take at least 1,100 years, and at most 1,000 "
-        "are counted: are the capacities in tonnes a year?"
+        "project.toml: [shells] processing_capacity, mining_capacity: the largest shell would take at least 1,100 years, "
+        "expected at most 1,000: check that the capacities are in tonnes per year"
     )
     plan.project = replace(plan.project, schedule=replace(plan.project.schedule, processing_capacity=1.1))
     assert len(pitplan.years(plan, solution)) == 2 * 2 * 1000

@@ -93,7 +93,7 @@ def test_a_model_that_is_too_large_is_refused(plan_folder, monkeypatch):
     """What shells reach of it would be another in each case."""
     monkeypatch.setattr(pitplan.blockmodel.grid, "MOST_BLOCKS", 40)
     table = rows(12, 3, 2, cu=lambda i, j, k: 9 if (i, j, k) == (2, 1, 0) else 0)
-    with pytest.raises(PlanError, match="what shells can reach of it is another with each number"):
+    with pytest.raises(PlanError, match="each case would be cropped differently"):
         pitplan.write_sensitivity(plan_folder(table, PROJECT + RULES, BY))
 
 

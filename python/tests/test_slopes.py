@@ -250,7 +250,7 @@ def test_dip_directions_are_the_opposite_bearings(plan_folder, turn):
 
 def test_azimuth_of_needs_azimuths(plan_folder):
     path = plan_folder(rows(3, 3, 2), PROJECT, ('pattern = "1:5"', 'angle = 45\nazimuth_of = "dip"'))
-    with pytest.raises(PlanError, match="azimuth_of: says what azimuths are of: give azimuths, or leave it out"):
+    with pytest.raises(PlanError, match="azimuth_of: requires azimuths"):
         pitplan.prepare(path)
 
 
@@ -285,7 +285,7 @@ def test_air_takes_the_walls_of_the_ground_below(plan_folder):
 def test_a_region_without_walls_is_refused(plan_folder):
     walls = 'domain = "2"\npattern = "1:5"'
     with pytest.raises(
-        PlanError, match=r"\[slopes\] no \[\[slopes.domains\]\] is for region 1, and none is without a region"
+        PlanError, match=r"\[slopes\] no \[\[slopes.domains\]\] is for domain 1, and none applies to all other domains"
     ):
         pitplan.prepare(plan_folder(rows(2, 2, 2), PROJECT, ('pattern = "1:5"', walls)))
 
@@ -295,14 +295,16 @@ def test_walls_for_regions_alone_need_a_region_column(plan_folder):
         rows(2, 2, 2), PROJECT, ('domain = "region"\n', ""), ('pattern = "1:5"', 'domain = 1\npattern = "1:5"')
     )
     with pytest.raises(
-        PlanError, match=r"all \[\[slopes.domains\]\] are for regions, and \[table\] names no column as region"
+        PlanError, match=r"all \[\[slopes.domains\]\] name a domain, and \[table\] names no column as domain"
     ):
         pitplan.prepare(path)
 
 
 def test_a_list_that_cannot_hold_a_flat_wall_is_refused():
     wall = Wall(None, None, ((0.0, 1.0),))
-    with pytest.raises(PlanError, match="1 levels of these blocks hold no wall flat enough: give more levels"):
+    with pytest.raises(
+        PlanError, match="with 1 benches of these blocks no slope is flat enough: increase precedence_benches"
+    ):
         slope_patterns.pattern_of(wall, (10.0, 10.0, 0.001), Slopes(1, True, (wall,)))
 
 

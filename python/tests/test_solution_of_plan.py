@@ -48,7 +48,7 @@ def test_each_function_refuses_a_solution_of_another_plan(mine, name):
     plan, other = mine(), mine(("price = 8000", "price = 9000"))
     PAIRS[name](plan, pitplan.solve(plan))
     with pytest.raises(
-        PlanError, match=r"blocks.csv: the solution is of another plan \(.*\): give that of pitplan.solve\(plan\)"
+        PlanError, match=r"blocks.csv: the solution is of another plan \(.*\): use the one from pitplan.solve\(plan\)"
     ):
         PAIRS[name](plan, pitplan.solve(other))
 
@@ -63,7 +63,7 @@ def test_whatever_shells_depend_on_makes_another_plan(mine, change):
 
 def test_a_solution_of_a_smaller_model_is_refused(mine, plan_folder):
     plan, other = mine(), pitplan.prepare(plan_folder(rows(7, 7, 3, **ORE)))
-    with pytest.raises(PlanError, match=r"it has 150 nodes, and the plan 171"):
+    with pytest.raises(PlanError, match=r"it has 150 nodes, the plan 171"):
         pitplan.shells(plan, pitplan.solve(other))
 
 

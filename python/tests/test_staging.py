@@ -21,7 +21,7 @@ pytestmark = pytest.mark.usefixtures("without_figures")
 ORE = {"cu": lambda i, j, k: {(3, 3, 1): 6, (4, 3, 1): 2.5, (3, 4, 0): 9}.get((i, j, k), 0)}
 MORE = '[pushbacks]\ncount = 2\n[schedule]\nmining_capacity = 2000\n[sensitivity]\nchanges = [0.1]\nparameters = "price"\n[constraints]\nmust_mine = "due"\n'
 SCENARIOS = '[scenarios]\ncolumns = { copper = ["cu", "cu2"] }\n'
-OTHER = "another run of pitplan writes into this folder"
+OTHER = "another run of pitplan is writing into this folder"
 
 
 @pytest.fixture
@@ -105,7 +105,7 @@ def test_a_second_run_in_the_same_folder_is_refused_while_the_first_lives(mine, 
     with staging.alone(folder):
         with pytest.raises(
             PlanError,
-            match=rf"out: {OTHER} \(process {os.getpid()}\): wait until it ends, or give another folder by --out",
+            match=rf"out: {OTHER} \(process {os.getpid()}\): wait until it ends, or give another folder with --out",
         ):
             RUNS[name](mine, folder)
         assert [path.name for path in folder.iterdir()] == [".pitplan.lock"]
@@ -266,7 +266,7 @@ def test_no_run_replaces_the_table_of_another_mine(mine, name):
     for file, text in texts.items():
         (other / file).write_text(text)
     with pytest.raises(
-        PlanError, match=r"other/blocks\.csv: the plan would be written over it: give another folder by --out"
+        PlanError, match=r"other/blocks\.csv: the run would overwrite it: give another folder with --out"
     ):
         RUNS[name](mine, other)
     assert {path.name: path.read_text() for path in other.iterdir()} == texts

@@ -101,10 +101,10 @@ def test_benches_are_as_their_overall_angle(plan_folder):
         ("offsets = [[0, 0.5, 1]]", "offsets: must be a list of offsets"),
         ("offsets = [[0, 0, 0]]", "offsets: go up by 1 to 40 blocks, and by at most 200 to a side"),
         ("offsets = [[201, 0, 1]]", "offsets: go up by 1 to 40 blocks, and by at most 200 to a side"),
-        ("bench = { height = 0, face_angle = 70, berm_width = 5 }", "height: is above 0 metres"),
+        ("bench = { height = 0, face_angle = 70, berm_width = 5 }", "height: must be above 0 metres"),
         (
             "bench = { height = 10, face_angle = 95, berm_width = 5 }",
-            "face_angle: a face angle is from 1 to 90 degrees",
+            "face_angle: must be from 1 to 90 degrees",
         ),
         ("bench = { height = 10, face_angle = 70, berm_width = -5 }", "berm_width: -5 is below 0"),
     ],

@@ -80,7 +80,7 @@ def test_an_empty_pit_has_no_surface(plan_folder):
     pytest.importorskip("vtk")
     path = plan_folder(rows(3, 3, 2), PROJECT)
     pitplan.write_shells(path, writing=pitplan.Writing(verifies=False))
-    with pytest.raises(PlanError, match="the pit of revenue factor 1.00 is empty: it has no surface"):
+    with pytest.raises(PlanError, match="the pit of revenue factor 1.00 is empty and has no surface"):
         pitplan.write_export(path.parent / "plan", "stl")
     assert not (path.parent / "plan" / "pit-1.00.stl").exists()
 

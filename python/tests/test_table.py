@@ -97,10 +97,10 @@ def test_another_encoding_is_asked_for_and_read(plan_folder):
 
 def test_a_column_that_stands_twice_is_refused(plan_folder):
     text = rows(2, 2, 2).to_csv(index=False).replace("tonnes,cu,rock", "cu,cu,rock", 1)
-    assert refused(plan_folder(text, PROJECT)).endswith("row 1: the column cu stands there twice")
+    assert refused(plan_folder(text, PROJECT)).endswith("row 1: the column cu occurs twice")
     table = rows(2, 2, 2)
     table.columns = ["name", "x", "y", "z", "tonnes", "cu", "rock", "tonnes"]
-    with pytest.raises(PlanError, match="table row 1: the column tonnes stands there twice"):
+    with pytest.raises(PlanError, match="table row 1: the column tonnes occurs twice"):
         pitplan.prepare(plan_folder(rows(2, 2, 2)), table=table.assign(region="1"))
 
 
@@ -110,9 +110,7 @@ def test_a_column_of_another_name_with_a_point_is_no_second_one(plan_folder):
 
 
 def test_a_table_without_rock_is_refused(plan_folder):
-    assert refused(plan_folder(rows(2, 2, 2, tonnes=lambda i, j, k: 0))).endswith(
-        "column tonnes: all are 0, so there is no rock"
-    )
+    assert refused(plan_folder(rows(2, 2, 2, tonnes=lambda i, j, k: 0))).endswith("column tonnes: all tonnes are 0")
 
 
 def test_a_missing_column_is_named_with_those_that_are_there(plan_folder):
@@ -123,7 +121,7 @@ def test_a_missing_column_is_named_with_those_that_are_there(plan_folder):
 
 def test_a_missing_file_and_an_empty_one_are_named(plan_folder):
     path = plan_folder("")
-    assert refused(path).startswith(f"{path.parent / 'blocks.csv'}: is no table")
+    assert refused(path).startswith(f"{path.parent / 'blocks.csv'}: is not a table")
     (path.parent / "blocks.csv").unlink()
     assert refused(path) == f"{path.parent / 'blocks.csv'}: cannot be read: No such file or directory"
     plan_folder("name,x,y,z,tonnes,cu,rock,region\n")
@@ -184,7 +182,7 @@ def test_what_is_no_number_is_named_in_whatever_piece_it_stands(plan_folder, mon
     table.loc[7, "cu"] = "1"
     text = table.to_csv(index=False).splitlines()
     text[8] += ",1"
-    assert "is no table" in refused(plan_folder("\n".join(text)))
+    assert "is not a table" in refused(plan_folder("\n".join(text)))
 
 
 def zipped(path, **files):
@@ -243,7 +241,7 @@ def test_a_column_of_codes_that_is_named_as_one_of_numbers_is_refused(plan_folde
     path = plan_folder(rows(3, 2, 2), PROJECT, change)
     assert (
         refused(path)
-        == f"{path}: [table] {key}: the column {name} is read as numbers too: codes need a column of their own"
+        == f"{path}: [table] {key}: the column {name} is also read as numbers: codes require a column of their own"
     )
 
 

@@ -46,7 +46,7 @@ def test_an_absurd_exponent(refused, key, number):
     old = {"recovery": RECOVERY, "price": "price = 8000", "discount_rate": "discount_rate = 0.1"}[key]
     shown = number if len(number) <= 40 else f"{number[:40]}.."
     assert refused(PROJECT.replace(old, f"{key} = {number}")).endswith(
-        f"{key}: {shown} is no amount: amounts end at 10^18 and have at most 60 decimals"
+        f"{key}: {shown} is not an amount: expected at most 10^18 and 60 decimals"
     )
 
 
@@ -95,13 +95,13 @@ def test_texts_with_many_points_are_no_keys(tmp_path):
 @pytest.mark.parametrize("name", ["base64", "hex", "rot13", "bz2", "zlib", "uu", "quopri", "undefined", "é"])
 def test_a_codec_that_is_no_encoding_of_texts(refused, name):
     sentence = refused(PROJECT.replace("[table]", f'[table]\nencoding = "{name}"'))
-    assert sentence == f'[table] encoding: "{name}" is no encoding: such are utf-8, cp1252 and utf-16'
+    assert sentence == f'[table] encoding: "{name}" is not an encoding: expected one such as utf-8, cp1252 or utf-16'
 
 
 def test_a_long_value_is_cut(refused):
     for key, words in (
-        ("encoding", "is no encoding: such are"),
-        ("separator", "parts no fields"),
+        ("encoding", "is not an encoding: expected one such as"),
+        ("separator", "is not a separator"),
         ("empty", "is none of refuse, zero"),
     ):
         assert words in refused(PROJECT.replace("[table]", f'[table]\n{key} = "{"x" * 5000}"'))
@@ -109,7 +109,7 @@ def test_a_long_value_is_cut(refused):
 
 @pytest.mark.parametrize("sign", ["ab", ",,", "\\n", "é", '\\"', ".", "a", "1", "\\u0001", "-"])
 def test_what_parts_no_fields(refused, sign):
-    assert "parts no fields: give one sign, such as" in refused(
+    assert "is not a separator: expected one character, such as" in refused(
         PROJECT.replace("[table]", f'[table]\nseparator = "{sign}"')
     )
 
@@ -117,14 +117,14 @@ def test_what_parts_no_fields(refused, sign):
 @pytest.mark.parametrize(
     ("change", "sentence"),
     [
-        (('file = "blocks.csv"', 'file = "\\u0000"'), "[table] file: '\\x00' has a NUL byte, which no name has"),
+        (('file = "blocks.csv"', 'file = "\\u0000"'), "[table] file: '\\x00' contains a NUL byte"),
         (
             ("[shells]", '[scenarios]\ncolumns = { copper = "" }\n[shells]'),
-            "[scenarios.columns] copper: a code may not be empty, nor have a NUL byte",
+            "[scenarios.columns] copper: codes may not be empty or contain a NUL byte",
         ),
         (
             ("[shells]", '[scenarios]\ncolumns = { copper = ["a", ""] }\n[shells]'),
-            "[scenarios.columns] copper: a code may not be empty, nor have a NUL byte",
+            "[scenarios.columns] copper: codes may not be empty or contain a NUL byte",
         ),
         (("[economics]", '"a\\nb" = 1\n[economics]'), "[grid] a\\nb: is no key here"),
     ],
@@ -134,5 +134,5 @@ def test_names_that_are_none(refused, change, sentence):
 
 
 def test_a_name_of_a_file_that_is_none():
-    with pytest.raises(PlanError, match=r"'\\x00': is no name of a file: embedded null byte"):
+    with pytest.raises(PlanError, match=r"'\\x00': is not a file name: embedded null byte"):
         load("\0")

@@ -279,13 +279,13 @@ def over_each_other(space):
     [
         (
             "100,0,5\n110,0,5\n110,9,5\n",
-            "topo.csv: lies over no block: its x go from 100 to 110 and y from 0 to 9, and those of the blocks from 5 to 25",
+            "topo.csv: covers no block: its extents .x 100 to 110, y 0 to 9. do not overlap the block model .x 5 to 25",
         ),
         (
             "-99,-99,-1\n99,-99,-1\n0,99,-1\n",
-            "topo.csv: all blocks lie above it: are its heights the table's, in metres?",
+            "topo.csv: all blocks lie above it: check that its heights are in metres",
         ),
-        ("0,5,5\n10,5,5\n20,5,5\n", "topo.csv: its points lie on one line, and make no surface"),
+        ("0,5,5\n10,5,5\n20,5,5\n", "topo.csv: its points lie on one line and define no surface"),
         ("", "topo.csv: has no heights"),
     ],
 )
@@ -300,13 +300,13 @@ def test_two_surfaces_are_refused(plan_folder, tmp_path):
     path = plan_folder(rows(3, 1, 3), PROJECT, (CUT[0], 'file = "blocks.csv"\ntopography = "topo.dxf"'))
     with pytest.raises(
         PlanError,
-        match="topo.dxf: has several heights over 3 columns of blocks, the first at 5, 5: give one surface, by its layer",
+        match="topo.dxf: has several heights over 3 columns of blocks, the first at 5, 5: select one surface by its layer",
     ):
         pitplan.prepare(path)
 
 
 def test_sums_of_whole_blocks_do_not_go_with_it(plan_folder):
-    said = r"\[schedule.limits\] cu: is of whole blocks, and \[table\] topography cuts some: give it per_tonne"
+    said = r"\[schedule.limits\] cu: is of whole blocks, and \[table\] topography cuts some: set per_tonne"
     with pytest.raises(PlanError, match=said):
         pitplan.load(plan_folder(rows(3, 1, 3), PROJECT + '[[schedule.limits]]\ncolumn = "cu"\nmost = 1\n', CUT))
 

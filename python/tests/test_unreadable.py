@@ -79,7 +79,7 @@ def test_a_bent_packed_table_is_named(packed, method):
 
 def test_a_header_of_too_long_a_field_is_named(plan_folder):
     path = plan_folder(rows(2, 2, 2).rename(columns={"name": "n" * 200_000}).to_csv(index=False))
-    assert "blocks.csv row 1: is no header of a table: field larger than field limit (131072)" in refused(
+    assert "blocks.csv row 1: is not a table header: field larger than field limit (131072)" in refused(
         pitplan.prepare, path
     )
 
@@ -91,7 +91,7 @@ def test_a_centre_where_no_ground_is_is_named(plan_folder, column, place):
     table.loc[4, column] = place
     said = refused(pitplan.prepare, plan_folder(table))
     assert said.endswith(
-        f"blocks.csv row 6 column {column}: {place:g} is no coordinate in metres: it is beyond 1,000,000,000"
+        f"blocks.csv row 6 column {column}: {place:g} is not a coordinate in metres: expected at most 1,000,000,000"
     )
 
 

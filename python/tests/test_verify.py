@@ -317,12 +317,12 @@ def test_all_that_is_bent_is_counted_and_ten_told(copied, name, bend, count, tol
     assert told in rule.differences[0]
     with pytest.raises(PlanError) as said:
         demand([rule])
-    assert str(said.value).startswith(f"what was written is not right in {rule.count:,} places:\n  {name}: ")
+    assert str(said.value).startswith(f"verification failed: {rule.count:,} discrepancies:\n  {name}: ")
     assert len(str(said.value).splitlines()) == 11
 
 
 def test_one_place_is_told_as_one():
-    with pytest.raises(PlanError, match="what was written is not right in 1 place:\n  money: block 7: revenue 1 for 2"):
+    with pytest.raises(PlanError, match="verification failed: 1 discrepancy:\n  money: block 7: revenue 1 for 2"):
         demand([rule("money", "revenue follows", ["block 7: revenue 1 for 2"])])
 
 
@@ -356,7 +356,7 @@ def test_a_table_that_has_changed_is_found(copied):
 def refused(plan_folder, table=None, text=TEXT, *changes):
     """What a run says that is refused by its second look; nothing of it stays."""
     path = plan_folder(deposit() if table is None else table, text, *changes)
-    with pytest.raises(PlanError, match="what was written is not right") as said:
+    with pytest.raises(PlanError, match="verification failed") as said:
         pitplan.write_shells(load(path), path.parent / "plan")
     assert not (path.parent / "plan").exists()
     return str(said.value)

@@ -126,7 +126,7 @@ def test_each_wrong_answer_is_found_and_not_gathered(copied, capsys, changed, fo
     assert found <= wrong(copied)
     before = (copied / "probability.csv").read_bytes(), (copied / "gathered.json").read_bytes()
     assert main(["gather", str(copied), "--quiet"]) == 1
-    assert "pitplan: what was written is not right in " in capsys.readouterr().err
+    assert "pitplan: verification failed: " in capsys.readouterr().err
     assert before == ((copied / "probability.csv").read_bytes(), (copied / "gathered.json").read_bytes())
 
 
@@ -386,11 +386,11 @@ def test_a_folder_that_is_none_of_scenarios_is_named(copied, tmp_path):
     for name in ("revenue_factors", "grid", "project"):
         (copied / "scenarios.json").write_text(json.dumps({key: value for key, value in record.items() if key != name}))
         with pytest.raises(
-            PlanError, match=f"plan: is no folder that pitplan scenarios and gather have written: '{name}' is missing"
+            PlanError, match=f"plan: not an output folder of pitplan scenarios and pitplan gather: '{name}' is missing"
         ):
             verify(copied)
     (copied / "scenarios.json").write_text("no record")
-    with pytest.raises(PlanError, match="plan: is no folder that pitplan scenarios has written"):
+    with pytest.raises(PlanError, match="plan: not an output folder of pitplan scenarios"):
         verify(copied)
 
 

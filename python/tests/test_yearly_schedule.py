@@ -87,12 +87,15 @@ def test_the_rule_keeps_each_limit(plan_folder, words, cash):
     ("words", "said"),
     [
         ("processing_capacity = 0", "[schedule] processing_capacity: 0 is below 1"),
-        ("vertical_advance_rate = 0", "[schedule] vertical_advance_rate: is above 0 benches a year"),
+        ("vertical_advance_rate = 0", "[schedule] vertical_advance_rate: must be above 0 benches per year"),
         ("bench_lag = -1", "[schedule] bench_lag: must be a whole number from 0 to 1,000"),
         ("ramp_up = 0.5", "[schedule] ramp_up: must be a list of shares of processing_capacity"),
-        ("ramp_up = [0.5, 1.2]", "[schedule] ramp_up: shares are from 0 to 1"),
-        ("ramp_up = [0.5, 0]", "[schedule] ramp_up: shares are from 0 to 1, and the last, which stays, is above 0"),
-        ("max_metal_per_year = { copper = 0 }", "[schedule.max_metal_per_year] copper: is above 0"),
+        ("ramp_up = [0.5, 1.2]", "[schedule] ramp_up: shares must be from 0 to 1"),
+        (
+            "ramp_up = [0.5, 0]",
+            "[schedule] ramp_up: shares must be from 0 to 1, and the last, which applies to all later years, above 0",
+        ),
+        ("max_metal_per_year = { copper = 0 }", "[schedule.max_metal_per_year] copper: must be above 0"),
         (
             "max_metal_per_year = { tin = 1 }",
             "[schedule] max_metal_per_year names tin, which is none of the [[metals]] copper",
@@ -116,7 +119,7 @@ def test_limits_within_which_nothing_can_be_dug_are_refused(plan_folder, words):
     )
     with pytest.raises(
         PlanError,
-        match="project.toml: .schedule. years: within these limits nothing can be dug in 1 year: are processing_capacity",
+        match="project.toml: .schedule. years: within these limits nothing can be mined in 1 year: check processing_capacity",
     ):
         pitplan.write_schedule(path)
 

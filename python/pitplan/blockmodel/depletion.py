@@ -79,7 +79,7 @@ def by_volumes(grid: Grid, original: SurveyFile, surface: SurveyFile) -> Ground:
     (_, ground), (read, mined) = (topography_cut.surveyed(file, file.state, box) for file in (original, surface))
     level, place = grid.shape[0] - 1 - grid.rows // grid.per_level, grid.rows % grid.per_level
     if (mined.covered[place] <= HAIR).all():
-        raise PlanError(f"{surface.path}: lies over no block: {tin.beside(read.points, grid)}")
+        raise PlanError(f"{surface.path}: covers no block: {tin.beside(read.points, grid)}")
     topography_cut.demand_one_height(mined, grid, surface.path)
     whole = ground.share[level, place]
     return Ground(whole, np.minimum(whole, mined.share[level, place]), tuple(read.notes))
@@ -91,7 +91,7 @@ def by_centres(grid: Grid, file: SurveyFile) -> Ground:
     surface = surface_of(grid, read)
     height = surface.height[grid.rows % grid.per_level]
     if np.isinf(height).all():
-        raise PlanError(f"{file.path}: lies over no block: {tin.beside(read.points, grid)}")
+        raise PlanError(f"{file.path}: covers no block: {tin.beside(read.points, grid)}")
     left = (grid.centres(grid.rows)[2] <= height).astype(float)
     return Ground(np.ones(len(left)), left, (*read.notes, *surface.notes(file.path, grid)))
 

@@ -159,7 +159,7 @@ def laid(frame: pd.DataFrame, project: Project, source: str, any_size: bool, azi
     up = axis_of(frame, columns.z, 2, rules, source)
     count = east.count * north.count * up.count
     if count > (MOST_CELLS if any_size else MOST_BLOCKS):
-        raise PlanError(f"{source}: the grid has {count:,} cells, and the program takes at most {MOST_BLOCKS:,} blocks")
+        raise PlanError(f"{source}: the grid has {count:,} cells, and the solver takes at most {MOST_BLOCKS:,} blocks")
     cells = ((up.count - 1 - up.place) * north.count + north.place) * east.count + east.place
     demand_once(cells, frame, columns, source)
     grid = Grid(

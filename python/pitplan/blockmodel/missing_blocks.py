@@ -87,7 +87,7 @@ def demand_known(entry: np.ndarray, grid: Grid, project: Project, source: str) -
     first = reached[factors.argmin()]
     x, y, z = (f"{float(axis):.10g}" for axis in grid.centres(first))
     raise PlanError(
-        f"{source}: the shells reach {len(reached):,} cells that have no row and are not above the highest of their column, the first "
-        f'at {x}, {y}, {z} from revenue factor {factor_text(factors.min())} on: give their rows, or say what they are by [table] missing_blocks = "air" or '
+        f"{source}: the shells reach {len(reached):,} missing blocks (below a row, or in columns without rows), the first "
+        f'at {x}, {y}, {z} from revenue factor {factor_text(factors.min())}: add their rows, or set [table] missing_blocks = "air" or '
         "missing_blocks = { tonnes = .., rock_type = .., domain = .. }"
     )

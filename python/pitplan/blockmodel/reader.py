@@ -145,7 +145,7 @@ def demand_codes_apart(project: Project) -> None:
     codes = {"id": project.table.id, "rock_type": project.table.rock_type, "domain": project.table.domain}
     for key, name in codes.items():
         if name and named(project).count(name) > list(codes.values()).count(name):
-            why = "is read as numbers too: codes need a column of their own"
+            why = "is also read as numbers: codes require a column of their own"
             raise PlanError(f"{project.path}: [table] {key}: the column {name} {why}")
 
 
@@ -175,7 +175,7 @@ def checked(frame: pd.DataFrame, project: Project, source: str = "table") -> Tab
     if columns.density:
         result[columns.tonnes] = tonnes_by_density(result, project)
     if not result[columns.tonnes].any():
-        raise PlanError(f"{source} column {columns.tonnes}: all are 0, so there is no rock")
+        raise PlanError(f"{source} column {columns.tonnes}: all tonnes are 0")
     demand_codes(result, project, source)
     unused = tuple(str(name) for name in frame.columns if name not in names_of(project))
     return Table(
@@ -196,7 +196,7 @@ def demand_no_nul(codes: pd.Series, source: str, name: str) -> None:
     """Raises PlanError where a code holds a NUL byte, at which it would end where the answer is read."""
     if "\0" in "".join(codes):
         row = next(row for row, code in enumerate(codes) if "\0" in code)
-        raise at_row(source, row, name, "holds a NUL byte, which no text has")
+        raise at_row(source, row, name, "contains a NUL byte")
 
 
 def filled_numbers(column: pd.Series, source: str, name: str, may_fill: bool) -> tuple[np.ndarray, int]:
@@ -237,7 +237,10 @@ def demand_near(frame: pd.DataFrame, project: Project, source: str) -> None:
         if far.any():
             row = int(far.argmax())
             raise at_row(
-                source, row, name, f"{frame[name].iloc[row]:g} is no coordinate in metres: it is beyond {FARTHEST:,}"
+                source,
+                row,
+                name,
+                f"{frame[name].iloc[row]:g} is not a coordinate in metres: expected at most {FARTHEST:,}",
             )
 
 

@@ -108,7 +108,7 @@ def of_corner(table: Table, project: Project, rules: Reblock) -> Lattice:
         between = np.abs(steps - np.rint(steps)) * rules.size[k] <= project.grid.tolerance
         if between.any():
             size, corner = (grids.metres(it[k]) for it in (rules.size, rules.corner))
-            why = f"lies on the edge of two blocks of {size} m from {corner} on: is the corner right?"
+            why = f"lies on the boundary of two blocks of {size} m from {corner}: check the corner"
             raise at_row(table.source, int(between.argmax()), name, why)
         place = np.floor(steps).astype(np.int64)
         edge[k] += float(place.min()) * rules.size[k]
@@ -128,7 +128,7 @@ def demand_apart(table: Table, project: Project) -> None:
     twice = table.frame.duplicated(columns).to_numpy()
     if twice.any():
         row = int(twice.argmax())
-        raise at_row(table.source, row, ", ".join(columns), "another row has this centre too")
+        raise at_row(table.source, row, ", ".join(columns), "another row has the same centroid")
 
 
 def parts_of(tonnes: np.ndarray, lattice: Lattice) -> tuple[np.ndarray, Parts]:

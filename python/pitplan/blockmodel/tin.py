@@ -200,6 +200,6 @@ def beside(places: np.ndarray, grid: Grid) -> str:
     x, y, _ = grid.centres(grid.rows)
     reach = [f"{metres(axis.min())} to {metres(axis.max())}" for axis in (*places.T[:2], x, y)]
     return (
-        f"its x go from {reach[0]} and y from {reach[1]}, and those of the blocks from {reach[2]} and {reach[3]}: are its coordinates the "
-        "table's, in metres?"
+        f"its extents (x {reach[0]}, y {reach[1]}) do not overlap the block model (x {reach[2]}, y {reach[3]}): "
+        "check coordinate system and units"
     )

@@ -38,13 +38,15 @@ def cut(frame: pd.DataFrame, grid: Grid, project: Project, file: SurveyFile) -> 
     read, found = surveyed(file, file.state, (grid.shape, grid.origin, grid.size, grid.azimuth))
     place = grid.rows % grid.per_level
     if (found.covered[place] <= HAIR).all():
-        raise PlanError(f"{file.path}: lies over no block: {tin.beside(read.points, grid)}")
+        raise PlanError(f"{file.path}: covers no block: {tin.beside(read.points, grid)}")
     demand_one_height(found, grid, file.path)
     share = found.share[grid.shape[0] - 1 - grid.rows // grid.per_level, place]
     before = frame[project.table.tonnes].to_numpy()
     after = np.where(share < 1, (before * share).round(TONNES_PLACES), before)
     if not after.any():
-        raise PlanError(f"{file.path}: all blocks lie above it: are its heights the table's, in metres?")
+        raise PlanError(
+            f"{file.path}: all blocks lie above it: check that its heights are in metres and in the system of the table"
+        )
     notes = [
         *read.notes,
         f"{file.path}: {told(before, after)}",
@@ -62,7 +64,7 @@ def surveyed(file: SurveyFile, state: tuple[tuple[int, int], ...], box: Box) -> 
     read = readers.topography(file, tin.box_of(grid))
     triangles = tin.triangles_of(read)
     if not len(triangles):
-        raise PlanError(f"{file.path}: its points lie on one line, and make no surface")
+        raise PlanError(f"{file.path}: its points lie on one line and define no surface")
     return read, tin.below(triangles, grid)
 
 
@@ -71,7 +73,7 @@ def demand_one_height(found: Below, grid: Grid, file: Path) -> None:
     if len(twice):
         x, y, _ = grid.centres(twice[:1])
         where = f"over {len(twice):,} columns of blocks, the first at {metres(x[0])}, {metres(y[0])}"
-        raise PlanError(f"{file}: has several heights {where}: give one surface, by its layer")
+        raise PlanError(f"{file}: has several heights {where}: select one surface by its layer")
 
 
 def told(before: np.ndarray, after: np.ndarray) -> str:

@@ -59,7 +59,7 @@ def write(file: Path, out: Path) -> list[str]:
     Raises PlanError where the table cannot be read, where no columns of centres, tonnes or grades are found, and where `out` exists.
     """
     if out.exists():
-        raise PlanError(f"{out}: exists already: name another file by --out")
+        raise PlanError(f"{out}: already exists: name another file with --out")
     model = read(file)
     demand_enough(model)
     demand_numbers(model, [guess.column for guess in model.columns.centres.values()])
@@ -102,7 +102,7 @@ def encoding_of(file: Path) -> str:
         if seen.startswith(mark):
             return name
     if b"\0" in seen:
-        raise PlanError(f"{file}: is no text: save the table as CSV")
+        raise PlanError(f"{file}: is not a text file: save the table as CSV")
     try:
         codecs.getincrementaldecoder("utf-8")().decode(seen)
     except UnicodeDecodeError:
@@ -117,15 +117,15 @@ def demand_enough(model: Model) -> None:
     missing = [axis for axis in "xyz" if axis not in columns.centres]
     if missing:
         raise PlanError(
-            f"{model.file} row 1: no column seems to hold {' and '.join(missing)} of the centres; the columns are {there}"
+            f"{model.file} row 1: found no column for {' and '.join(missing)} of the centroids; the columns are {there}"
         )
     if "tonnes" not in columns.named and "density" not in columns.named:
         demand_numbers(model, list(columns.texts))
-        raise PlanError(f"{model.file} row 1: no column seems to hold tonnes or a density; the columns are {there}")
+        raise PlanError(f"{model.file} row 1: found no column for tonnes or density; the columns are {there}")
     if not columns.metals:
         demand_numbers(model, list(columns.texts))
         raise PlanError(
-            f"{model.file} row 1: no column seems to hold grades, such as cu_pct or AU; the columns are {there}"
+            f"{model.file} row 1: found no column for grades, such as cu_pct or AU; the columns are {there}"
         )
 
 
@@ -163,7 +163,7 @@ def file_name(file: Path, out: Path) -> str:
     try:
         name.encode()
     except UnicodeEncodeError as error:
-        raise PlanError(f"{file}: has a name that is not UTF-8, as all of a project is: rename it") from error
+        raise PlanError(f"{file}: its name is not UTF-8, as a project must be: rename it") from error
     return name
 
 

@@ -52,9 +52,7 @@ def write_pit(
     project = read(project)
     target = project.folder / "pit" if folder is None else Path(folder)
     if project.fixed is None:
-        raise PlanError(
-            f"{project.path}: [constraints] is missing: it says which blocks must be dug and which may not be"
-        )
+        raise PlanError(f"{project.path}: [constraints] is missing: it defines must-mine and excluded blocks")
     with begun(project, target, writing, with_lower_factors(project, revenue_factor)) as run:
         table, blocks = compared(run, revenue_factor)
         write_table(blocks, run.stage)

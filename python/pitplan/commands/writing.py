@@ -131,7 +131,7 @@ def demand_apart(project: Project, folder: Path) -> None:
     demand_no_folders(folder, ALWAYS)
     for path in (*project.inputs, *inputs_beside(folder)):
         if path.parent.resolve() == folder.resolve() and path.name in WRITTEN:
-            raise PlanError(f"{path}: the plan would be written over it: give another folder by --out")
+            raise PlanError(f"{path}: the run would overwrite it: give another folder with --out")
 
 
 @contextmanager

@@ -64,7 +64,7 @@ def demand_ground(project: Project) -> None:
     named = bool(rules.topography or rules.by_blocks)
     if named and project.table.topography:
         raise PlanError(
-            f"{path}: [constraints] topography: [table] topography is the original ground already: leave one of them out"
+            f"{path}: [constraints] topography: [table] topography is the original ground already: remove one of them"
         )
     if not named and not project.table.topography:
         raise PlanError(
@@ -84,7 +84,7 @@ def demand_sums_agree(project: Project) -> None:
         TOTAL: rules.mining_capacity or shells.mining_capacity,
     }
     most |= rules.max_metal_per_year | {process.name: process.capacity for process in project.processes}
-    several = "stands for several things: call the metal or the process otherwise"
+    several = "is ambiguous: rename the metal or the process"
     for name, least in rules.minimum.items():
         if name not in (FEED, TOTAL, *metals, *names):
             raise PlanError(
@@ -111,10 +111,10 @@ def demand_sums_of_parts(project: Project, rules: ScheduleRules) -> None:
     means = {*rules.columns_of(per_tonne=True), *(metal.column for metal in project.metals)}
     for it in [it for it in rules.limits if not it.per_tonne]:
         if project.table.topography:
-            why = "is of whole blocks, and [table] topography cuts some: give it per_tonne, or leave out one of the two"
+            why = "is of whole blocks, and [table] topography cuts some: set per_tonne, or remove one of the two"
             raise PlanError(f"{project.path}: [schedule.limits] {it.name}: {why}")
         if project.table.reblock and it.column in means:
-            why = f"{it.column} is of a tonne too, and [table] reblock makes means of that: let the table have it twice"
+            why = f"{it.column} is also per tonne, and [table] reblock averages it: add a copy of the column"
             raise PlanError(f"{project.path}: [schedule.limits] {it.name}: {why}")
 
 

@@ -54,7 +54,7 @@ def read_fixed(section: Section, folder: Path) -> FixedRules:
         else None,
     )
     if (rules.topography or rules.by_blocks) and not rules.as_mined:
-        raise section.wrong("topography", "is the original ground of an as-mined surface: give as_mined too")
+        raise section.wrong("topography", "requires as_mined, whose original ground it is")
     section.finish()
     return rules
 

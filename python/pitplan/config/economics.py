@@ -158,9 +158,7 @@ def read_economics(section: Section, has_processes: bool = False) -> Money:
     )
     section.finish()
     if money.mining_cost_reference is not None and not section.has("mining_cost_per_bench"):
-        raise section.wrong(
-            "mining_cost_reference", "says from where on mining_cost_per_bench is added, which is missing"
-        )
+        raise section.wrong("mining_cost_reference", "requires mining_cost_per_bench, which is missing")
     if money.mining_cost_by_elevation and section.has("mining_cost_per_bench"):
         raise section.wrong("mining_cost_by_elevation", "give it or mining_cost_per_bench, not both")
     if money.royalty >= 1:
@@ -194,9 +192,9 @@ def read_by_elevation(section: Section) -> tuple[tuple[Decimal, Decimal], ...]:
         return ()
     pairs = sorted(section.pairs("mining_cost_by_elevation", "elevation, cost a tonne"))
     if any(cost < 0 for _, cost in pairs):
-        raise section.wrong("mining_cost_by_elevation", "a cost may not be negative")
+        raise section.wrong("mining_cost_by_elevation", "costs may not be negative")
     if len({elevation for elevation, _ in pairs}) < len(pairs):
-        raise section.wrong("mining_cost_by_elevation", "an elevation is named twice")
+        raise section.wrong("mining_cost_by_elevation", "an elevation occurs twice")
     return tuple(pairs)
 
 
@@ -228,7 +226,7 @@ def read_metal(section: Section, has_processes: bool = False) -> Metal:
     section.finish()
     # A block without revenue at the price as given costs nothing to process.
     if not metal.price and any(metal.prices):
-        raise section.wrong("price", "is 0, and by it is told what is ore: give one that is not, beside those of years")
+        raise section.wrong("price", "must be above 0: it sets the cut-off; yearly prices affect only the cash flow")
     return metal
 
 
@@ -266,7 +264,7 @@ def as_recovery(section: Section, key: str, value: Any) -> Recovery:
     if grades[0] < 0 or min(recoveries) < 0 or max(recoveries) > 1:
         raise section.wrong(key, "grades may not be negative, and recoveries must lie from 0 to 1")
     if len(set(grades)) < len(grades):
-        raise section.wrong(key, "a grade is named twice")
+        raise section.wrong(key, "a grade occurs twice")
     if list(recoveries) != sorted(recoveries):
         raise section.wrong(key, "falls as the grade rises")
     return Curve(points)

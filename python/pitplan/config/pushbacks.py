@@ -41,7 +41,7 @@ def read_pushbacks(section: Section) -> PushbackRules:
     if len(given) != 1:
         raise section.wrong(given[1] if given else WAYS[0], f"give exactly one of {', '.join(WAYS)}")
     if section.has("ultimate_pit") and given == ["revenue_factors"]:
-        raise section.wrong("ultimate_pit", "is the last of the revenue_factors: leave it out")
+        raise section.wrong("ultimate_pit", "is the last of the revenue_factors: remove it")
     rules = PushbackRules(
         count=section.whole("count", 1, 1, MOST_PUSHBACKS) if given == ["count"] else None,
         tonnes=float(section.number("tonnes")) if given == ["tonnes"] else None,
@@ -50,12 +50,12 @@ def read_pushbacks(section: Section) -> PushbackRules:
         min_mining_width=read_metres(section, "min_mining_width"),
         min_bottom_width=read_metres(section, "min_bottom_width"),
         mining_cost_added=section.amounts(
-            "mining_cost_added", "with what a tonne costs more in each pushback, such as [0, 0.15]"
+            "mining_cost_added", "of the added cost per tonne of each pushback, such as [0, 0.15]"
         ),
     )
     section.finish()
     if rules.tonnes is not None and rules.tonnes <= 0:
-        raise section.wrong("tonnes", "a pushback has more than 0 tonnes")
+        raise section.wrong("tonnes", "must be above 0 tonnes")
     return rules
 
 
@@ -64,7 +64,7 @@ def read_metres(section: Section, key: str) -> Optional[float]:
         return None
     metres = float(section.number(key))
     if metres <= 0:
-        raise section.wrong(key, "a width is above 0 metres: leave it out where any will do")
+        raise section.wrong(key, "must be above 0 metres: remove it if any width will do")
     return metres
 
 

@@ -108,13 +108,13 @@ def read_schedule_rules(section: Section) -> ScheduleRules:
     if len({it.name for it in rules.limits}) < len(rules.limits):
         raise section.wrong("limits", "two have one name")
     if rules.asks_least and rules.years is None:
-        raise section.wrong("years", "is missing: in each of so many years there must be what is asked for at least")
+        raise section.wrong("years", "is missing: the minimum applies to each of these years")
     if rules.vertical_advance_rate is not None and rules.vertical_advance_rate <= 0:
-        raise section.wrong("vertical_advance_rate", "is above 0 benches a year: leave it out where there is no limit")
+        raise section.wrong("vertical_advance_rate", "must be above 0 benches per year: remove it if there is no limit")
     if rules.reclaim_cost is not None and rules.bins is None:
-        raise section.wrong("stockpile", "needs bins, by which ore is laid on it")
+        raise section.wrong("stockpile", "requires bins")
     if rules.milp is not None and rules.bins is not None:
-        raise section.wrong("milp", "knows no bins: leave out one of the two")
+        raise section.wrong("milp", "cannot be combined with bins: remove one of the two")
     return rules
 
 
@@ -140,7 +140,7 @@ def read_sum(section: Section) -> Sum:
             "name", f'"{found.name}" is not one word of letters, digits, _ and -, as columns are named by it'
         )
     if least is None and most is None:
-        raise section.wrong("max", "is missing, and so is min: give one or both")
+        raise section.wrong("max", "is missing, and so is min: set one or both")
     if least is not None and most is not None and least > most:
         raise section.wrong("min", f"{least:.10g} is above the max of {most:.10g}")
     return found
@@ -168,7 +168,7 @@ def read_metals(section: Section) -> dict[str, float]:
     most = {name: float(by_metal.number(name)) for name in by_metal.data}
     for name, amount in most.items():
         if amount <= 0:
-            raise by_metal.wrong(name, "is above 0: leave it out where there is no limit")
+            raise by_metal.wrong(name, "must be above 0: remove it if there is no limit")
     return most
 
 
@@ -182,5 +182,7 @@ def read_ramp_up(section: Section) -> tuple[float, ...]:
         )
     shares = tuple(float(section.as_number("ramp_up", item)) for item in value)
     if any(not 0 <= share <= 1 for share in shares) or shares[-1] == 0:
-        raise section.wrong("ramp_up", "shares are from 0 to 1, and the last, which stays, is above 0")
+        raise section.wrong(
+            "ramp_up", "shares must be from 0 to 1, and the last, which applies to all later years, above 0"
+        )
     return shares

@@ -52,7 +52,7 @@ def read_shares(section: Section) -> tuple[Decimal, ...]:
         )
     shares = sorted(section.as_number("changes", item) for item in value)
     if any(not -1 < share <= 10 or share == 0 for share in shares) or len(set(shares)) < len(shares):
-        raise section.wrong("changes", "shares are above -1 and up to 10, none is 0, and each stands once")
+        raise section.wrong("changes", "shares must be above -1, at most 10, not 0, and all different")
     return tuple(shares)
 
 
@@ -60,7 +60,7 @@ def read_skin(section: Section) -> Decimal:
     share = section.as_number("skin", section.get("skin")) if section.has("skin") else SKIN
     if not 0 < share < 1:
         raise section.wrong(
-            "skin", "must be a share of the pit's rock above 0 and below 1, such as 0.05 for its last 5 %"
+            "skin", "must be a share of the pit's tonnes above 0 and below 1, such as 0.05 for the last 5 %"
         )
     return share
 
@@ -76,7 +76,7 @@ def read_pairs(section: Section, metals: tuple[str, ...]) -> tuple[tuple[str, st
     )
     for one, other in pairs:
         if one.partition(" ")[0] == other.partition(" ")[0] and (" " not in one or " " not in other or one == other):
-            raise section.wrong("pairs", f"{one} and {other} are not two numbers")
+            raise section.wrong("pairs", f"{one} and {other} are not two different parameters")
     return pairs
 
 

@@ -76,7 +76,7 @@ def read_slopes(section: Section) -> Slopes:
     section.finish()
     named = [region for wall in slopes.domains for region in wall.domains or ()]
     if len(set(named)) < len(named):
-        raise section.wrong("domains", "a domain is named twice")
+        raise section.wrong("domains", "a domain occurs twice")
     if sum(wall.domains is None for wall in slopes.domains) > 1:
         raise section.wrong("domains", "more than one entry names no domain")
     return slopes
@@ -94,14 +94,14 @@ def read_wall(section: Section) -> Wall:
     bench = read_bench(section.section("bench")) if given == ["bench"] else None
     angles = ((0.0, bench.angle),) if bench else angles
     if any(not 1 <= angle <= 90 for _, angle in angles):
-        raise section.wrong(given[0], "a wall angle is from 1 to 90 degrees")
+        raise section.wrong(given[0], "a slope angle must be from 1 to 90 degrees")
     if any(not 0 <= azimuth < 360 for azimuth, _ in angles) or len({azimuth for azimuth, _ in angles}) < len(angles):
-        raise section.wrong(given[0], "azimuths are from 0 to below 360 degrees, each named once")
+        raise section.wrong(given[0], "azimuths must be from 0 to below 360 degrees, each once")
     pattern = section.choice("pattern", PATTERNS, None) if given == ["pattern"] else None
     steps = read_offsets(section) if given == ["offsets"] else ()
     azimuth_of = section.choice("azimuth_of", (WALL, DIP), WALL)
     if section.has("azimuth_of") and given != ["azimuths"]:
-        raise section.wrong("azimuth_of", "says what azimuths are of: give azimuths, or leave it out")
+        raise section.wrong("azimuth_of", "requires azimuths")
     wall = Wall(section.names("domain"), pattern, tuple(sorted(angles)), steps, bench, azimuth_of)
     section.finish()
     return wall
@@ -128,7 +128,7 @@ def read_bench(section: Section) -> Bench:
     )
     section.finish()
     if bench.height <= 0:
-        raise section.wrong("height", "is above 0 metres")
+        raise section.wrong("height", "must be above 0 metres")
     if not 1 <= bench.face_angle <= 90:
-        raise section.wrong("face_angle", "a face angle is from 1 to 90 degrees")
+        raise section.wrong("face_angle", "must be from 1 to 90 degrees")
     return bench

@@ -116,7 +116,9 @@ def read_encoding(section: Section) -> str:
         # Codecs such as base64 and rot13 are known too, and are none of texts.
         "".encode(known)
     except (LookupError, ValueError) as error:
-        raise section.wrong("encoding", f'"{cut(name)}" is no encoding: such are utf-8, cp1252 and utf-16') from error
+        raise section.wrong(
+            "encoding", f'"{cut(name)}" is not an encoding: expected one such as utf-8, cp1252 or utf-16'
+        ) from error
     return "utf-8-sig" if known == "utf-8" else known
 
 
@@ -131,7 +133,7 @@ def read_separator(section: Section) -> Optional[str]:
         or not (sign.isprintable() or sign == "\t")
     ):
         raise section.wrong(
-            "separator", f'{shown(sign)} parts no fields: give one sign, such as ",", ";", "|" or "\\t"'
+            "separator", f'{shown(sign)} is not a separator: expected one character, such as ",", ";", "|" or "\\t"'
         )
     return sign
 
@@ -176,5 +178,5 @@ def read_grid(section: Section) -> GridRules:
     )
     section.finish()
     if rules.azimuth is not None and abs(rules.azimuth) > 360:
-        raise section.wrong("azimuth", f"{rules.azimuth:.10g} is no angle from -360 to 360 degrees")
+        raise section.wrong("azimuth", f"{rules.azimuth:.10g} is not an angle from -360 to 360 degrees")
     return rules

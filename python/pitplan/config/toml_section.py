@@ -81,7 +81,7 @@ class Section:
         if not isinstance(value, str) or not value:
             raise self.wrong(key, "must be a text in quotes")
         if "\0" in value:
-            raise self.wrong(key, f"{shown(value)} has a NUL byte, which no name has")
+            raise self.wrong(key, f"{shown(value)} contains a NUL byte")
         return value
 
     def optional_text(self, key: str) -> Optional[str]:
@@ -109,9 +109,7 @@ class Section:
 
     def as_number(self, key: str, value: Any) -> Decimal:
         if isinstance(value, Absurd):
-            raise self.wrong(
-                key, f"{value!r} is no amount: amounts end at 10^18 and have at most {-LEAST_POWER} decimals"
-            )
+            raise self.wrong(key, f"{value!r} is not an amount: expected at most 10^18 and {-LEAST_POWER} decimals")
         is_number = (
             value.is_finite() if isinstance(value, Decimal) else isinstance(value, int) and not isinstance(value, bool)
         )
@@ -125,7 +123,7 @@ class Section:
         """A place along an axis, in metres."""
         metres = self.as_number(key, value)
         if abs(metres) > FARTHEST:
-            raise self.wrong(key, f"{metres} is no coordinate in metres: it is beyond {FARTHEST:,}")
+            raise self.wrong(key, f"{metres} is not a coordinate in metres: expected at most {FARTHEST:,}")
         return metres
 
     def whole(self, key: str, default: int, least: int, most: int) -> int:
@@ -170,7 +168,7 @@ class Section:
         if not items or any(isinstance(item, bool) or not isinstance(item, (str, int)) for item in items):
             raise self.wrong(key, "must be a code or a list of codes")
         if any(item == "" or "\0" in str(item) for item in items):
-            raise self.wrong(key, "a code may not be empty, nor have a NUL byte")
+            raise self.wrong(key, "codes may not be empty or contain a NUL byte")
         return tuple(str(item) for item in items)
 
     def by_rock(self, key: str, most: Optional[int] = None) -> Union[Decimal, dict[str, Decimal]]:

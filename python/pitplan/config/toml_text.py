@@ -46,9 +46,9 @@ def read(path: Path) -> dict[str, Any]:
     except OSError as error:
         raise PlanError(f"{path}: cannot be read: {error.strerror}") from error
     except UnicodeDecodeError as error:
-        raise PlanError(f"{path}: is not written in UTF-8: save it so") from error
+        raise PlanError(f"{path}: is not UTF-8: save it as UTF-8") from error
     except ValueError as error:
-        raise PlanError(f"{str(path)!r}: is no name of a file: {error}") from error
+        raise PlanError(f"{str(path)!r}: is not a file name: {error}") from error
     return parsed(text, str(path))
 
 

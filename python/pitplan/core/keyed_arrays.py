@@ -55,7 +55,7 @@ def read(path: Path, key: str) -> dict[str, np.ndarray]:
             # Before numpy takes memory for as much as a bent head says.
             wrong = packed.testzip()
         if wrong is not None:
-            raise NoAnswer(f"{wrong} in it is bent")
+            raise NoAnswer(f"{wrong} in it is damaged")
         with np.load(path, allow_pickle=False) as kept:
             arrays = {name: kept[name] for name in kept.files}
     except NoAnswer:
@@ -65,5 +65,5 @@ def read(path: Path, key: str) -> dict[str, np.ndarray]:
             raise
         raise NoAnswer(" ".join(f"{error or type(error).__name__}".split())) from error
     if str(arrays.pop(KEY, "")) != key:
-        raise NoAnswer("it answers something else: has a file been copied here?")
+        raise NoAnswer("it is the result of another input: check whether a file was copied here")
     return arrays

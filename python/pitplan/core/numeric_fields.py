@@ -12,7 +12,7 @@ HEADER_ROWS = 2
 # Kinds of fields among which are no truths, dates and the like.
 PLAIN = ("string", "empty", "integer", "floating", "mixed-integer-float", "decimal")
 NO_NUMBERS = (bool, np.bool_, complex, np.complexfloating)
-WRITTEN_AS = "True and False are no numbers: write 1 and 0"
+WRITTEN_AS = "True and False are not numbers: write 1 and 0"
 
 
 def at_row(source: str, row: int, column: str, why: str) -> PlanError:

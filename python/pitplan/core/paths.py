@@ -27,10 +27,10 @@ def program() -> Path:
     found = named or next((str(place) for place in beside if place.is_file()), None) or shutil.which("pitshell")
     if not found:
         raise ProgramError(
-            "there is no program pitshell: install the package or the wheel that has it, build it by make, or name it by PITSHELL"
+            "the program pitshell was not found: install its package or wheel, build it with make, or set PITSHELL"
         )
     if not os.access(found, os.X_OK):
-        raise ProgramError(f"{found}: is no program that may be run: name another by PITSHELL")
+        raise ProgramError(f"{found}: is not an executable program: set PITSHELL to another")
     return Path(found)
 
 

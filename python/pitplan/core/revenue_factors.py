@@ -39,7 +39,7 @@ def per_mille(factor: SupportsFloat) -> int:
 def of_decimal(value: Union[int, Decimal]) -> float:
     """The revenue factor of a decimal from 0 to 100. Raises ValueError if it is another, or has more than three decimals."""
     if not 0 <= value <= GREATEST_FACTOR or value * PER_MILLE % 1:
-        raise ValueError(f"{value} is no revenue factor")
+        raise ValueError(f"{value} is not a revenue factor")
     return of_per_mille(int(value * PER_MILLE))
 
 

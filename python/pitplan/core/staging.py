@@ -53,8 +53,8 @@ def locked(folder: Path) -> int:
         try:
             if is_locked(descriptor):
                 said = os.read(descriptor, 20).decode("ascii", "replace").strip() or "unknown"
-                why = f"another run of pitplan writes into this folder (process {said})"
-                raise PlanError(f"{folder}: {why}: wait until it ends, or give another folder by --out")
+                why = f"another run of pitplan is writing into this folder (process {said})"
+                raise PlanError(f"{folder}: {why}: wait until it ends, or give another folder with --out")
             if is_at(descriptor, path):
                 with suppress(OSError):
                     os.ftruncate(descriptor, 0)

@@ -49,7 +49,7 @@ def names_in_header(file: Path, form: TableFormat) -> list[str]:
     try:
         return next(csv.reader([first_line(file, form.encoding)], delimiter=form.separator), [])
     except csv.Error as error:
-        raise PlanError(f"{file} row 1: is no header of a table: {error}") from error
+        raise PlanError(f"{file} row 1: is not a table header: {error}") from error
 
 
 def first_line(file: Path, encoding: str) -> str:
@@ -85,7 +85,7 @@ def nul_byte(file: Path, form: TableFormat) -> PlanError:
     number = max(1, len(next(csv.reader([line.partition("\0")[0]], delimiter=form.separator), [])))
     names = names_in_header(file, form) if row > 1 else []
     column = f" column {names[number - 1]}" if number <= len(names) else ""
-    return PlanError(f"{file} row {row}{column}: holds a NUL byte, which no text has: {remedy}")
+    return PlanError(f"{file} row {row}{column}: contains a NUL byte: {remedy}")
 
 
 @contextmanager

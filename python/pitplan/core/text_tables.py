@@ -44,7 +44,7 @@ def read_columns(file: Path, form: TableFormat, codes: list[str], wanted: list[s
     except UnicodeError as error:
         raise wrong_encoding(file, form.encoding) from error
     except (pd.errors.ParserError, pd.errors.EmptyDataError, pd.errors.ParserWarning) as error:
-        raise PlanError(f"{file}: is no table: {' '.join(str(error).split())}") from error
+        raise PlanError(f"{file}: is not a table: {' '.join(str(error).split())}") from error
     except UNREADABLE as error:
         raise unreadable(file, error) from error
 
@@ -78,4 +78,4 @@ def demand_columns(frame: pd.DataFrame, wanted: list[str], source: str) -> None:
 def demand_each_once(names: list[str], source: str) -> None:
     for name in names:
         if names.count(name) > 1:
-            raise PlanError(f"{source} row 1: the column {name} stands there twice")
+            raise PlanError(f"{source} row 1: the column {name} occurs twice")

@@ -190,7 +190,7 @@ def demand_few_nodes(values: Values, grid: Grid) -> None:
     nodes = grid.count + len(values.processed)
     if nodes > MOST_BLOCKS:
         raise PlanError(
-            f"{grid.count:,} blocks and {len(values.processed):,} processing nodes are {nodes:,} nodes, and the program takes at most "
+            f"{grid.count:,} blocks and {len(values.processed):,} processing nodes are {nodes:,} nodes, and the solver takes at most "
             f'{MOST_BLOCKS:,}: give a smaller model, or [economics] cutoff = "base_price"'
         )
 

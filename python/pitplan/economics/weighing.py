@@ -176,7 +176,7 @@ class Rows:
         if below.any():
             columns, row = self.project.table, int(below.argmax())
             less, cost = (float(it.floats()[row]) for it in (self.roads.ore_more, a_tonne))
-            why = f"[haulage] a tonne of ore costs {-less:.6g} less to haul from here than one of waste, and its processing {cost:.6g}"
+            why = f"[haulage] hauling ore costs {-less:.6g} per tonne less than waste from here, more than its processing cost of {cost:.6g}"
             raise at_row(self.source, row, f"{columns.x}, {columns.y}, {columns.z}", why)
         return found
 
@@ -199,6 +199,6 @@ class Rows:
         millionths = Exact(rounded, decimals).at(MILLIONTHS)
         too_great = np.array(millionths >= GREATEST, dtype=bool)
         if too_great.any():
-            why = "the amount is 10^11 or more: give prices and costs in a greater unit of money"
+            why = "the amount is 10^11 or more: give prices and costs in a larger unit of money"
             raise at_row(self.source, int(too_great.argmax()), name, why)
         return millionths.astype(np.int64), rounding

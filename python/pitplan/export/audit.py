@@ -138,7 +138,7 @@ def notes(folder: Path) -> list[str]:
     return (
         []
         if found.split()[-1] == audited.split()[-1]
-        else [f"WARNING: {found} found the shells, and {audited} has audited them"]
+        else [f"WARNING: {found} found the shells, and {audited} audited them"]
     )
 
 

@@ -50,7 +50,7 @@ def write_each(path: Path, folder: Folder, shape: Shape, kind: str, writer_of: A
     for stage in stages_of(folder, shape):
         place = path if shape.of == FACTOR else path / f"{stage.name}.{kind}"
         if shape.surface != GROUND and not stage.dug.any():
-            said.append(f"{stage.name}: nothing is dug by its end: it has no surface")
+            said.append(f"{stage.name}: nothing is mined by its end, so it has no surface")
             continue
         surface, told = (
             of_ground(folder, stage, shape) if shape.surface == GROUND else of_pit(place.name, folder, stage)

@@ -67,7 +67,7 @@ def heights_of(rock: np.ndarray, stage: Stage, grid: Grid) -> Heights:
             float(axis) for axis in grid.centres(np.array(np.ravel_multi_index((level, row, column), grid.shape)))
         )
         raise PlanError(
-            f"the block at {metres(x)}, {metres(y)}, {metres(z)} stays over one that is dug: the ground is no surface"
+            f"the block at {metres(x)}, {metres(y)}, {metres(z)} remains above a mined one: the ground is not a surface"
         )
     return Heights(before, after)
 
@@ -150,7 +150,7 @@ def of_stage(rock: np.ndarray, stage: Stage, grid: Grid, smooth: bool) -> tuple[
     cell = float(np.prod(grid.size))
     faces = stepped(heights)
     volume, expected = (volume_under(stepped(untouched)) - volume_under(faces)) * cell, heights.cells * cell
-    said = f"{volume:,.0f} m3 lie between it and the ground as it was, and the {heights.cells:,} cells that are dug hold {expected:,.0f} m3"
+    said = f"{volume:,.0f} m3 lie between it and the original ground, and the {heights.cells:,} mined cells hold {expected:,.0f} m3"
     if abs(volume - expected) > TOLERANCE * expected:
         raise PlanError(f"{stage.name}: {said}: please report this")
     if not smooth:
@@ -158,8 +158,8 @@ def of_stage(rock: np.ndarray, stage: Stage, grid: Grid, smooth: bool) -> tuple[
     found = smoothed(faces)
     volume = (volume_under(smoothed(stepped(untouched))) - volume_under(found)) * cell
     more = f", {100 * (volume / expected - 1):+.2f} %" if expected else ""
-    said = f"smoothed within half a block, {volume:,.0f} m3 lie between it and the ground as it was, smoothed too"
+    said = f"smoothed within half a block, {volume:,.0f} m3 lie between it and the original ground, also smoothed"
     return (
         found,
-        f"{len(found.faces):,} triangles; {said}; the {heights.cells:,} cells that are dug hold {expected:,.0f} m3{more}",
+        f"{len(found.faces):,} triangles; {said}; the {heights.cells:,} mined cells hold {expected:,.0f} m3{more}",
     )

@@ -222,6 +222,6 @@ def demand_few_years(benches: Benches, project: Project) -> None:
     years = max(course.used[-1].max(), float(len(course.ends)))
     if years > MOST_YEARS:
         raise PlanError(
-            f"{project.path}: [shells] processing_capacity, mining_capacity: the greatest pit would take at least {years:,.0f} years, and "
-            f"at most {MOST_YEARS:,} are counted: are the capacities in tonnes a year?"
+            f"{project.path}: [shells] processing_capacity, mining_capacity: the largest shell would take at least {years:,.0f} years, "
+            f"expected at most {MOST_YEARS:,}: check that the capacities are in tonnes per year"
         )

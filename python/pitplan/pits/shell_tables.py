@@ -51,12 +51,12 @@ def demand_of(plan: Plan, solution: Solution) -> None:
     """Raises PlanError if the solution is of another plan."""
     nodes = plan.grid.count + len(plan.values.processed)
     if len(solution.entry) != nodes:
-        why = f"it has {len(solution.entry):,} nodes, and the plan {nodes:,}"
+        why = f"it has {len(solution.entry):,} nodes, the plan {nodes:,}"
     elif solution.of and solution.of != plan.key:
-        why = "values, walls, fixed blocks or factors differ"
+        why = "values, slopes, constraints or revenue factors differ"
     else:
         return
-    raise PlanError(f"{plan.source}: the solution is of another plan ({why}): give that of pitplan.solve(plan)")
+    raise PlanError(f"{plan.source}: the solution is of another plan ({why}): use the one from pitplan.solve(plan)")
 
 
 def cells_of(plan: Plan, solution: Solution) -> Cells:

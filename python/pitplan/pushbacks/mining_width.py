@@ -113,7 +113,7 @@ def widened(pushback: np.ndarray, plan: Plan, rules: PushbackRules) -> tuple[np.
     if not ((ground.tonnes > 0) & found[-1]).any():
         factor = plan.project.schedule.revenue_factors[-1]
         raise PlanError(
-            f"{plan.project.path}: [pushbacks] min_mining_width, min_bottom_width: no part of the pit of revenue factor {factor_text(factor)} is so wide: ask for less"
+            f"{plan.project.path}: [pushbacks] min_mining_width, min_bottom_width: no part of the pit of revenue factor {factor_text(factor)} meets the minimum width: reduce it"
         )
     result = np.zeros(plan.grid.shape, dtype=np.int16)
     for number in range(count, 0, -1):

@@ -68,9 +68,7 @@ class Pushbacks:
 def rules_of(project: Project) -> PushbackRules:
     """Raises PlanError where the project says nothing of pushbacks."""
     if project.pushbacks is None:
-        raise PlanError(
-            f"{project.path}: [pushbacks] is missing: it says by count, tonnes or revenue_factors which pushbacks are asked for"
-        )
+        raise PlanError(f"{project.path}: [pushbacks] is missing: set its count, tonnes or revenue_factors")
     return project.pushbacks
 
 
@@ -158,9 +156,7 @@ def not_empty(tonnes: dict[float, float], project: Project) -> tuple[tuple[float
             )
         before = rock
     if not kept:
-        raise PlanError(
-            f"{project.path}: [pushbacks] the pit of revenue factor {factor_text(max(tonnes))} is empty: there is nothing to divide"
-        )
+        raise PlanError(f"{project.path}: [pushbacks] the pit of revenue factor {factor_text(max(tonnes))} is empty")
     return tuple(kept), notes
 
 
@@ -170,7 +166,7 @@ def notes_of_added(rules: PushbackRules, factors: tuple[float, ...], project: Pr
     if not amounts:
         return []
     if len(amounts) != len(factors):
-        said = f"mining_cost_added has {len(amounts)} amounts, and the pit has {len(factors)} pushbacks, of the revenue factors"
+        said = f"mining_cost_added has {len(amounts)} amounts for {len(factors)} pushbacks, of the revenue factors"
         raise PlanError(f"{project.path}: [pushbacks] {said} {factor_texts(factors)}: give one for each")
     told = ", ".join(f"{amount:f}" for amount in amounts)
     where = "in the annual cash flow, the NPV and schedules, but not in block values and the cash flow of shells"
@@ -208,7 +204,7 @@ def count_of(rules: PushbackRules, whole: float, project: Project) -> int:
     assert rules.tonnes is not None
     count = max(1, round(whole / rules.tonnes))
     if count > MOST_PUSHBACKS:
-        why = f"the pit of {whole:,.0f} t would have {count:,} pushbacks of {rules.tonnes:,.0f} t, and there are at most {MOST_PUSHBACKS}"
+        why = f"the pit of {whole:,.0f} t would have {count:,} pushbacks of {rules.tonnes:,.0f} t, expected at most {MOST_PUSHBACKS}"
         raise PlanError(f"{project.path}: [pushbacks] tonnes: {why}")
     return count
 

@@ -65,7 +65,7 @@ def read_folder(path: Path) -> Folder:
     except OSError as error:
         raise PlanError(f"{error.filename}: cannot be read: run pitplan shells first") from error
     except ValueError as error:
-        raise PlanError(f"{path / TABLE}: is no table of blocks: run pitplan shells again: {error}") from error
+        raise PlanError(f"{path / TABLE}: is not a table of blocks: run pitplan shells again: {error}") from error
     demand_blocks(blocks, record, path)
     return Folder(path, blocks, record)
 

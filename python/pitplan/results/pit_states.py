@@ -68,7 +68,7 @@ def stages_of(folder: Folder, shape: Shape) -> list[Stage]:
         dug = folder.dug(shape.revenue_factor)
         if not dug.any():
             raise PlanError(
-                f"{folder.path}: the pit of revenue factor {factor_text(shape.revenue_factor)} is empty: it has no surface"
+                f"{folder.path}: the pit of revenue factor {factor_text(shape.revenue_factor)} is empty and has no surface"
             )
         return [Stage(FACTOR, shape.revenue_factor, dug)]
     if shape.of not in folder.blocks:

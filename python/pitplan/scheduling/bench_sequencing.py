@@ -179,7 +179,7 @@ def dig(problem: Problem, sequence: Sequence, years: Optional[int] = None) -> np
     while pending and (years is None or len(found) < years):
         if len(found) == MOST_YEARS:
             raise PlanError(
-                f"[schedule] the pit would take more than {MOST_YEARS:,} years: are the limits in tonnes a year?"
+                f"[schedule] the pit would take more than {MOST_YEARS:,} years: check that the limits are in tonnes per year"
             )
         found.append(digging.year(sequence, pending, len(found) + 1))
         pending = [bench for bench in pending if digging.done[bench] < 1]

@@ -116,7 +116,7 @@ def make(pushbacks: Pushbacks, progress: Progress = silent) -> YearlySchedule:
     project, rules = pushbacks.plan.project, rules_of(pushbacks.plan.project)
     if rules.minimum or rules.limits:
         raise PlanError(
-            f"{project.path}: [schedule] least, sums: are kept by --by block alone: leave them out, or schedule by block"
+            f"{project.path}: [schedule] minimum, limits: apply to --by block only: remove them, or schedule by block"
         )
     benches = bench_table.of_pushbacks(pushbacks, rules.bench_lag)
     problem = Problem(benches, limits_of(project, rules), project.schedule, period_costs.of_project(project))
@@ -130,7 +130,7 @@ def make(pushbacks: Pushbacks, progress: Progress = silent) -> YearlySchedule:
     except KeyboardInterrupt:
         schedule = replace(schedule, interrupted=True)
     if not any(shares.any() for shares in schedule.shares.values()):
-        why = f"within these limits nothing can be dug in {years} year{'s' * (years > 1)}: are processing_capacity and ramp_up as they are meant?"
+        why = f"within these limits nothing can be mined in {years} year{'s' * (years > 1)}: check processing_capacity and ramp_up"
         raise PlanError(f"{project.path}: [schedule] years: {why}")
     return schedule
 

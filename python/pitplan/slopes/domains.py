@@ -70,12 +70,14 @@ def pattern_codes(region: np.ndarray, slopes: Slopes) -> np.ndarray:
     others = next((k for k, wall in enumerate(slopes.domains) if wall.domains is None), None)
     inverse, codes = pd.factorize(region.astype(object), sort=True)
     if others is None and not any(codes):
-        raise PlanError("[slopes] all [[slopes.domains]] are for regions, and [table] names no column as region")
+        raise PlanError("[slopes] all [[slopes.domains]] name a domain, and [table] names no column as domain")
     numbers = []
     for name in codes:
         number = by_region.get(str(name), others)
         if number is None and name != "":
-            raise PlanError(f"[slopes] no [[slopes.domains]] is for region {name}, and none is without a region")
+            raise PlanError(
+                f"[slopes] no [[slopes.domains]] is for domain {name}, and none applies to all other domains"
+            )
         numbers.append(0 if number is None else number)
     return np.array(numbers, dtype=np.int16)[inverse]
 

@@ -233,7 +233,7 @@ def widening(wall: Wall, size: tuple[float, float, float], levels: int, asked: n
         low, high = high, high * 1.1
         if high > 50:
             raise PlanError(
-                f"[slopes] never_steeper: {levels} levels of these blocks hold no wall flat enough: give more levels"
+                f"[slopes] never_steeper: with {levels} benches of these blocks no slope is flat enough: increase precedence_benches"
             )
     while high - low > 0.001:
         middle = (low + high) / 2

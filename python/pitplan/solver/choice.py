@@ -55,6 +55,6 @@ def demand_same(begun: Solver) -> None:
     here = chosen(begun.by)
     if here.sha256 != begun.sha256:
         raise ProgramError(
-            f"the {begun.by} here ({here.version}, SHA-256 {here.sha256[:12]}..) is another than that with which this was begun "
+            f"the {begun.by} here ({here.version}, SHA-256 {here.sha256[:12]}..) differs from the one that began this "
             f"({begun.version}, {begun.sha256[:12]}..): install the same on each machine"
         )

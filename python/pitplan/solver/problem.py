@@ -133,8 +133,8 @@ def values_at(nodes: tuple[np.ndarray, np.ndarray], factor: float) -> np.ndarray
     values = at_factor(factor, *nodes)
     if greatest(values) >= GREATEST:
         raise PlanError(
-            f"a value at revenue factor {factor_text(factor)}, a thousandfold, is 10^12 or more and does not fit a model: give prices and costs in a greater "
-            "unit of money"
+            f"a value at revenue factor {factor_text(factor)}, times 1,000, is 10^12 or more, too large for the solver: "
+            "give prices and costs in a larger unit of money"
         )
     return values.astype(np.int64)
 

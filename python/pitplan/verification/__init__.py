@@ -156,5 +156,5 @@ def demand(rules: list[Rule]) -> None:
     told = [f"{rule.name}: {said}" for turn in by_turns for rule, said in zip(rules, turn) if said is not None]
     if told:
         count = sum(rule.count for rule in rules)
-        places = "1 place" if count == 1 else f"{count:,} places"
-        raise PlanError(f"what was written is not right in {places}:", told[:TOLD])
+        places = "1 discrepancy" if count == 1 else f"{count:,} discrepancies"
+        raise PlanError(f"verification failed: {places}:", told[:TOLD])

@@ -307,4 +307,4 @@ def read(folder: Path, project: Optional[Project] = None, table: Optional[pd.Dat
     except OSError as error:
         raise PlanError(f"{error.filename}: cannot be read: run pitplan shells first") from error
     except (ValueError, KeyError) as error:
-        raise PlanError(f"{folder}: is no folder that pitplan shells or pit has written: {error}") from error
+        raise PlanError(f"{folder}: not an output folder of pitplan shells or pitplan pit: {error}") from error

@@ -67,7 +67,7 @@ def named(folder: Path) -> Iterator[None]:
         raise PlanError(f"{error.filename}: cannot be read: {error.strerror}") from error
     except KeyError as error:
         raise PlanError(
-            f"{folder}: is no folder that pitplan scenarios and gather have written: {error} is missing"
+            f"{folder}: not an output folder of pitplan scenarios and pitplan gather: {error} is missing"
         ) from error
 
 

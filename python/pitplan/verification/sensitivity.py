@@ -68,7 +68,7 @@ def verify(written: Path, folder: Path) -> list[Rule]:
     except OSError as error:
         raise PlanError(f"{error.filename}: cannot be read: run pitplan sensitivity first") from error
     except (ValueError, KeyError) as error:
-        raise PlanError(f"{written}: is no folder that pitplan sensitivity has written: {error}") from error
+        raise PlanError(f"{written}: not an output folder of pitplan sensitivity: {error}") from error
 
 
 @dataclass(frozen=True)

@@ -216,7 +216,7 @@ def read(folder: Path, written: Path) -> Simulated:
     except OSError as error:
         raise PlanError(f"{error.filename}: cannot be read: run pitplan scenarios or gather first") from error
     except ValueError as error:
-        raise PlanError(f"{folder}: is no folder that pitplan scenarios has written: {error}") from error
+        raise PlanError(f"{folder}: not an output folder of pitplan scenarios: {error}") from error
     table = read_table(project)
     bare = replace(project, metals=())
     named = [name for name in (*tables.names_of(bare), project.table.tonnes) if name in table]

@@ -136,10 +136,10 @@ def keeping_dues(nodes: Nodes, groups: Groups) -> Groups:
             return groups
         closure = priced(nothing, found.prices)
         if closure.bound < 0:
-            raise PlanError(f"no schedule keeps what must be held at least: {owed_by(nodes, found.prices)}")
+            raise PlanError(f"infeasible: no schedule meets the minimum of {owed_by(nodes, found.prices)}")
         divided = groups.divided(closure.in_closure)
         if divided.count == groups.count:
-            raise PlanError("HiGHS does not tell whether a schedule keeps what must be held at least")
+            raise PlanError("HiGHS cannot decide whether a schedule meets the minimums")
         groups = divided
 
 
@@ -150,7 +150,7 @@ def owed_by(nodes: Nodes, prices: NDArray[np.float64]) -> str:
         years = [str(year + 1) for year in np.flatnonzero(by_year < -SLIGHT)]
         told += [f"{limit.name} in year{'s' * (len(years) > 1)} {', '.join(years)}"] if years else []
     told += [due.name for due, by_year in zip(problem.dues, prices[len(problem.limits) :]) if by_year[0] < -SLIGHT]
-    return "; ".join(told) or "all of it together"
+    return "; ".join(told) or "all limits together"
 
 
 def first_groups(nodes: Nodes) -> Groups:

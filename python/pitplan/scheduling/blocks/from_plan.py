@@ -100,15 +100,15 @@ def demand_small(plan: Plan, cells: NDArray[np.int64], held: dict[str, NDArray[n
     for name, most in [pair for pair in limits.most.items() if pair[0].startswith((ORE, ROCK))]:
         if (held[name] > most * (1 + HAIR)).any():
             row = int(held[name].argmax())
-            block = f"{plan.source}: {plan.called(int(cells[row]))} holds {held[name][row]:,.10g} of {name}, and a year at most {most:,.10g}"
-            why = "by block each is mined in one year: give smaller blocks or a greater limit, or schedule by pushback"
+            block = f"{plan.source}: {plan.called(int(cells[row]))} holds {held[name][row]:,.10g} of {name}, and a year takes at most {most:,.10g}"
+            why = "by block each block is mined in one year: give smaller blocks or a larger limit, or schedule by pushback"
             raise PlanError(f"{plan.project.path}: {why}; {block}")
 
 
 def dues_of(forced: NDArray[np.bool_], destinations: int) -> tuple[Due, ...]:
     """That the forced blocks are dug in some year; nothing where there are none."""
     of_each = np.repeat(forced[:, None], destinations, axis=1).astype(float)
-    return (Due(f"{forced.sum():,} blocks that must be dug", of_each, float(forced.sum())),) if forced.any() else ()
+    return (Due(f"{forced.sum():,} must-mine blocks", of_each, float(forced.sum())),) if forced.any() else ()
 
 
 def limits_of_blocks(project: Project, rules: ScheduleRules) -> Limits:
@@ -138,7 +138,7 @@ def owing(plan: Plan, flows: Flows, limits: Limits) -> NDArray[np.bool_]:
     for name in limits.least:
         found |= (flows[name] > 0).any(axis=1)
     if limits.least and plan.left_out:
-        why = "blocks that no shell can reach were left out, and a least amount may need them: put rows together by [table] reblock"
+        why = "blocks that no shell can reach were removed, and a minimum may require them: set [table] reblock"
         raise PlanError(f"{plan.source}: {plan.left_out:,} {why}")
     return found
 
@@ -152,11 +152,12 @@ def demand_of_blocks(project: Project, rules: ScheduleRules) -> None:
     """Raises PlanError, with the key, where the project asks for what is not done by block."""
     path, costs_years = project.path, bool(project.money.fixed_cost_per_year or project.money.capex)
     asked = {
-        "[schedule] bench_lag: is of pushbacks": rules.bench_lag > 0,
-        "[schedule] vertical_advance_rate: is of the benches of a pushback": rules.vertical_advance_rate is not None,
-        "[schedule] bins: are of benches, and a block is ore or waste as a whole": rules.bins is not None,
-        "[economics] fixed_cost_per_year, capex: what years cost is no part of a schedule by block": costs_years,
-        "[pushbacks] mining_cost_added: is by pushback, and blocks are in none": bool(
+        "[schedule] bench_lag: applies to pushbacks": rules.bench_lag > 0,
+        "[schedule] vertical_advance_rate: applies to the benches of a pushback": rules.vertical_advance_rate
+        is not None,
+        "[schedule] bins: apply to benches; a block is sent to one destination": rules.bins is not None,
+        "[economics] fixed_cost_per_year, capex: period costs are not part of a schedule by block": costs_years,
+        "[pushbacks] mining_cost_added: applies to pushbacks": bool(
             project.pushbacks and project.pushbacks.mining_cost_added
         ),
     }
@@ -236,6 +237,6 @@ def years_of(sums: dict[str, float], limits: Limits, project: Project) -> int:
     taken = max(1 + int(np.searchsorted(done, sums[name] * (1 - 1e-9))) for name, done in zip(limits.most, most.T))
     years = -int(-taken * (1 + MORE_YEARS) // 1)
     if years > MOST_YEARS:
-        why = f"the pit would take more than {MOST_YEARS} years: are the limits in tonnes a year? [schedule] years sets how many there are"
+        why = f"the pit would take more than {MOST_YEARS} years: check that the limits are in tonnes per year, or set [schedule] years"
         raise PlanError(f"{project.path}: [shells] processing_capacity, mining_capacity: {why}")
     return years

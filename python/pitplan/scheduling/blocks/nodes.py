@@ -121,8 +121,8 @@ def demand_room(nodes: int, pairs: int) -> None:
     """Raises PlanError where these are more than the library takes."""
     if nodes > MOST_NODES or pairs > MOST_PAIRS:
         raise PlanError(
-            f"a schedule by block would have {nodes:,} nodes, one for each block, year and destination, and {pairs:,} pairs of them, and "
-            f"at most {MOST_NODES:,} and {MOST_PAIRS:,} can be solved: put blocks together by [table] reblock, or give fewer years"
+            f"a schedule by block would have {nodes:,} nodes, one for each block, year and destination, and {pairs:,} precedences, and "
+            f"at most {MOST_NODES:,} and {MOST_PAIRS:,} can be solved: set [table] reblock, or reduce [schedule] years"
         )
 
 

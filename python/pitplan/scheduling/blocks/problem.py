@@ -146,24 +146,26 @@ def demand_sound(problem: BlockProblem) -> None:
     shape = problem.values.shape
     if len(shape) != 3 or 0 in shape[1:] or not np.isfinite(problem.values).all():
         raise PlanError(
-            "values of blocks are finite numbers by block, destination and year, of one destination and one year at least"
+            "expected finite values by block, destination and year, with at least one destination and one year"
         )
     for limit in problem.limits:
         if limit.amounts.shape != shape[:2] or limit.most.shape != shape[2:]:
-            raise PlanError(f"{limit.name}: amounts are by block and destination, and the most by year")
+            raise PlanError(f"{limit.name}: expected amounts by block and destination, and the limit by year")
         if not np.isfinite(limit.amounts).all() or (limit.amounts < 0).any():
-            raise PlanError(f"{limit.name}: an amount is negative or no number, and limits are of amounts from 0 on")
+            raise PlanError(f"{limit.name}: an amount is negative or not a number")
         if np.isnan(limit.most).any() or (limit.most < 0).any():
-            raise PlanError(f"{limit.name}: the most of a year is negative or no number")
+            raise PlanError(f"{limit.name}: the maximum of a year is negative or not a number")
         floor = limit.floor
         if floor.shape != limit.most.shape or not np.isfinite(floor).all() or (floor < 0).any():
-            raise PlanError(f"{limit.name}: the least of a year is negative or no number")
+            raise PlanError(f"{limit.name}: the minimum of a year is negative or not a number")
         if (floor > limit.most).any():
             year = int((floor > limit.most).argmax())
             raise PlanError(
-                f"{limit.name}: the least of year {year + 1} is {floor[year]:.10g}, above its most of {limit.most[year]:.10g}"
+                f"{limit.name}: the minimum of year {year + 1} is {floor[year]:.10g}, above its maximum of {limit.most[year]:.10g}"
             )
     for due in problem.dues:
         is_whole = due.amounts.shape == shape[:2] and np.isfinite(due.amounts).all() and not (due.amounts < 0).any()
         if not is_whole or not 0 <= due.least < np.inf:
-            raise PlanError(f"{due.name}: amounts are by block and destination, from 0 on, and so is the least")
+            raise PlanError(
+                f"{due.name}: expected amounts by block and destination of 0 or more, and a minimum of 0 or more"
+            )

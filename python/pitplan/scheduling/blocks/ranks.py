@@ -48,7 +48,7 @@ def ranks_of(needs: Needs) -> Ranks:
         ready = followers[waiting[followers] == 0]
     sizes = [len(rank) for rank in found]
     if sum(sizes) < blocks:
-        raise ValueError("blocks need each other in a circle")
+        raise ValueError("the precedences have a cycle")
     return Ranks(
         np.concatenate([*found, np.zeros(0, dtype=np.int64)]), np.concatenate([[0], np.cumsum(sizes)]).astype(np.int64)
     )

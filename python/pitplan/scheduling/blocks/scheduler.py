@@ -112,7 +112,9 @@ def solve(problem: BlockProblem, effort: Optional[Effort] = None, progress: Prog
         part = reduced(problem)
     if not part.problem.blocks:
         if problem.owes:
-            raise PlanError("no schedule keeps what must be held at least: no block that adds to it can be dug in time")
+            raise PlanError(
+                "infeasible: no schedule meets the minimums, since no block that adds to them can be mined in time"
+            )
         return Scheduled(nothing(problem), 0.0, 0.0, 0, 0)
     progress.say(f"computing the upper bound: {part.problem.blocks:,} blocks, {len(part.nodes):,} nodes")
     relaxation = relaxed(
@@ -213,8 +215,8 @@ class Search:
         told += [
             due.name for due in problem.dues if float((due.amounts * self.best.share).sum()) < due.least * (1 - HAIR)
         ]
-        why = "no schedule of whole blocks was found that keeps what must be held at least, which shares of blocks keep"
-        raise PlanError(f"{why}: {'; '.join(told)}: ask for less, or give integer programmes more seconds")
+        why = "no schedule of whole blocks was found that meets the minimums; one with parts of blocks does"
+        raise PlanError(f"{why}: {'; '.join(told)}: reduce the minimums, or increase [schedule] milp seconds")
 
     def windows(self, effort: Effort, began: float) -> None:
         """Solves window after window anew, larger ones once none has become better, until the gap is reached or the seconds are over."""

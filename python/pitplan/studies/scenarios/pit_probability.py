@@ -54,7 +54,7 @@ def missing_of(shared: Shared, partial: bool) -> dict[int, str]:
     missing = {job.number: store.read_failure(shared, job) for job in shared.missing()}
     if missing and (not partial or all(scenario.number in missing for scenario in shared.scenarios)):
         first, why = next(iter(missing.items()))
-        others = ", or gather the others by --partial" if len(missing) < len(shared.jobs) else ""
+        others = ", or gather the others with --partial" if len(missing) < len(shared.jobs) else ""
         raise PlanError(
             f"{len(missing):,} of {len(shared.jobs):,} {shared.called} have no answer, first {shared.jobs[first - 1].label}: {why}: "
             f"run them again{others}"

@@ -87,7 +87,7 @@ class Base:
 def scenarios_of(project: Project) -> Scenarios:
     """Raises PlanError where the project has no [scenarios]."""
     if project.scenarios is None:
-        raise PlanError(f"{project.path}: [scenarios] is missing: it names the models, by a folder or by columns")
+        raise PlanError(f"{project.path}: [scenarios] is missing: it names the realisations, by a folder or by columns")
     return project.scenarios
 
 
@@ -118,7 +118,9 @@ def column_lists(project: Project) -> dict[str, list[str]]:
     counts = {metal: len(found) for metal, found in lists.items()}
     if len(set(counts.values())) > 1:
         said = ", ".join(f"{count} of {metal}" for metal, count in counts.items())
-        raise PlanError(f"{project.path}: [scenarios] columns: each metal needs as many columns as the others: {said}")
+        raise PlanError(
+            f"{project.path}: [scenarios] columns: expected the same number of columns for each metal: {said}"
+        )
     return lists
 
 
@@ -141,11 +143,11 @@ def model_files(project: Project) -> list[Path]:
     assert folder is not None
     found = sorted([*folder.glob("*.csv"), *folder.glob("*.csv.gz")])
     if not found:
-        raise PlanError(f"{folder}: holds no model, a .csv or .csv.gz file each")
+        raise PlanError(f"{folder}: has no realisation: expected a .csv or .csv.gz file for each")
     named: dict[str, Path] = {}
     for path in found:
         if (other := named.setdefault(name_of_model(path), path)) != path:
-            raise PlanError(f"{path}: is a model of the same name as {other.name}: remove or rename one of them")
+            raise PlanError(f"{path}: is a realisation of the same name as {other.name}: remove or rename one of them")
     return found
 
 

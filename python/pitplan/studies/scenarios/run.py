@@ -66,7 +66,7 @@ def solve(project: Project, folder: Path, request: Request, progress: Progress) 
         outcomes = dask_pool.run(dask_pool.Where(request.where, request.workers), folder, missing, progress)
         ended = notes_of_outcomes(outcomes)
         if any(outcome.status for outcome in outcomes) and not request.partial:
-            raise PlanError(f"{'; '.join(ended)}: run again, or gather the others by --partial")
+            raise PlanError(f"{'; '.join(ended)}: run again, or gather the others with --partial")
         notes += ended
     return Solved(tuple(notes))
 
@@ -74,7 +74,7 @@ def solve(project: Project, folder: Path, request: Request, progress: Progress) 
 def notes_of_outcomes(outcomes: list[worker.Outcome]) -> list[str]:
     """How many scenarios ended with each status, with the first reason if it is not 0."""
     words = {0: "solved", 1: "refused by the solver", 2: "not understood by the program", 3: "out of budget"}
-    words |= {4: "answered no", worker.REFUSED: "refused by pitplan", worker.LOST: "killed again and again"}
+    words |= {4: "answered no", worker.REFUSED: "refused by pitplan", worker.LOST: "killed repeatedly"}
     notes = []
     for status, said in words.items():
         ended = [outcome for outcome in outcomes if outcome.status == status]
@@ -86,7 +86,7 @@ def notes_of_outcomes(outcomes: list[worker.Outcome]) -> list[str]:
 def demand_no_factor(request: Request) -> None:
     """Raises PlanError if a factor to draw is given: schedules by block have none."""
     if request.revenue_factor is not None:
-        raise PlanError("--revenue-factor: schedules by block are made at the base price: leave it out")
+        raise PlanError("--revenue-factor: schedules by block are at the base price: remove it")
 
 
 def shown_factor(shared: Shared, request: Request) -> float:

@@ -133,7 +133,7 @@ def solve(project: Project, folder: Path, where: dask_pool.Where | None, progres
     frame = reader.read(project).frame
     plan = prepared(project, frame, progress)
     if plan.left_out:
-        why = "is too large for the program, and what shells can reach of it is another with each number: reblock it by [table] reblock"
+        why = "is too large for the solver, and each case would be cropped differently: set [table] reblock"
         raise PlanError(f"{project.table.file}: {why}, or give a smaller model")
     solution = problem.solve(plan, progress=progress)
     factor = shell_tables.selected_factor(shell_tables.shells(plan, solution), project.schedule)

@@ -100,7 +100,9 @@ def slopes(project: Project, by: Decimal, metal: str) -> Project:
     for wall in project.slopes.domains:
         angles = tuple((azimuth, angle * float(by)) for azimuth, angle in wall.angles)
         if any(not FLATTEST <= angle <= STEEPEST for _, angle in angles):
-            raise PlanError(f"{project.path}: [sensitivity] changes: slopes times {by} leave 1 to 90 degrees")
+            raise PlanError(
+                f"{project.path}: [sensitivity] changes: slope angles times {by} are outside 1 to 90 degrees"
+            )
         walls.append(replace(wall, angles=angles, bench=None))
     return replace(project, slopes=replace(project.slopes, domains=tuple(walls)))
 

@@ -83,7 +83,7 @@ def best_shares(
     )
     found = linprog(-gain / gain.max(), **rows, bounds=upper, method="highs-ds")
     if found.status != 0:
-        raise PlanError(f"HiGHS found no best ore of a year: {found.message}")
+        raise PlanError(f"HiGHS found no optimal feed of a year: {found.message}")
     shares = np.clip(found.x, 0.0, pays)
     # HiGHS keeps limits to its tolerance alone.
     taken = takes[over] @ shares

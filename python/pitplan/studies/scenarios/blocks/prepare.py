@@ -25,7 +25,7 @@ from pitplan.studies.scenarios.worker import plan_of
 
 from .problem import Diggable, Weights, demand_of_scenarios, limits_of_scenarios, weights_of, years_asked
 
-ONE = "one schedule for all"
+ONE = "common schedule"
 
 
 def demand_apt(project: Project) -> None:

@@ -123,16 +123,14 @@ def problem_of(diggable: Diggable, weights: Weights, project: Project) -> BlockP
 def demand_of_scenarios(project: Project) -> None:
     """Raises PlanError, with the key, where the project asks for what is not done of scenarios by block."""
     rules = project.schedule_rules or ScheduleRules()
-    of_metals = "[[metals]] prices: of years: a scenario has one price for all"
+    of_metals = "[[metals]] prices: a scenario has one price for all years"
     asked = {
-        "[schedule] milp: its seconds would let answers hang on the machine": rules.milp is not None,
-        "[schedule] least: a schedule for all scenarios cannot keep it in each": bool(rules.minimum),
-        "[[schedule.limits]]: are of a table's columns, and scenarios have grades of their own": bool(rules.limits),
+        "[schedule] milp: its time limit would make results depend on the machine": rules.milp is not None,
+        "[schedule] minimum: a common schedule cannot meet it in each scenario": bool(rules.minimum),
+        "[[schedule.limits]]: apply to columns of the table, and scenarios have their own grades": bool(rules.limits),
         of_metals: any(metal.prices for metal in project.metals),
-        "[[processes]]: a schedule over scenarios sends a block to one mill or leaves it as waste": bool(
-            project.processes
-        ),
+        "[[processes]]: a schedule over scenarios has one mill": bool(project.processes),
     }
     for why, is_asked in asked.items():
         if is_asked:
-            raise PlanError(f"{project.path}: {why}: leave it out of scenarios --by block")
+            raise PlanError(f"{project.path}: {why}: remove it for scenarios --by block")
