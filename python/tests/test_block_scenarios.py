@@ -534,7 +534,7 @@ def test_the_picture_has_each_scenario_and_the_spread():
     table = pd.DataFrame({"common_npv": [1e7, 3e7], "npv": [2e7, 4e7], "upper_bound": [2.5e7, 4.1e7]})
     each, spread = scenario_values.plot(table, "USD", figure.subplots(1, 2, sharey=True))
     points = {line.get_label(): line.get_ydata().tolist() for line in each.lines}
-    assert points["the one schedule for all"] == [10, 30] and points["the bound of each"] == [25, 41]
-    assert spread.get_title(loc="left") == "to know the ground is worth at most 13 M USD on the mean"
+    assert points["common schedule"] == [10, 30] and points["upper bound of each scenario"] == [25, 41]
+    assert spread.get_title(loc="left") == "expected value of perfect information: at most 13 M USD"
     assert [text.get_text() for text in spread.texts] == ["mean 20", "mean 30", "mean 33"]
-    assert each.get_ylabel() == "discounted value, M USD"
+    assert each.get_ylabel() == "NPV, M USD"

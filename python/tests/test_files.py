@@ -312,7 +312,7 @@ def test_the_planners_own_table_is_never_written_over(plan_folder):
             "144 blocks and 3 processing nodes are 147 nodes, and the solver takes at most 100",
         ),
         ("plan", "MOST_PAIRS", "precedences, and the solver takes at most 100: reduce"),
-        ("report.viewer3d", "MOST_FACTORS", "the 3D page can show 2 shells, and there are 3: give fewer factors"),
+        ("report.viewer3d", "MOST_FACTORS", "the 3D page can show 2 shells, and there are 3: reduce revenue_factors"),
     ],
 )
 def test_what_is_above_a_limit_is_refused(plan_folder, monkeypatch, solved, module, limit, words):

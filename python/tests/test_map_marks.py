@@ -61,7 +61,7 @@ def test_a_map_has_a_bar_of_a_quarter_at_most_and_an_arrow_upwards():
 def test_contours_go_round_what_is_dug_to_each_bench():
     """Nine columns are dug to 90 m or deeper, and one of them to 80."""
     axes = drawn(lambda ax: plans_sections.plot_floor(scene(), ax))
-    assert axes.get_title() == "Floor at revenue factor 1.00, elevation in m, a line each 10 m"
+    assert axes.get_title() == "Pit floor at revenue factor 1.00, elevation in m, contours every 10 m"
     high, low = (np.array(lines.get_segments()) for lines in axes.collections)
     assert len(high) == 12 and len(low) == 4
     assert (high[..., 0].min(), high[..., 0].max(), high[..., 1].min(), high[..., 1].max()) == (
@@ -208,7 +208,7 @@ def test_pushbacks_at_the_surface_have_contours_of_the_last_floor():
     axes = drawn(lambda ax: pushbacks.plot_surface(pushback_scene(), ax))
     assert (
         axes.get_title(loc="left") or axes.get_title()
-    ) == "Pushbacks at the surface, contours of the floor each 10 m"
+    ) == "Pushbacks at the surface, contours of the floor every 10 m"
     dotted = [lines for lines in axes.collections if lines.get_linestyle()[0][1] is not None]
     assert [len(lines.get_segments()) for lines in dotted] == [12, 4] and len(axes.collections) == 4
     assert {"90", "80"} <= {text.get_text() for text in axes.texts}

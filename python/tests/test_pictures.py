@@ -56,7 +56,13 @@ def test_years_are_drawn_as_bars_capacities_and_cash(plan_folder, panels):
         assert right.lines[0].get_ydata().tolist() == cash
         assert right.lines[0].get_xdata().tolist() == list(range(1, len(cash) + 1))
     names = [text.get_text() for text in figure.legends[0].get_texts()]
-    assert names == ["ore", "waste", "mill: 3 Mt a year", "shovels: 10 Mt a year", "cash, not discounted"]
+    assert names == [
+        "ore",
+        "waste",
+        "processing capacity: 3 Mt a year",
+        "mining capacity: 10 Mt a year",
+        "undiscounted cash flow",
+    ]
 
 
 def test_the_axes_of_years_hold_all_and_have_nothing_at_one_height(plan_folder, panels):
@@ -75,7 +81,7 @@ def test_a_capacity_far_above_all_years_is_told_and_not_drawn_to(plan_folder, pa
     figure, axes = panels
     far = (CAPACITIES[0], CAPACITIES[1].replace("10_000_000", "1_000_000_000"))
     annual.plot_years(YEARS, pitplan.load(plan_folder(rows(2, 2, 2), PROJECT, far)), 1.0, axes)
-    assert "shovels: 1,000,000 kt a year" in [text.get_text() for text in figure.legends[0].get_texts()]
+    assert "mining capacity: 1,000,000 kt a year" in [text.get_text() for text in figure.legends[0].get_texts()]
     assert 9000 < axes[0].get_ylim()[1] < 20_000
 
 
@@ -128,7 +134,7 @@ def test_each_set_of_prices_has_a_band_and_a_median_of_its_own(panels):
         assert len({line.get_color() for line in axis.lines}) == 3
     names = [text.get_text() for text in figure.legends[0].get_texts()]
     assert names == ["copper 100.5", "copper 200", "copper 300"]
-    assert figure.legends[0].get_title().get_text() == "medians and eight in ten of the models, by prices"
+    assert figure.legends[0].get_title().get_text() == "medians and 10 % to 90 % of the realisations, by price deck"
 
 
 def test_many_sets_of_prices_are_medians_alone(panels):
@@ -152,13 +158,13 @@ def test_the_projects_own_prices_have_the_band_of_all_models_too(panels):
     figure, axes = panels
     scenarios.plot_spread(scenarios_at(100).drop(columns="price_copper"), "USD", axes)
     assert [corners(shown)[1.0] for shown in axes[0].collections] == [(10_000, 20_000), (11_000, 19_000)]
-    assert [text.get_text() for text in figure.legends[0].get_texts()] == ["all", "eight in ten", "median"]
+    assert [text.get_text() for text in figure.legends[0].get_texts()] == ["all", "10 % to 90 %", "median"]
 
 
 def test_one_set_of_prices_is_named(panels):
     figure, axes = panels
     scenarios.plot_spread(scenarios_at(100), "USD", axes)
-    assert [text.get_text() for text in figure.legends[0].get_texts()] == ["all", "eight in ten", "median, copper 100"]
+    assert [text.get_text() for text in figure.legends[0].get_texts()] == ["all", "10 % to 90 %", "median, copper 100"]
 
 
 def at_a_zone(origin=(430010.0, 6512012.5, 806.25)):

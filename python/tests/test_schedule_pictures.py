@@ -58,7 +58,7 @@ def test_a_gantt_has_a_bar_for_each_share(schedule):
         assert [tick.get_text() for tick in ax.get_yticklabels()] == ["15", "5", "15"]
         low, high = ax.get_ylim()
         assert low > 5.5 and high < 0 and ax.get_xlim() == (0.5, 3.5)
-    assert axes[0].get_title() == f"By rule: NPV {schedule.value('rule'):,.2f} USD"
+    assert axes[0].get_title() == f"Rule: NPV {schedule.value('rule'):,.2f} USD"
 
 
 def test_the_bars_of_years_are_the_ore_and_the_waste_beside_their_limits(schedule):
@@ -68,7 +68,7 @@ def test_the_bars_of_years_are_the_ore_and_the_waste_beside_their_limits(schedul
     assert [bar.get_height() for bar in axes[1].containers[0]] == [25, 100, 75]
     mill, shovels = axes[0].lines
     assert mill.get_ydata().tolist() == [50, 100, 100, 100] and shovels.get_ydata().tolist() == [200] * 4
-    assert mill.get_label() == "mill: 100 t a year"
+    assert mill.get_label() == "processing capacity: 100 t a year"
     # A hundredth of the ore is recovered as copper.
     right = axes[0].figure.axes[2]
     assert right.lines[0].get_ydata().tolist() == pytest.approx([1, 1, 1]) and right.get_ylim()[1] > 1
@@ -121,7 +121,7 @@ def test_ore_from_a_stockpile_is_a_bar_of_its_own(schedule):
     # A year's bar may be higher than the shovels' line, since they do not reclaim.
     assert axes[1].get_ylim()[1] > 200
     names = [text.get_text() for text in axes[0].figure.legends[0].get_texts()]
-    assert names[:3] == ["ore", "ore from the stockpile", "waste or stocked"]
+    assert names[:3] == ["ore", "ore from the stockpile", "waste or stockpiled"]
 
 
 @pytest.mark.parametrize("write", [schedule_figures.write_gantt, schedule_figures.write_tonnes])

@@ -177,9 +177,9 @@ def test_of_a_large_table_the_rows_of_pits_alone_are_there(solved, tmp_path, bro
     dug = result.blocks[result.blocks["revenue_factor"] > 0.0]
     assert browser.ask("lines.length") == len(dug) < len(result.blocks)
     browser.ask(f"showRow({dug['id'].iloc[0]})")
-    assert browser.ask("document.querySelector('#picked h1').textContent") == "The block's row"
+    assert browser.ask("document.querySelector('#picked h1').textContent") == "Row of the block"
     browser.ask(f"showRow({result.blocks['id'][result.blocks['revenue_factor'] == 0].iloc[0]})")
-    assert "is in no pit, and its row is not in this page" in browser.text("picked")
+    assert "is in no shell, and its row is not in this page" in browser.text("picked")
 
 
 @needs_chromium

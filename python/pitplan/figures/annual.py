@@ -38,8 +38,11 @@ class Scale:
 
 def capacities_of(settings: Schedule) -> list[tuple[str, float, str]]:
     """Name, tonnes a year and colour of each capacity."""
-    found = [("all processes" if settings.per_process else "mill", settings.processing_capacity, MILL)]
-    return found if settings.mining_capacity is None else [*found, ("shovels", settings.mining_capacity, SHOVELS)]
+    capacity = "processing capacity (all processes)" if settings.per_process else "processing capacity"
+    found = [(capacity, settings.processing_capacity, MILL)]
+    return (
+        found if settings.mining_capacity is None else [*found, ("mining capacity", settings.mining_capacity, SHOVELS)]
+    )
 
 
 def scale_of(years: pd.DataFrame, settings: Schedule) -> Scale:
@@ -92,8 +95,8 @@ def draw(axes: list[Axes], years: pd.DataFrame, project: Project) -> None:
         size, sign = scale.money
         npv = f"{shown['discounted_cash_flow'].sum() / size:,.1f} {sign} {currency}".replace("  ", " ")
         left.set_title(f"{title}: NPV {npv}")
-    axes[0].set_ylabel(f"rock in the year, {scale.tonnes[1]}t")
-    rights[1].set_ylabel(f"cash of the year, {scale.money[1]} {currency}".replace(",  ", ", "))
+    axes[0].set_ylabel(f"total material, {scale.tonnes[1]}t")
+    rights[1].set_ylabel(f"undiscounted cash flow, {scale.money[1]} {currency}".replace(",  ", ", "))
     # Bars first: matplotlib has lines before them.
     drawn = [axes[0].containers, axes[0].lines, rights[0].lines[:1]]
     handles = [handle for handles in drawn for handle in handles]
@@ -121,6 +124,6 @@ def draw_tonnes(axis: Axes, years: pd.DataFrame, scale: Scale, settings: Schedul
 def draw_cash(axis: Axes, years: pd.DataFrame, scale: Scale) -> None:
     """A line of each year's cash, and one at nothing."""
     marks = {"marker": "o", "markersize": 3.5, "linewidth": 1.5}
-    axis.plot(years["year"], years["cash_flow"] / scale.money[0], color=PLAIN, label="cash, not discounted", **marks)
+    axis.plot(years["year"], years["cash_flow"] / scale.money[0], color=PLAIN, label="undiscounted cash flow", **marks)
     axis.axhline(0, color="black", linewidth=0.8)
     axis.set_ylim(*scale.cash)

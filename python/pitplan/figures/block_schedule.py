@@ -44,7 +44,10 @@ def plot_tonnes(made: ScheduledBlocks, ax: Axes) -> None:
     size, sign = scaled(top)
     draw_bars(ax, years, None, size)
     edges = np.arange(max(len(years), 1) + 1) + 0.5
-    for name, label, colour in (("feed_tonnes", "mill", MILL), ("total_tonnes", "shovels", SHOVELS)):
+    for name, label, colour in (
+        ("feed_tonnes", "processing capacity", MILL),
+        ("total_tonnes", "mining capacity", SHOVELS),
+    ):
         if name in limits.most and limits.most[name] <= FAR_ABOVE * top:
             most = limits.of_years(len(edges) - 1)[:, list(limits.most).index(name)] / size
             label = f"{label}: {round(limits.most[name] / size, 3):,.12g} {sign}t a year"
@@ -59,7 +62,7 @@ def plot_tonnes(made: ScheduledBlocks, ax: Axes) -> None:
             )
             top = max(top, limits.most[name])
     ax.set_ylim(0, 1.2 * MARGIN * top / size)
-    ax.set_ylabel(f"rock in the year, {sign}t")
+    ax.set_ylabel(f"total material, {sign}t")
     ax.legend(loc="upper right", ncol=2, facecolor="white", edgecolor="none", framealpha=0.9)
 
 
@@ -79,5 +82,5 @@ def plot_value(made: ScheduledBlocks, ax: Axes) -> None:
     ax.axhline(0, color="black", linewidth=0.8)
     ax.xaxis.set_major_locator(MaxNLocator(integer=True))
     ax.set_xlabel("end of year")
-    ax.set_ylabel(f"discounted cash so far, {sign} {currency}".replace(",  ", ", "))
+    ax.set_ylabel(f"cumulative discounted cash flow, {sign} {currency}".replace(",  ", ", "))
     ax.legend(loc="lower right", facecolor="white", edgecolor="none", framealpha=0.9)

@@ -51,7 +51,7 @@ def draw_tonnes(axis: Axes, table: pd.DataFrame, chosen: float) -> None:
     axis.bar(factors, ore, wide, color=ORE, label="ore", linewidth=0)
     axis.bar(factors, waste, wide, bottom=ore, color=WASTE, label="waste", linewidth=0)
     axis.set_xlabel("revenue factor")
-    axis.set_ylabel(f"rock in the pit, {sign}t")
+    axis.set_ylabel(f"total material, {sign}t")
 
 
 def draw_worth(axis: Axes, table: pd.DataFrame, currency: str) -> None:
@@ -76,5 +76,5 @@ def draw_worth(axis: Axes, table: pd.DataFrame, currency: str) -> None:
         peak = amounts[column].idxmax()
         ring = {"markersize": 9, "markerfacecolor": "none", "markeredgecolor": colour}
         axis.plot(table["revenue_factor"][peak], amounts[column][peak] / size, "o", **ring)
-    axis.set_ylabel(f"worth at the price as given, {sign} {currency}".replace(",  ", ", "))
+    axis.set_ylabel(f"cash flow and NPV at the base price, {sign} {currency}".replace(",  ", ", "))
     axis.set_ylim(min(0.0, 1.1 * float(amounts.min().min()) / size), axis.get_ylim()[1] * 1.05)

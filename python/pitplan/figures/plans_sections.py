@@ -175,7 +175,7 @@ def plot_floor(scene: Scene, ax: Axes) -> Axes:
     image = ax.imshow(floor, extent=(west, east, south, north), cmap="cividis", **MAP)
     between = contours(ax, scene.grid, floor) * scene.grid.size[2]
     ax.set_title(
-        f"Floor at revenue factor {factor_text(scene.selected)}, elevation in m, a line each {metres(between)} m"
+        f"Pit floor at revenue factor {factor_text(scene.selected)}, elevation in m, contours every {metres(between)} m"
     )
     ax.figure.colorbar(image, ax=ax, shrink=0.85)
     mark_section_cells(ax, scene.grid, scene.section_row, scene.section_column)

@@ -105,7 +105,7 @@ def plot_surface(scene: PushbackScene, ax: Axes) -> Axes:
     pushback, solid = (np.take_along_axis(cube, highest, axis=0)[0] for cube in (scene.pushback, scene.solid))
     draw(scene, (pushback, solid), (west, east, south, north), ax)
     between = contours(ax, scene.grid, floor_of(scene.grid, scene.dug), over=True) * scene.grid.size[2]
-    ax.set_title(f"Pushbacks at the surface, contours of the floor each {metres(between)} m")
+    ax.set_title(f"Pushbacks at the surface, contours of the floor every {metres(between)} m")
     mark_section_cells(ax, scene.grid, scene.section_row, scene.section_column)
     mark_map(ax, scene.grid)
     name_axes(ax, *axes_of_map(scene.grid))

@@ -16,9 +16,9 @@ from pitplan.studies.scenarios.pit_probability import QUANTILES
 
 # By the name of an amount what it is called, and its colour.
 LOOKS = {
-    "common_npv": ("the one schedule\nfor all", "#d55e00"),
-    "npv": ("a schedule each,\nthe ground known", "#0072b2"),
-    "upper_bound": ("the bound of each", "#555555"),
+    "common_npv": ("common\nschedule", "#d55e00"),
+    "npv": ("own schedule of\neach scenario", "#0072b2"),
+    "upper_bound": ("upper bound of\neach scenario", "#555555"),
 }
 # So many scenarios have marks that can be told apart.
 MANY = 60
@@ -41,7 +41,7 @@ def plot(table: pd.DataFrame, currency: str, axes: Any) -> list[Axes]:
     unit = f"{sign} {currency}".strip()
     plot_each(rising, each)
     plot_spread(rising, unit, spread)
-    each.set_ylabel(f"discounted value, {unit}")
+    each.set_ylabel(f"NPV, {unit}")
     each.yaxis.set_major_formatter(lambda value, _: f"{value:,.6g}")
     each.figure.suptitle(f"{len(table):,} scenarios", x=0.01, ha="left")
     return found
@@ -55,7 +55,7 @@ def plot_each(rising: pd.DataFrame, ax: Axes) -> None:
         size = {"markersize": 2.5 * marks, "markeredgewidth": 1.5} if mark == "_" else {"markersize": marks}
         ax.plot(place, rising[name], mark, color=colour, label=label.replace("\n", " "), **size)
     ax.xaxis.get_major_locator().set_params(integer=True)
-    ax.set_xlabel("scenarios, by rising bounds")
+    ax.set_xlabel("scenarios, by upper bound")
     ax.legend(loc="upper left", facecolor="white", edgecolor="none", framealpha=0.9)
 
 
@@ -72,5 +72,5 @@ def plot_spread(rising: pd.DataFrame, unit: str, ax: Axes) -> None:
     ax.set_xticks(range(len(LOOKS)), [label for label, _ in LOOKS.values()])
     ax.set_xlim(-0.4, len(LOOKS) - 0.2)
     known = float((rising["upper_bound"] - rising["common_npv"]).mean())
-    ax.set_title(f"to know the ground is worth at most {known:,.4g} {unit} on the mean", loc="left", fontsize=9)
-    ax.set_xlabel(f"least, {100 * low:.0f} %, median, {100 * high:.0f} %, greatest")
+    ax.set_title(f"expected value of perfect information: at most {known:,.4g} {unit}", loc="left", fontsize=9)
+    ax.set_xlabel(f"minimum, {100 * low:.0f} %, median, {100 * high:.0f} %, maximum")

@@ -117,7 +117,7 @@ def explain(axes: list[Axes], likely: Likely) -> None:
     ]
     figure.legend(handles=handles, ncol=3, loc="upper right", facecolor="#9a9a9a", framealpha=1)
     figure.suptitle(
-        f"Probability of each block in the pit at revenue factor {factor_text(likely.factor)}\n", x=0.01, ha="left"
+        f"Inclusion probability of each block at revenue factor {factor_text(likely.factor)}\n", x=0.01, ha="left"
     )
 
 
@@ -151,8 +151,8 @@ def plot_spread(table: pd.DataFrame, currency: str, axes: Any) -> list[Axes]:
     found = list_of(axes, 2)
     sets = sets_of(table.assign(value_at_revenue_factor=table["value_at_revenue_factor"].astype(float)))
     columns = (
-        ("tonnes", "rock in the pit", "t"),
-        ("value_at_revenue_factor", "worth at the factor's prices", f" {currency}"),
+        ("tonnes", "total material", "t"),
+        ("value_at_revenue_factor", "value at the revenue factor", f" {currency}"),
     )
     for axis, (column, title, unit) in zip(found, columns):
         for (prices, amounts), (colour, marker) in zip(sets, looks(len(sets))):
@@ -197,7 +197,7 @@ def band(axis: Axes, groups: Any, colour: str, count: int) -> None:
         axis.fill_between(factors, groups.min(), groups.max(), color=colour, alpha=0.15, linewidth=0, label="all")
     # Bands that lie over one another are the lighter the more there are.
     colours = {"facecolor": to_rgba(colour, 0.45 / (count + 1)), "edgecolor": to_rgba(colour, 0.6)}
-    label = "eight in ten" if alone else None
+    label = "10 % to 90 %" if alone else None
     axis.fill_between(factors, groups.quantile(0.1), groups.quantile(0.9), label=label, **colours)
 
 
@@ -206,8 +206,8 @@ def explain_sets(axis: Axes, count: int) -> None:
     handles, names = axis.get_legend_handles_labels()
     step = -(-len(names) // MOST_NAMES)
     handles, names = handles[::step], names[::step]
-    what = "medians of the models" if count > MOST_BANDS else "medians and eight in ten of the models"
-    title = None if count == 1 else f"{what}, by prices"
+    what = "medians of the realisations" if count > MOST_BANDS else "medians and 10 % to 90 % of the realisations"
+    title = None if count == 1 else f"{what}, by price deck"
     axis.figure.legend(handles, names, ncol=min(4, len(names)), loc="lower center", frameon=False, title=title)
 
 

@@ -21,7 +21,7 @@ from pitplan.scheduling.pushback_schedule import LP, MILP, RULE, YearlySchedule,
 
 from .annual import FAR_ABOVE, MARGIN, MILL, SHOVELS
 
-TITLES = {RULE: "By rule", LP: "By linear programme", MILP: "By integer programme"}
+TITLES = {RULE: "Rule", LP: "Linear programme", MILP: "Integer programme"}
 COLOURS = {"worst": WORST, RULE: "#d08a1d", LP: ORE, MILP: "#7b4fa3", "best": BEST, "upper_bound": PLAIN}
 NAMES = {
     "worst": "worst case",
@@ -61,7 +61,7 @@ def plot_gantt(schedule: YearlySchedule, axes: Any) -> list[Axes]:
     found = list_of(axes, len(schedule.shares))
     for ax, way in zip(found, schedule.shares):
         draw_gantt(schedule, way, ax)
-    found[0].set_ylabel("bench of each pushback: z of its centres, m")
+    found[0].set_ylabel("benches by pushback: elevation of the centroids, m")
     return found
 
 
@@ -149,9 +149,9 @@ def plot_tonnes(schedule: YearlySchedule, axes: Any) -> list[Axes]:
     near = [line.get_ydata().max() for line in found[0].lines if line.get_ydata().max() <= FAR_ABOVE * top]
     for ax in found:
         ax.set_ylim(0, MARGIN * max(top, *near, 0.0) or 1.0)
-    what = "rock" if not schedule.milling else "rock and reclaimed ore"
-    found[0].set_ylabel(f"{what} in the year, {sign}t")
-    rights[-1].set_ylabel(f"{metal.name} recovered of the ore, {metal.sign}")
+    what = "total material" if not schedule.milling else "total material and reclaimed ore"
+    found[0].set_ylabel(f"{what}, {sign}t")
+    rights[-1].set_ylabel(f"{metal.name} recovered per tonne of feed, {metal.sign}")
     # The bars of the last way that mines anything name a stockpile where there is one.
     last = max((place for place, ax in enumerate(found) if ax.containers), default=-1)
     drawn = [*found[last].containers, *found[last].lines, *rights[last].lines]
@@ -201,7 +201,7 @@ def draw_bars(ax: Axes, shown: pd.DataFrame, reclaimed: Optional[np.ndarray], si
         0.8,
         bottom=milled,
         color=WASTE,
-        label="waste" if reclaimed is None else "waste or stocked",
+        label="waste" if reclaimed is None else "waste or stockpiled",
         linewidth=0,
     )
     ax.xaxis.set_major_locator(MaxNLocator(integer=True))
@@ -213,8 +213,9 @@ def draw_limits(ax: Axes, schedule: YearlySchedule, count: int, unit: tuple[floa
     size, sign = unit
     limits = schedule.problem.limits
     edges = np.arange(max(count, 1) + 1) + 0.5
-    mill = "all processes" if any(name.startswith("feed_tonnes_") for name in limits.most) else "mill"
-    for name, label, colour in (("feed_tonnes", mill, MILL), ("total_tonnes", "shovels", SHOVELS)):
+    is_split = any(name.startswith("feed_tonnes_") for name in limits.most)
+    mill = "processing capacity (all processes)" if is_split else "processing capacity"
+    for name, label, colour in (("feed_tonnes", mill, MILL), ("total_tonnes", "mining capacity", SHOVELS)):
         if name in limits.most:
             most = limits.of_years(max(count, 1))[:, list(limits.most).index(name)] / size
             label = f"{label}: {round(limits.most[name] / size, 3):,.12g} {sign}t a year"
@@ -264,7 +265,7 @@ def plot_cumulative(schedule: YearlySchedule, years: pd.DataFrame, ax: Axes) -> 
     ax.axhline(0, color="black", linewidth=0.8)
     ax.set_xlabel("end of year")
     ax.set_ylabel(
-        f"discounted cash so far, {sign} {schedule.pushbacks.plan.project.money.currency}".replace(",  ", ", ")
+        f"cumulative discounted cash flow, {sign} {schedule.pushbacks.plan.project.money.currency}".replace(",  ", ", ")
     )
     ax.xaxis.set_major_locator(MaxNLocator(integer=True))
     ax.legend(loc="lower right", facecolor="white", edgecolor="none", framealpha=0.9)

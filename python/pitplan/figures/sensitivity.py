@@ -74,7 +74,7 @@ def plot_tornado(table: pd.DataFrame, currency: str, axes: Axes) -> Axes:
     axes.axvline(base / size, color="black", linewidth=0.9)
     axes.set_yticks(range(len(order)), [spoken(name) for name in order])
     axes.set_xlabel(
-        f"NPV, {sign} {currency} (mean of best and worst case; as given {base / size:,.1f})".replace(",  ", ", ")
+        f"NPV, {sign} {currency} (mean of best and worst case; base case {base / size:,.1f})".replace(",  ", ", ")
     )
     axes.margins(x=0.14)
     axes.spines[["left", "right", "top"]].set_visible(False)
@@ -103,7 +103,7 @@ def plot_spider(table: pd.DataFrame, currency: str, axes: Axes) -> Axes:
     axes.axvline(0, color="black", linewidth=0.8)
     axes.set_xticks(sorted({share for curve in curves.values() for share in curve.index}))
     axes.xaxis.set_major_formatter(PER_CENT)
-    axes.set_xlabel("share by which the number is more or less")
+    axes.set_xlabel("change of the parameter")
     axes.set_ylabel(f"NPV, {sign} {currency} (mean of best and worst case)".replace(",  ", ", "))
     axes.legend(loc="center left", bbox_to_anchor=(1.02, 0.5), frameon=False)
     return axes

@@ -48,7 +48,7 @@ def model_of(folder: Folder) -> dict[str, Any]:
     factors = folder.factors
     if len(factors) > MOST_FACTORS:
         raise PlanError(
-            f"the 3D page can show {MOST_FACTORS} shells, and there are {len(factors):,}: give fewer factors"
+            f"the 3D page can show {MOST_FACTORS} shells, and there are {len(factors):,}: reduce revenue_factors"
         )
     place = np.searchsorted(factors, blocks["revenue_factor"].to_numpy()) + 1
     solid = (blocks[folder.record["tonnes"]] > 0).to_numpy()
