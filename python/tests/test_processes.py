@@ -268,9 +268,7 @@ def both(ways):
     )
 
 
-@pytest.mark.parametrize(
-    ("name", "planted", "rule"), [("best_way", worst_way, "money"), ("steps_of", both, "undiscounted_cash_flow")]
-)
+@pytest.mark.parametrize(("name", "planted", "rule"), [("best_way", worst_way, "money"), ("steps_of", both, "values")])
 def test_other_processes_and_blocks_that_are_processed_twice_are_found(
     plan_folder, monkeypatch, without_figures, name, planted, rule
 ):

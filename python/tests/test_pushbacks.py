@@ -345,7 +345,7 @@ def test_a_pushback_of_a_factor_that_was_not_asked_for_is_found(divided, copied)
     path = copied.parent.parent / "project.toml"
     path.write_text(path.read_text().replace("count = 3", "revenue_factors = [0.4, 1.0]"))
     (rule,) = wrong(copied).values()
-    assert rule.name == "pushback of blocks" and "was not asked for" in rule.differences[0]
+    assert rule.name == "pushback of blocks" and "is not in the project" in rule.differences[0]
 
 
 @pytest.mark.parametrize(
@@ -367,7 +367,7 @@ def test_pushbacks_that_the_project_does_not_ask_for_are_found(copied, asked, sa
 def test_pushbacks_of_a_project_that_asks_for_none_are_found(copied):
     path = copied.parent.parent / "project.toml"
     path.write_text(path.read_text().replace("[pushbacks]\ncount = 3\n", ""))
-    assert wrong(copied)["pushback of blocks"].differences == ("the project asks for no pushbacks",)
+    assert wrong(copied)["pushback of blocks"].differences == ("the project has no pushbacks",)
 
 
 def test_nothing_is_written_where_a_pushback_is_wrong(plan_folder, monkeypatch):

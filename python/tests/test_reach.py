@@ -159,7 +159,7 @@ def test_ground_that_shells_need_and_is_left_out_is_found(plan_folder, few, monk
     path = plan_folder(deposit(), PROJECT, ANGLES)
     monkeypatch.setattr(crop, "box_of", narrower)
     pitplan.write_shells(path, writing=pitplan.Writing(verifies=False))
-    assert "needs ground that was left out" in wrong(path)["reach"][0]
+    assert "depends on ground that was removed" in wrong(path)["reach"][0]
 
 
 def test_ore_that_is_left_out_is_found(plan_folder, few, monkeypatch, without_figures):
@@ -167,7 +167,7 @@ def test_ore_that_is_left_out_is_found(plan_folder, few, monkeypatch, without_fi
     can_pay = crop.can_pay
     monkeypatch.setattr(crop, "can_pay", lambda model, project: can_pay(model, project)[:2])
     pitplan.write_shells(path, writing=pitplan.Writing(verifies=False))
-    assert wrong(path)["reach"] == ("block b20-15-7 was left out, and pays at revenue factor 1.50",)
+    assert wrong(path)["reach"] == ("block b20-15-7 was removed, and pays at revenue factor 1.50",)
 
 
 def test_a_table_that_has_changed_where_it_was_left_out_is_found(plan_folder, few, without_figures):

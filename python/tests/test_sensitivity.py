@@ -464,7 +464,7 @@ AMOUNTS = "blocks tonnes feed_tonnes waste_tonnes strip_ratio processed_at_reven
     [
         *((column, "shells") for column in AMOUNTS),
         *((column, "years") for column in ("npv", "npv_best", "npv_worst", "years")),
-        ("value_at_revenue_factor", "undiscounted_cash_flow"),
+        ("value_at_revenue_factor", "values"),
         *((column, "kept") for column in KEPT),
         ("skin_value", "skin"),
         ("revenue_factor", "cases"),
@@ -505,7 +505,7 @@ def test_the_pit_of_another_case_is_found(copied):
     one, other = (record["cases"][k] for k in (1, 2))
     one["key"], other["key"] = other["key"], one["key"]
     (copied / "sensitivity.json").write_text(json.dumps(record))
-    assert {"shells", "undiscounted_cash_flow"} <= set(wrong(copied))
+    assert {"shells", "values"} <= set(wrong(copied))
 
 
 def test_a_block_that_is_left_standing_is_found(copied):

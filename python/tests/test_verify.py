@@ -88,12 +88,12 @@ def test_what_is_right_is_told_rule_by_rule(answered, copied, capsys):
         "fixed",
         "money",
         "shells",
-        "undiscounted_cash_flow",
+        "values",
         "years",
         "conventions",
     ]
     assert len(answered[1]["verified"]) == 10
-    assert "no block of any shell leaves one standing" in (copied / "report.html").read_text()
+    assert "no block of any shell lacks a block of its slope cone" in (copied / "report.html").read_text()
 
 
 def test_a_run_may_leave_it_out_and_says_so(plan_folder):
@@ -112,7 +112,7 @@ SHELLS = "blocks tonnes feed_tonnes waste_tonnes strip_ratio processed_at_revenu
     [
         *(("shells.csv", name, "shells") for name in SHELLS.split()),
         *(("shells.csv", name, "years") for name in ("npv_best", "npv_worst", "years")),
-        ("shells.csv", "value_at_revenue_factor", "undiscounted_cash_flow"),
+        ("shells.csv", "value_at_revenue_factor", "values"),
         *(
             ("years.csv", name, "years")
             for name in (
@@ -142,8 +142,8 @@ def test_each_number_that_is_bent_is_found(copied, file, column, rule):
     ("column", "rule"),
     [
         ("revenue_factor", "shells"),
-        ("process_revenue_factor", "undiscounted_cash_flow"),
-        ("revenue_factor", "undiscounted_cash_flow"),
+        ("process_revenue_factor", "values"),
+        ("revenue_factor", "values"),
         ("revenue_factor", "years"),
     ],
 )
@@ -298,10 +298,10 @@ def plus_one(table, column):
             "blocks",
             lambda it: it.assign(revenue_factor=it["revenue_factor"] + 0.001 * (it["revenue_factor"] == 0.5)),
             None,
-            "comes in at 0.501",
+            "has the revenue factor 0.501",
         ),
         (
-            "undiscounted_cash_flow",
+            "values",
             lambda it: plus_one(it, "process_revenue_factor"),
             459,
             "block b0-0-0: process_revenue_factor 1.00 for 0.00",
@@ -501,7 +501,7 @@ def test_high_walls_by_geometry():
 
 def test_needs_that_steeper_walls_on_the_way_do_not_lead_to_are_found(plan_folder, monkeypatch):
     monkeypatch.setattr("pitplan.slopes.domains.not_led", lambda steps, code, grid: np.zeros(len(code), dtype=bool))
-    assert "walls: block b7-7-0, dug at revenue factor 0.50, needs a block that is not" in refused(
+    assert "walls: block b7-7-0, mined at revenue factor 0.50, depends on a block that is not" in refused(
         plan_folder, two_regions(), PROJECT, LEVELS, *MIXED
     )
 
@@ -509,7 +509,7 @@ def test_needs_that_steeper_walls_on_the_way_do_not_lead_to_are_found(plan_folde
 def test_too_few_levels_are_found(plan_folder, monkeypatch):
     monkeypatch.setattr("pitplan.slopes.slope_patterns.levels_of", lambda *_: 3)
     said = refused(plan_folder, two_regions(), PROJECT, ("precedence_benches = 3\n", ""), *MIXED)
-    assert "levels: wall entry 1: over 3 levels it comes out" in said and "degrees steeper than asked" in said
+    assert "levels: domain entry 1: over 3 benches the slope is" in said and "degrees steeper than its angle" in said
 
 
 @pytest.mark.parametrize("decimals", [2, 6])
@@ -558,7 +558,7 @@ def test_capacity_that_is_caught_up_is_found(plan_folder, monkeypatch):
 def test_fixed_blocks_that_are_passed_over_are_found(plan_folder, monkeypatch):
     nothing = np.zeros(0, dtype=np.int64)
     monkeypatch.setattr(constraints, "of_table", lambda *_: constraints.FixedBlocks(nothing, nothing))
-    assert "fixed: block b2-1-4 must be dug" in refused(plan_folder)
+    assert "fixed: block b2-1-4 is must-mine" in refused(plan_folder)
 
 
 def ore_everywhere():
@@ -586,7 +586,7 @@ def test_areas_that_are_passed_over_are_found(plan_folder, tmp_path, monkeypatch
     monkeypatch.setattr(constraints, "of_table", lambda *_: constraints.NOTHING)
     (rule,) = [rule for rule in looked_at(prepare(path)) if rule.differences]
     assert (rule.name, rule.count, len(rule.differences)) == ("fixed", count, min(count, 10))
-    assert rule.differences[0] == f"block {first} may not be dug, and is so from revenue factor 0.50 on"
+    assert rule.differences[0] == f"block {first} is excluded, and is mined from revenue factor 0.50"
 
 
 def test_a_surface_that_is_passed_over_is_found(plan_folder, tmp_path, monkeypatch):
@@ -610,7 +610,7 @@ def test_a_surface_that_is_passed_over_is_found(plan_folder, tmp_path, monkeypat
     monkeypatch.setattr(constraints, "of_table", lambda *_: constraints.NOTHING)
     (rule,) = [rule for rule in looked_at(prepare(path)) if rule.differences]
     assert (rule.name, rule.count, len(rule.differences)) == ("fixed", 7 + 2 * 7, 10)
-    assert rule.differences[0] == "block b0-2-0 must be dug, and is so from revenue factor 0.00 on"
+    assert rule.differences[0] == "block b0-2-0 is must-mine, and is mined from revenue factor 0.00"
 
 
 def test_ground_that_is_taken_as_air_is_found(plan_folder, monkeypatch):

@@ -58,7 +58,7 @@ def test_what_is_right_is_told_rule_by_rule(copied, capsys):
     assert said["answers"] == [1, 2, 3, 4, 5, 6] and said["verified"] == lines
     table = pd.read_csv(copied / "schedules.csv")
     assert (table["common_unprocessed_tonnes"] > 0).all() and (table["npv"] > 0).sum() == 4
-    assert "in the one schedule and 6 of 6 others no block is dug before its whole cone is" in lines[4]
+    assert "in the common schedule and 6 of 6 others no block is mined before its slope cone" in lines[4]
 
 
 def top_last(year):
@@ -100,7 +100,9 @@ def test_a_bound_below_what_is_earned_is_found(copied):
     bend(answer_of(copied, 1), amounts=half)
     found = {rule.name: rule.differences for rule in verify_folder(copied)}
     assert any("is above bound" in said for said in found["block value"])
-    assert any("the one schedule earns" in said and "above the bound" in said for said in found["one schedule"])
+    assert any(
+        "the common schedule has an NPV of" in said and "above the bound" in said for said in found["one schedule"]
+    )
 
 
 @pytest.mark.parametrize(
@@ -132,7 +134,7 @@ def test_a_fixed_block_that_is_not_kept_is_found(copied, column, year):
     bend(one_of(copied), year=lambda it: np.where(np.arange(len(it)) == row, year, it).astype(it.dtype))
     (rule,) = [rule for rule in verify_folder(copied) if rule.name == "block order"]
     assert rule.differences == (
-        f"the one schedule: block {simulated()['name'].iloc[row]}: year {year}, of which 0 is milled",
+        f"the common schedule: block {simulated()['name'].iloc[row]}: year {year}, of which 0 is milled",
     )
 
 
@@ -247,7 +249,7 @@ def at_mean_grades(weights, count):
 def test_a_mean_of_something_else_is_found(plan_folder, monkeypatch):
     monkeypatch.setattr(worker, "mean_of", lambda shared: at_mean_grades(block_work_mean(shared), 1))
     folder = solved(plan_folder, pillars(RICH, POOR))
-    with pytest.raises(PlanError, match="block value: the one schedule, as planned: value "):
+    with pytest.raises(PlanError, match="block value: the common schedule, as planned: value "):
         gather(folder)
     assert not (folder / "schedules.csv").exists()
 

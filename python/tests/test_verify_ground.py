@@ -42,7 +42,7 @@ def absent_rule(path):
 def test_rock_of_cells_without_rows_is_that_of_the_project(plan_folder):
     path = plan_folder(holed(), PROJECT, ROCK)
     assert [rule.differences for rule in looked_at(prepare(path))] == [()] * 10
-    assert "is a block of 100 t of the project's rock" in absent_rule(path).holds
+    assert "is filled with 100 t and codes of the project" in absent_rule(path).holds
     assert prepare(path).blocks.query("name.str.startswith('absent')")["id"].tolist() == CELLS
 
 
@@ -76,9 +76,9 @@ def test_rock_that_the_project_does_not_give_is_found(plan_folder, monkeypatch, 
 @pytest.mark.parametrize(
     ("cells", "said"),
     [
-        (CELLS[:-1], "the cell 19 has no row, and no block stands for it"),
-        ([*CELLS, 6], "block absent-6 stands for a cell above the highest of its column"),
-        ([*CELLS, 13], "block absent-13 stands for a cell above the highest of its column"),
+        (CELLS[:-1], "the cell 19 is a missing block and is not filled"),
+        ([*CELLS, 6], "block absent-6 fills a cell above the highest of its column"),
+        ([*CELLS, 13], "block absent-13 fills a cell above the highest of its column"),
     ],
 )
 def test_cells_that_are_passed_over_or_are_air_are_found(plan_folder, monkeypatch, cells, said):
@@ -129,12 +129,12 @@ def test_a_surface_that_is_not_laid_between_its_points_is_found(plan_folder, tmp
     and the lower, at 5 m, from x = 55 on."""
     path = surfaced(plan_folder, tmp_path, [(x, y, 20 - 0.3 * x) for x in (-90, 160) for y in (-70, 120)])
     assert fixed_rule(path).differences == ()
-    assert "with the blocks that are mined" in fixed_rule(path).holds
+    assert "with the mined-out blocks" in fixed_rule(path).holds
     monkeypatch.setattr(tin, "heights", lambda triangles, grid: np.full(grid.per_level, 1000.0))
     rule = fixed_rule(path)
     assert (rule.count, rule.differences[0]) == (
         3 * 5 + 3 * 2,
-        "block b5-0-0 must be dug, and is so from revenue factor 0.00 on",
+        "block b5-0-0 is must-mine, and is mined from revenue factor 0.00",
     )
     monkeypatch.setattr(
         tin,
@@ -260,7 +260,7 @@ def test_a_pit_without_fixed_blocks_that_is_worth_less_is_found(pits):
     )
     (rule,) = [rule for rule in verify(pits) if rule.name == "free"]
     assert rule.differences == (
-        f"revenue factor 1.50: value_at_revenue_factor {table['value_at_revenue_factor'][1]} is less than with them",
+        f"revenue factor 1.50: value_at_revenue_factor {table['value_at_revenue_factor'][1]} is less than with constraints",
     )
 
 
@@ -280,6 +280,6 @@ def test_a_pit_without_fixed_blocks_that_leaves_a_block_standing_is_refused(plan
 
     project = load(plan_folder(ores_and_fixed(), with_section(FIXED_SECTION)))
     monkeypatch.setattr(problem, "ready", partial(bent, problem.ready))
-    with pytest.raises(PlanError, match="free: walls: block .*, needs a block that is not"):
+    with pytest.raises(PlanError, match="free: walls: block .*, depends on a block that is not"):
         pitplan.write_pit(project, 1.5)
     assert not (project.folder / "pit").exists()

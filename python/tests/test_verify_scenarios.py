@@ -73,7 +73,7 @@ RULES = [
     "walls",
     "fixed",
     "shells",
-    "undiscounted_cash_flow",
+    "values",
     "probability",
     "tables",
 ]
@@ -83,7 +83,10 @@ def test_what_is_right_is_told_rule_by_rule(copied, capsys):
     assert main(["verify", str(copied)]) == 0
     lines = capsys.readouterr().out.splitlines()
     assert [line.split(":")[0] for line in lines] == RULES
-    assert "worth: of 6 of 6 answered scenarios: the program's worth of each shell is that of its blocks" in lines[7]
+    assert (
+        "values: in 6 of 6 solved scenarios: the solver's value of each shell equals the sum over its blocks"
+        in lines[7]
+    )
     said = json.loads((copied / "gathered.json").read_text())
     assert said["answers"] == [1, 2, 3, 4, 5, 6] and said["verified"] == lines
 
@@ -116,8 +119,8 @@ def a_hundredth_more(worth):
 @pytest.mark.parametrize(
     ("changed", "found"),
     [
-        ({"places": dig_no_more}, {"walls", "shells", "undiscounted_cash_flow", "probability", "tables"}),
-        ({"value_at_revenue_factor": a_hundredth_more}, {"undiscounted_cash_flow", "tables"}),
+        ({"places": dig_no_more}, {"walls", "shells", "values", "probability", "tables"}),
+        ({"value_at_revenue_factor": a_hundredth_more}, {"values", "tables"}),
         ({"table": lambda it: it * 1.001}, {"shells", "tables"}),
     ],
 )
@@ -133,7 +136,7 @@ def test_each_wrong_answer_is_found_and_not_gathered(copied, capsys, changed, fo
 def test_a_block_that_comes_in_at_no_factor_is_found(copied, capsys):
     bend(answer_of(copied, 1), places=lambda it: it + 7 * (it == 3))
     (rule,) = [rule for rule in verify(copied) if rule.name == "tables"]
-    assert rule.differences[0] == "scenario 1, cu_a at copper 8000, gold 60: a block comes in at no factor"
+    assert rule.differences[0] == "scenario 1, cu_a at copper 8000, gold 60: a block has none of the revenue factors"
     assert main(["gather", str(copied), "--quiet"]) == 1
     assert (
         "is no answer: remove it, and run pitplan scenarios again: it holds other blocks or factors"
@@ -148,7 +151,7 @@ def test_the_answer_of_another_scenario_is_found(copied, one, other):
         arrays = {**answer, "key": answer_of(copied, one).stem}
     np.savez_compressed(answer_of(copied, one), **arrays)
     assert main(["gather", str(copied), "--quiet", "--no-verify"]) == 0
-    assert "undiscounted_cash_flow" in wrong(copied)
+    assert "values" in wrong(copied)
 
 
 def test_a_barred_block_that_is_dug_is_found(copied):
@@ -160,7 +163,7 @@ def test_a_barred_block_that_is_dug_is_found(copied):
     bend(answer_of(copied, 2), places=dug)
     (rule,) = [rule for rule in verify(copied) if rule.name == "fixed"]
     assert rule.differences == (
-        "scenario 2, cu_a at copper 11000.5, gold 45: block b10-0-0 may not be dug, and is so from revenue factor 0.50 on",
+        "scenario 2, cu_a at copper 11000.5, gold 45: block b10-0-0 is excluded, and is mined from revenue factor 0.50",
     )
 
 
@@ -222,7 +225,7 @@ def test_a_probability_that_is_bent_is_named(copied):
             "scenarios.json lists cu_a at {'copper': '9000', 'gold': '45'} for ",
         ),
         (lambda it: it["scenarios"][1].update(model="cu_b"), "scenarios.json lists cu_b at "),
-        (lambda it: it["scenarios"].pop(), "scenarios.json lists 5 scenarios, and the models and prices make 6"),
+        (lambda it: it["scenarios"].pop(), "scenarios.json lists 5 scenarios, and realisations and price decks make 6"),
         (lambda it: it["revenue_factors"].pop(), "scenarios.json lists the revenue factors 0.50, 1.00"),
     ],
 )
@@ -240,7 +243,7 @@ def test_a_table_that_has_changed_is_found(copied):
     table = pd.read_csv(path)
     ore = table.index[table["cu_b"] > 0.5][0]
     table.assign(cu_b=table["cu_b"].where(table.index != ore, 1.0)).to_csv(path, index=False)
-    assert wrong(copied) == {"shells", "undiscounted_cash_flow"}
+    assert wrong(copied) == {"shells", "values"}
     table[table.index != ore].to_csv(path, index=False)
     with pytest.raises(
         PlanError, match="probability.csv: 1 of its blocks are not in the table: has the table changed since?"
@@ -262,7 +265,7 @@ def test_models_of_a_folder_are_read_by_id_and_by_place(plan_folder):
         (np.arange(12) / 10).tolist()
     ] * 2
     write_models(path, by_id=model[["name", "cu"]].assign(name=model["name"][::-1].to_numpy()))
-    assert wrong(folder) == {"shells", "undiscounted_cash_flow"}
+    assert wrong(folder) == {"shells", "values"}
     write_models(path, by_id=model[["name", "cu"]].assign(name=["nobody", *model["name"][1:]]))
     with pytest.raises(PlanError, match="by_id.csv: 1 of its blocks are not in the table: has it changed since?"):
         verify(folder)
@@ -279,7 +282,7 @@ def test_rows_of_a_model_that_are_taken_in_their_own_order_are_found(plan_folder
         monkeypatch.setattr(realisations, reader, lambda frame, *_: np.arange(len(frame)))
     folder = prepared(path).folder
     solved_in_turn(prepared(path))
-    with pytest.raises(PlanError, match="of 1 of 1|worth: scenario 1, mixed at copper 40000: factor"):
+    with pytest.raises(PlanError, match="of 1 of 1|values: scenario 1, mixed at copper 40000: factor"):
         pitplan.gather(folder)
     assert not (folder / "probability.csv").exists()
 
@@ -291,7 +294,7 @@ def test_prices_that_are_passed_over_are_found(plan_folder, monkeypatch):
     # At 12,000 the metal of sim_1, 0.75 t, yields 4500 at revenue factor 0.50, and the pit 2900.
     with pytest.raises(
         PlanError,
-        match="worth: scenario 2, sim_1 at copper 12000: revenue factor 0.50: value_at_revenue_factor 1400.* for 2900",
+        match="values: scenario 2, sim_1 at copper 12000: revenue factor 0.50: value_at_revenue_factor 1400.* for 2900",
     ):
         pitplan.gather(shared.folder)
 
@@ -321,7 +324,7 @@ def test_a_cost_that_is_counted_from_another_level_is_found(plan_folder, monkeyp
     monkeypatch.setattr("pitplan.economics.block_values.first_level", lambda *_: 0)
     shared = prepared(path)
     solved_in_turn(shared)
-    with pytest.raises(PlanError, match="worth: scenario 1, sim_1: revenue factor 0.50: value_at_revenue_factor "):
+    with pytest.raises(PlanError, match="values: scenario 1, sim_1: revenue factor 0.50: value_at_revenue_factor "):
         pitplan.gather(shared.folder)
 
 
@@ -334,9 +337,9 @@ def test_ten_scenarios_of_more_are_looked_at_evenly(plan_folder):
     sample = Verification(read(shared.folder, shared.folder)).sample
     assert [scenario.number for scenario in sample] == [1, 2, 3, 5, 6, 7, 8, 10, 11, 12]
     assert all(
-        "of 10 of 12 answered scenarios: " in rule.holds
+        "in 10 of 12 solved scenarios: " in rule.holds
         for rule in verify(shared.folder)
-        if rule.name in ("walls", "fixed", "shells", "undiscounted_cash_flow")
+        if rule.name in ("walls", "fixed", "shells", "values")
     )
     bend(answer_of(shared.folder, 4), places=lambda it: np.array([0, *it[1:]], dtype=it.dtype))
     assert wrong(shared.folder) == {"probability", "tables"}

@@ -123,12 +123,12 @@ def verify_free(kept: Answer, free: Answer) -> Rule:
     found = [check(free) for check in OF_PITS]
     differences = [f"{rule_of.name}: {difference}" for rule_of in found for difference in rule_of.differences]
     lost = [
-        f"revenue factor {factor_text(factor)}: value_at_revenue_factor {free.shells['value_at_revenue_factor'][factor]} is less than with them"
+        f"revenue factor {factor_text(factor)}: value_at_revenue_factor {free.shells['value_at_revenue_factor'][factor]} is less than with constraints"
         for factor in free.shells.index
         if Decimal(free.shells["value_at_revenue_factor"][factor])
         < Decimal(kept.shells["value_at_revenue_factor"][factor])
     ]
-    holds = "without fixed blocks walls hold, the row of the pit adds up, its worth is that of its blocks, and it is worth no less"
+    holds = "without constraints slopes hold, the row of the pit adds up, its value is that of its blocks and no less"
     return rule("free", holds, [*differences, *lost], sum(rule_of.count for rule_of in found) + len(lost))
 
 

@@ -17,15 +17,15 @@ def verify(answer: Answer) -> Rule:
     """Ground without rows is blocks of the project's rock, where it names one, and otherwise none are."""
     rock = answer.project.table.missing_blocks
     if not isinstance(rock, MissingRock):
-        return rule("absent", "no block stands for a cell that the table has no row of", [])
+        return rule("absent", "no missing block is filled", [])
     differences, count = unlike_cells(answer)
     for name, expected in words(answer, rock).items():
         added = answer.rows[name].iloc[answer.known :]
         off = np.flatnonzero((added.astype(str) if isinstance(expected, str) else added) != expected)
         differences += [f"{answer.called(answer.known + k)}: {name} {added.iloc[k]} for {expected}" for k in off[:TOLD]]
         count += len(off)
-    holds = f"every cell without a row that is not above the highest of its column is a block of {rock.tonnes:g} t"
-    return rule("absent", f"{holds} of the project's rock, and no other is", differences, count)
+    holds = f"every missing block is filled with {rock.tonnes:g} t"
+    return rule("absent", f"{holds} and codes of the project, and no other cell is", differences, count)
 
 
 def words(answer: Answer, rock: MissingRock) -> dict[str, str | float]:
@@ -64,9 +64,9 @@ def unlike_cells(answer: Answer) -> tuple[list[str], int]:
     blocks = np.zeros(answer.shape, dtype=bool)
     blocks[added] = True
     lacking, more = np.flatnonzero(ground & ~blocks), np.flatnonzero((blocks & ~ground)[added])
-    differences = [f"the cell {cell} has no row, and no block stands for it" for cell in lacking[:TOLD]]
+    differences = [f"the cell {cell} is a missing block and is not filled" for cell in lacking[:TOLD]]
     differences += [
-        f"{answer.called(answer.known + k)} stands for a cell above the highest of its column" for k in more[:TOLD]
+        f"{answer.called(answer.known + k)} fills a cell above the highest of its column" for k in more[:TOLD]
     ]
     named, cells = answer.project.table.id, np.ravel_multi_index(added, answer.shape)
     called = answer.rows[named].iloc[answer.known :] if named else [f"absent-{cell}" for cell in cells]

@@ -97,18 +97,21 @@ class Schedules:
         sample = [(scenario.label, Kept.of(scenario.file)) for scenario in self.whole.sample]
         differences = [
             f"{name}: {said}"
-            for name, kept in [("the one schedule", self.one), *sample]
+            for name, kept in [("the common schedule", self.one), *sample]
             for said in self.out_of_order(kept)
         ]
         count = f"{len(sample):,} of {len(self.whole.folder.answered):,} others"
-        holds = f"in the one schedule and {count} no block is dug before its whole cone is"
+        holds = f"in the common schedule and {count} no block is mined before its slope cone"
         return rule(
-            "block order", f"{holds}, what must be dug is in some year, and what may not be in none", differences
+            "block order", f"{holds}, must-mine blocks are in some year, and excluded blocks in none", differences
         )
 
     def out_of_order(self, kept: Kept) -> list[str]:
         answer = replace(self.ground, said=self.ground.said.assign(revenue_factor=kept.year))
-        found = [difference.replace("dug at", "dug in year", 1) for difference in walls.verify(answer).differences]
+        found = [
+            difference.replace("mined at revenue factor", "mined in year", 1)
+            for difference in walls.verify(answer).differences
+        ]
         wrong = (kept.year < 0) | (kept.year > self.whole.folder.record["years"])
         wrong |= (kept.share < -SLIGHT) | (kept.share > (kept.year > 0) + SLIGHT)
         if answer.project.fixed is not None:
@@ -130,12 +133,12 @@ class Schedules:
             own += [] if kept is None else [f"{scenario.label}: {said}" for said in self.unlike(held, kept)]
             dug.append(self.dug(held))
         mean = total / len(dug)
-        own += [f"the one schedule, as planned: {said}" for said in self.unlike(mean, self.one)]
+        own += [f"the common schedule, as planned: {said}" for said in self.unlike(mean, self.one)]
         tables = Tables(self, dug, by_year(mean[ORE] * self.one.share, self.one.year))
-        words = f"{len(folder.answered):,} schedules and the one for all, by the mean of what its blocks are worth, keep limits, "
-        of_one = "in each scenario its years mill what earns most there, and it earns no more than the bound"
+        words = f"{len(folder.answered):,} schedules and the common one, at mean block values, keep limits, "
+        of_one = "in each scenario its years process the best feed, and its NPV is within the upper bound"
         return [
-            rule("block value", f"{words}add up, and earn no more than their bounds", own),
+            rule("block value", f"{words}add up, and are within their upper bounds", own),
             rule("one schedule", of_one, tables.of_one()),
             rule("tables", "every row follows from the schedules", tables.of_all()),
         ]
@@ -259,7 +262,9 @@ class Tables:
             bound = Kept.of(scenario.file).row["upper_bound"] if scenario.file.is_file() else math.inf
             value = dug["discounted_cash_flow"].sum()
             if value > bound + CENT + 1e-7 * abs(bound):
-                found.append(f"{scenario.label}: the one schedule earns {value:.12g}, above the bound {bound:.12g}")
+                found.append(
+                    f"{scenario.label}: the common schedule has an NPV of {value:.12g}, above the bound {bound:.12g}"
+                )
         return found
 
     def unlike_years(self, said: pd.DataFrame, dug: pd.DataFrame) -> Iterator[str]:

@@ -49,11 +49,11 @@ def verify_fixed(answer: Answer) -> Optional[Rule]:
         return None
     year, (must, never) = answer.said[YEAR].to_numpy(), fixed.demanded(answer, answer.project.fixed)
     left, dug = np.flatnonzero(must & (year == 0)), np.flatnonzero(never & (year > 0))
-    differences = [f"{answer.called(row)} must be dug, and is in no year" for row in left[:TOLD]]
-    differences += [f"{answer.called(row)} may not be dug, and is in year {year[row]}" for row in dug[:TOLD]]
+    differences = [f"{answer.called(row)} is must-mine, and is in no year" for row in left[:TOLD]]
+    differences += [f"{answer.called(row)} is excluded, and is in year {year[row]}" for row in dug[:TOLD]]
     return rule(
         "block fixed",
-        "what must be dug is dug in some year, and what may not be in none",
+        "must-mine blocks are mined in some year, and excluded blocks in none",
         differences,
         len(left) + len(dug),
     )
@@ -118,7 +118,9 @@ def verify_order(answer: Answer, told: dict[str, Any]) -> Rule:
     year = answer.said[YEAR].to_numpy()
     dated = replace(answer, said=answer.said.assign(revenue_factor=year))
     found = walls.verify(dated)
-    differences = [difference.replace("dug at", "dug in year", 1) for difference in found.differences]
+    differences = [
+        difference.replace("mined at revenue factor", "mined in year", 1) for difference in found.differences
+    ]
     wrong = (year < 0) | (year > told["years"])
     shares = [share for _, share in shares_of(answer)]
     whole = np.sum(shares, axis=0)
@@ -126,7 +128,7 @@ def verify_order(answer: Answer, told: dict[str, Any]) -> Rule:
     wrong |= (year == 0) & (whole > SLIGHT)
     rows = np.flatnonzero(wrong)[:TOLD]
     differences += [f"{answer.called(row)}: year {year[row]}, of which {whole[row]:.6g} is processed" for row in rows]
-    holds = "no block is dug before all of its own region's whole cone is"
+    holds = "no block is mined before all blocks of its slope cone"
     return rule("block order", holds, differences, found.count + int(wrong.sum()))
 
 
@@ -135,7 +137,7 @@ def verify_limits(answer: Answer, told: dict[str, Any], sums: pd.DataFrame) -> R
     differences = []
     for name, ramps, most in limits_of(answer):
         if told["limits"].get(name) != most:
-            differences.append(f"limit of {name} is told as {told['limits'].get(name)} for {most:.10g}")
+            differences.append(f"limit of {name} is recorded as {told['limits'].get(name)} for {most:.10g}")
         for year, amount in sums[name][sums.index > 0].items():
             allowed = most * ramps[min(int(year), len(ramps)) - 1]
             if amount > allowed * (1 + 1e-8) + CENT:
@@ -149,14 +151,16 @@ def verify_limits(answer: Answer, told: dict[str, Any], sums: pd.DataFrame) -> R
     ]
     due = dict(least_of(answer))
     if told.get("least", {}) != due:
-        differences.append(f"least amounts are told as {told.get('least', {})} for {due}")
+        differences.append(f"minimums are recorded as {told.get('least', {})} for {due}")
     for (name, least), year in product(due.items(), range(1, told["years"] + 1)):
         of_mill = rules.ramp_up if rules and name.startswith("feed_tonnes") else (1.0,)
         amount, owed = float(sums[name].get(year, 0.0)), least * of_mill[min(year, len(of_mill)) - 1]
         if amount < owed * (1 - 1e-8) - CENT:
             differences.append(f"year {year}: {name} {amount:.10g} below {owed:.10g}")
     return rule(
-        "block limits", "no year is above a limit of ore, rock, metal or a sum, nor below a least amount", differences
+        "block limits",
+        "no year exceeds a limit of feed, total material, metal or a sum, nor falls below a minimum",
+        differences,
     )
 
 
@@ -212,7 +216,5 @@ def verify_value(answer: Answer, told: dict[str, Any], sums: pd.DataFrame) -> Ru
         differences.append(f"gap {told['gap']:.9g} for {gap:.9g}")
     dug = int(((answer.said[YEAR] > 0) & (answer.tonnes > 0)).sum())
     differences += ways_table.differences(answer, {CASE: {"npv": told["npv"], "upper_bound": bound, "blocks": dug}})
-    holds = (
-        "cash is discounted as the project asks, years and value are the sums of blocks, and it is not above the bound"
-    )
+    holds = "cash flows are discounted as in the project, years and NPV are sums over blocks, and the NPV is within its bound"
     return rule("block value", holds, differences)

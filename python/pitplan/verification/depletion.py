@@ -56,7 +56,7 @@ def verify_by_centres(answer: Answer, file: SurveyFile) -> Rule:
     differences = told(answer, wrong, np.where(surface.above(answer, file), 0.0, before))
     return rule(
         "as mined",
-        "blocks with their centres above the as-mined surface have no tonnes, and others the table's",
+        "blocks with centroids above the as-mined surface have no tonnes, and others those of the table",
         differences,
     )
 

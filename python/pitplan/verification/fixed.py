@@ -20,20 +20,20 @@ def verify(answer: Answer) -> Rule:
     """Every block that must be dug is in every shell, none that may not be is in any."""
     rules, first = answer.project.fixed, answer.said["revenue_factor"].to_numpy()
     if rules is None:
-        return rule("fixed", "nothing is fixed", [])
+        return rule("fixed", "the project has no constraints", [])
     must, never = demanded(answer, rules)
     left = np.flatnonzero(must & (first != min(answer.factors)))
     dug = np.flatnonzero(never & (first > 0))
     differences = [
-        f"{answer.called(row)} must be dug, and is so from revenue factor {factor_text(first[row])} on"
+        f"{answer.called(row)} is must-mine, and is mined from revenue factor {factor_text(first[row])}"
         for row in left[:TOLD]
     ]
     differences += [
-        f"{answer.called(row)} may not be dug, and is so from revenue factor {factor_text(first[row])} on"
+        f"{answer.called(row)} is excluded, and is mined from revenue factor {factor_text(first[row])}"
         for row in dug[:TOLD]
     ]
-    ground = ", with the blocks that are mined," if rules.as_mined else ""
-    holds = f"what must be dug{ground} is in every shell, and what may not be is in none"
+    ground = ", with the mined-out blocks," if rules.as_mined else ""
+    holds = f"must-mine blocks{ground} are in every shell, and excluded blocks in none"
     return rule("fixed", holds, differences, len(left) + len(dug))
 
 
@@ -81,9 +81,7 @@ def verify_places(answer: Answer) -> Rule:
     rules, (differences, count) = answer.project.grid, own_columns.unlike(answer)
     tolerance = rules.tolerance
     if rules.azimuth is not None and rules.azimuth != answer.azimuth:
-        differences.append(
-            f"the grid's north has azimuth {answer.azimuth:.10g} for {rules.azimuth:.10g} of the project"
-        )
+        differences.append(f"grid north has azimuth {answer.azimuth:.10g} for {rules.azimuth:.10g} of the project")
         count += 1
     for steps, cell, size in zip(answer.steps, answer.cells[::-1], answer.size):
         off = np.abs(steps - cell) * size
@@ -97,13 +95,13 @@ def verify_places(answer: Answer) -> Rule:
     ]
     strange = np.flatnonzero(~answer.said["revenue_factor"].isin([0, *answer.factors]))
     differences += [
-        f"{answer.called(row)} comes in at {factor_text(answer.said['revenue_factor'].iloc[row])}"
+        f"{answer.called(row)} has the revenue factor {factor_text(answer.said['revenue_factor'].iloc[row])}"
         for row in strange[:TOLD]
     ]
     count += len(wrong) + len(strange)
     return rule(
         "blocks",
-        "every block of the table stands in the answer, in its own cell and with the table's own fields",
+        "every block of the table is in the results, in its own cell and with the fields of the table",
         differences,
         count,
     )

@@ -23,7 +23,7 @@ def verify(answer: Answer, chosen: np.ndarray) -> Rule:
     """Roads are right to a millimetre, and the costs of hauling follow from them, exactly so for the chosen rows."""
     rules = answer.project.haulage
     if rules is None:
-        return rule("haulage", "the project says nothing of haulage", [])
+        return rule("haulage", "the project has no haulage", [])
     told, expected = answer.said[ROAD].to_numpy(), lengths(answer, rules)
     off = np.flatnonzero(~(np.abs(told - expected) <= SLIGHT + 1e-9))
     differences = [f"{answer.called(row)}: road {told[row]:.10g} for {expected[row]:.10g}" for row in off[:TOLD]]
@@ -39,7 +39,7 @@ def verify(answer: Answer, chosen: np.ndarray) -> Rule:
             float(due_exactly.quantize(unit, ROUND_HALF_EVEN)), answer.said[WASTE].iloc[row], rel_tol=1e-15
         ):
             differences.append(f"{answer.called(row)}: {WASTE} {answer.said[WASTE].iloc[row]:.10g} for {due_exactly}")
-    holds = "roads to the exit are right to a millimetre, and what hauling costs follows from them"
+    holds = "haul distances are right to a millimetre, and haulage costs follow from them"
     return rule("haulage", holds, differences, max(count, len(differences)))
 
 

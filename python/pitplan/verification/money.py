@@ -41,7 +41,10 @@ def verify(answer: Answer) -> Rule:
         differences += unlike_best(answer) if answer.project.processes else []
         count = len(differences)
     return rule(
-        "money", f"costs and revenue of all blocks are right, and exactly so for {len(chosen):,}", differences, count
+        "money",
+        f"costs and revenue of all blocks follow from the project, exactly so for {len(chosen):,} of them",
+        differences,
+        count,
     )
 
 

@@ -43,9 +43,9 @@ def holds(answer: Answer) -> str:
     ):
         if metres:
             wide.append(
-                f"each block lies in a square {metres:g} m wide of {of_what} on its level, with air and what must be dug; "
+                f"each block lies in a square {metres:g} m wide of {of_what} on its bench, with air and must-mine blocks; "
             )
-    return "".join(wide) + "pieces and least width of each pushback are what its blocks make"
+    return "".join(wide) + "pieces and minimum width of each pushback follow from its blocks"
 
 
 def cube_of(answer: Answer) -> np.ndarray:

@@ -28,7 +28,7 @@ def of_pushbacks(of_shells: Rule) -> Rule:
         "in every shell", "in pushback 1"
     )
     differences = tuple(
-        text.replace("from revenue factor", "from pushback").replace("dug at", "in pushback")
+        text.replace("from revenue factor", "from pushback").replace("mined at revenue factor", "in pushback")
         for text in of_shells.differences
     )
     return Rule(f"pushback {of_shells.name}", holds, differences, of_shells.count)
@@ -68,13 +68,13 @@ def unlike_rules(answer: Answer, factors: list[float]) -> list[str]:
     """What the project asks of the pushbacks' factors, and is not so."""
     asked = answer.project.pushbacks
     if asked is None:
-        return ["the project asks for no pushbacks"]
+        return ["the project has no pushbacks"]
     found = []
     last = asked.ultimate_pit or answer.project.schedule.selected or 1000
     if asked.revenue_factors is not None:
         last = max(asked.revenue_factors)
         found += [
-            f"revenue factor {factor_text(factor)} was not asked for"
+            f"revenue factor {factor_text(factor)} is not in the project"
             for factor in factors
             if factor not in asked.revenue_factors
         ]
@@ -114,7 +114,7 @@ def verify_sums(answer: Answer) -> Rule:
                 differences.append(f"pushback {number}: {name} {said[name]:.10g} for {amount:.10g}")
     return rule(
         "pushbacks",
-        "blocks, tonnes, grades, ratios, metal and worth of each pushback are the sums of its blocks",
+        "blocks, tonnes, grades, strip ratios, metal and cash flow of each pushback are the sums over its blocks",
         differences,
     )
 

@@ -33,21 +33,21 @@ def verify(answer: Answer) -> Rule:
             np.flatnonzero(factor * revenue - processing > HAIR * revenue + 10.0**-answer.project.money.decimals),
         )
         differences += [
-            f"{part.called(row)} was left out, and pays at revenue factor {factor_text(factor)}" for row in pays[:TOLD]
+            f"{part.called(row)} was removed, and pays at revenue factor {factor_text(factor)}" for row in pays[:TOLD]
         ]
         count += len(pays)
     fixed = answer.project.fixed
     if fixed is not None and fixed.must_mine:
         part = replace(answer, rows=rows)
         forced = rock_of(part, np.flatnonzero((rows[fixed.must_mine] > 0) & (rows[answer.project.table.tonnes] > 0)))
-        differences += [f"{part.called(row)} was left out, and must be dug" for row in forced[:TOLD]]
+        differences += [f"{part.called(row)} was removed, and is must-mine" for row in forced[:TOLD]]
         count += len(forced)
     reaching = leading_off(answer)
     differences += [
-        f"{answer.called(row)}, dug at revenue factor {factor_text(answer.said['revenue_factor'].iloc[row])}, needs ground that was left out"
+        f"{answer.called(row)}, mined at revenue factor {factor_text(answer.said['revenue_factor'].iloc[row])}, depends on ground that was removed"
         for row in reaching[:TOLD]
     ]
-    holds = f"of {len(rows):,} blocks that were left out none pays for its processing or must be dug, and no shell needs ground there"
+    holds = f"of {len(rows):,} removed blocks none pays for its processing or is must-mine, and no shell depends on removed ground"
     return rule("reach", holds, differences, count + len(reaching))
 
 

@@ -29,7 +29,7 @@ def verify(answer: Answer) -> Rule:
     differences = unlike_grid(parts, answer.project, answer.record["grid"])
     columns, count = answer.project.table, len(differences)
     if len(expected) != answer.known:
-        return rule("reblocked", "rows are put together", [f"{answer.known:,} blocks for {len(expected):,}"])
+        return rule("reblocked", "rows are reblocked", [f"{answer.known:,} blocks for {len(expected):,}"])
     # Tonnes below a surface have a rule of their own.
     passed = (columns.x, columns.y, columns.z, *([columns.tonnes] if answer.project.cuts_blocks else []))
     for name in [name for name in expected if name not in passed]:
@@ -45,7 +45,7 @@ def verify(answer: Answer) -> Rule:
         differences += [f"{answer.called(row)}: {name} {column[row]} for {expected[name][row]}" for row in off[:TOLD]]
         count += len(off)
     grades = "grades, " if answer.project.metals else ""
-    holds = f"each of {len(expected):,} blocks holds the {len(parts):,} rows that lie in it: tonnes, {grades}codes, and what is fixed"
+    holds = f"each of {len(expected):,} blocks holds the {len(parts):,} rows that lie in it: tonnes, {grades}codes and constraints"
     return rule("reblocked", holds, differences, count)
 
 

@@ -32,10 +32,10 @@ SAMPLE = 10
 SHARES = {"quantile_0.1": 0.1, "quantile_0.5": 0.5, "quantile_0.9": 0.9}
 # What is looked at in each scenario of the sample.
 OF_EACH = {
-    "walls": "no block of any shell leaves one standing in its own region's whole cone",
-    "fixed": "what must be dug is in every shell, and what may not be is in none",
-    "shells": "tonnes, grades, metal and worth of each shell are the sums of its blocks",
-    "undiscounted_cash_flow": "the program's worth of each shell is that of its blocks, by the scenario's own grades and prices",
+    "walls": "no block of any shell lacks a block of its slope cone",
+    "fixed": "must-mine blocks are in every shell, and excluded blocks in none",
+    "shells": "tonnes, grades, metal and cash flow of each shell are the sums over its blocks",
+    "values": "the solver's value of each shell equals the sum over its blocks, at the grades and prices of the scenario",
 }
 AMOUNTS = (
     "blocks",
@@ -129,7 +129,7 @@ class Verification:
         own, listed = folder.scenarios, folder.record["scenarios"]
         if len(own) != len(listed):
             differences.append(
-                f"scenarios.json lists {len(listed):,} scenarios, and the models and prices make {len(own):,}"
+                f"scenarios.json lists {len(listed):,} scenarios, and realisations and price decks make {len(own):,}"
             )
         if tuple(folder.record["revenue_factors"]) != folder.factors:
             differences.append(
@@ -142,7 +142,9 @@ class Verification:
                     f"scenarios.json lists {entry['realisation']} at {entry['prices']} for {scenario.label}"
                 )
         return rule(
-            "scenarios", "each model at each set of prices is a scenario, at the project's factors", differences
+            "scenarios",
+            "each realisation at each price deck is a scenario, at the revenue factors of the project",
+            differences,
         )
 
     @cached_property
@@ -158,11 +160,11 @@ class Verification:
         for scenario in self.sample:
             whole = self.of_scenario(scenario)
             dug = weighed(whole)
-            worth = rule("undiscounted_cash_flow", "", sums.unlike_worth(dug))
+            worth = rule("values", "", sums.unlike_worth(dug))
             for it in (walls.verify(whole), fixed.verify(whole), sums.verify(dug), worth):
                 told = tuple(f"{scenario.label}: {difference}" for difference in it.differences)
                 found[it.name].append(replace(it, differences=told))
-        count = f"of {len(self.sample):,} of {len(self.folder.answered):,} answered scenarios: "
+        count = f"in {len(self.sample):,} of {len(self.folder.answered):,} solved scenarios: "
         return [joined(name, count + holds, found[name]) for name, holds in OF_EACH.items()]
 
     def of_scenario(self, scenario: Scenario) -> Answer:
@@ -217,12 +219,12 @@ class Verification:
             differences += self.unlike_places(scenario, told, inside)
             tables.append((scenario, told.table))
         differences += [*unlike_rows(folder, tables), *unlike_quantiles(folder, tables)]
-        words = f"each is the share of {len(tables):,} answers whose pit holds the block"
+        words = f"each is the share of {len(tables):,} results whose pit holds the block"
         return [
             rule("probability", words, *self.unlike_shares(held / max(len(tables), 1))),
             rule(
                 "tables",
-                "blocks and tonnes of all answers add up, and every row of the tables follows from the answers",
+                "blocks and tonnes of all results add up, and every row of the tables follows from the results",
                 differences,
             ),
         ]
@@ -233,7 +235,7 @@ class Verification:
         found = (
             []
             if told.places.max(initial=0) <= len(folder.factors)
-            else [f"{scenario.label}: a block comes in at no factor"]
+            else [f"{scenario.label}: a block has none of the revenue factors"]
         )
         tonnes = self.ground.tonnes
         for name, amounts in (("blocks", inside[tonnes > 0].sum(axis=0)), ("tonnes", tonnes @ inside)):
@@ -288,7 +290,9 @@ def unlike_rows(folder: Simulated, tables: list[tuple[Scenario, pd.DataFrame]]) 
 def unlike_row(rows: pd.DataFrame, scenario: Scenario, table: pd.DataFrame) -> list[str]:
     expected = table.assign(**{f"price_{metal}": float(price) for metal, price in scenario.prices.items()})
     found = (
-        [] if (rows["realisation"] == scenario.model.name).all() else [f"the model is {rows['realisation'].iloc[0]}"]
+        []
+        if (rows["realisation"] == scenario.model.name).all()
+        else [f"the realisation is {rows['realisation'].iloc[0]}"]
     )
     for name in expected:
         if name == "value_at_revenue_factor":
@@ -328,7 +332,7 @@ def unlike_quantiles(folder: Simulated, tables: list[tuple[Scenario, pd.DataFram
 
 def unlike_spread(rows: pd.DataFrame, models: list[Any], what: str) -> list[str]:
     if len(rows) != 1 or rows["realisations"].iloc[0] != len(models):
-        return [f"{what}: has {len(rows)} rows, and there are {len(models)} models"]
+        return [f"{what}: has {len(rows)} rows, and there are {len(models)} realisations"]
     found = []
     for name in [*AMOUNTS, *(name for name in models[0].index if name.startswith("recovered_"))]:
         amounts = sorted(float(model[name]) for model in models)

@@ -87,7 +87,7 @@ def ways_of(answer: Answer, told: dict[str, Any]) -> tuple[list[str], list[Way]]
         for row in rows[lost].itertuples()
     ]
     if not set(rows["method"]) <= set(told["methods"]):
-        differences.append(f"ways {sorted(set(rows['method']))} for {sorted(told['methods'])}")
+        differences.append(f"methods {sorted(set(rows['method']))} for {sorted(told['methods'])}")
     rows = rows[~lost]
     return differences, [
         Way(answer, name, rows[rows["method"] == name], said) for name, said in told["methods"].items()
@@ -130,10 +130,10 @@ def verify_amounts(ways: list[Way], told: dict[str, Any], sums: pd.DataFrame, mi
             ]
         twice = np.argwhere(way.done[:, :, -1] > 1 + SLIGHT)
         differences += [
-            f"{way.name}: pushback {pushback}, level {level} is dug {way.done[pushback, level, -1]:.9g} times"
+            f"{way.name}: pushback {pushback}, level {level} is mined {way.done[pushback, level, -1]:.9g} times"
             for pushback, level in twice
         ]
-    holds = "each row of the schedule is a share of the blocks of its bench, and no tonne is dug twice"
+    holds = "each row of the schedule is a share of the blocks of its bench, and no tonne is mined twice"
     return rule("schedule amounts", holds, differences[:TOLD], len(differences))
 
 
@@ -158,8 +158,8 @@ def verify_order(ways: list[Way], sums: pd.DataFrame) -> Rule:
                 *least[: row.pushback, down, row.year],
             ]
             if min(waited) < 1 - SLIGHT:
-                differences.append(f"{place(row)}: is begun when one that it waits for is dug to {min(waited):.6g}")
-    holds = "no bench is begun before all that it waits for is through"
+                differences.append(f"{place(row)}: begins when a predecessor is mined to {min(waited):.6g}")
+    holds = "no bench begins before its predecessors are complete"
     return rule("schedule order", holds, differences[:TOLD], len(differences))
 
 
@@ -208,12 +208,12 @@ def verify_limits(ways: list[Way], told: dict[str, Any]) -> Rule:
         sunk = way.rows.groupby(["pushback", "year"])["share"].sum()
         deepest = (rules and rules.vertical_advance_rate) or math.inf
         differences += [
-            f"{way.name}: pushback {at[0]} sinks {by:.9g} benches in year {at[1]}"
+            f"{way.name}: pushback {at[0]} advances {by:.9g} benches in year {at[1]}"
             for at, by in sunk[sunk > deepest + SLIGHT].items()
         ]
         if way.last > told["years"]:
-            differences.append(f"{way.name}: something is dug in year {way.last}")
-    holds = "no year is above a limit of ore, rock, metal or sinking"
+            differences.append(f"{way.name}: material is mined in year {way.last}")
+    holds = "no year exceeds a limit of feed, total material, metal or vertical advance"
     return rule("schedule limits", holds, differences[:TOLD], len(differences))
 
 
@@ -254,7 +254,7 @@ def verify_value(ways: list[Way], told: dict[str, Any], sums: pd.DataFrame) -> R
             for way in ways
         }
         differences += ways_table.differences(ways[0].answer, of_record)
-    holds = "cash is discounted as the project asks, values and years are the sums of it, and none is above the bound"
+    holds = "cash flows are discounted as in the project, NPVs and years are their sums, and no NPV exceeds its bound"
     return rule("schedule value", holds, differences[:TOLD], len(differences))
 
 
@@ -324,5 +324,5 @@ def verify_years_of_blocks(ways: list[Way], told: dict[str, Any], sums: pd.DataF
         differences += [
             f"{way.answer.called(row)}: year {way.answer.said['year'][row]} for {expected[row]}" for row in off
         ]
-    holds = f"each block has the year by whose end its bench is through, as {told['shown']} digs it"
+    holds = f"each block has the year in which its bench is complete, by the method {told['shown']}"
     return rule("years of blocks", holds, differences[:TOLD], len(differences))

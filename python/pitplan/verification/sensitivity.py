@@ -33,14 +33,14 @@ SHARES = ("-0.2", "-0.1", "0.1", "0.2")
 AXES = ("parameter", "change", "second_parameter", "second_change")
 KEPT = ("undiscounted_cash_flow", "npv_best", "npv_worst", "years")
 OF_EACH = {
-    "walls": "no block of any pit leaves one standing in its own region's whole cone, as the case has it",
-    "steepness": "where the project leaves the levels open, no wall of a case comes out more than half a degree steeper",
-    "fixed": "what must be dug is in every pit, and what may not be is in none",
-    "shells": "tonnes, grades, metal and worth of each pit are the sums of its blocks by the case's own prices, costs and recoveries",
-    "undiscounted_cash_flow": "the program's worth of each pit is that of its blocks",
-    "years": "net present values follow from the benches by the case's own capacities",
-    "kept": "so they do for the pit of the project as given at the numbers of each case",
-    "skin": "what the skin of that pit is worth is the sum of its blocks at these numbers",
+    "walls": "no block of any pit lacks a block of its slope cone, at the slope angles of the case",
+    "steepness": "unless the project sets precedence_benches, no slope of a case is more than half a degree steeper than its angle",
+    "fixed": "must-mine blocks are in every pit, and excluded blocks in none",
+    "shells": "tonnes, grades, metal and cash flow of each pit are the sums over its blocks at the parameters of the case",
+    "values": "the solver's value of each pit equals the sum over its blocks",
+    "years": "NPVs follow from the benches at the capacities of the case",
+    "kept": "so do those of the base-case pit at the parameters of each case",
+    "skin": "the value of that pit's skin is the sum over its blocks at these parameters",
 }
 Data = dict[str, Any]
 
@@ -57,7 +57,7 @@ class Case:
 
     @property
     def label(self) -> str:
-        return ", ".join(f"{name} {share:+f}" for name, share in self.changes) or "as given"
+        return ", ".join(f"{name} {share:+f}" for name, share in self.changes) or "base case"
 
 
 def verify(written: Path, folder: Path) -> list[Rule]:
@@ -147,15 +147,13 @@ class Told:
         there = [tuple(row) for row in self.rows[list(AXES)].itertuples(index=False)]
         noted = [padded([(name, float(share)) for name, share in case.changes]) for case in self.cases]
         if sorted(there) != due:
-            differences.append(
-                f"sensitivity.csv has {len(there):,} cases, and the project asks for {len(due):,} or others"
-            )
+            differences.append(f"sensitivity.csv has {len(there):,} cases, and the project {len(due):,} or others")
         if there != noted:
             differences.append("sensitivity.json lists other cases than sensitivity.csv")
         if not (self.rows["revenue_factor"] == self.factor).all():
             differences.append(f"sensitivity.csv has another revenue factor than {factor_text(self.factor)}")
         return rule(
-            "cases", "each number that is varied has a row for each share, and each pair for each two", differences
+            "cases", "each parameter has a row for each change, and each pair for each two changes", differences
         )
 
     def as_given(self) -> Rule:
@@ -169,7 +167,7 @@ class Told:
             f"{told.called(row)}: revenue factor {factor_text(said[row])} for {factor_text(due[row])}"
             for row in off[:TOLD]
         ]
-        holds = "costs and revenue of blocks follow from the project as given, and their factors are those of its pits"
+        holds = "costs and revenue of blocks follow from the base case, and their revenue factors are those of its pits"
         return rule("as given", holds, differences, sum(it.count for it in found) + len(off))
 
     def outside_skin(self) -> Rule:
@@ -200,7 +198,7 @@ class Told:
         ]
         return rule(
             "skin's shell",
-            "the pit without its skin is a shell, and the skin has at least the share asked for",
+            "the pit without its skin is a shell, and the skin has at least the required share",
             differences,
         )
 
@@ -221,7 +219,7 @@ class Told:
             "steepness": walls.verify_steepness(whole),
             "fixed": fixed.verify(whole),
             "shells": sums.verify(pit),
-            "undiscounted_cash_flow": rule("undiscounted_cash_flow", "", sums.unlike_worth(pit)),
+            "values": rule("values", "", sums.unlike_worth(pit)),
             "years": rule("years", "", [*npv.differences, *unlike], npv.count + len(unlike)),
             "kept": self.kept(
                 project, row.set_index("revenue_factor"), any(name == "slopes" for name, _ in case.changes)
@@ -236,7 +234,9 @@ class Told:
         said = row[[f"kept_{name}" for name in KEPT]].set_axis(list(KEPT), axis=1)
         if moves_walls:
             return rule(
-                "kept", "", [] if said.isna().all(axis=None) else ["kept_ amounts are given, and walls are others"]
+                "kept",
+                "",
+                [] if said.isna().all(axis=None) else ["kept_ amounts are given, although the slopes differ"],
             )
         pit = replace(weighed(self.dug(self.cases[0].entry, project, self.cases[0].walls)), shells=said)
         worth, gross = sums.sums(pit, self.factor)["undiscounted_cash_flow"], float(np.abs(pit.worths).sum())
@@ -251,7 +251,7 @@ class Told:
     def skin(self, project: Project, said: float, moves_walls: bool) -> Rule:
         """What the skin of the pit as given is worth at the numbers of a case; nothing where walls are others."""
         if moves_walls:
-            return rule("skin", "", [] if np.isnan(said) else ["skin_value is given, and walls are others"])
+            return rule("skin", "", [] if np.isnan(said) else ["skin_value is given, although the slopes differ"])
         given = self.cases[0]
         assert given.skin is not None
         skin = weighed(self.dug(np.where(given.skin, self.factor, 0), project, given.walls))

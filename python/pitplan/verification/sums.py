@@ -27,7 +27,7 @@ def verify(answer: Answer) -> Rule:
                 differences.append(f"revenue factor {factor_text(factor)}: {name} {said:.10g} for {amount:.10g}")
     return rule(
         "shells",
-        "blocks, tonnes, grades, ratios, metal and worth of each shell are the sums of its blocks",
+        "blocks, tonnes, grades, strip ratios, metal and cash flow of each shell are the sums over its blocks",
         differences,
     )
 
@@ -71,8 +71,8 @@ def verify_worth(answer: Answer) -> Rule:
     the first factor on at which that pays."""
     differences, count = late(answer)
     other = unlike_worth(answer)
-    holds = "the program's worth of each shell is that of its blocks, to the last digit that blocks.csv holds"
-    return rule("undiscounted_cash_flow", holds, [*differences, *other], count + len(other))
+    holds = "the solver's value of each shell equals the sum over its blocks, to the last digit of blocks.csv"
+    return rule("values", holds, [*differences, *other], count + len(other))
 
 
 def unlike_worth(answer: Answer) -> list[str]:

@@ -117,7 +117,9 @@ def verify_steepness(answer: Answer) -> Rule:
     """Where the project leaves the levels open, no high wall comes out too much steeper than asked, or there are the most levels."""
     slopes, differences = answer.project.slopes, []
     if slopes.precedence_benches is not None:
-        return rule("levels", f"the needs reach over {slopes.precedence_benches} levels, as the project says", [])
+        return rule(
+            "levels", f"slope precedences reach over {slopes.precedence_benches} benches, as in the project", []
+        )
     for number, wall in enumerate(slopes.domains):
         levels = answer.levels(wall)
         steeper = 0.0
@@ -125,11 +127,11 @@ def verify_steepness(answer: Answer) -> Rule:
             steeper = float((high_walls(wall, answer.size, levels, answer.azimuth) - asked(wall, answer.azimuth)).max())
         if steeper > STEEPER + 1e-6 and levels < MOST_LEVELS:
             differences.append(
-                f"wall entry {number + 1}: over {levels} levels it comes out {steeper:.2f} degrees steeper than asked"
+                f"domain entry {number + 1}: over {levels} benches the slope is {steeper:.2f} degrees steeper than its angle"
             )
     return rule(
         "levels",
-        f"no wall comes out more than {STEEPER} degrees steeper than asked, or needs reach over {MOST_LEVELS} levels",
+        f"no slope is more than {STEEPER} degrees steeper than its angle, or precedences reach over {MOST_LEVELS} benches",
         differences,
     )
 
@@ -186,7 +188,7 @@ def box(mask: np.ndarray) -> tuple[slice, slice, slice] | None:
 def told(answer: Answer, wrong: np.ndarray) -> tuple[list[str], int]:
     rows = np.flatnonzero(wrong[answer.cells])
     said = [
-        f"{answer.called(row)}, dug at revenue factor {factor_text(answer.said['revenue_factor'].iloc[row])}, needs a block that is not"
+        f"{answer.called(row)}, mined at revenue factor {factor_text(answer.said['revenue_factor'].iloc[row])}, depends on a block that is not"
         for row in rows[:TOLD]
     ]
     return said, len(rows)
@@ -194,4 +196,4 @@ def told(answer: Answer, wrong: np.ndarray) -> tuple[list[str], int]:
 
 def holds(answer: Answer) -> str:
     most = max(answer.levels(wall) for wall in answer.project.slopes.domains)
-    return f"no block of any shell leaves one standing in its own region's whole cone, up to {most} levels above it"
+    return f"no block of any shell lacks a block of its slope cone, up to {most} benches above it"

@@ -22,7 +22,7 @@ def differences(answer: Answer, told: dict[str, dict[str, Any]]) -> list[str]:
         return [f"{FILE} is missing"]
     said = read_table(answer.folder / FILE, ["method"]).set_index("method")
     if said.index.tolist() != list(told):
-        return [f"{FILE} has the ways {said.index.tolist()} for {list(told)}"]
+        return [f"{FILE} has the methods {said.index.tolist()} for {list(told)}"]
     found = []
     for way, record in told.items():
         years = answer.years[answer.years["case"] == way]

@@ -31,7 +31,7 @@ def verify(answer: Answer) -> Rule:
     of_shells = answer.years[~answer.years["case"].isin([*ways, *(["block"] if answer.is_by_block else [])])]
     differences = [*over_capacity(answer, of_shells), *unlike_years(answer, of_shells, flows)]
     npv = verify_npv(answer, flows)
-    holds = f"no year exceeds a capacity, each has what flows in it as benches are dug, and {npv.holds}"
+    holds = f"no year exceeds a capacity, each sums the benches mined in it, and {npv.holds}"
     return rule(npv.name, holds, [*differences, *npv.differences], len(differences) + npv.count)
 
 
@@ -97,7 +97,7 @@ def verify_npv(answer: Answer, flows: pd.DataFrame) -> Rule:
             said = float(answer.shells[name][factor])
             if not abs(said - amount) <= (1e-5 if name == "years" else slack) + 1e-9 * abs(amount):
                 differences.append(f"revenue factor {factor_text(factor)}: {name} {said:.12g} for {amount:.12g}")
-    return rule("years", "both net present values follow from them", differences)
+    return rule("years", "both NPVs follow from them", differences)
 
 
 def flows_of(answer: Answer) -> pd.DataFrame:
