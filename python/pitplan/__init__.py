@@ -1,40 +1,46 @@
-"""The planner's layer over the proved solver `pitshell`: from a table of blocks to shells, numbers and pictures.
+"""Mine planning over the proved solver `pitshell`: from a block model to shells, pushbacks, schedules and reports.
 
     import pitplan
 
-    plan = pitplan.prepare("project.toml")      # plan.blocks: one row a block, with costs and revenue
-    solution = pitplan.solve(plan)              # the proved shells; solution.worth: exact, by factor
-    pitplan.blocks(plan, solution)              # plan.blocks with the least factor of each block
-    pitplan.shells(plan, solution)              # one row a factor: tonnes, grades, strip ratio, worth, NPV
-    pitplan.years(plan, solution)               # one row a case, factor and year: rock, ore, metal, cash
+    plan = pitplan.prepare("project.toml")      # plan.blocks: one row per block, with costs and revenue
+    solution = pitplan.solve(plan)              # the nested shells; solution.worth: exact values, by revenue factor
+    pitplan.blocks(plan, solution)              # plan.blocks with the least revenue factor of each block
+    pitplan.shells(plan, solution)              # one row per revenue factor: tonnes, grades, cash flow, NPV
+    pitplan.years(plan, solution)               # one row per revenue factor, case and year: the annual cash flow
 
-Functions write what the subcommands do, by default into the project's own folder; `check` writes nothing:
+Functions write what the subcommands write, by default into the output folder of the project. `check` writes nothing.
 
-    notes = pitplan.check("project.toml")                  # reads and validates all inputs, without solving
-    table = pitplan.write_shells("project.toml", "out")    # as pitplan shells, verified: one row a factor
-    pitplan.view("out")                                    # the path of view.html; write_report("out") that of report.html
-    pitplan.write_export("out", "csv")                     # that of pit.csv; or table, xlsx, vti, vtu; with a factor or `shape=Shape(...)` dxf, stl or obj
-    pitplan.audit("out", 800)                              # that of a folder by which others can check the shell
-    rules = pitplan.verify("out")                          # each with what holds, differences, and their count
-    pits = pitplan.write_pit("project.toml", 1000)         # a row with the fixed blocks and one without
-    pushbacks = pitplan.write_pushbacks("project.toml")       # one row a pushback
-    ways = pitplan.write_schedule("project.toml")          # one row a method: rule and lp
-    cases = pitplan.write_sensitivity("project.toml")      # one row a case: a number more or less by a share
+    notes = pitplan.check("project.toml")                  # validates all inputs, without solving
+    table = pitplan.write_shells("project.toml", "out")    # one row per revenue factor, verified
+    pitplan.view("out")                                    # the path of view.html
+    pitplan.write_report("out")                            # the path of report.html
+    pitplan.write_export("out", "csv")                     # the path of pit.csv; or table, xlsx, vti, vtu, dxf, stl ..
+    pitplan.audit("out", 0.80)                             # the path of a folder that proves one shell
+    rules = pitplan.verify("out")                          # one Rule per check: what holds, what differs
+    pits = pitplan.write_pit("project.toml", 1.00)         # one row with the constraints and one without
+    pushbacks = pitplan.write_pushbacks("project.toml")    # one row per pushback
+    methods = pitplan.write_schedule("project.toml")       # one row per method: rule, lp
+    cases = pitplan.write_sensitivity("project.toml")      # one row per case: parameters changed by a share
     found = pitplan.write_scenarios("project.toml")        # found.probability, found.table, found.quantiles; found.notes
     each = pitplan.write_scenarios("project.toml", request=pitplan.Request(by="block"))     # each.schedules
 
-`write_block_schedule("project.toml")`, where no blocks are fixed, gives one row: value, bound, optimality_gap, years, blocks and tonnes.
-`Writing` says how a command writes its folder, `Request` where and how scenarios are solved, and `Where` on which Dask cases are;
-`gather(folder)` gathers the scenarios that others have solved.
+`write_block_schedule("project.toml")` schedules blocks without constraints: one row with NPV, upper bound and optimality gap.
+`Writing` sets how a function writes its folder, `Request` where and how scenarios are solved, and `Where` the same for cases of a
+sensitivity. `gather(folder)` gathers scenarios that other machines have solved.
 
-Functions `plot_...` draw on axes of your own, which they give back, and leave matplotlib's backend as it is. Those of
-`pitplan.figures.pit_by_pit` take a table of shells, those of `plans_sections` their `scene_of(plan, solution)`, those of `pushbacks` their
-`scene_of(pitplan.pushbacks.nested.divide(plan))`, `annual.plot_years` a table of years, those of `scenarios` `found.likely(1000)` or
-`found.table`, and those of `sensitivity` a table of cases. Import the module first: `import pitplan.figures.pit_by_pit`.
+Functions `plot_...` draw on your own axes, return them, and leave the backend of matplotlib unchanged. Import their module first, as
+`import pitplan.figures.pit_by_pit`. They take:
 
-The library `libpitshell` solves where it is there, else the program `pitshell`; `dataclasses.replace(project, solver="program")`, or
-"library", asks for one. That a shell is the smallest set of greatest worth that keeps the needs is proved of both, for what they are given.
-This layer, which makes that of a table, is not proved; `plan.notes` says what it rounded, dropped and clipped.
+- `pit_by_pit`: a table of shells
+- `annual.plot_years`: a table of years
+- `plans_sections`: its `scene_of(plan, solution)`
+- `pushbacks`: its `scene_of(pitplan.pushbacks.nested.divide(plan))`
+- `scenarios`: `found.likely(1.0)` or `found.table`
+- `sensitivity`: a table of cases
+
+The library `libpitshell` solves if it is installed, otherwise the program `pitshell`. `dataclasses.replace(project, solver="program")`, or
+"library", selects one. The proof covers both: given block values and precedences, a shell is the smallest closed set of maximal value.
+This package is tested, not proved. `plan.notes` lists what it rounded, removed and filled.
 """
 
 from __future__ import annotations

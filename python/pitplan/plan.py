@@ -1,4 +1,4 @@
-"""A plan: table, grid, money and walls put together, ready for the program."""
+"""A plan: block model, grid, block values and slope precedences, ready for the solver."""
 
 from __future__ import annotations
 
@@ -53,21 +53,36 @@ OWN_COLUMNS = (
 
 @dataclass(repr=False)
 class Plan:
-    """What is prepared of a project.
+    """A project prepared for the solver; see `prepare`.
 
-    table   the planner's rows as they were read and checked, in the file's order, with the tonnes below a topography where there is one
-    grid    the cells; `grid.rows` has each row's id
-    values  cost and revenue of each cell
-    walls   the needs' patterns
-    used    a truth for each cell: whether its needs are written
-    source  the table's file, or "table" where it came from pandas
-    filled  how many empty fields were taken as 0
-    notes   sentences that a planner should read before trusting the plan
-    summary what the table holds: extents, tonnes, grades with units, and columns that say nothing
-    fixed   blocks that must be dug, and blocks that may not be
-    settled what is dug and what is left for their sake; None where the project has no `[constraints]`
-    left_out how many rows of the table no shell can reach, of a model too large for the program
-    read    the table's rows as they were read, before any were put together, added or left out; the second look takes them
+    Attributes
+    ----------
+    project : Project
+        The project, with all defaults.
+    table : DataFrame
+        The block model as read and checked, in the order of the file, with tonnes cut by the topography if there is one.
+    grid : Grid
+        The cells of the model; `grid.rows` is the cell of each row of `table`.
+    values : Values
+        Costs and revenue of each cell, in millionths of the currency.
+    walls : Walls
+        The slope precedences of each domain.
+    used : array of bool, shape (cells,)
+        Whether the precedences of a cell are written.
+    source : str
+        The file of the block model, or "table" if it is a DataFrame.
+    filled : int
+        Number of empty fields that were read as 0.
+    notes, summary : list of str
+        What was rounded, clipped or filled, with all warnings; and extents, tonnes and grades of the block model.
+    fixed : FixedBlocks
+        Must-mine and excluded blocks.
+    settled : Settled, optional
+        The cells that the constraints settle with their slope cones; None without `[constraints]`.
+    left_out : int
+        Number of rows that no shell can reach and that were removed from a model too large for the solver.
+    read : DataFrame, optional
+        The rows as read, before reblocking, filling and removal. The independent verification starts from them.
     """
 
     project: Project
@@ -86,7 +101,7 @@ class Plan:
     read: Optional[pd.DataFrame] = None
 
     def __repr__(self) -> str:
-        """A few lines, since the blocks themselves are thousands."""
+        """Title, size, metals and number of notes."""
         levels, rows, columns = self.grid.shape
         x, y, z = (f"{side:.10g}" for side in self.grid.size)
         metals = ", ".join(metal.name for metal in self.project.metals)
@@ -98,12 +113,12 @@ class Plan:
         )
 
     def called(self, cell: int) -> str:
-        """What the planner calls the block of a cell."""
+        """The name of the block of a cell in the planner's table."""
         return reader.called(self.table, self.project, int((self.grid.rows == cell).argmax()))
 
     @property
     def key(self) -> str:
-        """A hash of all that the shells depend on: grid, values, walls, fixed blocks and factors."""
+        """A hash of everything that the shells depend on: grid, values, slopes, constraints and revenue factors."""
         values, walls, grid = self.values, self.walls, self.grid
         arrays = [*values.nodes(), values.processed, walls.code, self.used, self.fixed.forced, self.fixed.barred]
         record = {
@@ -115,9 +130,11 @@ class Plan:
 
     @property
     def blocks(self) -> pd.DataFrame:
-        """One row a block of the table, by the program's id: the planner's columns, and costs and revenue in money, of several
-        processes those of the best at the price as given and those of each; with `[haulage]` the road in metres, and what of the costs it
-        is."""
+        """One row per block, by `id` (the cell): the columns of the table, then costs and revenue in the currency.
+
+        With several processes these are those of the best process at the base price, followed by those of each process. With `[haulage]`
+        there are `haul_distance` in metres, one way, and the haulage costs, which the other costs contain.
+        """
         ids = self.grid.rows
         frame = self.table.drop(columns=depletion.MINED_SHARE, errors="ignore").rename(columns=shown_name)
         frame.insert(0, "id", ids)
@@ -136,21 +153,21 @@ class Plan:
 
     @property
     def reference(self) -> float:
-        """The elevation in metres of the top of the level below which mining costs more."""
+        """Elevation in metres below which the mining cost rises by bench: the top of the reference bench."""
         return self.grid.extent()[5] - self.values.first_level * self.grid.size[2]
 
     @property
     def needs(self) -> Needs:
-        """The needs of the whole mine."""
+        """The slope precedences of the whole mine."""
         return Needs(self.grid, self.walls, self.used, self.values.processed)
 
     @property
     def needs_of_rest(self) -> Needs:
-        """Those of the blocks that fixed ones settle nothing of; where nothing is fixed, all."""
+        """The slope precedences among blocks that the constraints leave open; all without constraints."""
         return replace(self.needs, settled=self.settled)
 
     def demand_few(self, pairs: Pairs) -> None:
-        """Raises PlanError where there are more needs than program and library take."""
+        """Raises PlanError if there are more precedences than the solver takes."""
         count = pairs.written + pairs.processing
         if count > MOST_PAIRS:
             fewer = "reduce [slopes] precedence_benches"
@@ -162,7 +179,7 @@ class Plan:
             )
 
     def record(self, pairs: Pairs) -> dict[str, Any]:
-        """All that was rounded, dropped, clipped or added between the table and what is solved."""
+        """The record of the plan: everything that was rounded, removed, clipped or added before the solver."""
         project = self.project
         return {
             "title": project.title,
@@ -199,7 +216,7 @@ class Plan:
         }
 
     def notes_of_needs(self, pairs: Pairs) -> list[str]:
-        """What became of needs that lead off the model, and of those that nothing uses."""
+        """Precedences that are written, that leave the model, and that no shell can use."""
         left, last = self.grid.count - int(self.used.sum()), self.project.schedule.revenue_factors[-1]
         notes = [f"{pairs.written:,} slope precedences for {self.grid.count - left:,} blocks"]
         if pairs.clipped:
@@ -235,8 +252,8 @@ def prepare(
     project : str, Path or Project
         A project.toml or its path. A project that was changed in Python is checked as a file is.
     table : DataFrame, optional
-        One row for each block, in place of the project's own file: centres x, y, z in metres, tonnes, grades, and codes of rock and
-        region, by the column names that the project gives.
+        One row per block, in place of the file of the project: centroids x, y, z in metres, tonnes, grades, and codes of rock type and
+        domain, under the column names that the project gives.
     progress : Progress
         Reports the steps; silent by default.
 
@@ -258,14 +275,14 @@ def prepared(project: Project, table: Optional[pd.DataFrame] = None, progress: P
 
 
 def with_notes(plan: Plan, model: Preparation) -> Plan:
-    """The plan with the notes of all steps; warnings come last."""
+    """Adds the notes of all steps; warnings come last."""
     plan.filled = model.read.filled
     plan.notes = [*model.notes, *notes_of(plan), *model.warnings]
     return plan
 
 
 def plan_of(model: Preparation) -> Plan:
-    """The plan of a prepared block model, without notes. Raises PlanError where its blocks cannot be weighed."""
+    """The plan of a prepared block model, without notes. Raises PlanError if a block has no value."""
     project, frame, grid, walls, source = model.project, model.frame, model.grid, model.walls, model.source
     values = block_values.values_of(
         frame, grid, project, source, lambda paying: closure.used_blocks(grid, walls, paying)
@@ -280,7 +297,7 @@ def plan_of(model: Preparation) -> Plan:
 
 
 def demand_no_clash(plan: Plan, settled: Settled) -> None:
-    """Raises PlanError where a block must be dug that needs one which may not be."""
+    """Raises PlanError if a must-mine block depends on an excluded one."""
     forced, barred = plan.fixed.forced, plan.fixed.barred
     clash = forced[settled.left[forced]]
     if len(clash):
@@ -291,7 +308,7 @@ def demand_no_clash(plan: Plan, settled: Settled) -> None:
 
 
 def wanted(values: Values, project: Project, fixed: FixedBlocks) -> NDArray[Any]:
-    """The cells for which a pit digs others: those that can pay for themselves, and those that must be dug."""
+    """The cells for which a pit mines others: those that can pay for themselves, and must-mine blocks."""
     found = np.array(values.greatest_value(project.schedule.revenue_factors[-1]) > 0, dtype=bool)
     found[fixed.forced] = True
     return found
@@ -344,7 +361,7 @@ def notes_of(plan: Plan) -> list[str]:
 
 
 def greatest_shift(table: pd.DataFrame, grid: Grid, project: Project) -> float:
-    """The greatest distance in metres, along an axis, from a row's centre to that of its cell."""
+    """The greatest distance in metres, along an axis, from the centroid of a row to that of its cell."""
     x, y, z = (table[name].to_numpy() for name in (project.table.x, project.table.y, project.table.z))
     places = (*grid.frame.along(x, y), z)
     off = [np.abs(place - middle).max() for place, middle in zip(places, grid.middles(grid.rows))]
@@ -352,7 +369,7 @@ def greatest_shift(table: pd.DataFrame, grid: Grid, project: Project) -> float:
 
 
 def codes_of(project: Project) -> list[str]:
-    """The columns of blocks.csv that are texts, whatever they look like."""
+    """The columns of blocks.csv that are text even if they look like numbers."""
     named = [project.table.id, project.table.rock_type, project.table.domain]
     return [shown_name(name) for name in named if name]
 

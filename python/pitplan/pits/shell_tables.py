@@ -1,6 +1,6 @@
-"""Numbers for each shell. All are at the base price (revenue factor 1.0) but for `value_at_revenue_factor`, and for what has the money of years.
+"""Tables of shells, blocks and years. Money is at the base price (revenue factor 1.0), except `value_at_revenue_factor` and yearly prices.
 
-When a pit is dug, and what it is worth discounted, is told by `schedule`.
+`best_worst_case` schedules the shells and discounts their cash flows.
 """
 
 from __future__ import annotations
@@ -25,16 +25,24 @@ from .best_worst_case import Benches
 
 @dataclass(frozen=True)
 class Cells:
-    """What the table of shells is made of; one value a cell.
+    """Amounts of each cell, from which the tables are summed; arrays of shape (cells,).
 
-    factor     the least factor whose pit holds the cell; 0: none
-    processed  the least factor at which the cell is processed; 0: never
-    ore        whether it is processed at the price as given, once it is dug
-    worth      its worth at the price as given, once it is dug, in money
-    tonnes     of rock
-    feed       tonnes that come to the mill, if it is processed
-    best       the number of the process that is worth most at the price as given
-    content    tonnes times grade of each metal in these
+    Attributes
+    ----------
+    factor : array of float
+        The least revenue factor whose shell holds the cell; 0: none.
+    processed : array of float
+        The least revenue factor at which the cell is processed; 0: never.
+    ore : array of bool
+        Whether the cell is processed at the base price, once it is mined.
+    worth : array of float
+        Its value at the base price, once it is mined, in the currency.
+    tonnes, feed : array of float
+        Total material, and mill feed if it is processed.
+    best : array of int
+        The number of its best process at the base price.
+    content : dict of str to array
+        For each metal the tonnes of in-situ ore times the grade.
     """
 
     factor: np.ndarray
@@ -89,8 +97,24 @@ def cells_of(plan: Plan, solution: Solution) -> Cells:
 
 
 def blocks(plan: Plan, solution: Solution) -> pd.DataFrame:
-    """`plan.blocks` with `revenue_factor`, the least one whose pit holds the block (0: none), and `process_revenue_factor`, the least
-    at which it is processed (0: never); and of several processes `process`, that at the price as given ("": none).
+    """`plan.blocks` with the revenue factors at which each block is mined and processed.
+
+    Parameters
+    ----------
+    plan : Plan
+    solution : Solution
+        The solution of this plan.
+
+    Returns
+    -------
+    DataFrame
+        One row per block. `revenue_factor` is the least one whose shell holds the block (0: none), `process_revenue_factor` the least at
+        which it is processed (0: never). With several processes `process` names the one at the base price ("": none).
+
+    Raises
+    ------
+    PlanError
+        If the solution is of another plan.
     """
     cells = cells_of(plan, solution)
     frame = plan.blocks
@@ -104,13 +128,33 @@ def blocks(plan: Plan, solution: Solution) -> pd.DataFrame:
 
 
 def shells(plan: Plan, solution: Solution, more: Optional[np.ndarray] = None) -> pd.DataFrame:
-    """One row a factor; `more` is for each cell what digging it costs in years besides its worth, in money.
+    """The table of shells.
 
-    revenue_factor; blocks (with rock) in the pit; tonnes; feed_tonnes, the mill feed, diluted and after ore loss; in_situ_ore_tonnes of
-    the blocks of ore; waste_tonnes, the tonnes that are not in-situ ore; strip_ratio of these two;
-    processed_at_revenue_factor at the factor's own price; feed_tonnes_NAME of each of several processes; grade_NAME of the ore in its column's unit, metal_NAME recovered of it
-    (tonnes, or grams); worth in money at the price as given; npv_best, npv_worst and years (of the best case), by the money of years;
-    value_at_revenue_factor, exact (Decimal), as the program answers it. Raises PlanError where it takes too many years.
+    Parameters
+    ----------
+    plan : Plan
+    solution : Solution
+        The solution of this plan.
+    more : array, shape (cells,), optional
+        Mining costs that are added in the annual cash flow only, in the currency.
+
+    Returns
+    -------
+    DataFrame
+        One row per revenue factor, with amounts of its whole shell:
+
+        - `revenue_factor`, `blocks` (with tonnes), `tonnes` (total material)
+        - `feed_tonnes`: mill feed, diluted and after ore loss; `feed_tonnes_NAME` of each of several processes
+        - `in_situ_ore_tonnes`, `waste_tonnes` (total less in-situ ore), `strip_ratio` (waste to in-situ ore)
+        - `processed_at_revenue_factor`: mill feed at the prices of the revenue factor
+        - `head_grade_NAME` in the unit of the column, `recovered_NAME` in tonnes or grams
+        - `undiscounted_cash_flow` at the base price; `npv_best`, `npv_worst` with period costs and yearly prices
+        - `years` of the best case; `value_at_revenue_factor`, exact (Decimal), as the solver returns it
+
+    Raises
+    ------
+    PlanError
+        If the solution is of another plan, or a shell takes too many years.
     """
     cells, settings = cells_of(plan, solution), plan.project.schedule
     benches = benches_of(plan, cells, more)
@@ -128,19 +172,31 @@ def shells(plan: Plan, solution: Solution, more: Optional[np.ndarray] = None) ->
 
 
 def years(plan: Plan, solution: Solution, more: Optional[np.ndarray] = None) -> pd.DataFrame:
-    """One row a case, a factor whose pit is not empty, and a year; `more` as of `shells`.
+    """The annual cash flow of each shell, best and worst case.
 
-    case best or worst; revenue_factor; year from 1; total_tonnes and, of these, feed_tonnes; metal_NAME recovered (tonnes,
-    or grams); fixed_cost and capex, where the project has any; cash after these, and discounted, the same as it counts for
-    NPV, in money. What is ore is so at the price as given, and so is cash unless years have prices of their own. Raises
-    PlanError where it takes too many years.
+    Parameters
+    ----------
+    plan, solution, more
+        As for `shells`.
+
+    Returns
+    -------
+    DataFrame
+        One row per case (`best`, `worst`), revenue factor whose shell is not empty, and `year` from 1: `total_tonnes`, `feed_tonnes`,
+        `recovered_NAME` (tonnes or grams), `fixed_cost` and `capex` if the project has any, `cash_flow` after these, and
+        `discounted_cash_flow`. The base price separates ore from waste; it is also the price of the cash flow without yearly prices.
+
+    Raises
+    ------
+    PlanError
+        If the solution is of another plan, or a shell takes too many years.
     """
     money = period_costs.of_project(plan.project)
     return best_worst_case.table_of(benches_of(plan, cells_of(plan, solution), more), plan.project.schedule, money)
 
 
 def benches_of(plan: Plan, cells: Cells, more: Optional[np.ndarray] = None) -> Benches:
-    """The sums that the years are made of, `more` as of `shells`. Raises PlanError where there are too many years."""
+    """Sums by shell and bench for the years, `more` as for `shells`. Raises PlanError if there are too many years."""
     factors, levels = plan.project.schedule.revenue_factors, plan.grid.shape[0]
     inside = np.flatnonzero(cells.factor > 0)
     _, _, level = plan.grid.indices(inside)
@@ -158,7 +214,7 @@ def benches_of(plan: Plan, cells: Cells, more: Optional[np.ndarray] = None) -> B
 
 
 def feeds_of(plan: Plan, cells: Cells) -> dict[str, np.ndarray]:
-    """Of several processes the tonnes that come to each, by the name of the amount, of each cell that is ore; else nothing."""
+    """Mill feed of each of several processes, by the name of the amount, for each cell of ore; empty with one process."""
     return {
         f"feed_tonnes_{process.name}": np.where(cells.ore & (cells.best == number), cells.feed, 0.0)
         for number, process in enumerate(plan.project.processes)
@@ -166,7 +222,7 @@ def feeds_of(plan: Plan, cells: Cells) -> dict[str, np.ndarray]:
 
 
 def amounts(plan: Plan, cells: Cells) -> pd.DataFrame:
-    """One row a factor: tonnes, grades and worth of its pit, without time."""
+    """One row per revenue factor: tonnes, grades and cash flow of its shell, without time."""
     pit, ore, content = cells.factor, np.where(cells.ore, cells.factor, 0), cells.content
     tonnes, feed_tonnes, in_situ = (
         within(plan, pit, cells.tonnes),
@@ -191,7 +247,7 @@ def amounts(plan: Plan, cells: Cells) -> pd.DataFrame:
 
 
 def within(plan: Plan, first: np.ndarray, values: np.ndarray) -> np.ndarray:
-    """For each factor the sum of the values of the cells that come in by then; `first` is each cell's factor, 0: never."""
+    """For each revenue factor the sum of `values` over its shell; `first` is the least factor of each cell, 0: never."""
     factors, inside = plan.project.schedule.revenue_factors, np.flatnonzero(first > 0)
     places = np.searchsorted(factors, first[inside])
     return np.cumsum(np.bincount(places, values[inside], minlength=len(factors)))

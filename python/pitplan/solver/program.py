@@ -20,13 +20,20 @@ from pitplan.errors import BudgetUsedUp, ProgramError
 
 @dataclass(frozen=True)
 class Solution:
-    """The shells that the solver found.
+    """The nested shells of a plan; see `pitplan.solve`.
 
-    worth   Series by revenue factor: the value of each whole pit at the prices of its factor, exact (Decimal)
-    nodes   Series by revenue factor: how many nodes the pit has, processing nodes among them
-    entry   for each node the least revenue factor whose pit holds it; 0 if none does
-    answer  the program's own text; None where the library solved
-    of      the key of the plan that was solved; "" if it is not known
+    Attributes
+    ----------
+    worth : Series of Decimal, by revenue factor
+        The exact value of each whole shell at the prices of its revenue factor.
+    nodes : Series of int, by revenue factor
+        The number of nodes of each shell, processing nodes included.
+    entry : array of float, shape (nodes,)
+        For each node the least revenue factor whose shell holds it; 0 if none does.
+    answer : bytes, optional
+        The text of the program; None if the library solved.
+    of : str
+        The key of the plan that was solved; "" if it is not known.
     """
 
     worth: pd.Series
