@@ -25,11 +25,11 @@ def grid():
 
 def scene(rules=PictureRules()):
     """A pit of two levels, the lower of one block in row 3 and column 4."""
-    factor = np.zeros((4, 5, 6), dtype=int)
-    factor[0, 2:5, 3:6] = 500
-    factor[1, 3, 4] = 1000
+    factor = np.zeros((4, 5, 6))
+    factor[0, 2:5, 3:6] = 0.5
+    factor[1, 3, 4] = 1
     metal = pitplan.config.project.Metal("copper", "cu", "percent", 0, 0, 1)
-    return plans_sections.Scene(grid(), factor, np.ones((4, 5, 6), dtype=bool), np.ones((4, 5, 6)), metal, 1000, rules)
+    return plans_sections.Scene(grid(), factor, np.ones((4, 5, 6), dtype=bool), np.ones((4, 5, 6)), metal, 1.0, rules)
 
 
 def drawn(plot):
@@ -61,7 +61,7 @@ def test_a_map_has_a_bar_of_a_quarter_at_most_and_an_arrow_upwards():
 def test_contours_go_round_what_is_dug_to_each_bench():
     """Nine columns are dug to 90 m or deeper, and one of them to 80."""
     axes = drawn(lambda ax: plans_sections.plot_floor(scene(), ax))
-    assert axes.get_title() == "Pit floor at revenue factor 1.00, elevation in m, contours every 10 m"
+    assert axes.get_title() == "Pit floor at revenue factor 1.00, contours every 10 m"
     high, low = (np.array(lines.get_segments()) for lines in axes.collections)
     assert len(high) == 12 and len(low) == 4
     assert (high[..., 0].min(), high[..., 0].max(), high[..., 1].min(), high[..., 1].max()) == (
@@ -142,7 +142,7 @@ def pushback_scene(rules=PictureRules()):
     """The scene's pit in two pushbacks, the second of which is the block below."""
     cube = scene().factor
     return pushbacks.PushbackScene(
-        grid(), np.where(cube == 500, 1, np.where(cube == 1000, 2, 0)), np.ones(cube.shape, dtype=bool), 2, rules
+        grid(), np.where(cube == 0.5, 1, np.where(cube == 1, 2, 0)), np.ones(cube.shape, dtype=bool), 2, rules
     )
 
 
@@ -151,9 +151,9 @@ def likely(rules=PictureRules()):
     cube = scene().factor
     return scenarios.Likely(
         grid(),
-        np.where(cube == 500, 0.5, np.where(cube == 1000, 1.0, 0.0)),
+        np.where(cube == 0.5, 0.5, np.where(cube == 1, 1.0, 0.0)),
         np.ones(cube.shape, dtype=bool),
-        1000,
+        1.0,
         4,
         rules,
     )
@@ -225,9 +225,9 @@ def project(plan_folder):
 
 def test_grades_are_those_of_the_metal_asked_for(project):
     plan = pitplan.prepare(project('metal = "gold"'))
-    scene_of = plans_sections.scene_of(plan, pitplan.solve(plan), 1000)
+    scene_of = plans_sections.scene_of(plan, pitplan.solve(plan), 1.0)
     assert scene_of.metal.name == "gold" and scene_of.grade[0, 0].tolist() == [1, 2, 3, 4, 5]
-    assert plans_sections.scene_of(pitplan.prepare(project("")), pitplan.solve(plan), 1000).metal.name == "copper"
+    assert plans_sections.scene_of(pitplan.prepare(project("")), pitplan.solve(plan), 1.0).metal.name == "copper"
 
 
 def test_pictures_are_written_as_pdf_and_svg_too_the_same_each_time(project):
@@ -298,5 +298,5 @@ def test_places_beyond_the_model_are_refused(project, words, said):
 
 def test_the_models_ends_are_within_it(project):
     plan = pitplan.prepare(project("levels = [0, 30]\nnorth = 50\neast = 0"))
-    shown = plans_sections.scene_of(plan, pitplan.solve(plan), 1000)
+    shown = plans_sections.scene_of(plan, pitplan.solve(plan), 1.0)
     assert plans_sections.levels_to_show(shown) == [2, 0] and (shown.section_row, shown.section_column) == (4, 0)

@@ -174,10 +174,8 @@ def plot_floor(scene: Scene, ax: Axes) -> Axes:
     floor = floor_of(scene.grid, scene.dug)
     image = ax.imshow(floor, extent=(west, east, south, north), cmap="cividis", **MAP)
     between = contours(ax, scene.grid, floor) * scene.grid.size[2]
-    ax.set_title(
-        f"Pit floor at revenue factor {factor_text(scene.selected)}, elevation in m, contours every {metres(between)} m"
-    )
-    ax.figure.colorbar(image, ax=ax, shrink=0.85)
+    ax.set_title(f"Pit floor at revenue factor {factor_text(scene.selected)}, contours every {metres(between)} m")
+    ax.figure.colorbar(image, ax=ax, shrink=0.85, label="elevation, m")
     mark_section_cells(ax, scene.grid, scene.section_row, scene.section_column)
     mark_map(ax, scene.grid)
     name_axes(ax, *axes_of_map(scene.grid))
