@@ -76,7 +76,7 @@ class Browser:
         """What a line of JavaScript is worth in the page."""
         found = self.call("Runtime.evaluate", expression=script, returnByValue=True, awaitPromise=True)
         assert "exceptionDetails" not in found, found
-        return found["result"].get("npv")
+        return found["result"].get("value")
 
     def click(self, x, y):
         for kind in ("mousePressed", "mouseReleased"):
@@ -84,7 +84,7 @@ class Browser:
 
     def choose(self, name, value):
         """Sets a slider or a choice, as a user does."""
-        kind = "checked" if isinstance(value, bool) else "npv"
+        kind = "checked" if isinstance(value, bool) else "value"
         it = f"document.getElementById('{name}')"
         self.ask(f"{it}.{kind} = {json.dumps(value)}; {it}.dispatchEvent(new Event('input'))")
 

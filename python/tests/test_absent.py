@@ -112,7 +112,7 @@ def test_rock_on_request_in_scenarios(plan_folder):
             "[table] missing_blocks: needs a rock_type if, and only if, [table] rock_type names a column",
         ),
         ('missing_blocks = { tonnes = 1, rock_type = "R" }', "[table] missing_blocks: needs a domain if"),
-        ('missing_blocks = { tonnes = 1, rocks = "R" }', "[table.missing_blocks] rocks: is no key here; rock_type is"),
+        ('missing_blocks = { tonnes = 1, rocks = "R" }', "[table.missing_blocks] rocks: is no key here"),
     ],
 )
 def test_absent_is_refused_in_words(plan_folder, text, said):

@@ -184,7 +184,7 @@ def test_the_command_line_tells_value_bound_and_gap(plan_folder, capsys):
     assert main(["schedule", str(path), "--by", "block"]) == 0
     said = capsys.readouterr()
     lines = [line.split() for line in said.out.splitlines()]
-    assert lines[0][:3] == ["NPV", "upper_bound", "below"] and lines[2][:4] == ["3,971.45", "3,971.45", "0.00", "3"]
+    assert lines[0][:4] == ["NPV", "upper", "bound", "gap"] and lines[2][:4] == ["3,971.45", "3,971.45", "0.00", "3"]
     assert (
         "upper bound on the NPV of any schedule by block of up to 4 years within these limits: 3,971; this schedule has an NPV of 3,971, an optimality gap of 0.00 %"
         in said.err
@@ -194,7 +194,7 @@ def test_the_command_line_tells_value_bound_and_gap(plan_folder, capsys):
     assert (
         "head grade of the pit at revenue factor 1.00</span>" in page and 'title="methods.csv row 2 column npv"' in page
     )
-    assert "methods.csv" in page and "the schedule and its bound, the other numbers" in page
+    assert "methods.csv" in page and "the schedule and its upper bound, the other numbers" in page
 
 
 def test_without_the_library_it_is_told_what_is_missing(plan_folder):

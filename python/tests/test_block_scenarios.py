@@ -142,7 +142,7 @@ def test_quantiles_by_hand(plan_folder):
     table = pd.read_csv(folder / "quantiles.csv").set_index("price_copper")
     values = [2600 / 1.1 + 600 / 1.21, 1600 / 1.1 + 600 / 1.21]
     assert table.index.tolist() == [8000, 12000] and table["realisations"].tolist() == [2, 2]
-    told = table.loc[8.0, ["npv_least", "npv_greatest", "npv_mean"]].tolist()
+    told = table.loc[8000, ["npv_least", "npv_greatest", "npv_mean"]].tolist()
     assert told == pytest.approx([values[1], values[0], sum(values) / 2])
     assert table.loc[8000, "upper_bound_quantile_0.1"] == pytest.approx(values[1] + 0.1 * (values[0] - values[1]))
     # The one schedule digs the first pillar and then the second, as each scenario's own does.
@@ -405,7 +405,7 @@ def test_a_factor_another_kind_of_folder_and_the_program_are_refused(plan_folder
         write_scenarios(path, folder)
     with pytest.raises(PlanError, match="2 of 2 schedules have no answer, first sim_1: was not solved"):
         gather(folder)
-    with pytest.raises(PlanError, match="--factor: schedules by block"):
+    with pytest.raises(PlanError, match="--revenue-factor: schedules by block"):
         gather(folder, Request(revenue_factor=0.5))
 
 

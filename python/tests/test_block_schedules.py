@@ -177,8 +177,8 @@ def test_orders_hold_each_block_behind_what_it_needs():
     )
 
 
-def test_a_circle_has_no_ranks():
-    with pytest.raises(ValueError, match="circle"):
+def test_precedences_with_a_cycle_have_no_ranks():
+    with pytest.raises(ValueError, match="cycle"):
         ranks_of(problem_of(np.ones((3, 1)), [(0, 1), (1, 2), (2, 0)]).needs)
 
 

@@ -77,7 +77,7 @@ def test_shells_are_the_same_to_the_byte(tmp_path, example):
         page = (place / "report.html").read_text()
         assert (
             it["sha256"] in page
-            and f"Proved of the {it['by']}, for" in page
+            and f"Proved for the {it['by']}, given" in page
             and ("mine.prec" in page) == (it["by"] == "program")
         )
 
@@ -137,7 +137,7 @@ def test_too_many_needs_are_refused_before_anything_is_solved(monkeypatch):
     monkeypatch.setattr("pitplan.solver.problem.MOST_PAIRS", 25_000)
     monkeypatch.setattr("pitplan.plan.MOST_PAIRS", 25_000)
     plan = pitplan.prepare(replace(load(EXAMPLES / "plan" / "project.toml"), solver="library"))
-    said = r"25,857 precedences, and the solver takes at most 25,000: reduce \[slopes\] levels, or a smaller model"
+    said = r"25,857 precedences, and the solver takes at most 25,000: reduce \[slopes\] precedence_benches, or a smaller model"
     with pytest.raises(PlanError, match=said):
         pitplan.solve(plan)
 

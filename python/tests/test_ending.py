@@ -93,6 +93,6 @@ def test_steps_within_a_step_have_lines_of_their_own():
     with progress.step("outer"):
         with progress.step("first"):
             pass
-        with pytest.raises(ValueError), progress.step("second_parameter"):
+        with pytest.raises(ValueError), progress.step("second"):
             raise ValueError
     assert told.getvalue().splitlines() == ["outer ..", "first .. 0.0 s", "second ..", "outer .. 0.0 s"]

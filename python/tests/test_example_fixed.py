@@ -87,7 +87,7 @@ def test_without_fixed_blocks_the_pit_is_that_of_the_plain_example_less_the_cut(
     page = (ROOT / "docs" / "PLANNING.md").read_text(encoding="utf-8")
     assert (
         cost > 0
-        and f"to keep to both costs {cost / 1e6:.1f} of {pits['undiscounted_cash_flow']['free'] / 1e6:.1f} million USD"
+        and f"both constraints cost {cost / 1e6:.1f} of {pits['undiscounted_cash_flow']['free'] / 1e6:.1f} million USD"
         in page
     )
 

@@ -18,7 +18,7 @@ from test_oracle import least_best_pit, whole
 EXAMPLE = ROOT / "examples" / "scenarios"
 SHAPE = (10, 9, 7)  # columns, rows, levels of blocks of 20 x 20 x 15 m
 PLACES = (("x", 5010, 20), ("y", 2010, 20), ("z", 2707.5, 15))
-PRICES, FACTORS = (7.4, 9.0), (0.7, 1.0)
+PRICES, FACTORS = (7400, 9000), (0.7, 1.0)
 COPPER = {"OX": Decimal("0.62"), "POR": Decimal("0.88"), "AND": Decimal("0.86")}
 GOLD = {"OX": Decimal("0.55"), "POR": Decimal("0.7"), "AND": Decimal("0.7")}
 PROCESSING = {"OX": Decimal("9.8"), "POR": Decimal("8.6"), "AND": Decimal("8.6")}

@@ -43,7 +43,7 @@ def figures_in(folder):
             pitplan.write_schedule,
             "schedule",
             PICTURES | PUSHBACK_PICTURES | SCHEDULE_PICTURES,
-            ["Yearly schedule", "Pushbacks"],
+            ["Annual schedule", "Pushbacks"],
         ),
         (pitplan.write_block_schedule, "block_schedule", PICTURES | BLOCK_PICTURES, ["Schedule by block"]),
     ],
@@ -53,12 +53,12 @@ def test_a_run_without_figures_removes_those_of_an_earlier_run(mine, command, na
     first = command(mine, writing=ONCE)
     page, record = (folder / "report.html").read_text(), json.loads((folder / "prepare.json").read_text())
     assert figures_in(folder) == {*drawn.values()} < {*record["files"]} and record["figures"] is True
-    assert page.count("data:image/png") == len(drawn) and "<h2>Pictures</h2>" in page
+    assert page.count("data:image/png") == len(drawn) and "<h2>Figures</h2>" in page
     assert all(f"<h3>{heading}</h3>" in page for heading in headings)
     second = command(mine, writing=BARE)
     page, record = (folder / "report.html").read_text(), json.loads((folder / "prepare.json").read_text())
     assert figures_in(folder) == set() and record["figures"] is False and not {*FIGURES} & {*record["files"]}
-    assert "<img" not in page and "<h2>Pictures</h2>" not in page and "<h2>Tables</h2>" in page
+    assert "<img" not in page and "<h2>Figures</h2>" not in page and "<h2>Tables</h2>" in page
     assert not any(f"<h3>{heading}</h3>" in page for heading in headings)
     assert first.to_csv() == second.to_csv()
 

@@ -327,7 +327,9 @@ def test_levels_that_were_chosen_are_named_where_their_needs_are_too_many(plan_f
     path = plan_folder(
         rows(6, 6, 4, **ORE), PROJECT, ("precedence_benches = 3\n", ""), ('pattern = "1:5"', "angle = 30")
     )
-    words = r"needs, and the program takes at most 100: set \[slopes\] precedence_benches below the 7 that were chosen"
+    words = (
+        r"precedences, and the solver takes at most 100: set \[slopes\] precedence_benches below the 7 that were chosen"
+    )
     with pytest.raises(PlanError, match=words):
         write_plan(load(path), path.parent / "out", silent)
 
@@ -426,11 +428,7 @@ def test_the_share_below_a_bound_is_that_of_the_value_and_the_bound_that_are_tol
 
 def test_the_command_line_tells_table_steps_and_warnings(solved_once):
     lines = solved_once.out.splitlines()
-    assert lines[0].split()[:3] == ["revenue_factor", "blocks", "rock"] and lines[1].split()[:3] == [
-        "per",
-        "mille",
-        "t",
-    ]
+    assert lines[0].split()[:3] == ["revenue", "factor", "blocks"]
     assert [line.split()[0] for line in lines[2:5]] == ["0.50", "1.00", "1.50"]
     assert lines[-1] == str(solved_once.place / "plan" / "report.html")
     by = read_record(solved_once.place / "plan")["shells"]["solver"]["by"]

@@ -76,7 +76,7 @@ def test_an_answer_of_another_scenario_is_refused(plan_folder):
 
 def test_grades_that_have_changed_are_refused(plan_folder):
     shared = prepared(plan_folder(pillar(), COLUMNS, UPRIGHT))
-    (grades,) = shared.folder.glob(f"models/{shared.scenarios[1].grades}.npy")
+    (grades,) = shared.folder.glob(f"realisations/{shared.scenarios[1].grades}.npy")
     for bent in (b"", grades.read_bytes()[:-1], grades.read_bytes()[:-1] + b"1"):
         grades.write_bytes(bent)
         outcome = worker.solve(str(shared.folder), 2)

@@ -65,7 +65,7 @@ def test_it_is_told_and_shown(pushed):
     notes = read_record(pushed)["notes"]
     where = "in the annual cash flow, the NPV and schedules, but not in block values and the cash flow of shells"
     assert f"mining cost added by pushback: 0, 1.5, 2.5 USD per tonne, {where}" in notes
-    assert "mining cost of pushbacks" in (pushed / "report.html").read_text()
+    assert "added mining cost" in (pushed / "report.html").read_text()
 
 
 @pytest.mark.parametrize("bins", ["", "bins = 2\n"])

@@ -39,7 +39,7 @@ def test_the_most_that_a_block_can_be_worth_by_hand(plan_folder, cutoff, second)
     values = pitplan.prepare(
         plan_folder(table, PROJECT, ("mining_cost = 2", f'mining_cost = 2\ncutoff = "{cutoff}"'))
     ).values
-    by_factor = zip((375, 1250, 1500, 2000), (0, 2800, 3600, 5200), second)
+    by_factor = zip((0.375, 1.25, 1.5, 2.0), (0, 2800, 3600, 5200), second)
     for factor, first, then in by_factor:
         assert [int(it) for it in values.greatest_value(factor)] == [worth * 10**9 for worth in (first, then, -200)]
 
@@ -195,11 +195,11 @@ def test_a_fixed_cutoff_settles_ore_at_the_price_as_given(plan_folder, tmp_path)
     [
         (
             ("mining_cost = 2", "mining_cost = { S = 2 }"),
-            r'row 2 column rock: \[economics\] mining_cost names no rock "R"',
+            r'row 2 column rock: \[economics\] mining_cost names no rock type "R"',
         ),
         (
             ("processing_cost = 10", "processing_cost = { S = 2 }"),
-            r'row 3 column rock: \[economics\] processing_cost names no rock "R"',
+            r'row 3 column rock: \[economics\] processing_cost names no rock type "R"',
         ),
         (("price = 8000", "price = 3_000_000_000_000"), "row 3 column revenue: the amount is 10\\^11 or more"),
     ],
@@ -212,7 +212,7 @@ def test_missing_prices_and_huge_amounts_are_refused(plan_folder, change, words)
 
 def test_a_single_tonne_of_a_rock_without_a_cost_is_refused(plan_folder):
     table = rows(2, 1, 1, tonnes=lambda i, j, k: i, rock=lambda i, j, k: "RS"[i])
-    with pytest.raises(PlanError, match=r'row 3 column rock: \[economics\] mining_cost names no rock "S"'):
+    with pytest.raises(PlanError, match=r'row 3 column rock: \[economics\] mining_cost names no rock type "S"'):
         pitplan.prepare(plan_folder(table, PROJECT, ("mining_cost = 2", "mining_cost = { T = 2 }")))
 
 

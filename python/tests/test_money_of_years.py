@@ -253,7 +253,7 @@ def test_the_second_look_at_schedules_agrees(plan_folder, without_figures, way):
 
 
 @pytest.mark.parametrize(
-    ("name", "without", "rule"), [("fixed_cost", 0.0, "npv"), ("capex", (), "npv"), ("premiums", {}, "amounts")]
+    ("name", "without", "rule"), [("fixed_cost", 0.0, "value"), ("capex", (), "value"), ("premiums", {}, "amounts")]
 )
 def test_money_that_is_passed_over_is_found(plan_folder, monkeypatch, without_figures, name, without, rule):
     path, of_project = scheduled(plan_folder, ""), period_costs.of_project
@@ -274,5 +274,6 @@ def test_costs_of_a_year_that_are_bent_are_found(mine):
     (rule,) = [rule for rule in verify(path.parent / "plan") if rule.differences]
     assert rule.name == "years"
     assert rule.differences == tuple(
-        f"worst case of revenue factor 1.50, year 2: {said}" for said in ("cash 849 for 850", "fixed_cost 101 for 100")
+        f"worst case of revenue factor 1.50, year 2: {said}"
+        for said in ("cash_flow 849 for 850", "fixed_cost 101 for 100")
     )

@@ -55,7 +55,7 @@ def test_shells_are_written_and_given_as_a_frame(plan):
     assert (plan.parent / "plan" / "report.html").exists()
     again = pitplan.write_shells(str(plan), str(plan.parent / "other"), writing=pitplan.Writing(verifies=False))
     pd.testing.assert_frame_equal(again, table)
-    assert "this run left it out" in (plan.parent / "other" / "report.html").read_text()
+    assert "were not verified" in (plan.parent / "other" / "report.html").read_text()
 
 
 def test_a_page_exports_and_a_folder_for_auditors_are_told_by_their_paths(solved):
@@ -130,7 +130,7 @@ def test_scenarios_are_given_as_frames(plan_folder):
     assert "6 solved (status 0)" in found.notes
     assert found.probability["probability_1.00"].tolist() == [0.5] * 3
     assert found.table["value_at_revenue_factor"].tolist()[:3] == [Decimal(1400), Decimal(4400), Decimal(7400)]
-    assert found.quantiles.set_index(["price_copper", "revenue_factor"])["tonnes_greatest"][8000, 500] == 300
+    assert found.quantiles.set_index(["price_copper", "revenue_factor"])["tonnes_greatest"][8000, 0.5] == 300
     assert [rule.count for rule in pitplan.verify(found.folder)] == [0] * 10
     likely = found.likely(0.5)
     assert (likely.factor, likely.count, likely.shown.ravel().tolist()) == (
@@ -146,7 +146,7 @@ def test_scenarios_are_given_as_frames(plan_folder):
         300,
     ]
     with pytest.raises(PlanError, match="probability.csv: has no revenue factor 0.90"):
-        found.likely(900)
+        found.likely(0.9)
 
 
 def test_the_notebook_from_a_frame_to_a_schedule_runs(monkeypatch):

@@ -78,7 +78,7 @@ def test_the_tables_own_format_stays(plan_folder):
     after = lines(pitplan.write_export(path.parent / "plan", "table"), ";", "cp1252")
     before = lines(path.parent / "blocks.csv", ";", "cp1252")
     assert [line[:9] for line in after[:-1]] == before[:-1] and after[-1][:9] == [*before[-1], ""]
-    assert any(line[4:9] == ["100", "6,5", "R", "1", 'über "alles"; hier'] and int(line[9]) == 500 for line in after)
+    assert any(line[4:9] == ["100", "6,5", "R", "1", 'über "alles"; hier'] and float(line[9]) == 0.5 for line in after)
 
 
 def test_a_compressed_table_is_written_plain(solved):
@@ -93,15 +93,14 @@ def test_a_compressed_table_is_written_plain(solved):
 
 
 def test_a_column_of_the_planners_with_such_a_name_is_kept_beside(plan_folder):
-    table = rows(5, 5, 3, cu=lambda i, j, k: 6 if (i, j, k) == (2, 2, 1) else 0, factor=lambda i, j, k: i + 7)
+    table = rows(5, 5, 3, cu=lambda i, j, k: 6 if (i, j, k) == (2, 2, 1) else 0, revenue_factor=lambda i, j, k: i + 7)
     path = plan_folder(table)
     pitplan.write_shells(path, writing=pitplan.Writing(verifies=False))
     after = pd.read_csv(pitplan.write_export(path.parent / "plan", "table"))
-    assert list(after.columns) == [*table.columns[:-1], "planner_factor", *FOUND]
-    assert after["planner_factor"].tolist() == table["revenue_factor"].tolist() and set(after["revenue_factor"]) == {
-        0,
-        500,
-    }
+    assert list(after.columns) == [*table.columns[:-1], "planner_revenue_factor", *FOUND]
+    assert after["planner_revenue_factor"].tolist() == table["revenue_factor"].tolist() and set(
+        after["revenue_factor"]
+    ) == {0, 0.5}
 
 
 def test_rock_of_cells_without_rows_has_none(plan_folder):
@@ -126,7 +125,7 @@ def test_rows_that_are_put_together_have_the_numbers_of_their_block(plan_folder)
     after = pd.read_csv(pitplan.write_export(path.parent / "plan", "table"))
     assert after["name"].tolist() == table["name"].tolist()
     # The ore, and above it the block itself and those beside it, each of four rows.
-    assert (after["revenue_factor"] == 0.5).sum() == 4 * 6 and (after["process_revenue_factor"] == 500).sum() == 4
+    assert (after["revenue_factor"] == 0.5).sum() == 4 * 6 and (after["process_revenue_factor"] == 0.5).sum() == 4
     assert after[after["process_revenue_factor"] > 0]["name"].tolist() == ["b5-5-1", "b4-5-1", "b5-4-1", "b4-4-1"]
 
 
@@ -145,9 +144,9 @@ def swap(table):
     [
         (
             lambda table: table[6].__setitem__(-1, "7"),
-            "row 7: b5-0-0,55.0,5.0,5.0,100,0.0,R,1,0,7 for b5-0-0,55.0,5.0,5.0,100,0.0,R,1,0,0",
+            "row 7: b5-0-0,55.0,5.0,5.0,100,0.0,R,1,0.0,7 for b5-0-0,55.0,5.0,5.0,100,0.0,R,1,0.0,0.0",
         ),
-        (lambda table: table[6].__setitem__(5, "0"), "row 7: b5-0-0,55.0,5.0,5.0,100,0,R,1,0,0 for "),
+        (lambda table: table[6].__setitem__(5, "0"), "row 7: b5-0-0,55.0,5.0,5.0,100,0,R,1,0.0,0.0 for "),
         (lambda table: table[0].__setitem__(-2, "shell"), "row 1: "),
         (lambda table: table.pop(), "row 406: no such row for b4-8-4,"),
         (lambda table: table.append(["b10-9-9"]), "row 407: b10-9-9 for no such row"),

@@ -42,7 +42,7 @@ def test_the_table_of_cutoffs_is_that_of_the_example():
     ]
     section = PAGE.partition("\n## Cut-off\n")[2].partition("\n## ")[0]
     told = {row[0]: row[1:] for row in (re.split(r" *\| *", line)[1:-1] for line in section.splitlines()) if row}
-    factors = [float(factor) for factor in told["revenue_factor"]]
+    factors = [float(factor) for factor in told["revenue factor"]]
     assert len(factors) == 6
     for name, table in zip(("per_revenue_factor", "base_price"), tables):
         assert table["blocks"][factors].tolist() == [int(blocks) for blocks in told[f"blocks, {name}"]]

@@ -127,7 +127,8 @@ def test_a_narrow_bottom_is_widened_or_left(plan_folder):
     found, _, _ = pushed(plan_folder, floor((4, 3)), "count = 1\nmin_bottom_width = 20")
     assert (found["blocks"][1], found["value_lost_to_width"][1]) == (4 + 12, 3 * 200 + 7 * 200)
     with pytest.raises(
-        PlanError, match="width, bottom: no part of the pit of revenue factor 1.50 meets the minimum width"
+        PlanError,
+        match="min_mining_width, min_bottom_width: no part of the pit of revenue factor 1.50 meets the minimum width",
     ):
         pushed(plan_folder, floor({(4, 3): 0.7}), "count = 1\nmin_bottom_width = 20\nultimate_pit = 1.5")
 

@@ -301,7 +301,7 @@ def test_what_is_right_passes(copied, capsys):
     page = (copied / "report.html").read_text()
     assert (
         "<h3>Pushback by pushback</h3>" in page
-        and "how pushbacks were made of shells, the other numbers" in page
+        and "the pushbacks, the other numbers" in page
         and "data:image/png" not in page
     )
 

@@ -23,7 +23,7 @@ from pitplan.results.folder import read_record
 from pitplan.verification import verify
 
 CHROMIUM, PDFTOTEXT = shutil.which("chromium"), shutil.which("pdftotext")
-PARTS = ["The answer", "How sure it is", "Pictures", "Tables", "Inputs"]
+PARTS = ["Key results", "Confidence", "Figures", "Tables", "Inputs"]
 MORE = """[pushbacks]
 count = 2
 [schedule]
@@ -169,17 +169,17 @@ def test_ways_are_the_sums_of_their_years(written):
     folder = written / "plan" / "schedule"
     rows_of, told = pd.read_csv(folder / "schedule.csv").groupby("method"), read_json(folder / "schedule.json")
     for way in pd.read_csv(folder / "methods.csv").itertuples():
-        dug = rows_of.get_group(way.way)
+        dug = rows_of.get_group(way.method)
         assert (way.tonnes, way.feed_tonnes) == (
             pytest.approx(dug["total_tonnes"].sum()),
             pytest.approx(dug["feed_tonnes"].sum()),
         )
-        assert way.metal_gold == pytest.approx(dug["recovered_gold"].sum(), abs=0.05)
-        assert (way.value, way.years, way.unmined_tonnes) == tuple(
-            told["methods"][way.way][name] for name in ("npv", "years", "unmined_tonnes")
+        assert way.recovered_gold == pytest.approx(dug["recovered_gold"].sum(), abs=0.05)
+        assert (way.npv, way.years, way.unmined_tonnes) == tuple(
+            told["methods"][way.method][name] for name in ("npv", "years", "unmined_tonnes")
         )
-        assert way.bound == told["upper_bound"] and way.optimality_gap == pytest.approx(
-            1 - way.value / told["upper_bound"], abs=1e-6
+        assert way.upper_bound == told["upper_bound"] and way.optimality_gap == pytest.approx(
+            1 - way.npv / told["upper_bound"], abs=1e-6
         )
 
 
@@ -199,7 +199,7 @@ def test_ways_that_are_missing_or_others_are_found(copied):
     path = copied / "plan" / "schedule" / "methods.csv"
     text = path.read_text()
     for bent, said in (
-        (text.replace("rule", "hand"), "methods.csv has the ways ['hand', 'lp'] for ['rule', 'lp']"),
+        (text.replace("rule", "hand"), "methods.csv has the methods ['hand', 'lp'] for ['rule', 'lp']"),
         (None, "methods.csv is missing"),
     ):
         path.unlink() if bent is None else path.write_text(bent)
@@ -212,11 +212,13 @@ def test_the_report_is_made_anew_with_a_sensitivity_of_the_same_inputs(copied, c
     shutil.move(folder / "sensitivity", copied / "other")
     assert main(["report", str(copied / "project.toml")]) == 0
     assert capsys.readouterr().out.strip() == str(folder / "report.html")
-    assert "What it hangs on" not in (folder / "report.html").read_text()
+    assert "<h3>Sensitivity</h3>" not in (folder / "report.html").read_text()
     assert main(["report", str(copied / "project.toml"), "--sensitivity", str(copied / "other")]) == 0
     page = (folder / "report.html").read_text()
     assert (
-        "What it hangs on" in page and "mining cost +10 %" in page and "Pairs of numbers are in the same file." in page
+        "<h3>Sensitivity</h3>" in page
+        and "mining cost +10 %" in page
+        and "Pairs of parameters are in the same file." in page
     )
     assert hash_of(copied / "other" / "sensitivity.csv") in page
     (copied / "other" / "tornado.png").unlink()
@@ -233,7 +235,7 @@ def test_a_sensitivity_of_other_inputs_is_left_out_and_refused_where_it_is_asked
     page = (copied / "plan" / "report.html").read_text()
     assert (
         "is a sensitivity of other inputs (project.toml), and is left out here." in page
-        and "What it hangs on" not in page
+        and "<h3>Sensitivity</h3>" not in page
     )
     with pytest.raises(PlanError, match=r"of other inputs \(project.toml\): run pitplan sensitivity again"):
         pitplan.write_report(copied / "plan", copied / "plan" / "sensitivity")
@@ -243,7 +245,7 @@ def test_a_sensitivity_of_other_inputs_is_left_out_and_refused_where_it_is_asked
 def test_a_record_that_is_none_of_a_sensitivity_stops_no_report(copied, text):
     (copied / "plan" / "sensitivity" / "sensitivity.json").write_text(text)
     page = pitplan.write_report(copied / "plan").read_text()
-    assert "and is left out here." in page and "What it hangs on" not in page
+    assert "and is left out here." in page and "<h3>Sensitivity</h3>" not in page
 
 
 def test_a_report_of_a_project_that_has_changed_is_refused(copied):
@@ -334,8 +336,7 @@ def test_the_way_of_a_schedule_is_told_in_words(written):
     told = [html.of_answer(folder, project, record | {"schedule": way})["method"] for way in ("rule", "lp")]
     assert told == ["rule", "linear programme"]
     assert (
-        f"A yearly schedule, by {told[record['schedule'] == 'lp']}, of the pushbacks"
-        in (folder / "report.html").read_text()
+        f"Annual schedule, {told[record['schedule'] == 'lp']}, of the pushbacks" in (folder / "report.html").read_text()
     )
 
 

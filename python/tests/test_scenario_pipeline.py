@@ -66,7 +66,7 @@ def with_processes(seed, count, cutoff="per_revenue_factor"):
         ("processing_cost = 10\n", f'cutoff = "{cutoff}"\nmining_cost_per_bench = 0.1\nmining_cost_reference = 20\n'),
         ("recovery = 0.5\n[slopes]\n", "recovery = 0.5\n" + GOLD),
         ("processing_capacity = 100\n", ""),
-        ("[slopes]\nlevels", text + "[slopes]\nlevels"),
+        ("[slopes]\nprecedence_benches", text + "[slopes]\nprecedence_benches"),
     ]
 
 
@@ -99,7 +99,7 @@ def alone(path, scenario, table, grades):
     """The plan of a scenario as a project of its own."""
     project = load(path)
     project = replace(realisations.priced(project, scenario.priced()), scenarios=None)
-    return pitplan.prepare(project, table.assign(cu=grades[scenario.model]))
+    return pitplan.prepare(project, table.assign(cu=grades[scenario.realisation]))
 
 
 def demand_plans_of_their_own(path, table, grades, solver=None):
@@ -131,7 +131,7 @@ def demand_plans_of_their_own(path, table, grades, solver=None):
 def demand_same_steps(plan, found, own, expected):
     """The steps of a plan and the factors at which they pay are those of its own; other nodes are in no pit."""
     count, is_step = plan.grid.count, plan.values.steps.way >= 0
-    for name in ("block", "method", "revenue", "cost"):
+    for name in ("block", "way", "revenue", "cost"):
         assert (getattr(plan.values.steps, name)[is_step] == getattr(own.values.steps, name)).all()
     assert (found.entry[count:][is_step] == expected.entry[count:]).all()
     assert (found.entry[count:][~is_step] == 0).all()
@@ -143,7 +143,11 @@ def grades_of(table):
 
 
 @SOME
-@given(st.integers(0, 10**6), st.sampled_from([2, 3]), st.sampled_from(["moving", "moving", "fixed"]))
+@given(
+    st.integers(0, 10**6),
+    st.sampled_from([2, 3]),
+    st.sampled_from(["per_revenue_factor", "per_revenue_factor", "base_price"]),
+)
 def test_scenarios_of_processes_are_plans_of_their_own(plan_folder, seed, count, cutoff):
     table = mine(seed)
     path = plan_folder(table, of_processes_text(seed, count, cutoff, SETS))
@@ -164,7 +168,7 @@ def of_processes_text(seed, count, cutoff, more, *changes):
 def test_scenarios_of_reblocked_models_are_plans_of_their_own(plan_folder, seed, by_corner, has_processes):
     table, changes = mine(seed), [CORNER, ANY_SIZE] if by_corner else [REBLOCK, ANY_SIZE]
     if has_processes:
-        path = plan_folder(table, of_processes_text(seed, 2, "moving", SETS, *changes))
+        path = plan_folder(table, of_processes_text(seed, 2, "per_revenue_factor", SETS, *changes))
     else:
         path = plan_folder(table, PROJECT + COLUMNS, *changes)
     demand_plans_of_their_own(path, table, grades_of(table))
@@ -175,7 +179,7 @@ def test_scenarios_of_reblocked_models_are_plans_of_their_own(plan_folder, seed,
 def test_scenarios_of_models_that_a_topography_cuts_are_plans_of_their_own(plan_folder, tmp_path, seed, has_processes):
     write_surfaces(tmp_path)
     table = mine(seed)
-    text = of_processes_text(seed, 3, "moving", SETS) if has_processes else PROJECT + COLUMNS
+    text = of_processes_text(seed, 3, "per_revenue_factor", SETS) if has_processes else PROJECT + COLUMNS
     demand_plans_of_their_own(plan_folder(table, text, TOPOGRAPHY), table, grades_of(table))
 
 
@@ -184,7 +188,7 @@ def test_scenarios_of_models_that_a_topography_cuts_are_plans_of_their_own(plan_
 def test_scenarios_of_mines_with_an_as_mined_surface_are_plans_of_their_own(plan_folder, tmp_path, seed, depth, cut):
     write_surfaces(tmp_path, depth)
     table, changes = mine(seed), [TOPOGRAPHY] if cut else []
-    text = of_processes_text(seed, 2, "moving", SETS + (MINED if cut else WHOLE))
+    text = of_processes_text(seed, 2, "per_revenue_factor", SETS + (MINED if cut else WHOLE))
     demand_plans_of_their_own(plan_folder(table, text, *changes), table, grades_of(table))
 
 
@@ -196,14 +200,12 @@ def test_all_together_with_missing_blocks(plan_folder, tmp_path, solver):
     both = ('file = "blocks.csv"\n', f'file = "blocks.csv"\nreblock = [2, 2, 1]\ntopography = "ground.csv"\n{rock}')
     table = mine(5)
     table = table[~((table["x"] < 20) & (table["y"] > 20) & (table["z"] < 20))].reset_index(drop=True)
-    text = of_processes_text(5, 3, "moving", SETS + MINED, both, ANY_SIZE)
+    text = of_processes_text(5, 3, "per_revenue_factor", SETS + MINED, both, ANY_SIZE)
     shared = demand_plans_of_their_own(plan_folder(table, text), table, grades_of(table), solver)
     pitplan.gather(shared.folder)
     assert len(shared.frame) == 18
     said = {rule.name: rule.differences for rule in verify(shared.folder)}
-    assert {"reblocked", "as mined", "undiscounted_cash_flow", "fixed", "absent"} <= set(said) and not any(
-        said.values()
-    )
+    assert {"reblocked", "as mined", "values", "fixed", "absent"} <= set(said) and not any(said.values())
 
 
 def write_models(path, table):
@@ -218,7 +220,7 @@ def write_models(path, table):
 @pytest.mark.parametrize("change", [REBLOCK, CORNER])
 def test_rows_of_models_are_those_of_the_table_before_reblocking(plan_folder, change):
     table = mine(11)
-    path = plan_folder(table, of_processes_text(11, 2, "moving", MODELS, change, ANY_SIZE))
+    path = plan_folder(table, of_processes_text(11, 2, "per_revenue_factor", MODELS, change, ANY_SIZE))
     write_models(path, table)
     shared = demand_plans_of_their_own(path, table, grades_of(table))
     pitplan.gather(shared.folder)
@@ -284,14 +286,14 @@ def test_each_input_is_part_of_the_key(plan_folder, tmp_path):
     both = ('file = "blocks.csv"\n', 'file = "blocks.csv"\nreblock = [2, 2, 1]\ntopography = "ground.csv"\n')
 
     def keys(old="", new=""):
-        text = of_processes_text(3, 2, "moving", COLUMNS + MINED, both, ANY_SIZE)
+        text = of_processes_text(3, 2, "per_revenue_factor", COLUMNS + MINED, both, ANY_SIZE)
         assert not old or text.count(old) >= 1
         path = plan_folder(table, text.replace(old, new, 1) if old else text)
         return tuple(it.key for it in prepared(path).scenarios)
 
     first = keys()
     assert keys() == first and keys("capacity = 1000", "capacity = 2000") == first
-    text = of_processes_text(3, 2, "moving", COLUMNS + MINED, both, ANY_SIZE)
+    text = of_processes_text(3, 2, "per_revenue_factor", COLUMNS + MINED, both, ANY_SIZE)
     cost = next(line for line in text.split("\n") if line.startswith("cost = "))
     recovery = next(line for line in text.split("\n") if line.startswith("recovery = { copper"))
     changed = [
@@ -330,7 +332,7 @@ def test_a_fixed_cutoff_keeps_the_precedences_of_blocks_that_pay_in_another_proc
         ("mining_cost = 2\nprocessing_cost = 10\n", 'mining_cost = { R = 0.01, S = 1 }\ncutoff = "base_price"\n'),
         ("price = 8000\nrecovery = 0.5\n", "price = 100\n"),
         ("processing_capacity = 100\n", ""),
-        ("[0.5, 1.0, 1.5]", "[1000, 2000]"),
+        ("[0.5, 1.0, 1.5]", "[1.0, 2.0]"),
         ("[slopes]\n", GOLD.replace("price = 40\nrecovery = 0.5\n", "price = 0.6\n").replace("[slopes]\n", two)),
     ]
     models = '[scenarios]\ncolumns = { copper = "cu_*", gold = "au_*" }\n'
@@ -345,7 +347,7 @@ def test_a_fixed_cutoff_keeps_the_precedences_of_blocks_that_pay_in_another_proc
 
 
 def test_schedules_by_block_refuse_processes_before_anything_is_read(plan_folder):
-    text = of_processes_text(1, 2, "moving", COLUMNS).replace(
+    text = of_processes_text(1, 2, "per_revenue_factor", COLUMNS).replace(
         "discount_rate = 0.1", "discount_rate = 0.1\nmining_capacity = 5000"
     )
     path = plan_folder("no table", text)
@@ -396,19 +398,19 @@ def one_step_a_block(steps, block):
             reblock.Parts,
             "grades",
             lambda parts, grades: pd.DataFrame(grades).groupby(parts.block).mean().round(9).to_numpy(),
-            {"reblocked", "shells", "undiscounted_cash_flow"},
+            {"reblocked", "shells", "values"},
         ),
         # Rows that are cut by nothing.
         (topography_cut, "cut", lambda frame, grid, project, file: (frame, []), {"topography"}),
         # Steps without the last one of each block.
-        (process_routing.Steps, "on", one_step_a_block, {"undiscounted_cash_flow"}),
+        (process_routing.Steps, "on", one_step_a_block, {"values"}),
     ],
 )
 def test_what_is_prepared_wrongly_is_found(plan_folder, tmp_path, monkeypatch, place, name, wrong, found):
     write_surfaces(tmp_path)
     both = ('file = "blocks.csv"\n', 'file = "blocks.csv"\nreblock = [2, 2, 1]\ntopography = "ground.csv"\n')
     table = mine(8)
-    path = plan_folder(table, of_processes_text(8, 3, "moving", MODELS, both, ANY_SIZE))
+    path = plan_folder(table, of_processes_text(8, 3, "per_revenue_factor", MODELS, both, ANY_SIZE))
     write_models(path, table)
     monkeypatch.setattr(place, name, wrong)
     shared = prepared(path)

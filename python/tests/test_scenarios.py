@@ -120,7 +120,7 @@ def test_every_scenario_is_the_best_of_all_closed_sets(tmp_path_factory, one, ot
         places, answer = pit_probability.read_answer(shared, scenario)
         entry = np.zeros(9, int)
         entry[shared.grid.rows] = places
-        grades = {"sim_a": one, "sim_b": other}[scenario.model]
+        grades = {"sim_a": one, "sim_b": other}[scenario.realisation]
         for number, factor in enumerate((0.5, 1.0, 1.5), 1):
             values = values_by_hand(grades, Decimal(scenario.prices["copper"]), selling, factor, fixed)
             worth, pit = best_by_trying(CLOSED, values)
@@ -146,7 +146,7 @@ def test_models_of_a_folder_may_have_their_rows_in_any_order(plan_folder):
     write_models(path, by_id=model[["name", "cu"]].sample(frac=1, random_state=1))
     write_models(path, by_place=model[["x", "y", "z", "cu"]].sample(frac=1, random_state=2))
     shared = prepared(path)
-    assert [scenario.model for scenario in shared.scenarios] == ["by_id", "by_place"]
+    assert [scenario.realisation for scenario in shared.scenarios] == ["by_id", "by_place"]
     for scenario in shared.scenarios:
         assert shared.grades(scenario)[:, 0].tolist() == (np.arange(12) / 10).tolist()
 
@@ -155,11 +155,11 @@ def test_models_are_named_by_their_whole_files_and_no_two_alike(plan_folder):
     table, model = hill()
     path = plan_folder(table, MODELS)
     write_models(path, **{name: model[["name", "cu"]] for name in ("sim.1", "sim.2", "sim")})
-    assert [scenario.model for scenario in prepared(path).scenarios] == ["sim.1", "sim.2", "sim"]
+    assert [scenario.realisation for scenario in prepared(path).scenarios] == ["sim.1", "sim.2", "sim"]
     model[["name", "cu"]].to_csv(path.parent / "realisations" / "sim.2.csv.gz", index=False)
     with pytest.raises(
         PlanError,
-        match="models/sim.2.csv.gz: is a realisation of the same name as sim.2.csv: remove or rename one of them",
+        match="realisations/sim.2.csv.gz: is a realisation of the same name as sim.2.csv: remove or rename one of them",
     ):
         prepared(path)
 
@@ -170,7 +170,7 @@ def test_centres_of_a_model_may_lie_off_by_the_tolerance_and_no_more(plan_folder
     for tolerance, fits, off in (("0", 0.0, 0.25), ("0.25", 0.25, 0.5)):
         path = plan_folder(table, MODELS, ("size = [10, 10, 10]", f"size = [10, 10, 10]\ntolerance = {tolerance}"))
         write_models(path, only=by_place.assign(y=by_place["y"] + fits))
-        assert prepared(path).scenarios[0].model == "only"
+        assert prepared(path).scenarios[0].realisation == "only"
         write_models(path, only=by_place.assign(y=by_place["y"] - off))
         with pytest.raises(PlanError, match="row 2 column x, y, z: no block of "):
             prepared(path)
@@ -194,7 +194,7 @@ def test_a_model_that_does_not_fit_is_named_by_file_and_row(plan_folder, bend, w
     write_models(path, bent=bend(model))
     with pytest.raises(PlanError) as said:
         prepared(path)
-    assert str(said.value).startswith(f"{path.parent}/models/bent.csv") and words.format(
+    assert str(said.value).startswith(f"{path.parent}/realisations/bent.csv") and words.format(
         table=path.parent / "blocks.csv"
     ) in str(said.value)
     assert not (path.parent / "plan" / "scenarios.json").exists()
@@ -204,8 +204,11 @@ def test_a_model_that_does_not_fit_is_named_by_file_and_row(plan_folder, bend, w
     "text, words",
     [
         (PROJECT, r"\[scenarios\] is missing: it names the realisations"),
-        (PROJECT + "[scenarios]\n", r"\[scenarios\] models: give exactly one of models, a folder, and columns"),
-        (MODELS, "models: has no realisation: expected a .csv or .csv.gz file for each"),
+        (
+            PROJECT + "[scenarios]\n",
+            r"\[scenarios\] realisations: give exactly one of realisations, a folder, and columns",
+        ),
+        (MODELS, "realisations: has no realisation: expected a .csv or .csv.gz file for each"),
         (COLUMNS.replace("sim_", "none_"), r"blocks.csv row 1: no column is called none_\*"),
         (
             COLUMNS.replace("copper = ", "gold = "),
@@ -229,7 +232,7 @@ def test_finished_scenarios_are_not_solved_again_and_new_models_are(plan_folder)
     written = {answer: answer.stat().st_mtime_ns for answer in (shared.folder / "done").iterdir()}
     write_models(path, another=model.assign(cu=9.0))
     shared = prepared(path)
-    assert [scenario.model for scenario in shared.missing()] == ["another"]
+    assert [scenario.realisation for scenario in shared.missing()] == ["another"]
     solved_in_turn(shared)
     assert {answer: answer.stat().st_mtime_ns for answer in written} == written
     # Another price, wall, factor or cost is another answer.

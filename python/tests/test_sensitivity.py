@@ -489,7 +489,7 @@ def test_each_number_that_is_bent_is_found(copied, column, name):
     [
         lambda table: table.iloc[:-1],
         lambda table: pd.concat([table, table.tail(1)]),
-        lambda table: table.replace({"number": {"recovery": "selling_cost", "selling_cost": "recovery"}}),
+        lambda table: table.replace({"parameter": {"recovery": "selling_cost", "selling_cost": "recovery"}}),
         lambda table: table.iloc[[0, 2, 1, *range(3, len(table))]],
     ],
 )

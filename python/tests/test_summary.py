@@ -70,7 +70,7 @@ def test_columns_that_are_not_used_or_not_named(plan_folder, tmp_path):
     assert lines == [
         *expected(tmp_path)[:4],
         "unused columns: name, rock, region, notes",
-        "no column in the project: id, rock, region",
+        "no column in the project: id, rock_type, domain",
         *expected(tmp_path)[4:],
     ]
 
@@ -104,7 +104,7 @@ def told(plan):
 def test_metals_in_grams_and_grades_that_cannot_be(plan_folder):
     """Two metals: the one weighs more than its block, the other all but as much."""
     more = {"au": lambda i, j, k: 1e6 if k else 0, "cu": lambda i, j, k: 100.5 if i + j + k == 0 else 0}
-    lines = told(prepare(box(plan_folder, ("[slopes]\nlevels", GOLD + "\nlevels"), **more)))
+    lines = told(prepare(box(plan_folder, ("[slopes]\nprecedence_benches", GOLD + "\nprecedence_benches"), **more)))
     # 1,200 of 4,800 t, and 300 of 4,800 t with 100.5 %.
     assert "gold: au, mean 2.5e+05, maximum 1e+06 g/t, priced per gram" in lines
     assert "copper: cu, mean 6.281, maximum 100.5 %, priced per tonne" in lines

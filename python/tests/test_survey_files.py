@@ -245,7 +245,7 @@ def test_layers_are_chosen_by_name_list_and_star(tmp_path):
             space.add_point((number, 0, number), **layer(name))
 
     path = drawing(tmp_path / "mined.dxf", spots)
-    assert read(path, "haul_distance").points.tolist() == [[2, 0, 2]]
+    assert read(path, "ROAD").points.tolist() == [[2, 0, 2]]
     assert read(path, "BENCH_*").points.tolist() == [[0, 0, 0], [1, 0, 1]]
     assert read(path, "BENCH_20", "ROAD").points.tolist() == [[1, 0, 1], [2, 0, 2]]
     assert len(read(path, "*").points) == 3

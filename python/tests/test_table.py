@@ -230,10 +230,10 @@ def test_a_spreadsheets_mark_at_the_beginning_is_passed_over(plan_folder):
 @pytest.mark.parametrize(
     "change, key, name",
     [
-        (('column = "cu"', 'column = "rock"'), "rock", "rock"),
-        (('rock_type = "rock"', 'rock_type = "cu"'), "rock", "cu"),
+        (('column = "cu"', 'column = "rock"'), "rock_type", "rock"),
+        (('rock_type = "rock"', 'rock_type = "cu"'), "rock_type", "cu"),
         (('id = "name"', 'id = "tonnes"'), "id", "tonnes"),
-        (("[shells]", '[constraints]\nmust_mine = "region"\n[shells]'), "region", "region"),
+        (("[shells]", '[constraints]\nmust_mine = "region"\n[shells]'), "domain", "region"),
         (("[shells]", '[[schedule.limits]]\ncolumn = "name"\nmax = 1\n[shells]'), "id", "name"),
     ],
 )

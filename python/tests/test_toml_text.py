@@ -51,7 +51,7 @@ def test_an_absurd_exponent(refused, key, number):
 
 
 @pytest.mark.parametrize(
-    "number", ["[1e999999999]", "[1e-999999999]", "[0.5]", "1e999999999", "[0x" + "f" * 5000 + "]"]
+    "number", ["[1e999999999]", "[1e-999999999]", "[-0.5]", "1e999999999", "[0x" + "f" * 5000 + "]"]
 )
 def test_an_absurd_factor(refused, number):
     assert refused(PROJECT.replace("revenue_factors = [0.5, 1.0, 1.5]", f"revenue_factors = {number}")).startswith(

@@ -308,7 +308,7 @@ def test_two_surfaces_are_refused(plan_folder, tmp_path):
 def test_sums_of_whole_blocks_do_not_go_with_it(plan_folder):
     said = r"\[schedule.limits\] cu: is of whole blocks, and \[table\] topography cuts some: set per_tonne"
     with pytest.raises(PlanError, match=said):
-        pitplan.load(plan_folder(rows(3, 1, 3), PROJECT + '[[schedule.limits]]\ncolumn = "cu"\nmost = 1\n', CUT))
+        pitplan.load(plan_folder(rows(3, 1, 3), PROJECT + '[[schedule.limits]]\ncolumn = "cu"\nmax = 1\n', CUT))
 
 
 def hill():

@@ -14,6 +14,7 @@ from matplotlib.figure import Figure
 
 import pitplan
 from pitplan import PlanError
+from pitplan.blockmodel import wizard
 from pitplan.blockmodel.grid import Grid
 from pitplan.cli import main
 from pitplan.figures import map_marks
@@ -295,7 +296,7 @@ def test_surfaces_and_areas_are_the_planners(plan_folder, tmp_path):
         (tmp_path / "lease.csv").write_text(turned_points(lease, degrees))
         table = turned(hill(), degrees)
         found.append(planned(plan_folder, table, text, walls_at(degrees), NO_SIZE)[1]["revenue_factor"])
-    assert (found[0][["b0-0-5", "b1-1-4"]] == 500).all() and (found[0].filter(like="b9-") == 0).all()
+    assert (found[0][["b0-0-5", "b1-1-4"]] == 0.5).all() and (found[0].filter(like="b9-") == 0).all()
     pd.testing.assert_series_equal(found[1], found[0])
 
 
@@ -380,7 +381,7 @@ def test_a_turned_table_has_a_project_to_begin_with(tmp_path):
     """Blocks of 10 x 10 x 10 m whose volumes the density needs."""
     table = turned(rows(12, 11, 3, cu=lambda i, j, k: 0.5), 30).assign(density=2.5).drop(columns=["tonnes"])
     table.to_csv(tmp_path / "model.csv", index=False)
-    said = pitplan.blockmodel.wizard.write(tmp_path / "model.csv", tmp_path / "project.toml")
+    said = wizard.write(tmp_path / "model.csv", tmp_path / "project.toml")
     assert any("azimuth 30" in line for line in said)
     assert "size = [10.0, 10.0, 10.0]" in (tmp_path / "project.toml").read_text()
     plan = pitplan.prepare(tmp_path / "project.toml")

@@ -100,11 +100,11 @@ def test_a_run_may_leave_it_out_and_says_so(plan_folder):
     path = plan_folder(deposit(), TEXT)
     assert main(["shells", str(path), "--quiet", "--no-verify"]) == 0
     assert json.loads((path.parent / "plan" / "prepare.json").read_text())["verified"] == []
-    assert "this run left it out" in (path.parent / "plan" / "report.html").read_text()
+    assert "were not verified" in (path.parent / "plan" / "report.html").read_text()
     assert main(["verify", str(path.parent / "plan")]) == 0
 
 
-SHELLS = "blocks tonnes feed_tonnes waste_tonnes strip_ratio processed_at_revenue_factor head_grade_copper recovered_copper grade_gold metal_gold worth"
+SHELLS = "blocks tonnes feed_tonnes waste_tonnes strip_ratio processed_at_revenue_factor head_grade_copper recovered_copper head_grade_gold recovered_gold undiscounted_cash_flow"
 
 
 @pytest.mark.parametrize(

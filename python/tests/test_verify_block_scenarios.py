@@ -123,7 +123,7 @@ def test_a_year_above_a_limit_is_found(copied, old, new):
     assert text.count(old) == 1
     path.write_text(text.replace(old, new))
     (rule,) = [rule for rule in verify_folder(copied) if rule.name == "block value"]
-    name = "total_tonnes" if "rock" in old else "recovered_gold"
+    name = "total_tonnes" if "mining" in old else "recovered_gold"
     assert any(f": {name} " in said and f"above {new.split()[-1]}" in said for said in rule.differences)
 
 

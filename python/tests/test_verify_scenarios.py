@@ -224,7 +224,7 @@ def test_a_probability_that_is_bent_is_named(copied):
             lambda it: it["scenarios"][1]["prices"].update(copper="9000"),
             "scenarios.json lists cu_a at {'copper': '9000', 'gold': '45'} for ",
         ),
-        (lambda it: it["scenarios"][1].update(model="cu_b"), "scenarios.json lists cu_b at "),
+        (lambda it: it["scenarios"][1].update(realisation="cu_b"), "scenarios.json lists cu_b at "),
         (lambda it: it["scenarios"].pop(), "scenarios.json lists 5 scenarios, and realisations and price decks make 6"),
         (lambda it: it["revenue_factors"].pop(), "scenarios.json lists the revenue factors 0.50, 1.00"),
     ],
@@ -282,7 +282,7 @@ def test_rows_of_a_model_that_are_taken_in_their_own_order_are_found(plan_folder
         monkeypatch.setattr(realisations, reader, lambda frame, *_: np.arange(len(frame)))
     folder = prepared(path).folder
     solved_in_turn(prepared(path))
-    with pytest.raises(PlanError, match="of 1 of 1|values: scenario 1, mixed at copper 40000: factor"):
+    with pytest.raises(PlanError, match="values: scenario 1, mixed at copper 40000: revenue factor"):
         pitplan.gather(folder)
     assert not (folder / "probability.csv").exists()
 
@@ -410,7 +410,7 @@ def test_answers_that_are_none_are_named(copied):
 @given(
     st.integers(0, 10**6),
     st.sampled_from(["per_revenue_factor", "base_price"]),
-    st.sampled_from(["per_level = 0.25", "by_elevation = [[10, 0.7], [40, 0.1]]"]),
+    st.sampled_from(["per_bench = 0.25", "by_elevation = [[10, 0.7], [40, 0.1]]"]),
 )
 def test_random_scenarios_are_right(plan_folder, seed, cutoff, deeper):
     """Uneven ground, rocks, fixed blocks, two regions, three models by place in a folder, of which one has no gold, at two sets of prices."""
@@ -452,7 +452,7 @@ def test_tables_and_models_that_are_gone_are_named(copied, plan_folder):
     solved_in_turn(prepared(path))
     pitplan.gather(prepared(path).folder)
     shutil.rmtree(path.parent / "realisations")
-    with pytest.raises(PlanError, match="/models: cannot be read: No such file or directory"):
+    with pytest.raises(PlanError, match="/realisations: cannot be read: No such file or directory"):
         verify(path.parent / "plan")
 
 
@@ -463,7 +463,7 @@ def test_blocks_that_come_in_at_factor_1_are_dug(plan_folder):
     solved_in_turn(shared)
     pitplan.gather(shared.folder)
     assert wrong(shared.folder) == set()
-    assert pd.read_csv(shared.folder / "probability.csv")["probability_1"].tolist() == pytest.approx(
+    assert pd.read_csv(shared.folder / "probability.csv")["probability_0.001"].tolist() == pytest.approx(
         [1 / 3] * 3, abs=1e-6
     )
 
@@ -493,4 +493,4 @@ def test_quantiles_of_one_model_are_its_own_amounts(plan_folder):
     assert wrong(shared.folder) == set()
     row = pd.read_csv(shared.folder / "quantiles.csv").set_index("revenue_factor").loc[1.0]
     parts = ("mean", "least", "quantile_0.1", "quantile_0.5", "quantile_0.9", "greatest")
-    assert [(row[f"tonnes_{part}"], row[f"worth_{part}"]) for part in parts] == [(300, 4400)] * 6
+    assert [(row[f"tonnes_{part}"], row[f"undiscounted_cash_flow_{part}"]) for part in parts] == [(300, 4400)] * 6

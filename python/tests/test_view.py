@@ -115,12 +115,12 @@ def test_a_schedule_has_a_slider_through_its_years_and_colours(solved, tmp_path,
     path, blocks, made = scheduled(solved[1], tmp_path / "years")
     browser.open(path, "year=2&colour=year")
     later = cube_of(blocks, (blocks["year"] == 0) | (blocks["year"] > 2))
-    demand_drawn(browser, later, dugName="Dug by the end of year", dugText="2", low="1", name="year", high="4")
+    demand_drawn(browser, later, dugName="Mined by the end of year", dugText="2", low="1", name="year", high="4")
     browser.choose("dug", "3")
     demand_drawn(browser, cube_of(blocks, (blocks["year"] == 0) | (blocks["year"] > 3)), dugText="3")
     browser.choose("by", "pushback")
     browser.choose("dug", "1")
-    demand_drawn(browser, cube_of(blocks, blocks["pushback"] != 1), dugName="Dug to the end of pushback", dugText="1")
+    demand_drawn(browser, cube_of(blocks, blocks["pushback"] != 1), dugName="Mined to the end of pushback", dugText="1")
     browser.choose("show", "pit")
     browser.choose("dug", "2")
     browser.picture(tmp_path / "years.png")
@@ -138,7 +138,7 @@ def test_a_click_on_a_block_shows_its_row(page, browser):
     assert browser.ask("document.getElementById('picked').hidden")
     ground = cube_of(blocks, blocks["revenue_factor"] == 0.0)
     ground[:2] = False
-    for x, y in ((600, 330), (520, 380), (700, 300)):
+    for x, y in ((600, 330), (520, 380), (560, 300)):
         browser.click(x, y)
         cell = first_hit(browser, ground, (x, y))
         row = blocks[blocks["id"] == cell].iloc[0]
@@ -247,9 +247,9 @@ def test_the_model_of_the_page_by_hand(solved):
     assert tint[blocks["id"]].tolist() == blocks["cu"].map({0: 0, 0.8: 35, 0.9: 39, 6: 255}).tolist()
     air = np.setdiff1d(np.arange(450), blocks["id"])
     assert len(air) == 45 and set(shell[air]) == {255} and set(tint[air]) == {0}
-    assert len(model["shell_colours"]) == 3 and len(model["head_grade_colours"]) == 256 and model["stages"] == []
+    assert len(model["shell_colours"]) == 3 and len(model["grade_colours"]) == 256 and model["stages"] == []
     # The first and the last of matplotlib's YlOrRd.
-    assert (model["head_grade_colours"][0], model["head_grade_colours"][-1]) == ([255, 255, 204], [128, 0, 38])
+    assert (model["grade_colours"][0], model["grade_colours"][-1]) == ([255, 255, 204], [128, 0, 38])
 
 
 def test_the_worth_of_a_block_is_that_of_its_best_process():

@@ -84,18 +84,18 @@ def needs_written(plan, folder):
 def project_of(walls, levels, size, never_steeper=False):
     """A project in memory with the given walls; its table comes from pandas."""
     section = {
-        "walls": walls,
+        "domains": walls,
         "never_steeper": never_steeper,
         **({} if levels is None else {"precedence_benches": levels}),
     }
     return of_data(
         {
-            "table": {"file": "blocks.csv", "region": "region"},
+            "table": {"file": "blocks.csv", "domain": "region"},
             "grid": {"size": [Decimal(side) for side in size]},
             "economics": {"mining_cost": 2, "processing_cost": 10},
             "metals": [{"name": "copper", "column": "cu", "unit": "percent", "price": 8000, "recovery": 1}],
             "slopes": section,
-            "shells": {"revenue_factors": [1000], "discount_rate": 0, "processing_capacity": 100},
+            "shells": {"revenue_factors": [1], "discount_rate": 0, "processing_capacity": 100},
         },
         Path("project.toml"),
     )
@@ -147,7 +147,7 @@ SHAPE = st.tuples(st.integers(2, 7), st.integers(1, 8), st.integers(1, 8))
 def test_pairs_lead_to_all_that_the_walls_need_and_to_no_more(
     tmp_path_factory, entries, kind, shape, size, levels, never_steeper, seed
 ):
-    named = [{**entry, "region": str(number)} for number, entry in enumerate(entries)]
+    named = [{**entry, "domain": str(number)} for number, entry in enumerate(entries)]
     table = table_of(np.random.default_rng(seed), kind, shape, size)
     plan = pitplan.prepare(project_of(named, levels, size, never_steeper), table=table)
     plan.used[:] = True
@@ -164,7 +164,7 @@ def test_pairs_lead_to_all_that_the_walls_need_and_to_no_more(
     st.integers(0, 10**6),
 )
 def test_a_block_that_pays_has_all_that_its_walls_need_written(tmp_path_factory, entries, kind, seed):
-    named = [{**entry, "region": str(number)} for number, entry in enumerate(entries)]
+    named = [{**entry, "domain": str(number)} for number, entry in enumerate(entries)]
     rng = np.random.default_rng(seed)
     table = table_of(rng, kind, (6, 7, 7), CUBE)
     ore = int(rng.integers(0, len(table)))
@@ -181,7 +181,7 @@ def test_a_flat_layer_under_steep_rock_digs_its_whole_cone(tmp_path):
     """One block of ore in a layer of 30 degrees, under nine levels of 60 degrees."""
     table = rows(61, 61, 10, region=lambda i, j, k: "weak" if k == 0 else "strong")
     table.loc[(table["x"] == 305) & (table["y"] == 305) & (table["z"] == 5), "cu"] = 100.0
-    entries = [{"region": "weak", "angle": 30}, {"region": "strong", "angle": 60}]
+    entries = [{"domain": "weak", "angle": 30}, {"domain": "strong", "angle": 60}]
     plan = pitplan.prepare(project_of(entries, 9, CUBE), table=table)
     far = [up / math.tan(math.radians(30)) for up in range(10)]
     cells = sum(math.hypot(x, y) <= reach for reach in far for x in range(-20, 21) for y in range(-20, 21))

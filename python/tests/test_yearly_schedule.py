@@ -1,4 +1,4 @@
-"""Yearly schedules as they are written: a mine worked by hand, what is refused, and the second look at them."""
+"""Annual schedules as they are written: a mine worked by hand, what is refused, and the second look at them."""
 
 import json
 import os
@@ -101,7 +101,7 @@ def test_the_rule_keeps_each_limit(plan_folder, words, cash):
             "[schedule] max_metal_per_year names tin, which is none of the [[metals]] copper",
         ),
         ("years = 0", "[schedule] years: must be a whole number from 1 to 200"),
-        ("sinking = 3", "[schedule] sinking: is no key here; vertical_advance_rate is"),
+        ("bench_lags = 3", "[schedule] bench_lags: is no key here; bench_lag is"),
     ],
 )
 def test_what_is_refused(plan_folder, words, said):
@@ -199,7 +199,7 @@ def test_the_report_and_the_workbook_have_the_schedule(copied):
     assert (
         "methods.csv" in page
         and "data:image/png" not in page
-        and "the schedule and its bound, the other numbers" in page
+        and "the schedule and its upper bound, the other numbers" in page
     )
     book = pd.read_excel(copied / "schedule.xlsx", sheet_name=None)
     assert list(book) == ["methods", "schedule", "years", "pushbacks", "shells"]
@@ -302,7 +302,7 @@ def change_told(folder, **more):
 def test_a_total_that_does_not_follow_is_found(copied, name):
     told = change_told(copied)
     told["methods"]["rule"][name] += 1
-    change_told(copied, ways=told["methods"])
+    change_told(copied, methods=told["methods"])
     assert "schedule value" in wrong(copied)
 
 
@@ -359,7 +359,7 @@ def test_a_way_that_is_shown_and_earns_less_is_found(copied):
     told = change_told(copied)
     other = next(name for name in told["methods"] if name != told["shown"])
     told["methods"][told["shown"]]["npv"] = told["methods"][other]["npv"] - 1
-    change_told(copied, ways=told["methods"])
+    change_told(copied, methods=told["methods"])
     assert "years of blocks" in wrong(copied)
     change_told(copied, shown="hand")
     assert "years of blocks" in wrong(copied)

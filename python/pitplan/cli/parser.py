@@ -116,7 +116,7 @@ def add_shells(subs: Subparsers) -> None:
 def add_pit(subs: Subparsers) -> None:
     sub = subs.add(
         "pit",
-        "solve the pit of one revenue factor with the fixed blocks and without, and compare the two",
+        "solve the pit of one revenue factor with the constraints and without, and compare the two",
         subcommands.pit,
     )
     add_project(sub)
@@ -172,7 +172,7 @@ def add_sensitivity(subs: Subparsers) -> None:
 
 
 def add_scenarios(subs: Subparsers) -> None:
-    does = "solve simulated models at several prices: inclusion probabilities, or schedules"
+    does = "solve realisations of the grades at several prices: inclusion probabilities, or schedules"
     sub = subs.add("scenarios", does, subcommands.scenarios)
     sub.add_argument("project", type=Path, metavar="PROJECT", help="project.toml, with [scenarios]")
     add_set(sub)

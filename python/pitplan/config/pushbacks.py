@@ -21,9 +21,9 @@ class PushbackRules:
     tonnes   even pushbacks of about so many tonnes of rock each
     revenue_factors  those of the pushbacks' shells, rising
     ultimate_pit     the revenue factor of the last pushback's shell; None: the project's selected one, else the one that `shells` selects
-    width    metres that a pushback is wide on each level at least; None: any
-    bottom   metres that the pit up to a pushback is wide on each level at least, its bottom with it; None: any
-    mining_cost_added  of each pushback what digging a tonne costs more there, in money; none: nothing
+    min_mining_width   of a pushback on each bench, in metres; None: any
+    min_bottom_width   of the pit up to a pushback on each bench, its bottom with it, in metres; None: any
+    mining_cost_added  by pushback, per tonne, in the project's currency; empty: nothing
     """
 
     count: Optional[int]

@@ -48,7 +48,7 @@ class ScheduleRules:
     mining_capacity   tonnes that the shovels take; None: as `[shells]` says, which may have no limit
     max_metal_per_year  by metal the most that is recovered: tonnes, or grams where the grade is in grams a tonne
     vertical_advance_rate    the most benches by which a pushback sinks in a year; None: any
-    lag             by how many benches a pushback is behind the one before at least
+    bench_lag       by how many benches a pushback is behind the one before at least
     ramp_up         shares of the mill's tonnes in the first years; the last one stays
     years           so many years at most; None: a fifth more than the rule takes
     milp            whether and how far an integer programme is solved too; None: it is not

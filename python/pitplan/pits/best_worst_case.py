@@ -33,7 +33,7 @@ class Benches:
     """What each factor's shell adds to the shell before, bench by bench from the top.
 
     factors  rising
-    names    of the amounts: total_tonnes, feed_tonnes, feed_tonnes_NAME of each of several processes, metal_NAME of each metal, and last cash, in money
+    names    of the amounts: total_tonnes, feed_tonnes, feed_tonnes_NAME of each of several processes, recovered_NAME of each metal, and last cash, in money
     amounts  an array of factors, benches and names
     """
 

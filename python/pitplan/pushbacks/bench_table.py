@@ -20,7 +20,7 @@ class PushbackBenches:
 
     pushback    of each bench, from 1
     level    of each, from 0 at the top of the grid
-    names    of the amounts: total_tonnes, feed_tonnes, metal_NAME of each metal, and cash, in money
+    names    of the amounts: total_tonnes, feed_tonnes, recovered_NAME of each metal, and cash, in money
     amounts  an array of benches and names
     lag      by how many benches a pushback is behind the one before at least
     """

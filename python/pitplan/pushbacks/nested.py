@@ -229,7 +229,7 @@ def table(pushbacks: Pushbacks) -> pd.DataFrame:
 
     pushback from 1; revenue_factor, of the shell that ends it; blocks (with rock); tonnes, feed_tonnes, in_situ_ore_tonnes, waste_tonnes and
     strip_ratio as of shells;
-    grade_NAME of the ore in its column's unit, metal_NAME recovered of it (tonnes, or grams); worth in money; mining_cost_added, where
+    head_grade_NAME of the ore in its column's unit, recovered_NAME recovered of it (tonnes, or grams); worth in money; mining_cost_added, where
     pushbacks have mining costs of their own, which are not in the worth; deferred_value, what the shell that ends a pushback is worth more than
     the pushbacks up to it, since blocks come in a later pushback for the sake of width; value_lost_to_width, the same of the last pushback, where it is lost;
     pieces that do not touch by a side; min_width in metres.

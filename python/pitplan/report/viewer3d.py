@@ -67,7 +67,7 @@ def model_of(folder: Folder) -> dict[str, Any]:
         "shell": encoded(grid.spread(shell, AIR)),
         "shell_colours": colours("viridis_r", np.linspace(0.02, 1, len(factors))),
         "metals": [metal_of(folder, metal, solid) for metal in folder.record["metals"]],
-        "head_grade_colours": colours("YlOrRd", np.linspace(0, 1, 256)),
+        "grade_colours": colours("YlOrRd", np.linspace(0, 1, 256)),
         "stages": [stage_of(folder, *stage) for stage in STAGES if stage[0] in blocks],
         "rows": compressed(rows_of(folder).encode("utf-8")),
     }

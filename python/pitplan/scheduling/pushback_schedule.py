@@ -172,7 +172,7 @@ def with_bins(schedule: YearlySchedule, rules: ScheduleRules, progress: Progress
 def table(schedule: YearlySchedule) -> pd.DataFrame:
     """One row for what is dug of a bench in a year.
 
-    way; year from 1; pushback; bench, the z of its centres in metres; share of the bench; total_tonnes and, of these, feed_tonnes; metal_NAME
+    way; year from 1; pushback; bench, the z of its centres in metres; share of the bench; total_tonnes and, of these, feed_tonnes; recovered_NAME
     recovered (tonnes, or grams); cash at the year's prices, and discounted, in money, both without what years cost.
     """
     return pd.concat([rows_of(schedule, way) for way in schedule.shares], ignore_index=True)
@@ -209,7 +209,7 @@ def years(schedule: YearlySchedule) -> pd.DataFrame:
 
 def ways(schedule: YearlySchedule) -> pd.DataFrame:
     """One row a way: way; value, discounted, and bound, in money; optimality_gap, by which share of the bound it is less; years; tonnes that are
-    dug, feed_tonnes that are milled, and unmined_tonnes that are not dug; metal_NAME recovered."""
+    dug, feed_tonnes that are milled, and unmined_tonnes that are not dug; recovered_NAME recovered."""
     rows = []
     for way, shares in schedule.shares.items():
         whole, value = shares.sum(axis=1), schedule.value(way)

@@ -20,7 +20,7 @@ class Parcels:
 
     bench    of each parcel, its place among the benches
     bin      of each, from 1, the poorest
-    names    of the amounts: feed_tonnes, metal_NAME of each metal, and gain, the revenue less the cost of processing and selling, in money
+    names    of the amounts: feed_tonnes, recovered_NAME of each metal, and gain, the revenue less the cost of processing and selling, in money
     amounts  an array of parcels and names
     edges    between two bins what a tonne is worth, in money; rising
     """

@@ -1,8 +1,6 @@
-"""Schedules by block over scenarios anew: that of each scenario, and the one for all as each scenario digs it.
+"""Recomputes schedules by block over scenarios from the project, its table, its realisations and the years of blocks.
 
-From the project, its table, its models and the years of blocks alone. What a block is worth is weighed for every scenario; cones are looked
-at in the one schedule and in those of a sample.
-"""
+Block values are recomputed for every scenario; slope cones for the common schedule and a sample of the others."""
 
 from __future__ import annotations
 
@@ -144,8 +142,7 @@ class Schedules:
         ]
 
     def held(self, scenario: Scenario, is_dug: np.ndarray) -> pd.DataFrame:
-        """What each block holds in a scenario: total_tonnes, feed_tonnes and metals where it pays, what digging it costs and what milling
-        it earns besides, in money; 0 where it is not dug."""
+        """By block of a scenario: total_tonnes, feed_tonnes and metals if it pays, cost of mining, value added by processing; 0 if unmined."""
         whole = self.whole.in_scenario(scenario)
         part = replace(
             whole, rows=whole.rows[is_dug].reset_index(drop=True), said=whole.said[is_dug].reset_index(drop=True)

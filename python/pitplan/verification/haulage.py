@@ -26,7 +26,9 @@ def verify(answer: Answer, chosen: np.ndarray) -> Rule:
         return rule("haulage", "the project has no haulage", [])
     told, expected = answer.said[ROAD].to_numpy(), lengths(answer, rules)
     off = np.flatnonzero(~(np.abs(told - expected) <= SLIGHT + 1e-9))
-    differences = [f"{answer.called(row)}: road {told[row]:.10g} for {expected[row]:.10g}" for row in off[:TOLD]]
+    differences = [
+        f"{answer.called(row)}: haul_distance {told[row]:.10g} for {expected[row]:.10g}" for row in off[:TOLD]
+    ]
     count, unit = len(off), Decimal(1).scaleb(-answer.project.money.decimals)
     for name, tonnes, kinds in ((WASTE, answer.tonnes, (rules.waste,)), (MORE, answer.feed, (rules.ore, rules.waste))):
         said, due = answer.said[name].to_numpy(), tonnes * rate(told, *kinds)

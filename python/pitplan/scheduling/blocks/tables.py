@@ -76,7 +76,7 @@ class ScheduledBlocks:
     @property
     def table(self) -> pd.DataFrame:
         """One row: value, discounted, and bound, in money; optimality_gap, by which share of the bound the value is less; years; blocks of
-        rock that are dug; tonnes of rock, and feed_tonnes; metal_NAME recovered."""
+        rock that are dug; tonnes of rock, and feed_tonnes; recovered_NAME recovered."""
         dug = (self.found.schedule.year < self.planned.problem.years) & (self.planned.flows[ROCK][:, 0] > 0)
         row = {
             "npv": self.found.value,

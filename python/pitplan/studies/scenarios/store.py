@@ -8,7 +8,7 @@
     mine.prec           or the same for the program, where that solves
     diggable.npz        or, where blocks are scheduled, the blocks that may be dug, with their needs,
     mean.npz            and what these hold and earn on the mean of all scenarios
-    models/HASH.npy     the grades of a model, a row a block and a column a metal
+    realisations/HASH.npy the grades of one, a row a block and a column a metal
     done/KEY.npz        the answer of a scenario; its key names all that the answer depends on
     failed/KEY.json     why a scenario has no answer
 """

@@ -56,7 +56,7 @@ class Diggable:
 class Weights:
     """What blocks hold and earn where they go to the mill if that pays, and else are waste: shape (blocks,) each.
 
-    flows   by name: total_tonnes, feed_tonnes that come to the mill, metal_NAME recovered (tonnes, or grams), and last cash, in money
+    flows   by name: total_tonnes, feed_tonnes that come to the mill, recovered_NAME recovered (tonnes, or grams), and last cash, in money
     mining  what it costs to dig each, in money
     """
 

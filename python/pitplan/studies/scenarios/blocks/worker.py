@@ -34,7 +34,7 @@ class Kept:
     year   in which each row of the table is dug, from 1; 0: in none
     share  of each that goes to the mill
     row    value and bound, discounted, in money; optimality_gap, by which share of the bound the value is less; years, the last in which
-           anything is dug; blocks of rock that are dug; tonnes, feed_tonnes and metal_NAME; and the seconds that it took
+           anything is dug; blocks of rock that are dug; tonnes, feed_tonnes and recovered_NAME; and the seconds that it took
     """
 
     year: NDArray[np.int64]
