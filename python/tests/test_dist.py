@@ -41,7 +41,7 @@ def plan_and_check(folder: Path, commands: Path) -> None:
     run(commands / "pitplan", "shells", project, "--out", folder / "out", commands=commands)
     shells = pd.read_csv(folder / "out" / "shells.csv", index_col="revenue_factor")
     # As documents have them, from a run of another day.
-    assert shells["blocks"][[400, 700, 1000, 1200]].tolist() == [274, 623, 828, 901]
+    assert shells["blocks"][[0.4, 0.7, 1.0, 1.2]].tolist() == [274, 623, 828, 901]
     run(commands / "pitplan", "audit", project, "--out", folder / "out", "--revenue-factor", "0.80", commands=commands)
     said = run("sh", folder / "out" / "audit-0.80" / "check.sh", commands=commands)
     assert said == "hashes: yes\npitshell check: yes\ncheck_certificate.py: yes\n"
