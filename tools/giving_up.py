@@ -76,7 +76,7 @@ PLANTED: list[Planted | Exchanged] = [
     Exchanged("versions/src/publisher.rt", "three mergers are published and no more", "count() >= MOST", "count() >= MOST.min(3)"),
     Exchanged("versions/src/taken.rt", "no copy learns that the list has its last arc", "self.last = None;", "self.told = addition.before.again(); self.last = Some(addition.arc);"),
     Exchanged("crew/src/worker.rt", "a stale verdict ends a chunk, and a spent one does not", "reply.verdict != Verdict::Spent", "reply.verdict != Verdict::Stale"),
-    Exchanged("crew/src/sweeps.rt", "each sweep goes over the route of the first", "self.renew(alloc, holder.tree())?;\n", ""),
+    Exchanged("crew/src/sweeps.rt", "each sweep goes over the chunks of the first", "self.renew(alloc, holder.tree())?;\n", ""),
 ]
 
 

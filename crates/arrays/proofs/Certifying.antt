@@ -8,19 +8,19 @@ use Rattle.pit_model.specs.Mine.{Instance, members}
 use Rattle.pit_model.proofs.Members.{members_ext, members_rise}
 use Rattle.pit_model.proofs.OneOrder.{pairs_have_one_order}
 use Rattle.certificate.proofs.SameSet.{members_agree}
-use Rattle.certificate.specs.Check.{AreRising as AreRisingBlocks}
+use Rattle.certificate.specs.Check.{AreAscending as AreRisingBlocks}
 use Rattle.arrays.specs.Certified.{CertifyMarks}
 use Rattle.need_rows.specs.Rows.{pairs_of, RowsRise}
 use Rattle.need_rows.proofs.Begun.{begun_starts}
 use Rattle.need_rows.proofs.Rising.{rows_rising}
 use Rattle.need_rows.proofs.Spelled.{seconds_of_rows}
 use Rattle.arrays.specs.Solved.{AreMarks}
-use Rattle.arrays.specs.Spelled.{AreRows, IsSpelled, SpellMine, SpellPairs}
-use Rattle.arrays.proofs.OneMine.{arrays_spell_one_mine, pairs_are_one}
-use Rattle.arrays.proofs.Spelling.{begun, spell}
+use Rattle.arrays.specs.Encoded.{AreRowStarts, IsEncoded, EncodesMine, EncodesPairs}
+use Rattle.arrays.proofs.OneMine.{arrays_encode_one_mine, pairs_are_one}
+use Rattle.arrays.proofs.Encoding.{begun, spell}
 
 -- the pairs of rows that rise stand in order
-pairs_rise : (n : ℕ) (starts needs : List ℕ) (pairs : List (ℕ × ℕ)) → AreRows n (length needs) starts → AreInRange pairs n → RowsRise starts needs → SpellPairs starts needs pairs → AreRising pairs
+pairs_rise : (n : ℕ) (starts needs : List ℕ) (pairs : List (ℕ × ℕ)) → AreRowStarts n (length needs) starts → AreInRange pairs n → RowsRise starts needs → EncodesPairs starts needs pairs → AreRising pairs
 pairs_rise n starts needs pairs rows range rise is =
     let same = pairs_are_one n starts needs pairs (pairs_of starts needs) rows is (spell n starts needs rows) in
     let within = subst (λ q. AreInRange q n) same range in
@@ -35,15 +35,15 @@ same_in_range ps qs n same range k l =
     (subst (λ (q : ℕ × ℕ). q.0 < n) f.2 r.0, subst (λ (q : ℕ × ℕ). q.1 < n) f.2 r.1)
 
 -- so they are the mine's, by their places
-pub in_order : (values : List ℤ) (starts needs : List ℕ) (mine : Instance) → IsGraph mine.blocks mine.pairs → RowsRise starts needs → IsSpelled values starts needs mine → SpellMine values starts needs mine
+pub in_order : (values : List ℤ) (starts needs : List ℕ) (mine : Instance) → IsGraph mine.blocks mine.pairs → RowsRise starts needs → IsEncoded values starts needs mine → EncodesMine values starts needs mine
 in_order values starts needs mine graph rise is =
-    let whole = is.spelled in
+    let whole = is.encoded in
     let one = pairs_have_one_order is.pairs mine.pairs is.same (pairs_rise mine.blocks starts needs is.pairs whole.rows (same_in_range is.pairs mine.pairs mine.blocks is.same graph.in_range) rise whole.pairs_are) graph.rising in
     record {
       blocks = whole.blocks;
       values_are = whole.values_are;
       rows = whole.rows;
-      pairs_are = subst (λ (ps : List (ℕ × ℕ)). SpellPairs starts needs ps) one whole.pairs_are;
+      pairs_are = subst (λ (ps : List (ℕ × ℕ)). EncodesPairs starts needs ps) one whole.pairs_are;
     }
 
 -- of marks that are 0 or 1, the blocks with a 1 are the set's
@@ -74,27 +74,27 @@ mark_is n marks set are u l = ⊎_elim
     (λ (off : set u ≡ false). ap (λ x. x == 1) (are.each u l ∙ ap (λ b. if b then 1 else 0) off) ∙ sym off)
     (cases_Bool (set u))
 
-module _ (values : List ℤ) (starts needs marks : List ℕ) (amounts : List ℤ) (mine : Instance) (pit : List ℕ) (spelled : SpellMine values starts needs mine)
+module _ (values : List ℤ) (starts needs marks : List ℕ) (amounts : List ℤ) (mine : Instance) (pit : List ℕ) (encoded : EncodesMine values starts needs mine)
     (listed : pit ≡ members (length marks) (λ u. get_or marks u 0 == 1)) (size : length marks ≡ mine.blocks) (few : (u : ℕ) → u < length marks → get_or marks u 0 ≤ 1) where
   pub certify_marks : IsCertificate mine pit amounts → CertifyMarks values starts needs marks amounts
   certify_marks is = record {
     mine = mine;
-    spelled = spelled;
+    encoded = encoded;
     set = is.set;
     marks_are = marks_of mine.blocks marks is.set size few (sym listed ∙ is.listed);
-    count = is.counted ∙ spelled.pairs_are.count;
+    count = is.counted ∙ encoded.pairs_are.count;
     certifies = is.certifies;
   }
 
   pub marks_certify : CertifyMarks values starts needs marks amounts → IsCertificate mine pit amounts
   marks_certify are =
-      let one : are.mine ≡ mine = arrays_spell_one_mine values starts needs are.mine mine are.spelled spelled in
+      let one : are.mine ≡ mine = arrays_encode_one_mine values starts needs are.mine mine are.encoded encoded in
       let same = ap (λ n. members n (λ u. get_or marks u 0 == 1)) are.marks_are.count
       ∙ members_ext are.mine.blocks (λ u. get_or marks u 0 == 1) are.set (mark_is are.mine.blocks marks are.set are.marks_are) in
       subst (λ (m : Instance). IsCertificate m pit amounts) one (record {
         set = are.set;
         listed = listed ∙ same;
-        counted = are.count ∙ sym are.spelled.pairs_are.count;
+        counted = are.count ∙ sym are.encoded.pairs_are.count;
         certifies = are.certifies;
       })
 

@@ -1,4 +1,4 @@
-pub mod Spelling
+pub mod Encoding
 pub mod Repeats
 pub mod Marking
 pub mod Numbered

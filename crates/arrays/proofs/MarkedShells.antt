@@ -8,7 +8,7 @@ use Rattle.std.proofs.lemmas.List.Kept.{AllPairs-from_increasing}
 use Rattle.pit_model.specs.declared.direction.Direction.TheVariants.{Least}
 use Rattle.pit_model.specs.declared.shell.Shell.{Shell}
 use Rattle.pit_model.specs.Deposit.{Deposit, IsPriced, mine_at}
-use Rattle.pit_model.specs.Direction.{IsPitToward, nothing}
+use Rattle.pit_model.specs.Direction.{IsPitToward, no_blocks_fixed}
 use Rattle.pit_model.specs.Graph.{AreSamePairs, Graph}
 use Rattle.pit_model.specs.Mine.{members, worth}
 use Rattle.pit_model.specs.Shells.{AreFactors, AreShells, IsShell, factor_of}
@@ -18,7 +18,7 @@ use Rattle.pit_model.proofs.Shells.{shells_nest}
 use Rattle.shells.specs.Prices.{Prices, deposit_of}
 use Rattle.arrays.specs.Firsts.{AreFirsts, Holds}
 use Rattle.arrays.specs.Nested.{IsMarkedShell, MarkShells}
-use Rattle.arrays.specs.Spelled.{AreRows, PricedRows, SpellGraph}
+use Rattle.arrays.specs.Encoded.{AreRowStarts, PricedRows, EncodesGraph}
 use Rattle.arrays.proofs.Marking.{listed_below}
 use Rattle.arrays.proofs.Taking.{holds_by}
 
@@ -84,7 +84,7 @@ module _ (deposit : Deposit) (factors firsts : List ℕ) (shells : List Shell) (
       let at = factor_at k d l in
       record {
         set = is.set;
-        is_pit = subst (λ f. IsPitToward Least (mine_at deposit f) nothing is.set) at is.is_pit;
+        is_pit = subst (λ f. IsPitToward Least (mine_at deposit f) no_blocks_fixed is.set) at is.is_pit;
         held = λ u below. (λ inside. up_to k u d l below inside, λ le. from_first k u d l below le);
         worth_is = is.worth_is ∙ ap (λ f. worth (mine_at deposit f) is.set) at;
       }
@@ -102,7 +102,7 @@ in_rows : (deposit : Deposit) (pairs : List (ℕ × ℕ)) (factor k : ℕ) (firs
     → IsMarkedShell (in_order deposit pairs) factor k firsts amount
 in_rows deposit pairs factor k firsts amount same is = record {
   set = is.set;
-  is_pit = fixed_pit_knows_no_order Least deposit.blocks (mine_at deposit factor).values deposit.pairs pairs nothing is.set (turned pairs deposit.pairs same) is.is_pit;
+  is_pit = fixed_pit_knows_no_order Least deposit.blocks (mine_at deposit factor).values deposit.pairs pairs no_blocks_fixed is.set (turned pairs deposit.pairs same) is.is_pit;
   held = is.held;
   worth_is = is.worth_is;
 }
@@ -118,24 +118,24 @@ worth_of_some deposit pairs factors firsts (x ∷ xs) worths same priced are fou
     (sym (ap (λ (ws : List ℤ). get_or ws k (pos 0)) summed ∙ get_or-map (λ (shell : Shell). shell.worth) (x ∷ xs) k x (pos 0) l))
     (marked_shell deposit factors firsts (x ∷ xs) priced are found numbered k x l))
 
-pub are_marked : (rows : PricedRows) (prices : Prices) (graph : Graph) (factors firsts : List ℕ) (shells : List Shell) (worths : List ℤ) → SpellGraph (length rows.revenues) rows.starts rows.needs graph
+pub are_marked : (rows : PricedRows) (prices : Prices) (graph : Graph) (factors firsts : List ℕ) (shells : List Shell) (worths : List ℤ) → EncodesGraph (length rows.revenues) rows.starts rows.needs graph
     → prices.revenues ≡ rows.revenues → prices.costs ≡ rows.costs → IsPriced (deposit_of prices graph) → AreFactors factors → AreShells Least (deposit_of prices graph) factors shells
     → worths ≡ map (λ (shell : Shell). shell.worth) shells → AreFirsts shells graph.blocks firsts (length shells) → MarkShells rows factors firsts worths
-are_marked rows prices graph factors firsts shells worths spelled revenues costs priced are found summed numbered =
+are_marked rows prices graph factors firsts shells worths encoded revenues costs priced are found summed numbered =
     let many_factors = many (deposit_of prices graph) factors firsts shells priced are found numbered in
     let size = length-map shells (λ (shell : Shell). shell.worth) in
     let sized : length worths ≡ length shells = ap (λ (ws : List ℤ). length ws) summed ∙ size in
     record {
-      deposit = in_order (deposit_of prices graph) spelled.pairs;
-      spelled = record {
-        blocks = spelled.count;
+      deposit = in_order (deposit_of prices graph) encoded.pairs;
+      encoded = record {
+        blocks = encoded.count;
         revenues_are = revenues;
         costs_are = costs;
-        rows_are = subst (λ n. AreRows n (length rows.needs) rows.starts) (sym spelled.count) spelled.rows;
-        pairs_are = spelled.pairs_are;
+        rows_are = subst (λ n. AreRowStarts n (length rows.needs) rows.starts) (sym encoded.count) encoded.rows;
+        pairs_are = encoded.pairs_are;
       };
       rise = are;
       count = numbered.size;
       counted = sized ∙ many_factors;
-      each = λ k l. worth_of_some (deposit_of prices graph) spelled.pairs factors firsts shells worths spelled.same priced are found numbered summed k (omega arith);
+      each = λ k l. worth_of_some (deposit_of prices graph) encoded.pairs factors firsts shells worths encoded.same priced are found numbered summed k (omega arith);
     }

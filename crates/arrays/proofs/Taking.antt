@@ -3,18 +3,18 @@ use Rattle.std.proofs.Common.{◌≡◌, ◌⊎◌, inl, inr, ℕ, ◌+◌, ◌<
 use Rattle.std.proofs.lemmas.Bool.{cases_eq}
 use Rattle.std.proofs.lemmas.List.{get_or_default, get_or-set_other, get_or-set_same, length-set}
 use Rattle.pit_model.specs.declared.shell.Shell.{Shell}
-use Rattle.arrays.specs.Firsts.{AreFirsts, AreTaken, Holds, IsListed}
+use Rattle.arrays.specs.Firsts.{AreFirsts, AreTaken, Holds, IsAmongFirst}
 
 -- which shell is meant where there is none does not matter where there is one
-pub holds_by : (shells : List Shell) (k u : ℕ) (d : Shell) → k < length shells → IsListed (get_or shells k d).pit.items (length (get_or shells k d).pit.items) u → Holds shells k u
-holds_by shells k u d l listed e = subst (λ (shell : Shell). IsListed shell.pit.items (length shell.pit.items) u) (get_or_default shells k d e l) listed
+pub holds_by : (shells : List Shell) (k u : ℕ) (d : Shell) → k < length shells → IsAmongFirst (get_or shells k d).pit.items (length (get_or shells k d).pit.items) u → Holds shells k u
+holds_by shells k u d l listed e = subst (λ (shell : Shell). IsAmongFirst shell.pit.items (length shell.pit.items) u) (get_or_default shells k d e l) listed
 
 -- one block more is listed
-wider : (pit : List ℕ) (count u : ℕ) → IsListed pit count u → IsListed pit (count + 1) u
+wider : (pit : List ℕ) (count u : ℕ) → IsAmongFirst pit count u → IsAmongFirst pit (count + 1) u
 wider pit count u (i, l, is) = (i, omega arith, is)
 
 -- a block that is listed among one more is that one, or is listed before
-narrower : (pit : List ℕ) (count u : ℕ) → IsListed pit (count + 1) u → (get_or pit count 0 ≡ u) ⊎ IsListed pit count u
+narrower : (pit : List ℕ) (count u : ℕ) → IsAmongFirst pit (count + 1) u → (get_or pit count 0 ≡ u) ⊎ IsAmongFirst pit count u
 narrower pit count u (i, l, is) = ⊎_elim
     (λ (e : i ≡ count). inl (sym (ap (λ j. get_or pit j 0) e) ∙ is))
     (λ (ne : i ≡ count → ⊥). inr (i, omega arith, is))
@@ -25,13 +25,13 @@ pub passed_over : (pit : List ℕ) (number none count : ℕ) (before now : List 
 passed_over pit number none count before now other is = record {
   size = is.size;
   each = λ u l. ⊎_elim
-      (λ (new : (get_or now u 0 ≡ number) × (get_or before u 0 ≡ none) × IsListed pit count u). inl (new.0, new.1, wider pit count u new.2))
-      (λ (kept : (get_or now u 0 ≡ get_or before u 0) × (get_or before u 0 ≡ none → IsListed pit count u → ⊥)).
+      (λ (new : (get_or now u 0 ≡ number) × (get_or before u 0 ≡ none) × IsAmongFirst pit count u). inl (new.0, new.1, wider pit count u new.2))
+      (λ (kept : (get_or now u 0 ≡ get_or before u 0) × (get_or before u 0 ≡ none → IsAmongFirst pit count u → ⊥)).
       inr (
         kept.0,
         λ free listed. ⊎_elim
             (λ (e : get_or pit count 0 ≡ u). other (ap (λ v. get_or now v 0) e ∙ kept.0 ∙ free))
-            (λ (sooner : IsListed pit count u). kept.1 free sooner)
+            (λ (sooner : IsAmongFirst pit count u). kept.1 free sooner)
             (narrower pit count u listed),
       ))
       (is.each u l);
@@ -49,20 +49,20 @@ taken_in pit number none count before now below another free is =
           let here : get_or (set now (get_or pit count 0) number) u 0 ≡ number = sym (ap (λ v. get_or (set now (get_or pit count 0) number) v 0) e) ∙ get_or-set_same now (get_or pit count 0) number 0 (omega arith) in
           let was : get_or now u 0 ≡ none = sym (ap (λ v. get_or now v 0) e) ∙ free in
           ⊎_elim
-          (λ (new : (get_or now u 0 ≡ number) × (get_or before u 0 ≡ none) × IsListed pit count u). absurd (another (sym new.0 ∙ was)))
-          (λ (kept : (get_or now u 0 ≡ get_or before u 0) × (get_or before u 0 ≡ none → IsListed pit count u → ⊥)).
+          (λ (new : (get_or now u 0 ≡ number) × (get_or before u 0 ≡ none) × IsAmongFirst pit count u). absurd (another (sym new.0 ∙ was)))
+          (λ (kept : (get_or now u 0 ≡ get_or before u 0) × (get_or before u 0 ≡ none → IsAmongFirst pit count u → ⊥)).
           inl (here, sym kept.0 ∙ was, (count, omega arith, e)))
           (is.each u l))
           (λ (ne : get_or pit count 0 ≡ u → ⊥).
           let there : get_or (set now (get_or pit count 0) number) u 0 ≡ get_or now u 0 = get_or-set_other now (get_or pit count 0) u number 0 (λ (e : u ≡ get_or pit count 0). ne (sym e)) in
           ⊎_elim
-          (λ (new : (get_or now u 0 ≡ number) × (get_or before u 0 ≡ none) × IsListed pit count u). inl (there ∙ new.0, new.1, wider pit count u new.2))
-          (λ (kept : (get_or now u 0 ≡ get_or before u 0) × (get_or before u 0 ≡ none → IsListed pit count u → ⊥)).
+          (λ (new : (get_or now u 0 ≡ number) × (get_or before u 0 ≡ none) × IsAmongFirst pit count u). inl (there ∙ new.0, new.1, wider pit count u new.2))
+          (λ (kept : (get_or now u 0 ≡ get_or before u 0) × (get_or before u 0 ≡ none → IsAmongFirst pit count u → ⊥)).
           inr (
             there ∙ kept.0,
             λ none_yet listed. ⊎_elim
                 (λ (e : get_or pit count 0 ≡ u). ne e)
-                (λ (sooner : IsListed pit count u). kept.1 none_yet sooner)
+                (λ (sooner : IsAmongFirst pit count u). kept.1 none_yet sooner)
                 (narrower pit count u listed),
           ))
           (is.each u l))
@@ -77,7 +77,7 @@ one_more shells n k d before after l firsts taken =
     record {
       size = taken.size ∙ firsts.size;
       each = λ u m. ⊎_elim
-          (λ (new : (get_or after u 0 ≡ k) × (get_or before u 0 ≡ length shells) × IsListed (get_or shells k d).pit.items (length (get_or shells k d).pit.items) u).
+          (λ (new : (get_or after u 0 ≡ k) × (get_or before u 0 ≡ length shells) × IsAmongFirst (get_or shells k d).pit.items (length (get_or shells k d).pit.items) u).
           ⊎_elim
           (λ (old : (get_or before u 0 < k) × Holds shells (get_or before u 0) u × ((j : ℕ) → j < get_or before u 0 → Holds shells j u → ⊥)).
           let below = old.0 in
@@ -91,7 +91,7 @@ one_more shells n k d before after l firsts taken =
             λ j less. old.1 j (omega arith),
           ))
           (firsts.each u m))
-          (λ (kept : (get_or after u 0 ≡ get_or before u 0) × (get_or before u 0 ≡ length shells → IsListed (get_or shells k d).pit.items (length (get_or shells k d).pit.items) u → ⊥)).
+          (λ (kept : (get_or after u 0 ≡ get_or before u 0) × (get_or before u 0 ≡ length shells → IsAmongFirst (get_or shells k d).pit.items (length (get_or shells k d).pit.items) u → ⊥)).
           let is = kept.0 in
           ⊎_elim
           (λ (old : (get_or before u 0 < k) × Holds shells (get_or before u 0) u × ((j : ℕ) → j < get_or before u 0 → Holds shells j u → ⊥)).

@@ -7,15 +7,15 @@ use Rattle.pit_model.specs.Certificate.{Certifies}
 use Rattle.pit_model.specs.Mine.{Instance, IsPit, worth}
 use Rattle.certificate.specs.Check.{most_amount}
 use Rattle.need_rows.specs.Rows.{RowsRise}
-use Rattle.arrays.specs.Parts.{AreParts, RefusesParts}
+use Rattle.arrays.specs.Halves.{AreHalves, RefusesHalves}
 use Rattle.arrays.specs.Refused.{RefusesRows}
 use Rattle.arrays.specs.Solved.{AreMarks}
-use Rattle.arrays.specs.Spelled.{SpellMine}
+use Rattle.arrays.specs.Encoded.{EncodesMine}
 
 -- the amounts are a flow on the pairs that shows that the marked blocks are the pit
 pub record CertifyMarks (values : List ℤ) (starts needs marks : List ℕ) (amounts : List ℤ) : Type 0 where
   pub mine : Instance
-  pub spelled : SpellMine values starts needs mine
+  pub encoded : EncodesMine values starts needs mine
   pub set : ℕ → Bool
   pub marks_are : AreMarks mine.blocks set marks
   pub count : length amounts ≡ length needs
@@ -40,18 +40,18 @@ RefusesFlow amounts OverLimit place = (place < length amounts) × (most_amount <
 RefusesFlow amounts _ place = ⊥
 
 -- why a flow is not looked at: or there is not an amount for each need; or a mark is neither 0 nor 1; or an amount is not as it must be
-pub data RefusesCheck (blocks : ℕ) (starts needs marks : List ℕ) (amounts : List ℤ) (refusal : Refusal) (place : ℕ) : Type 0 where
-  by_arrays : RefusesCertified blocks starts needs marks refusal place → RefusesCheck blocks starts needs marks amounts refusal place
-  by_count : refusal ≡ CountsDiffer → place ≡ 0 → (length amounts ≡ length needs → ⊥) → RefusesCheck blocks starts needs marks amounts refusal place
-  by_mark : refusal ≡ WrongHeader → place < length marks → 1 < get_or marks place 0 → RefusesCheck blocks starts needs marks amounts refusal place
-  by_flow : RefusesFlow amounts refusal place → RefusesCheck blocks starts needs marks amounts refusal place
+pub data RefusesCertificateArrays (blocks : ℕ) (starts needs marks : List ℕ) (amounts : List ℤ) (refusal : Refusal) (place : ℕ) : Type 0 where
+  by_arrays : RefusesCertified blocks starts needs marks refusal place → RefusesCertificateArrays blocks starts needs marks amounts refusal place
+  by_count : refusal ≡ CountsDiffer → place ≡ 0 → (length amounts ≡ length needs → ⊥) → RefusesCertificateArrays blocks starts needs marks amounts refusal place
+  by_mark : refusal ≡ WrongHeader → place < length marks → 1 < get_or marks place 0 → RefusesCertificateArrays blocks starts needs marks amounts refusal place
+  by_flow : RefusesFlow amounts refusal place → RefusesCertificateArrays blocks starts needs marks amounts refusal place
 
 -- the number of why no flow is made
 abbrev pub IsRefusedCertified : ℕ → List ℕ → List ℕ → List ℕ → List ℤ → List ℕ → ℕ → ℕ → Type 0
 IsRefusedCertified blocks starts needs marks high low number place =
-    (refusal : Refusal) × (number ≡ number_of refusal) × (RefusesCertified blocks starts needs marks refusal place ⊎ RefusesParts (length needs) high low refusal place)
+    (refusal : Refusal) × (number ≡ number_of refusal) × (RefusesCertified blocks starts needs marks refusal place ⊎ RefusesHalves (length needs) high low refusal place)
 
 -- and of why none is looked at
 abbrev pub IsRefusedCheck : ℕ → List ℕ → List ℕ → List ℕ → List ℤ → List ℕ → ℕ → ℕ → Type 0
 IsRefusedCheck blocks starts needs marks high low number place =
-    (refusal : Refusal) × (number ≡ number_of refusal) × (((amounts : List ℤ) × AreParts amounts high low × RefusesCheck blocks starts needs marks amounts refusal place) ⊎ RefusesParts (length needs) high low refusal place)
+    (refusal : Refusal) × (number ≡ number_of refusal) × (((amounts : List ℤ) × AreHalves amounts high low × RefusesCertificateArrays blocks starts needs marks amounts refusal place) ⊎ RefusesHalves (length needs) high low refusal place)

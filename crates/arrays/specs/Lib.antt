@@ -1,7 +1,7 @@
-pub mod Spelled
+pub mod Encoded
 pub mod Fixing
 pub mod Firsts
-pub mod Parts
+pub mod Halves
 pub mod Refused
 pub mod Solved
 pub mod Nested

@@ -1,4 +1,4 @@
--- Why arrays spell no mine, or none within the limits.
+-- Why arrays encode no mine, or none within the limits.
 use Rattle.std.specs.Prelude.{◌≡◌, ◌⊎◌, ℕ, ◌<◌, ◌≤◌, ◌^◌, ℤ, pos, ◌<ℤ◌, List, length, get_or, map, Some}
 use Rattle.pit_model.specs.Size.{most_blocks, most_pairs}
 use Rattle.faults.specs.Words.{number_of}
@@ -8,9 +8,9 @@ use Rattle.faults.specs.declared.refusal.Refusal.TheVariants.{NoMemory, OverLimi
 use Rattle.pit_model.specs.Graph.{AreSamePairs}
 use Rattle.pit_model.specs.Cycle.{IsCycleList}
 use Rattle.shells.specs.FactorList.{IsFirstItemFault}
-use Rattle.arrays.specs.Parts.{RefusesParts}
+use Rattle.arrays.specs.Halves.{RefusesHalves}
 use Rattle.arrays.specs.Fixing.{AreForBlocks, RefusesFixing}
-use Rattle.arrays.specs.Spelled.{AreRows, IsInRow, PricedRows, SpellPairs}
+use Rattle.arrays.specs.Encoded.{AreRowStarts, IsInRow, PricedRows, EncodesPairs}
 
 -- too many blocks, or too many pairs
 abbrev pub AreTooMany : ℕ → List ℕ → Type 0
@@ -26,35 +26,35 @@ pub record IsNamedTwice (starts needs : List ℕ) (place : ℕ) : Type 0 where
   pub same : get_or needs before 0 ≡ get_or needs place 0
 
 -- no memory; or the cycle of the pairs; neither has a place
-abbrev pub RefusesPairs : List (ℕ × ℕ) → ℕ → Refusal → ℕ → Type 0
-RefusesPairs pairs blocks NoMemory place = place ≡ 0
-RefusesPairs pairs blocks (Cycle list) place = IsCycleList pairs blocks list.items × (place ≡ 0)
-RefusesPairs pairs blocks _ place = ⊥
+abbrev pub RefusesNeedArrays : List (ℕ × ℕ) → ℕ → Refusal → ℕ → Type 0
+RefusesNeedArrays pairs blocks NoMemory place = place ≡ 0
+RefusesNeedArrays pairs blocks (Cycle list) place = IsCycleList pairs blocks list.items × (place ≡ 0)
+RefusesNeedArrays pairs blocks _ place = ⊥
 
 -- no memory; or a fault of the arrays, with the place of `needs` where it lies, and 0 for one that lies at no place
 abbrev pub RefusesRows : ℕ → List ℕ → List ℕ → Refusal → ℕ → Type 0
 RefusesRows blocks starts needs NoMemory place = place ≡ 0
 RefusesRows blocks starts needs OverLimit place = AreTooMany blocks needs × (place ≡ 0)
-RefusesRows blocks starts needs IdOutOfPlace place = (AreRows blocks (length needs) starts → ⊥) × (place ≡ 0)
+RefusesRows blocks starts needs IdOutOfPlace place = (AreRowStarts blocks (length needs) starts → ⊥) × (place ≡ 0)
 RefusesRows blocks starts needs PredecessorOutOfRange place = (place < length needs) × (blocks ≤ get_or needs place 0)
 RefusesRows blocks starts needs NeedsItself place = IsInRow starts (get_or needs place 0) place
 RefusesRows blocks starts needs PredecessorTwice place = IsNamedTwice starts needs place
-RefusesRows blocks starts needs (Cycle list) place = (pairs : List (ℕ × ℕ)) × SpellPairs starts needs pairs × IsCycleList pairs blocks list.items × (place ≡ 0)
+RefusesRows blocks starts needs (Cycle list) place = (pairs : List (ℕ × ℕ)) × EncodesPairs starts needs pairs × IsCycleList pairs blocks list.items × (place ≡ 0)
 RefusesRows blocks starts needs _ place = ⊥
 
 -- or there is not a mark for each block, or neither a number for each block nor none; or a number says nothing; or a barred
 -- block must be dug, by the pairs in whatever order
-abbrev pub RefusesSolve : ℕ → List ℕ → List ℕ → List ℕ → List ℕ → Refusal → ℕ → Type 0
-RefusesSolve blocks starts needs numbers marks CountsDiffer place = ((length marks ≡ blocks) × AreForBlocks blocks numbers → ⊥) × (place ≡ 0)
-RefusesSolve blocks starts needs numbers marks WrongHeader place = (place < length numbers) × (2 < get_or numbers place 0)
-RefusesSolve blocks starts needs numbers marks (FixedClash block) place =
-    (spelled pairs : List (ℕ × ℕ)) × SpellPairs starts needs spelled × AreSamePairs spelled pairs × RefusesFixing pairs numbers (FixedClash block) place
-RefusesSolve blocks starts needs numbers marks refusal place = RefusesRows blocks starts needs refusal place
+abbrev pub RefusesPitArrays : ℕ → List ℕ → List ℕ → List ℕ → List ℕ → Refusal → ℕ → Type 0
+RefusesPitArrays blocks starts needs numbers marks CountsDiffer place = ((length marks ≡ blocks) × AreForBlocks blocks numbers → ⊥) × (place ≡ 0)
+RefusesPitArrays blocks starts needs numbers marks WrongHeader place = (place < length numbers) × (2 < get_or numbers place 0)
+RefusesPitArrays blocks starts needs numbers marks (FixedClash block) place =
+    (encoded pairs : List (ℕ × ℕ)) × EncodesPairs starts needs encoded × AreSamePairs encoded pairs × RefusesFixing pairs numbers (FixedClash block) place
+RefusesPitArrays blocks starts needs numbers marks refusal place = RefusesRows blocks starts needs refusal place
 
 -- the number of why no pit is marked
 abbrev pub IsRefusedBy : ℕ → List ℕ → List ℕ → List ℕ → List ℕ → ℕ → ℕ → Type 0
 IsRefusedBy blocks starts needs numbers marks number place =
-    (refusal : Refusal) × (number ≡ number_of refusal) × RefusesSolve blocks starts needs numbers marks refusal place
+    (refusal : Refusal) × (number ≡ number_of refusal) × RefusesPitArrays blocks starts needs numbers marks refusal place
 
 -- of an amount of a block: it is negative, or above 10^18
 abbrev pub RefusesAmount : ℕ → ℤ → Refusal → Type 0
@@ -73,14 +73,14 @@ RefusesFactors factors NoMemory = Unit {0}
 RefusesFactors factors refusal = (fault : Fault) × (fault.refusal ≡ refusal) × IsFirstItemFault (map (λ factor. Some factor) factors) fault
 
 -- why nested pits are not marked: there is not a cost and a number for each revenue; or rows, amounts or factors are refused
-pub data RefusesShells (rows : PricedRows) (factors firsts : List ℕ) (refusal : Refusal) (place : ℕ) : Type 0 where
-  by_counts : refusal ≡ CountsDiffer → place ≡ 0 → ((length firsts ≡ length rows.revenues) × (length rows.costs ≡ length rows.revenues) → ⊥) → RefusesShells rows factors firsts refusal place
-  by_rows : RefusesRows (length rows.revenues) rows.starts rows.needs refusal place → RefusesShells rows factors firsts refusal place
-  by_revenues : RefusesAmounts rows.revenues refusal place → RefusesShells rows factors firsts refusal place
-  by_costs : RefusesAmounts rows.costs refusal place → RefusesShells rows factors firsts refusal place
-  by_factors : RefusesFactors factors refusal → place ≡ 0 → RefusesShells rows factors firsts refusal place
+pub data RefusesShellArrays (rows : PricedRows) (factors firsts : List ℕ) (refusal : Refusal) (place : ℕ) : Type 0 where
+  by_counts : refusal ≡ CountsDiffer → place ≡ 0 → ((length firsts ≡ length rows.revenues) × (length rows.costs ≡ length rows.revenues) → ⊥) → RefusesShellArrays rows factors firsts refusal place
+  by_rows : RefusesRows (length rows.revenues) rows.starts rows.needs refusal place → RefusesShellArrays rows factors firsts refusal place
+  by_revenues : RefusesAmounts rows.revenues refusal place → RefusesShellArrays rows factors firsts refusal place
+  by_costs : RefusesAmounts rows.costs refusal place → RefusesShellArrays rows factors firsts refusal place
+  by_factors : RefusesFactors factors refusal → place ≡ 0 → RefusesShellArrays rows factors firsts refusal place
 
 -- the number of why nested pits are not marked
 abbrev pub IsRefusedShells : PricedRows → List ℕ → List ℕ → List ℤ → List ℕ → ℕ → ℕ → Type 0
 IsRefusedShells rows factors firsts high low number place =
-    (refusal : Refusal) × (number ≡ number_of refusal) × (RefusesShells rows factors firsts refusal place ⊎ RefusesParts (length factors) high low refusal place)
+    (refusal : Refusal) × (number ≡ number_of refusal) × (RefusesShellArrays rows factors firsts refusal place ⊎ RefusesHalves (length factors) high low refusal place)

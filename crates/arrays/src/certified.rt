@@ -1,15 +1,15 @@
-//! The pit of a mine that arrays spell, with the flow that shows it, by one thread; and the check of such a flow.
+//! The pit of a mine that arrays encode, with the flow that shows it, by one thread; and the check of such a flow.
 ghost use Rattle.std.specs.Prelude.{◌≡◌, ◌↔◌, ◌<◌, ◌≤◌, ℕ, pos, ◌≤ℤ◌, IsTrue, length, get_or, IfOk, IfErr, IfSome, IfNone};
 ghost use Rattle.pit_model.specs.Mine.{arcs};
 ghost use Rattle.pit_model.specs.Size.{most_pairs};
 ghost use Rattle.certificate.specs.Certificate.{IsCertificateOf};
 ghost use Rattle.certificate.specs.Check.{AreAmounts};
-ghost use Rattle.arrays.specs.Certified.{CertifyMarks, MarkCertified, RefusesCertified, RefusesCheck, RefusesFlow};
+ghost use Rattle.arrays.specs.Certified.{CertifyMarks, MarkCertified, RefusesCertified, RefusesCertificateArrays, RefusesFlow};
 
+use crate::array_error::ArrayError;
 use crate::fixing::{blocks_with, first_above};
 use crate::marks::write_marks;
 use crate::ordered::ordered_mine_of;
-use crate::unsound::Unsound;
 use certificate::{Certificate, check};
 use faults::{Fault, Refusal};
 use mine_graph::{Fixed, Instance};
@@ -28,34 +28,34 @@ pub struct Certified {
 }
 
 /// The certificate of a mine. Refused for want of memory alone.
-fn certificate_of(alloc: Global, mine: &Instance) -> Result<Certificate, Unsound>
+fn certificate_of(alloc: Global, mine: &Instance) -> Result<Certificate, ArrayError>
     ensures certifies { IfOk result (IsCertificateOf mine.now) }
     ensures refused { IfErr result (λ e. (e.refusal ≡ Refusal.NoMemory) × (e.place ≡ 0)) }
 {
     match solve_single(alloc, mine, None) {
         Ok(Outcome::Pit(certificate)) => Ok(certificate),
         Ok(Outcome::Exhausted(_)) => unreachable!(),
-        Err(_) => Err(Unsound {
+        Err(_) => Err(ArrayError {
             refusal: Refusal::NoMemory,
             place: 0,
         }),
     }
 }
 
-/// Marks the pit of the mine that the arrays spell, and answers its worth and the flow that shows it. Refused as `mine_of` is, where the
+/// Marks the pit of the mine that the arrays encode, and answers its worth and the flow that shows it. Refused as `mine_of` is, where the
 /// blocks of a row do not rise (7), and where there is not a mark for each block (17). The marks are then as they were.
 pub fn mark_certified(
     alloc: Global,
     values: &[i64],
     rows: &Rows<'_>,
     marks: &mut [u8],
-) -> Result<Certified, Unsound>
+) -> Result<Certified, ArrayError>
     ensures marked { IfOk result (λ c. MarkCertified values.now rows.now.starts.now rows.now.seconds.now marks.new c.flow.items c.worth) }
     ensures refused { IfErr result (λ e. RefusesCertified (length values.now) rows.now.starts.now rows.now.seconds.now marks.old e.refusal e.place) }
     ensures kept { IfErr result (λ _. marks.new ≡ marks.old) }
 {
     if marks.len() != values.len() {
-        return Err(Unsound {
+        return Err(ArrayError {
             refusal: Refusal::CountsDiffer,
             place: 0,
         });
@@ -71,7 +71,7 @@ pub fn mark_certified(
 }
 
 /// The first amount that no pair may have: negative (15), or above 10^30 (4).
-fn first_unfit(flow: &[i128]) -> Option<Unsound>
+fn first_unfit(flow: &[i128]) -> Option<ArrayError>
     requires { length flow.now ≤ most_pairs }
     ensures some { IfSome result (λ e. RefusesFlow flow.now e.refusal e.place) }
     ensures none { IfNone result (AreAmounts flow.now) }
@@ -79,13 +79,13 @@ fn first_unfit(flow: &[i128]) -> Option<Unsound>
     for k in 0..flow.len() {
         let place = k as u32;
         if flow[k] < 0 {
-            return Some(Unsound {
+            return Some(ArrayError {
                 refusal: Refusal::NegativeColumn(place),
                 place,
             });
         }
         if flow[k] > MOST_AMOUNT {
-            return Some(Unsound {
+            return Some(ArrayError {
                 refusal: Refusal::OverLimit,
                 place,
             });
@@ -94,7 +94,7 @@ fn first_unfit(flow: &[i128]) -> Option<Unsound>
     None
 }
 
-/// Whether the flow shows that the marked blocks are the pit of the mine that the arrays spell. Refused as `mark_certified` is; where
+/// Whether the flow shows that the marked blocks are the pit of the mine that the arrays encode. Refused as `mark_certified` is; where
 /// there is not an amount for each need (17); by a mark above 1 (3), and by an amount that is negative (15) or above 10^30 (4).
 pub fn check_marks(
     alloc: Global,
@@ -102,12 +102,12 @@ pub fn check_marks(
     rows: &Rows<'_>,
     marks: &[u8],
     flow: Vec<i128>,
-) -> Result<bool, Unsound>
+) -> Result<bool, ArrayError>
     ensures exact { IfOk result (λ yes. IsTrue yes ↔ CertifyMarks values.now rows.now.starts.now rows.now.seconds.now marks.now flow.items) }
-    ensures refused { IfErr result (λ e. RefusesCheck (length values.now) rows.now.starts.now rows.now.seconds.now marks.now flow.items e.refusal e.place) }
+    ensures refused { IfErr result (λ e. RefusesCertificateArrays (length values.now) rows.now.starts.now rows.now.seconds.now marks.now flow.items e.refusal e.place) }
 {
     if marks.len() != values.len() || flow.len() != rows.seconds.len() {
-        return Err(Unsound {
+        return Err(ArrayError {
             refusal: Refusal::CountsDiffer,
             place: 0,
         });
@@ -115,7 +115,7 @@ pub fn check_marks(
     let mine = ordered_mine_of(alloc, values, rows)?;
     mine.law();
     if let Some(place) = first_above(marks, 1) {
-        return Err(Unsound {
+        return Err(ArrayError {
             refusal: Refusal::WrongHeader,
             place,
         });
@@ -126,7 +126,7 @@ pub fn check_marks(
     let pit = blocks_with(alloc, marks, 1)?;
     match check(alloc, &mine, &Fixed::none(), &Certificate { pit, flow }) {
         Ok(yes) => Ok(yes),
-        Err(_) => Err(Unsound {
+        Err(_) => Err(ArrayError {
             refusal: Refusal::NoMemory,
             place: 0,
         }),

@@ -4,8 +4,8 @@ ghost use Rattle.pit_model.specs.Deposit.{IsAmount};
 ghost use Rattle.pit_model.specs.Size.{most_blocks};
 ghost use Rattle.arrays.specs.Refused.{RefusesAmount, RefusesAmounts};
 
+use crate::array_error::ArrayError;
 use crate::mine::widened;
-use crate::unsound::Unsound;
 use faults::Refusal;
 use shells::Columns;
 use std::alloc::Global;
@@ -29,7 +29,7 @@ fn refusal_of(amount: i64, block: u32) -> Option<Refusal>
 }
 
 /// The first block with an amount that no block may have.
-fn first_wrong(amounts: &[i64]) -> Option<Unsound>
+fn first_wrong(amounts: &[i64]) -> Option<ArrayError>
     requires { length amounts.now ≤ most_blocks }
     ensures some { IfSome result (λ e. RefusesAmounts amounts.now e.refusal e.place) }
     ensures none { IfNone result (IsAmount (length amounts.now) amounts.now) }
@@ -37,7 +37,7 @@ fn first_wrong(amounts: &[i64]) -> Option<Unsound>
     for u in 0..amounts.len() {
         let place = u as u32;
         if let Some(refusal) = refusal_of(amounts[u], place) {
-            return Some(Unsound { refusal, place });
+            return Some(ArrayError { refusal, place });
         }
     }
     None
@@ -45,7 +45,7 @@ fn first_wrong(amounts: &[i64]) -> Option<Unsound>
 
 /// Revenues and costs of as many blocks. Refused by the first of the revenues, and then of the costs, that is negative (15) or above
 /// 10^18 (4), and for want of memory (1).
-pub fn columns_of(alloc: Global, revenues: &[i64], costs: &[i64]) -> Result<Columns, Unsound>
+pub fn columns_of(alloc: Global, revenues: &[i64], costs: &[i64]) -> Result<Columns, ArrayError>
     requires few { length revenues.now ≤ most_blocks }
     requires counted { length costs.now ≡ length revenues.now }
     ensures revenues { IfOk result (λ c. c.revenues ≡ revenues.now) }

@@ -1,10 +1,10 @@
-//! The cycle of rows that spell no mine.
+//! The cycle of rows that encode no mine.
 ghost use Rattle.std.specs.Prelude.{◌≡◌, ◌<◌, ℕ, length, get_or, IfOk, IfErr, IfSome, IfNone};
-ghost use Rattle.arrays.specs.Cycles.{SpellNoCycle, WritesCycle};
+ghost use Rattle.arrays.specs.Cycles.{EncodeNoCycle, WritesCycle};
 ghost use Rattle.arrays.specs.Refused.{RefusesRows};
 
+use crate::array_error::ArrayError;
 use crate::graph::graph_of;
-use crate::unsound::Unsound;
 use faults::Refusal;
 use need_rows::Rows;
 use std::alloc::Global;
@@ -26,8 +26,8 @@ pub fn find_cycle(
     blocks: usize,
     rows: &Rows<'_>,
     room: &mut [u32],
-) -> Result<Option<usize>, Unsound>
-    ensures none { IfOk result (λ found. IfNone found (SpellNoCycle blocks rows.now.starts.now rows.now.seconds.now)) }
+) -> Result<Option<usize>, ArrayError>
+    ensures none { IfOk result (λ found. IfNone found (EncodeNoCycle blocks rows.now.starts.now rows.now.seconds.now)) }
     ensures some { IfOk result (λ found. IfSome found (λ count. (0 < count) × WritesCycle blocks rows.now.starts.now rows.now.seconds.now room.new count)) }
     ensures refused { IfErr result (λ e. RefusesRows blocks rows.now.starts.now rows.now.seconds.now e.refusal e.place) }
     ensures kept { IfErr result (λ _. room.new ≡ room.old) }
@@ -37,12 +37,12 @@ pub fn find_cycle(
             graph.law();
             Ok(None)
         }
-        Err(Unsound { refusal, place }) => match refusal {
+        Err(ArrayError { refusal, place }) => match refusal {
             Refusal::Cycle(cycle) => {
                 write_front(&cycle, room);
                 Ok(Some(cycle.len()))
             }
-            refusal => Err(Unsound { refusal, place }),
+            refusal => Err(ArrayError { refusal, place }),
         },
     }
 }

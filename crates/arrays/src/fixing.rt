@@ -6,7 +6,7 @@ ghost use Rattle.pit_model.specs.Mine.{members};
 ghost use Rattle.mine_graph.specs.FixedBlocks.{IsFixedOf};
 ghost use Rattle.arrays.specs.Fixing.{AreForBlocks, RefusesFixing, fixed_by, toward};
 
-use crate::unsound::Unsound;
+use crate::array_error::ArrayError;
 use faults::Refusal;
 use mine_graph::{Fixed, Graph};
 use pit_model::Direction;
@@ -49,7 +49,7 @@ pub fn blocks_with(alloc: Global, numbers: &[u8], number: u8) -> Result<Vec<u32>
 }
 
 /// What numbers fix of a graph's blocks. Refused for want of memory, and by the least barred block that must be dug (21).
-pub fn fixed_by(alloc: Global, graph: &Graph, numbers: &[u8]) -> Result<Fixed, Unsound>
+pub fn fixed_by(alloc: Global, graph: &Graph, numbers: &[u8]) -> Result<Fixed, ArrayError>
     requires { AreForBlocks graph.now.blocks numbers.now }
     ensures fixes { IfOk result (λ f. fixed_of f.lists ≡ fixed_by numbers.now) }
     ensures of_graph { IfOk result (IsFixedOf graph.now) }
@@ -63,7 +63,7 @@ pub fn fixed_by(alloc: Global, graph: &Graph, numbers: &[u8]) -> Result<Fixed, U
     let barred = blocks_with(alloc, numbers, 2)?;
     match Fixed::new(alloc, graph, forced, barred) {
         Ok(fixed) => Ok(fixed),
-        Err(fault) => Err(Unsound {
+        Err(fault) => Err(ArrayError {
             place: clash_of(&fault.refusal),
             refusal: fault.refusal,
         }),

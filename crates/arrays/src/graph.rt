@@ -1,13 +1,13 @@
-//! The graph that rows spell, or why they spell none.
+//! The graph that rows encode, or why they encode none.
 ghost use Rattle.std.specs.Prelude.{◌≡◌, ◌<◌, ◌≤◌, ℕ, length, IfOk, IfErr};
 ghost use Rattle.pit_model.specs.Size.{most_blocks, most_pairs};
 ghost use Rattle.pit_model.specs.Graph.{AreApart, AreInRange, AreSamePairs};
-ghost use Rattle.arrays.specs.Spelled.{AreRows, SpellGraph, SpellPairs};
-ghost use Rattle.arrays.specs.Refused.{RefusesRows, RefusesPairs};
+ghost use Rattle.arrays.specs.Encoded.{AreRowStarts, EncodesGraph, EncodesPairs};
+ghost use Rattle.arrays.specs.Refused.{RefusesRows, RefusesNeedArrays};
 
+use crate::array_error::ArrayError;
 use crate::needs::{first_of_itself, first_outside, first_repeated};
 use crate::rows::are_rows;
-use crate::unsound::Unsound;
 use faults::Refusal;
 use mine_graph::Graph;
 use need_rows::{NeedRows, Rows};
@@ -19,30 +19,30 @@ const MOST_BLOCKS: usize = 4_194_304;
 const MOST_PAIRS: usize = 67_108_864;
 
 /// The rows, where each pair is of two blocks that there are and stands once.
-fn sound_rows(alloc: Global, blocks: u32, rows: Rows<'_>) -> Result<NeedRows, Unsound>
+fn sound_rows(alloc: Global, blocks: u32, rows: Rows<'_>) -> Result<NeedRows, ArrayError>
     requires few_blocks { blocks ≤ most_blocks }
     requires few_pairs { length rows.seconds.now ≤ most_pairs }
-    requires rows { AreRows blocks (length rows.seconds.now) rows.starts.now }
+    requires rows { AreRowStarts blocks (length rows.seconds.now) rows.starts.now }
     ensures rows { IfOk result (λ v. v.blocks ≡ blocks) }
-    ensures spelled { IfOk result (λ v. SpellPairs rows.entry.starts.now rows.entry.seconds.now v.pairs) }
+    ensures encoded { IfOk result (λ v. EncodesPairs rows.entry.starts.now rows.entry.seconds.now v.pairs) }
     ensures in_range { IfOk result (λ v. AreInRange v.pairs blocks) }
     ensures apart { IfOk result (λ v. AreApart v.pairs) }
     ensures refused { IfErr result (λ e. RefusesRows blocks rows.entry.starts.now rows.entry.seconds.now e.refusal e.place) }
 {
     if let Some(place) = first_outside(blocks, rows.seconds) {
-        return Err(Unsound {
+        return Err(ArrayError {
             refusal: Refusal::PredecessorOutOfRange,
             place,
         });
     }
     if let Some(place) = first_of_itself(blocks, rows) {
-        return Err(Unsound {
+        return Err(ArrayError {
             refusal: Refusal::NeedsItself,
             place,
         });
     }
     if let Some(place) = first_repeated(alloc, blocks, rows)? {
-        return Err(Unsound {
+        return Err(ArrayError {
             refusal: Refusal::PredecessorTwice,
             place,
         });
@@ -51,7 +51,7 @@ fn sound_rows(alloc: Global, blocks: u32, rows: Rows<'_>) -> Result<NeedRows, Un
 }
 
 /// The graph of the pairs of rows, or the cycle that they have.
-fn graph_of_rows(alloc: Global, blocks: u32, needs: NeedRows) -> Result<Arc<Graph>, Unsound>
+fn graph_of_rows(alloc: Global, blocks: u32, needs: NeedRows) -> Result<Arc<Graph>, ArrayError>
     requires few_blocks { blocks ≤ most_blocks }
     requires few_pairs { length needs.pairs ≤ most_pairs }
     requires rows { needs.blocks ≡ blocks }
@@ -59,34 +59,34 @@ fn graph_of_rows(alloc: Global, blocks: u32, needs: NeedRows) -> Result<Arc<Grap
     requires apart { AreApart needs.pairs }
     ensures blocks { IfOk result (λ g. g.value.blocks ≡ blocks) }
     ensures same { IfOk result (λ g. AreSamePairs needs.pairs g.value.pairs) }
-    ensures refused { IfErr result (λ e. RefusesPairs needs.pairs blocks e.refusal e.place) }
+    ensures refused { IfErr result (λ e. RefusesNeedArrays needs.pairs blocks e.refusal e.place) }
 {
     match Graph::of_rows(alloc, blocks, needs) {
         Ok(graph) => Ok(Arc::new(alloc, graph)?),
-        Err(fault) => Err(Unsound {
+        Err(fault) => Err(ArrayError {
             refusal: fault.refusal,
             place: 0,
         }),
     }
 }
 
-/// The graph of so many blocks that rows spell, or why they spell none: the first that applies of too many blocks or pairs (4), rows
+/// The graph of so many blocks that rows encode, or why they encode none: the first that applies of too many blocks or pairs (4), rows
 /// out of place (7), a block that there is not (8), one that needs itself (9), one that is named twice (10), a cycle (14); and for want
 /// of memory (1). Time is linear in blocks and pairs.
-pub fn graph_of(alloc: Global, blocks: usize, rows: &Rows<'_>) -> Result<Arc<Graph>, Unsound>
+pub fn graph_of(alloc: Global, blocks: usize, rows: &Rows<'_>) -> Result<Arc<Graph>, ArrayError>
     ensures few { IfOk result (λ g. blocks ≤ most_blocks) }
-    ensures spelled { IfOk result (λ g. SpellGraph blocks rows.now.starts.now rows.now.seconds.now g.value) }
+    ensures encoded { IfOk result (λ g. EncodesGraph blocks rows.now.starts.now rows.now.seconds.now g.value) }
     ensures refused { IfErr result (λ e. RefusesRows blocks rows.now.starts.now rows.now.seconds.now e.refusal e.place) }
 {
     if blocks > MOST_BLOCKS || rows.seconds.len() > MOST_PAIRS {
-        return Err(Unsound {
+        return Err(ArrayError {
             refusal: Refusal::OverLimit,
             place: 0,
         });
     }
     let count = blocks as u32;
     if !are_rows(count, rows.seconds.len(), rows.starts) {
-        return Err(Unsound {
+        return Err(ArrayError {
             refusal: Refusal::IdOutOfPlace,
             place: 0,
         });

@@ -1,17 +1,17 @@
-//! The mine that arrays spell, or why they spell none.
+//! The mine that arrays encode, or why they encode none.
 ghost use Rattle.std.specs.Prelude.{◌≡◌, ◌<◌, ◌≤◌, ◌^◌, ℕ, pos, neg_ℤ, ◌≤ℤ◌, length, get_or, IfOk, IfErr};
-ghost use Rattle.arrays.specs.Spelled.{ArraysSpellOneMine, IsSpelled};
+ghost use Rattle.arrays.specs.Encoded.{ArraysEncodeOneMine, IsEncoded};
 ghost use Rattle.arrays.specs.Refused.{RefusesRows};
 
+use crate::array_error::ArrayError;
 use crate::graph::graph_of;
-use crate::unsound::Unsound;
 use mine_graph::Instance;
 use need_rows::Rows;
 use std::alloc::{AllocError, Global};
 
-/// Arrays spell one mine at most.
-pub fn arrays_spell_one_mine()
-    ensures { ArraysSpellOneMine }
+/// Arrays encode one mine at most.
+pub fn arrays_encode_one_mine()
+    ensures { ArraysEncodeOneMine }
 {}
 
 /// The same value as a wider number.
@@ -36,10 +36,10 @@ pub fn widened(alloc: Global, values: &[i64]) -> Result<Vec<i128>, AllocError>
     Ok(list)
 }
 
-/// The mine that the arrays spell, or why they spell none: as `graph_of` says, and for want of memory (1). Time is linear in blocks and
+/// The mine that the arrays encode, or why they encode none: as `graph_of` says, and for want of memory (1). Time is linear in blocks and
 /// pairs.
-pub fn mine_of(alloc: Global, values: &[i64], rows: &Rows<'_>) -> Result<Instance, Unsound>
-    ensures spelled { IfOk result (IsSpelled values.now rows.now.starts.now rows.now.seconds.now) }
+pub fn mine_of(alloc: Global, values: &[i64], rows: &Rows<'_>) -> Result<Instance, ArrayError>
+    ensures encoded { IfOk result (IsEncoded values.now rows.now.starts.now rows.now.seconds.now) }
     ensures refused { IfErr result (λ e. RefusesRows (length values.now) rows.now.starts.now rows.now.seconds.now e.refusal e.place) }
 {
     let graph = graph_of(alloc, values.len(), rows)?;

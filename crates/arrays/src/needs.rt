@@ -1,11 +1,11 @@
-//! What is tested of the pairs that rows spell: both blocks are there, none needs itself, and none names a block twice.
+//! What is tested of the pairs that rows encode: both blocks are there, none needs itself, and none names a block twice.
 ghost use Rattle.std.specs.Prelude.{◌≡◌, ◌+◌, ◌<◌, ◌≤◌, ℕ, length, get_or, IfOk, IfSome, IfNone};
 ghost use Rattle.pit_model.specs.Size.{most_blocks, most_pairs};
 ghost use Rattle.pit_model.specs.Graph.{AreApart, AreInRange};
 ghost use Rattle.need_rows.specs.Lent.{pairs_in};
 ghost use Rattle.need_rows.specs.Rows.{AreStarts};
 ghost use Rattle.arrays.specs.Named.{AreNamed, IsRepeated};
-ghost use Rattle.arrays.specs.Spelled.{AreRows, IsInRow};
+ghost use Rattle.arrays.specs.Encoded.{AreRowStarts, IsInRow};
 
 use need_rows::Rows;
 use std::alloc::{AllocError, Global};
@@ -40,7 +40,7 @@ fn own_place(rows: Rows<'_>, block: u32) -> Option<u32>
 
 /// The first place of a block that needs itself.
 pub fn first_of_itself(blocks: u32, rows: Rows<'_>) -> Option<u32>
-    requires rows { AreRows blocks (length rows.seconds.now) rows.starts.now }
+    requires rows { AreRowStarts blocks (length rows.seconds.now) rows.starts.now }
     requires few { blocks ≤ most_blocks }
     ensures some { IfSome result (λ k. IsInRow rows.entry.starts.now (get_or rows.entry.seconds.now k 0) k) }
 {
@@ -76,7 +76,7 @@ fn repeated_place(rows: Rows<'_>, block: u32, named: &mut [u32]) -> Option<u32>
 /// The first place of a pair that stands before.
 pub fn first_repeated(alloc: Global, blocks: u32, rows: Rows<'_>) -> Result<Option<u32>, AllocError>
     requires few { blocks ≤ most_blocks }
-    requires rows { AreRows blocks (length rows.seconds.now) rows.starts.now }
+    requires rows { AreRowStarts blocks (length rows.seconds.now) rows.starts.now }
     requires below { (k : ℕ) → k < length rows.seconds.now → get_or rows.seconds.now k 0 < blocks }
     ensures some { IfOk result (λ r. IfSome r (IsRepeated (pairs_in rows.entry))) }
     ensures none { IfOk result (λ r. IfNone r (AreApart (pairs_in rows.entry))) }

@@ -1,17 +1,17 @@
-//! The nested pits of a deposit that arrays spell, by one thread.
+//! The nested pits of a deposit that arrays encode, by one thread.
 ghost use Rattle.std.specs.Prelude.{◌≡◌, map, IfOk, IfErr};
 ghost use Rattle.arrays.specs.Nested.{MarkShells};
-ghost use Rattle.arrays.specs.Refused.{RefusesFactors, RefusesShells};
-ghost use Rattle.arrays.specs.Spelled.{priced_rows};
+ghost use Rattle.arrays.specs.Refused.{RefusesFactors, RefusesShellArrays};
+ghost use Rattle.arrays.specs.Encoded.{priced_rows};
 
+use crate::array_error::ArrayError;
 use crate::columns::columns_of;
 use crate::firsts::write_firsts;
 use crate::graph::graph_of;
-use crate::unsound::Unsound;
 use faults::Refusal;
 use need_rows::Rows;
 use pit_model::Shell;
-use shells::{Factors, shells_alone};
+use shells::{Factors, shells_sequential};
 use std::alloc::{AllocError, Global};
 
 /// The revenue and the cost of each block in millionths, and which blocks each needs.
@@ -24,7 +24,7 @@ pub struct DepositArrays<'a> {
 
 /// The factors of a list. Refused by the first that is above 100,000 or the one too many (4), or not greater than the one before (19),
 /// and for want of memory (1).
-fn factors_of(alloc: Global, list: &[u32]) -> Result<Factors, Unsound>
+fn factors_of(alloc: Global, list: &[u32]) -> Result<Factors, ArrayError>
     ensures list { IfOk result (λ f. f ≡ list.now) }
     ensures refused { IfErr result (λ e. RefusesFactors list.now e.refusal) }
     ensures no_place { IfErr result (λ e. e.place ≡ 0) }
@@ -32,7 +32,7 @@ fn factors_of(alloc: Global, list: &[u32]) -> Result<Factors, Unsound>
     let list = list.iter().copied().collect(alloc)?;
     match Factors::new(list) {
         Ok(factors) => Ok(factors),
-        Err(fault) => Err(Unsound {
+        Err(fault) => Err(ArrayError {
             refusal: fault.refusal,
             place: 0,
         }),
@@ -59,9 +59,9 @@ pub fn mark_shells(
     deposit: &DepositArrays<'_>,
     factors: &[u32],
     firsts: &mut [u32],
-) -> Result<Vec<i128>, Unsound>
+) -> Result<Vec<i128>, ArrayError>
     ensures marked { IfOk result (λ worths. MarkShells (priced_rows deposit.now.revenues.now deposit.now.costs.now deposit.now.rows.starts.now deposit.now.rows.seconds.now) factors.now firsts.new worths.items) }
-    ensures refused { IfErr result (λ e. RefusesShells (priced_rows deposit.now.revenues.now deposit.now.costs.now deposit.now.rows.starts.now deposit.now.rows.seconds.now) factors.now firsts.old e.refusal e.place) }
+    ensures refused { IfErr result (λ e. RefusesShellArrays (priced_rows deposit.now.revenues.now deposit.now.costs.now deposit.now.rows.starts.now deposit.now.rows.seconds.now) factors.now firsts.old e.refusal e.place) }
     ensures kept { IfErr result (λ _. firsts.new ≡ firsts.old) }
 {
     let DepositArrays {
@@ -70,7 +70,7 @@ pub fn mark_shells(
         rows,
     } = *deposit;
     if costs.len() != revenues.len() || firsts.len() != revenues.len() {
-        return Err(Unsound {
+        return Err(ArrayError {
             refusal: Refusal::CountsDiffer,
             place: 0,
         });
@@ -80,8 +80,8 @@ pub fn mark_shells(
     columns.law();
     let factors = factors_of(alloc, factors)?;
     factors.law();
-    let Ok(shells) = shells_alone(alloc, &columns, &graph, &factors) else {
-        return Err(Unsound {
+    let Ok(shells) = shells_sequential(alloc, &columns, &graph, &factors) else {
+        return Err(ArrayError {
             refusal: Refusal::NoMemory,
             place: 0,
         });

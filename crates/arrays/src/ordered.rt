@@ -3,26 +3,30 @@ ghost use Rattle.std.specs.Prelude.{◌≡◌, ◌↔◌, ◌≤◌, ◌⊎◌, 
 ghost use Rattle.faults.specs.declared.refusal.Refusal.TheVariants.{IdOutOfPlace};
 ghost use Rattle.need_rows.specs.Rows.{RowsRise};
 ghost use Rattle.arrays.specs.Refused.{RefusesRows};
-ghost use Rattle.arrays.specs.Spelled.{SpellMine};
+ghost use Rattle.arrays.specs.Encoded.{EncodesMine};
 
+use crate::array_error::ArrayError;
 use crate::mine::mine_of;
-use crate::unsound::Unsound;
 use faults::Refusal;
 use mine_graph::Instance;
 use need_rows::{Rows, rows_rise};
 use std::alloc::Global;
 
-/// The mine that the arrays spell, whose pairs are numbered by the places of their needs. Refused as `mine_of` is, and where the blocks
+/// The mine that the arrays encode, whose pairs are numbered by the places of their needs. Refused as `mine_of` is, and where the blocks
 /// of a row do not rise (7).
-pub fn ordered_mine_of(alloc: Global, values: &[i64], rows: &Rows<'_>) -> Result<Instance, Unsound>
-    ensures spelled { IfOk result (SpellMine values.now rows.now.starts.now rows.now.seconds.now) }
+pub fn ordered_mine_of(
+    alloc: Global,
+    values: &[i64],
+    rows: &Rows<'_>,
+) -> Result<Instance, ArrayError>
+    ensures encoded { IfOk result (EncodesMine values.now rows.now.starts.now rows.now.seconds.now) }
     ensures refused { IfErr result (λ e. RefusesRows (length values.now) rows.now.starts.now rows.now.seconds.now e.refusal e.place
         ⊎ (e.refusal ≡ IdOutOfPlace) × (e.place ≡ 0) × (RowsRise rows.now.starts.now rows.now.seconds.now → ⊥)) }
 {
     let mine = mine_of(alloc, values, rows)?;
     mine.law();
     if !rows_rise(*rows) {
-        return Err(Unsound {
+        return Err(ArrayError {
             refusal: Refusal::IdOutOfPlace,
             place: 0,
         });

@@ -1,18 +1,18 @@
-//! The pit of a mine that arrays spell, by one thread.
+//! The pit of a mine that arrays encode, by one thread.
 ghost use Rattle.std.specs.Prelude.{◌≡◌, length, IfOk, IfErr};
 ghost use Rattle.solver.specs.Searched.{IsFound};
 ghost use Rattle.arrays.specs.Fixing.{AreForBlocks, RefusesFixing, fixed_by, toward};
-ghost use Rattle.arrays.specs.Refused.{RefusesSolve};
+ghost use Rattle.arrays.specs.Refused.{RefusesPitArrays};
 ghost use Rattle.arrays.specs.Solved.{MarkPit};
 
+use crate::array_error::ArrayError;
 use crate::fixing::{first_above, fixed_by, toward};
 use crate::marks::write_marks;
 use crate::mine::mine_of;
-use crate::unsound::Unsound;
 use faults::Refusal;
 use mine_graph::Instance;
 use need_rows::Rows;
-use solver::{FoundPit, find_pit_alone};
+use solver::{FoundPit, solve_pit_sequential};
 use std::alloc::Global;
 
 /// The value of each block in millionths, and which blocks each needs; and of each block, or of none at all, a number that says whether
@@ -25,28 +25,28 @@ pub struct MineArrays<'a> {
 }
 
 /// The pit of a mine with the blocks that the numbers fix: the smallest of the best sets, or the greatest.
-fn pit_of(
+fn solve_pit(
     alloc: Global,
     mine: Instance,
     numbers: &[u8],
     greatest: bool,
-) -> Result<FoundPit, Unsound>
+) -> Result<FoundPit, ArrayError>
     requires { AreForBlocks mine.blocks numbers.now }
     ensures found { IfOk result (IsFound (toward greatest) mine (fixed_by numbers.now)) }
     ensures refused { IfErr result (λ e. RefusesFixing mine.pairs numbers.now e.refusal e.place) }
 {
     mine.law();
     let fixed = fixed_by(alloc, mine.graph(), numbers)?;
-    match find_pit_alone(alloc, mine, &fixed, toward(greatest)) {
+    match solve_pit_sequential(alloc, mine, &fixed, toward(greatest)) {
         Ok(found) => Ok(found),
-        Err(_) => Err(Unsound {
+        Err(_) => Err(ArrayError {
             refusal: Refusal::NoMemory,
             place: 0,
         }),
     }
 }
 
-/// Marks the pit of the mine that the arrays spell, and answers its worth. A number of 1 forces its block in, 2 bars it, and 0
+/// Marks the pit of the mine that the arrays encode, and answers its worth. A number of 1 forces its block in, 2 bars it, and 0
 /// leaves it open; there may be none at all. Refused as `mine_of` is; where there is not a mark for each block, or numbers for only
 /// some (17); by a number above 2 (3); and where a barred block must be dug (21). The marks are then as they were.
 pub fn mark_pit(
@@ -54,9 +54,9 @@ pub fn mark_pit(
     arrays: &MineArrays<'_>,
     greatest: bool,
     marks: &mut [u8],
-) -> Result<i128, Unsound>
+) -> Result<i128, ArrayError>
     ensures marked { IfOk result (MarkPit arrays.now.values.now arrays.now.rows.starts.now arrays.now.rows.seconds.now arrays.now.numbers.now greatest marks.new) }
-    ensures refused { IfErr result (λ e. RefusesSolve (length arrays.now.values.now) arrays.now.rows.starts.now arrays.now.rows.seconds.now arrays.now.numbers.now marks.old e.refusal e.place) }
+    ensures refused { IfErr result (λ e. RefusesPitArrays (length arrays.now.values.now) arrays.now.rows.starts.now arrays.now.rows.seconds.now arrays.now.numbers.now marks.old e.refusal e.place) }
     ensures kept { IfErr result (λ _. marks.new ≡ marks.old) }
 {
     let MineArrays {
@@ -65,7 +65,7 @@ pub fn mark_pit(
         numbers,
     } = *arrays;
     if marks.len() != values.len() || (numbers.len() != 0 && numbers.len() != values.len()) {
-        return Err(Unsound {
+        return Err(ArrayError {
             refusal: Refusal::CountsDiffer,
             place: 0,
         });
@@ -73,12 +73,12 @@ pub fn mark_pit(
     let mine = mine_of(alloc, values, &rows)?;
     mine.law();
     if let Some(place) = first_above(numbers, 2) {
-        return Err(Unsound {
+        return Err(ArrayError {
             refusal: Refusal::WrongHeader,
             place,
         });
     }
-    let found = pit_of(alloc, mine, numbers, greatest)?;
+    let found = solve_pit(alloc, mine, numbers, greatest)?;
     write_marks(&found.blocks, marks);
     Ok(found.worth)
 }

@@ -8,11 +8,11 @@ use Rattle.pit_model.specs.declared.direction.Direction.TheVariants.{Least}
 use Rattle.pit_model.specs.Mine.{Instance, PairsInRange, arcs, source, target, members}
 use Rattle.pit_model.specs.Certificate.{IsCertificate}
 use Rattle.pit_model.specs.Direction.{ListsPit}
-use Rattle.pit_model.specs.Fixed.{AreSettled, CertifiesOpen, Fixed, IsFixedCertificate, IsNothingFixed, fixed_of, graph_of_mine, is_among, is_open, turned}
+use Rattle.pit_model.specs.Fixed.{AreSettled, CertifiesOpen, Fixed, IsFixedCertificate, IsNothingFixed, fixed_of, graph_of_mine, is_among, is_open, transposed}
 use Rattle.pit_model.proofs.Duality.{certificate_gives_pit}
 use Rattle.pit_model.proofs.Fixed.{closure_is_one}
 use Rattle.pit_model.proofs.OpenCertificates.{none_fixed_certifies, open_certificate_gives_fixed_pit}
-use Rattle.mine_graph.specs.FixedBlocks.{FixedBlocks, IsFixedOf, dug_in, left_in}
+use Rattle.mine_graph.specs.FixedBlocks.{FixedBlocks, IsFixedOf, forced_closure, barred_closure}
 use Rattle.mine_graph.proofs.Among.{among_at}
 use Rattle.certificate.specs.Check.{has, amount, open_in, AreAmounts, AreExcesses, AreReached, PairsAllow, BlocksAllow, ShowsPit}
 use Rattle.certificate.proofs.SameSet.{members_agree, reached_same}
@@ -51,10 +51,10 @@ module _ (mine : Instance) (fixed : FixedBlocks) (pit : List ℕ) (flow : List �
     (of_mine : IsFixedOf (graph_of_mine mine) fixed) (range : PairsInRange mine) (counted : length flow ≡ arcs mine)
     (size : length inside ≡ mine.blocks) (listed : pit ≡ members mine.blocks (has inside)) where
   abbrev pub Meets : Type 0
-  Meets = CertifiesOpen mine (dug_in fixed) (left_in fixed) (has inside) (amount flow)
+  Meets = CertifiesOpen mine (forced_closure fixed) (barred_closure fixed) (has inside) (amount flow)
 
   -- what must be dug are blocks of the mine
-  dug_below : (u : ℕ) → dug_in fixed u ≡ true → u < mine.blocks
+  dug_below : (u : ℕ) → forced_closure fixed u ≡ true → u < mine.blocks
   dug_below u h = ltb-true u mine.blocks (of_mine.settled.dug_is.least (λ v. ltb v mine.blocks)
       (λ v e. let at = among_at fixed.lists.forced v e in lt-ltb v mine.blocks (subst (λ x. x < mine.blocks) at.3 (All-get_or (λ u. u < mine.blocks) fixed.lists.forced at.0 0 at.2 of_mine.fixable.forced_below)))
       (λ k l h. lt-ltb (target mine k) mine.blocks (range k l).1)
@@ -68,14 +68,14 @@ module _ (mine : Instance) (fixed : FixedBlocks) (pit : List ℕ) (flow : List �
 
   -- the conditions hold of the marks exactly where the list with the flow is a certificate
   pub listed_meets : Meets → IsFixedCertificate mine (fixed_of fixed.lists) pit flow
-  listed_meets c = record { dug = dug_in fixed; left = left_in fixed; settled = of_mine.settled; set = has inside; listed = listed; counted = counted; certifies = c }
+  listed_meets c = record { dug = forced_closure fixed; left = barred_closure fixed; settled = of_mine.settled; set = has inside; listed = listed; counted = counted; certifies = c }
 
   pub meets : IsFixedCertificate mine (fixed_of fixed.lists) pit flow → Meets
   meets c =
-      let dug_is = closure_is_one mine.pairs (is_among fixed.lists.forced) (dug_in fixed) c.dug of_mine.settled.dug_is c.settled.dug_is in
-      open_same mine (amount flow) c.dug c.left c.set (dug_in fixed) (left_in fixed) (has inside) range
+      let dug_is = closure_is_one mine.pairs (is_among fixed.lists.forced) (forced_closure fixed) c.dug of_mine.settled.dug_is c.settled.dug_is in
+      open_same mine (amount flow) c.dug c.left c.set (forced_closure fixed) (barred_closure fixed) (has inside) range
       dug_is
-      (closure_is_one (turned mine.pairs) (is_among fixed.lists.barred) (left_in fixed) c.left of_mine.settled.left_is c.settled.left_is)
+      (closure_is_one (transposed mine.pairs) (is_among fixed.lists.barred) (barred_closure fixed) c.left of_mine.settled.left_is c.settled.left_is)
       (λ u h. dug_below u (dug_is u ∙ h)) marked_below
       (members_agree mine.blocks c.set (has inside) (sym c.listed ∙ listed))
       (members_agree mine.blocks (has inside) c.set (sym listed ∙ c.listed))

@@ -20,8 +20,8 @@ use Rattle.certificate.specs.declared.due.Head.{Head as HeadLine}
 use Rattle.certificate.specs.declared.due.Head.TheVariants.{Title, Blocks, Arcs, FixedCount, FixedBlock, Count}
 use Rattle.certificate.specs.declared.due.Kind.{Kind}
 use Rattle.certificate.specs.declared.due.Kind.TheVariants.{Forced, Barred}
-use Rattle.certificate.specs.CertificateLines.{PitAndFlow, State, behind_fixed, certificate_from, end, end_at, fixed_block_line, format_line, head_line, list_of, state, step, step_at, word_of}
-use Rattle.certificate.specs.CertificateGrammar.{SpellsBlocks, SpellsFormat}
+use Rattle.certificate.specs.CertificateLines.{PitAndFlow, State, behind_fixed, certificate_from, end, end_at, fixed_block_line, format_line, head_line, list_of, state, step, step_at, kind_word}
+use Rattle.certificate.specs.CertificateGrammar.{SpellsPitBlocks, SpellsFormat}
 use Rattle.certificate.specs.CertificateGrammar.SpellsFormat.{with_fixed, without_fixed}
 use Rattle.certificate.proofs.LinesRead.{IsFormat, format_found, fixed_count_found, fixed_block_found, inside_found}
 use Rattle.certificate.proofs.HeadRead.{next_of}
@@ -67,7 +67,7 @@ module _ (graph : Graph) (lists : FixedLists) (count : ℕ) (pit : List ℕ) (fl
     next : Row
     rest : List Row
     are : rows ≡ blocks ++ next ∷ rest
-    spelled : SpellsBlocks graph.blocks from blocks ids
+    spelled : SpellsPitBlocks graph.blocks from blocks ids
     due : CertificateLine
     gives : behind_fixed graph.blocks lists kind next ≡ Ok due
     read : reading (state due pit flow) rest ≡ Ok c
@@ -139,7 +139,7 @@ module _ (graph : Graph) (lists : FixedLists) (count : ℕ) (pit : List ℕ) (fl
     pub inside : InsideFound line rest
 
   count_back : (kind : Kind) (r : Row) (due : CertificateLine) → head_line graph lists (FixedCount kind) r ≡ Ok due
-      → SpellsNumber (word_of kind) (length (list_of lists kind)) r × (length (list_of lists kind) ≤ graph.blocks) × (Head (FixedBlock kind 0 0) ≡ due)
+      → SpellsNumber (kind_word kind) (length (list_of lists kind)) r × (length (list_of lists kind) ≤ graph.blocks) × (Head (FixedBlock kind 0 0) ≡ due)
   unfolding head_line
   count_back kind r due e = fixed_count_found graph.blocks lists kind r due e
 

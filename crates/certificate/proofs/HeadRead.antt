@@ -18,8 +18,8 @@ use Rattle.certificate.specs.declared.due.Head.{Head as HeadLine}
 use Rattle.certificate.specs.declared.due.Head.TheVariants.{Title, Blocks, Arcs, FixedCount, FixedBlock, Count}
 use Rattle.certificate.specs.declared.due.Kind.{Kind}
 use Rattle.certificate.specs.declared.due.Kind.TheVariants.{Forced, Barred}
-use Rattle.certificate.specs.CertificateLines.{PitAndFlow, State, behind_fixed, certificate_from, end, fixed_block_line, head_line, list_of, state, step, step_at, word_of}
-use Rattle.certificate.specs.CertificateGrammar.{SpellsBlocks, SpellsFormat}
+use Rattle.certificate.specs.CertificateLines.{PitAndFlow, State, behind_fixed, certificate_from, end, fixed_block_line, head_line, list_of, state, step, step_at, kind_word}
+use Rattle.certificate.specs.CertificateGrammar.{SpellsPitBlocks, SpellsFormat}
 use Rattle.certificate.specs.CertificateGrammar.SpellsFormat.{with_fixed, without_fixed}
 use Rattle.certificate.proofs.LinesRead.{reads_first_format, reads_second_format, reads_fixed_count, reads_fixed_block, reads_inside}
 
@@ -54,7 +54,7 @@ module _ (graph : Graph) (lists : FixedLists) (count : ℕ) (pit : List ℕ) (fl
   fixed_block_on kind at from o due r rows is h = head_on (FixedBlock kind at from) due r rows
       (ap (λ (x : Option ℕ). fixed_block_line graph.blocks lists kind at from x r) is ∙ h)
 
-  fixed_blocks_read : (kind : Kind) (front ids : List ℕ) (from : ℕ) (rows rest : List Row) → list_of lists kind ≡ front ++ ids → SpellsBlocks graph.blocks from rows ids
+  fixed_blocks_read : (kind : Kind) (front ids : List ℕ) (from : ℕ) (rows rest : List Row) → list_of lists kind ≡ front ++ ids → SpellsPitBlocks graph.blocks from rows ids
       → reading (at_head (FixedBlock kind (length front) from)) (rows ++ rest) ≡ reading (at_head (FixedBlock kind (length (list_of lists kind)) (from_after from ids))) rest
   fixed_blocks_read kind front [] from [] rest is s =
       ap (λ (xs : List ℕ). reading (at_head (FixedBlock kind (length xs) from)) rest) (sym (is ∙ append-nil front))
@@ -68,14 +68,14 @@ module _ (graph : Graph) (lists : FixedLists) (count : ℕ) (pit : List ℕ) (fl
       ∙ ap (λ (k : ℕ). reading (at_head (FixedBlock kind k (id + 1))) (rows ++ rest)) size
       ∙ fixed_blocks_read kind (front ++ id ∷ []) ids (id + 1) rows rest (is ∙ sym (append_assoc front (id ∷ []) ids)) s.1
 
-  fixed_kind_read : (kind : Kind) (rows : List Row) (next : Row) (rest : List Row) (due : CertificateLine) → SpellsBlocks graph.blocks 0 rows (list_of lists kind)
+  fixed_kind_read : (kind : Kind) (rows : List Row) (next : Row) (rest : List Row) (due : CertificateLine) → SpellsPitBlocks graph.blocks 0 rows (list_of lists kind)
       → behind_fixed graph.blocks lists kind next ≡ Ok due → reading (at_head (FixedBlock kind 0 0)) (rows ++ next ∷ rest) ≡ reading (state due pit flow) rest
   unfolding fixed_block_line
   fixed_kind_read kind rows next rest due s h =
       fixed_blocks_read kind [] (list_of lists kind) 0 rows (next ∷ rest) refl s
       ∙ fixed_block_on kind (length (list_of lists kind)) (from_after 0 (list_of lists kind)) None due next rest (slice_get_past (list_of lists kind) (length (list_of lists kind)) (omega arith)) h
 
-  fixed_count_on : (kind : Kind) (r : Row) (rows : List Row) → SpellsNumber (word_of kind) (length (list_of lists kind)) r → length (list_of lists kind) ≤ graph.blocks
+  fixed_count_on : (kind : Kind) (r : Row) (rows : List Row) → SpellsNumber (kind_word kind) (length (list_of lists kind)) r → length (list_of lists kind) ≤ graph.blocks
       → reading (at_head (FixedCount kind)) (r ∷ rows) ≡ reading (at_head (FixedBlock kind 0 0)) rows
   unfolding head_line
   fixed_count_on kind r rows names few = head_on (FixedCount kind) (Head (FixedBlock kind 0 0)) r rows (reads_fixed_count graph.blocks lists kind r names few)

@@ -9,24 +9,24 @@ use Rattle.minelib_reader.specs.Text.{Row}
 use Rattle.pit_model.specs.Fixed.{FixedLists}
 use Rattle.pit_model.specs.Graph.{Graph}
 use Rattle.pit_model.specs.Limits.{Between}
-use Rattle.certificate.specs.Check.{amount, most_amount, AreRising, IsCandidate}
+use Rattle.certificate.specs.Check.{amount, most_amount, AreAscending, IsCandidate}
 use Rattle.certificate.specs.CertificateLines.{PitAndFlow}
-use Rattle.certificate.specs.CertificateGrammar.{SpellsBlocks, SpellsFlow, SpellsRows}
+use Rattle.certificate.specs.CertificateGrammar.{SpellsPitBlocks, SpellsFlow, SpellsCertificateRows}
 
-blocks_below : (n from : ℕ) (rows : List Row) (ids : List ℕ) → SpellsBlocks n from rows ids → All (λ u. u < n) ids
+blocks_below : (n from : ℕ) (rows : List Row) (ids : List ℕ) → SpellsPitBlocks n from rows ids → All (λ u. u < n) ids
 blocks_below n from [] [] s = All-nil (λ u. u < n)
 blocks_below n from [] (id ∷ ids) s = absurd s
 blocks_below n from (r ∷ rows) [] s = absurd s
 blocks_below n from (r ∷ rows) (id ∷ ids) s = All-cons (λ u. u < n) id ids s.0.known (blocks_below n (id + 1) rows ids s.1)
 
-blocks_from : (n from : ℕ) (rows : List Row) (ids : List ℕ) → SpellsBlocks n from rows ids → (i : ℕ) → i < length ids → from ≤ get_or ids i 0
+blocks_from : (n from : ℕ) (rows : List Row) (ids : List ℕ) → SpellsPitBlocks n from rows ids → (i : ℕ) → i < length ids → from ≤ get_or ids i 0
 blocks_from n from [] [] s i l = absurd (omega arith)
 blocks_from n from [] (id ∷ ids) s i l = absurd s
 blocks_from n from (r ∷ rows) [] s i l = absurd s
 blocks_from n from (r ∷ rows) (id ∷ ids) s zero l = s.0.rising
 blocks_from n from (r ∷ rows) (id ∷ ids) s (suc i) l = let h = blocks_from n (id + 1) rows ids s.1 i (omega arith) in let up = s.0.rising in omega arith
 
-blocks_rise : (n from : ℕ) (rows : List Row) (ids : List ℕ) → SpellsBlocks n from rows ids → AreRising ids
+blocks_rise : (n from : ℕ) (rows : List Row) (ids : List ℕ) → SpellsPitBlocks n from rows ids → AreAscending ids
 blocks_rise n from [] [] s i j lt l = absurd (omega arith)
 blocks_rise n from [] (id ∷ ids) s i j lt l = absurd s
 blocks_rise n from (r ∷ rows) [] s i j lt l = absurd s
@@ -50,7 +50,7 @@ flow_between pairs from (r ∷ rows) flow s k l = ⊎_elim
     (cases_eq k s.0))
     (cases_lt k s.0)
 
-pub lawful : (graph : Graph) (lists : FixedLists) (rows : List Row) (c : PitAndFlow) → SpellsRows graph lists rows c → IsCandidate graph.blocks (length graph.pairs) c.pit c.flow
+pub lawful : (graph : Graph) (lists : FixedLists) (rows : List Row) (c : PitAndFlow) → SpellsCertificateRows graph lists rows c → IsCandidate graph.blocks (length graph.pairs) c.pit c.flow
 lawful graph lists rows c s = record {
   below = blocks_below graph.blocks 0 s.pit.blocks c.pit s.pit.spelled;
   rising = blocks_rise graph.blocks 0 s.pit.blocks c.pit s.pit.spelled;

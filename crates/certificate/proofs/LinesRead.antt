@@ -6,7 +6,7 @@ use Rattle.faults.specs.declared.refusal.Refusal.TheVariants.{OverLimit, NotWhol
 use Rattle.minelib_reader.specs.Checks.{◌>>=◌, ok_if}
 use Rattle.std.specs.Option.{ok_or}
 use Rattle.minelib_reader.specs.Text.{Row, two_of}
-use Rattle.minelib_reader.specs.Upit.{is_pair}
+use Rattle.minelib_reader.specs.Upit.{are_words}
 use Rattle.minelib_reader.specs.Number.{whole_of, digits_of}
 use Rattle.minelib_reader.proofs.CheckLemmas.{passed, passing, same_value, value_there, test_holds, both_fields}
 use Rattle.std.proofs.lemmas.Option.{same_Some}
@@ -20,8 +20,8 @@ use Rattle.certificate.specs.declared.due.CertificateLine.{CertificateLine}
 use Rattle.certificate.specs.declared.due.CertificateLine.TheVariants.{Head, Block}
 use Rattle.certificate.specs.declared.due.Head.TheVariants.{FixedBlock}
 use Rattle.certificate.specs.declared.due.Kind.{Kind}
-use Rattle.certificate.specs.CertificateLines.{in_certificate, one_of, arc_of, count_line, id_line, arc_line, is_empty, fixes_nothing, list_of, word_of, first_format, format_line, fixed_count_line, fixed_id_line, fixed_block_line, inside_line}
-use Rattle.certificate.specs.CertificateGrammar.{SpellsBlock, SpellsArc}
+use Rattle.certificate.specs.CertificateLines.{in_certificate, one_of, arc_of, count_line, id_line, arc_line, is_empty, fixes_nothing, list_of, kind_word, first_format, format_line, fixed_count_line, fixed_id_line, fixed_block_line, inside_line}
+use Rattle.certificate.specs.CertificateGrammar.{SpellsPitBlock, SpellsArc}
 use Rattle.certificate.proofs.ArcOf.{arc_found, arc_is}
 
 -- ---- what is spelled is read
@@ -30,7 +30,7 @@ pub reads_count : (word : List ℕ) (n most : ℕ) (r : Row) → SpellsNumber wo
 unfolding count_line
 reads_count word n most r s few = rw (reads_number Certificate word n r s, le-leb n most few) refl
 
-pub reads_id : (n from : ℕ) (r : Row) (id : ℕ) → SpellsBlock n from r id → id_line n from r ≡ Ok id
+pub reads_id : (n from : ℕ) (r : Row) (id : ℕ) → SpellsPitBlock n from r id → id_line n from r ≡ Ok id
 unfolding id_line
 reads_id n from r id s =
     let place : (ltb id n && leb from id) ≡ true = and_from (ltb id n) (leb from id) (lt-ltb id n s.known) (le-leb from id s.rising) in
@@ -48,24 +48,24 @@ nothing_named lists is = ap fixes_nothing is
 pub reads_first_format : (lists : FixedLists) (r : Row) → r.fields ≡ codes "PITCERT" ∷ codes "1" ∷ [] → lists ≡ no_lists → format_line lists r ≡ Ok false
 unfolding format_line first_format
 reads_first_format lists r fields none =
-    let other : is_pair (codes "PITCERT") (codes "2") (two_of r.fields) ≡ false = ap (λ (fs : List (List ℕ)). is_pair (codes "PITCERT") (codes "2") (two_of fs)) fields in
+    let other : are_words (codes "PITCERT") (codes "2") (two_of r.fields) ≡ false = ap (λ (fs : List (List ℕ)). are_words (codes "PITCERT") (codes "2") (two_of fs)) fields in
     rw (other, reads_title Certificate (codes "PITCERT") r fields, nothing_named lists none) refl
 
 pub reads_second_format : (lists : FixedLists) (r : Row) → r.fields ≡ codes "PITCERT" ∷ codes "2" ∷ [] → format_line lists r ≡ Ok true
 unfolding format_line
 reads_second_format lists r fields = rw fields refl
 
-pub reads_fixed_count : (n : ℕ) (lists : FixedLists) (kind : Kind) (r : Row) → SpellsNumber (word_of kind) (length (list_of lists kind)) r → length (list_of lists kind) ≤ n
+pub reads_fixed_count : (n : ℕ) (lists : FixedLists) (kind : Kind) (r : Row) → SpellsNumber (kind_word kind) (length (list_of lists kind)) r → length (list_of lists kind) ≤ n
     → fixed_count_line n lists kind r ≡ Ok (Head (FixedBlock kind 0 0))
 unfolding fixed_count_line
 reads_fixed_count n lists kind r s few =
-    rw (reads_count (word_of kind) (length (list_of lists kind)) n r s few, eq-eqb (length (list_of lists kind)) (length (list_of lists kind)) refl) refl
+    rw (reads_count (kind_word kind) (length (list_of lists kind)) n r s few, eq-eqb (length (list_of lists kind)) (length (list_of lists kind)) refl) refl
 
-reads_fixed_id : (n from id : ℕ) (r : Row) → SpellsBlock n from r id → fixed_id_line n from id r ≡ Ok id
+reads_fixed_id : (n from id : ℕ) (r : Row) → SpellsPitBlock n from r id → fixed_id_line n from id r ≡ Ok id
 unfolding fixed_id_line
 reads_fixed_id n from id r s = rw (reads_id n from r id s, eq-eqb id id refl) refl
 
-pub reads_fixed_block : (n : ℕ) (lists : FixedLists) (kind : Kind) (at from id : ℕ) (r : Row) → SpellsBlock n from r id
+pub reads_fixed_block : (n : ℕ) (lists : FixedLists) (kind : Kind) (at from id : ℕ) (r : Row) → SpellsPitBlock n from r id
     → fixed_block_line n lists kind at from (Some id) r ≡ Ok (Head (FixedBlock kind (at + 1) (id + 1)))
 unfolding fixed_block_line
 reads_fixed_block n lists kind at from id r s = rw (reads_fixed_id n from id r s) refl
@@ -121,21 +121,21 @@ first_format_found lists r names_fixed e =
 
 pub format_found : (lists : FixedLists) (r : Row) (names_fixed : Bool) → format_line lists r ≡ Ok names_fixed → IsFormat lists r names_fixed
 unfolding format_line
-format_found lists r names_fixed e = by_title (is_pair (codes "PITCERT") (codes "2") (two_of r.fields)) refl e
+format_found lists r names_fixed e = by_title (are_words (codes "PITCERT") (codes "2") (two_of r.fields)) refl e
   where
-    by_title : (b : Bool) → is_pair (codes "PITCERT") (codes "2") (two_of r.fields) ≡ b → (if b then Ok true else first_format lists r) ≡ Ok names_fixed → IsFormat lists r names_fixed
+    by_title : (b : Bool) → are_words (codes "PITCERT") (codes "2") (two_of r.fields) ≡ b → (if b then Ok true else first_format lists r) ≡ Ok names_fixed → IsFormat lists r names_fixed
     by_title true is h = subst (IsFormat lists r) (same_value true names_fixed h) (both_fields r.fields (codes "PITCERT", codes "2") (pair_found (codes "PITCERT") (codes "2") (two_of r.fields) is))
     by_title false is h = first_format_found lists r names_fixed h
 
 pub fixed_count_found : (n : ℕ) (lists : FixedLists) (kind : Kind) (r : Row) (due : CertificateLine) → fixed_count_line n lists kind r ≡ Ok due
-    → SpellsNumber (word_of kind) (length (list_of lists kind)) r × (length (list_of lists kind) ≤ n) × (Head (FixedBlock kind 0 0) ≡ due)
+    → SpellsNumber (kind_word kind) (length (list_of lists kind)) r × (length (list_of lists kind) ≤ n) × (Head (FixedBlock kind 0 0) ≡ due)
 unfolding fixed_count_line
 fixed_count_found n lists kind r due e =
-    let a = passed (count_line (word_of kind) n r) (λ count. ok_if (eqb count (length (list_of lists kind))) (in_certificate CountsDiffer r.line) >>= λ same. passing (Head (FixedBlock kind 0 0))) due e in
+    let a = passed (count_line (kind_word kind) n r) (λ count. ok_if (eqb count (length (list_of lists kind))) (in_certificate CountsDiffer r.line) >>= λ same. passing (Head (FixedBlock kind 0 0))) due e in
     let b = passed (ok_if (eqb a.value (length (list_of lists kind))) (in_certificate CountsDiffer r.line)) (λ same. passing (Head (FixedBlock kind 0 0))) due a.behind in
     let is = eqb-true a.value (length (list_of lists kind)) (test_holds (eqb a.value (length (list_of lists kind))) (in_certificate CountsDiffer r.line) b.value b.here) in
-    let f = count_found (word_of kind) n r a.value a.here in (
-      subst (λ (m : ℕ). SpellsNumber (word_of kind) m r) is f.0,
+    let f = count_found (kind_word kind) n r a.value a.here in (
+      subst (λ (m : ℕ). SpellsNumber (kind_word kind) m r) is f.0,
       subst (λ (m : ℕ). m ≤ n) is f.1,
       same_value (Head (FixedBlock kind 0 0)) due b.behind,
     )
@@ -152,7 +152,7 @@ one [] f e = absurd cc
 one (a ∷ []) f e = ap (λ (x : List ℕ). x ∷ []) (same_Some a f e)
 one (a ∷ b ∷ fs) f e = absurd cc
 
-pub id_found : (n from : ℕ) (r : Row) (id : ℕ) → id_line n from r ≡ Ok id → SpellsBlock n from r id
+pub id_found : (n from : ℕ) (r : Row) (id : ℕ) → id_line n from r ≡ Ok id → SpellsPitBlock n from r id
 unfolding id_line
 id_found n from r id e =
     let place = λ (k : ℕ). ok_if (ltb k n && leb from k) (in_certificate IdOutOfPlace r.line) in
@@ -161,25 +161,25 @@ id_found n from r id e =
     let b = passed (ok_or (whole_of a.value) (in_certificate NotWhole r.line)) last id a.behind in
     let c = passed (place b.value) (λ u. passing b.value) id b.behind in
     let parts = and_parts (ltb b.value n) (leb from b.value) (test_holds (ltb b.value n && leb from b.value) (in_certificate IdOutOfPlace r.line) c.value c.here) in
-    let all : SpellsBlock n from r b.value = record {
+    let all : SpellsPitBlock n from r b.value = record {
       field = a.value;
       fields = one r.fields a.value (value_there (one_of r.fields) (in_certificate WrongFieldCount r.line) a.value a.here);
       is_id = value_there (whole_of a.value) (in_certificate NotWhole r.line) b.value b.here;
       known = ltb-true b.value n parts.0;
       rising = leb-true from b.value parts.1;
     } in
-    subst (λ (k : ℕ). SpellsBlock n from r k) (same_value b.value id c.behind) all
+    subst (λ (k : ℕ). SpellsPitBlock n from r k) (same_value b.value id c.behind) all
 
-fixed_id_found : (n from id : ℕ) (r : Row) (named : ℕ) → fixed_id_line n from id r ≡ Ok named → SpellsBlock n from r id × (id ≡ named)
+fixed_id_found : (n from id : ℕ) (r : Row) (named : ℕ) → fixed_id_line n from id r ≡ Ok named → SpellsPitBlock n from r id × (id ≡ named)
 unfolding fixed_id_line
 fixed_id_found n from id r named e =
     let a = passed (id_line n from r) (λ k. ok_if (eqb k id) (in_certificate CountsDiffer r.line) >>= λ same. passing k) named e in
     let b = passed (ok_if (eqb a.value id) (in_certificate CountsDiffer r.line)) (λ same. passing a.value) named a.behind in
     let is = eqb-true a.value id (test_holds (eqb a.value id) (in_certificate CountsDiffer r.line) b.value b.here) in
-    (subst (λ (k : ℕ). SpellsBlock n from r k) is (id_found n from r a.value a.here), sym is ∙ same_value a.value named b.behind)
+    (subst (λ (k : ℕ). SpellsPitBlock n from r k) is (id_found n from r a.value a.here), sym is ∙ same_value a.value named b.behind)
 
 pub fixed_block_found : (n : ℕ) (lists : FixedLists) (kind : Kind) (at from id : ℕ) (r : Row) (due : CertificateLine) → fixed_block_line n lists kind at from (Some id) r ≡ Ok due
-    → SpellsBlock n from r id × (Head (FixedBlock kind (at + 1) (id + 1)) ≡ due)
+    → SpellsPitBlock n from r id × (Head (FixedBlock kind (at + 1) (id + 1)) ≡ due)
 unfolding fixed_block_line
 fixed_block_found n lists kind at from id r due e =
     let a = passed (fixed_id_line n from id r) (λ named. passing (Head (FixedBlock kind (at + 1) (named + 1)))) due e in

@@ -9,14 +9,14 @@ use Rattle.pit_model.specs.Mine.{arcs, members}
 use Rattle.pit_model.specs.Limits.{Between, IsInstance, most_worth}
 use Rattle.pit_model.proofs.Bound.{flows_stay_within_limits}
 use Rattle.pit_model.proofs.Members.{members-in, members-out, members_each, members_below}
-use Rattle.certificate.specs.Check.{amount, most_amount, AreRising, IsCandidate}
+use Rattle.certificate.specs.Check.{amount, most_amount, AreAscending, IsCandidate}
 use Rattle.pit_model.specs.Tree.{MineTree, is_strong, is_merger, IsNormalised}
 use Rattle.pit_model.specs.Certificate.{Certifies, IsCertificate}
 use Rattle.pit_model.proofs.Simple.{instance_is_simple}
 use Rattle.pit_model.proofs.Strong.{no_merger_gives_certificate}
 
 -- a greater number behind numbers that rise
-rise_more : (xs : List ℕ) (n : ℕ) → AreRising xs → ((i : ℕ) → i < length xs → get_or xs i 0 < n) → AreRising (xs ++ n ∷ [])
+rise_more : (xs : List ℕ) (n : ℕ) → AreAscending xs → ((i : ℕ) → i < length xs → get_or xs i 0 < n) → AreAscending (xs ++ n ∷ [])
 rise_more xs n rising below i j lt l =
     let size = length_push xs n in
     let early : (k : ℕ) → k < length xs → get_or (xs ++ n ∷ []) k 0 ≡ get_or xs k 0 = λ k m. get_or_append_left xs (n ∷ []) 0 k m in
@@ -50,11 +50,11 @@ is_certificate t pit flow is good none strong same = record {
 }
 
 -- members rise
-members_rise : (n : ℕ) (set : ℕ → Bool) → AreRising (members n set)
+members_rise : (n : ℕ) (set : ℕ → Bool) → AreAscending (members n set)
 members_rise zero set = λ i j lt l. absurd (omega arith)
 members_rise (suc n) set = ⊎_elim
-    (λ (on : set n ≡ true). subst AreRising (sym (members-in n set on)) (rise_more (members n set) n (members_rise n set) (λ i l. (members_each n set i l).0)))
-    (λ (off : set n ≡ false). subst AreRising (sym (members-out n set off)) (members_rise n set))
+    (λ (on : set n ≡ true). subst AreAscending (sym (members-in n set on)) (rise_more (members n set) n (members_rise n set) (λ i l. (members_each n set i l).0)))
+    (λ (off : set n ≡ false). subst AreAscending (sym (members-out n set off)) (members_rise n set))
     (cases_Bool (set n))
 
 -- the flow of a normalised tree is within the limit of an amount
@@ -64,7 +64,7 @@ pub is_candidate :
     → IsCandidate t.mine.blocks (arcs t.mine) pit flow
 is_candidate t pit flow is good strong same = record {
   below = subst (All (λ u. u < t.mine.blocks)) (sym strong) (members_below t.mine.blocks (is_strong t.mine t.tree));
-  rising = subst AreRising (sym strong) (members_rise t.mine.blocks (is_strong t.mine t.tree));
+  rising = subst AreAscending (sym strong) (members_rise t.mine.blocks (is_strong t.mine t.tree));
   counted = ap length same ∙ good.flow_count;
   amounts = λ k l.
       let b = (flows_stay_within_limits t.mine t.tree is good).0 k (subst (λ m. k < m) (ap length same ∙ good.flow_count) l) in

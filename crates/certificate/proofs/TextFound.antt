@@ -9,7 +9,7 @@ use Rattle.pit_model.specs.Graph.{Graph}
 use Rattle.certificate.specs.declared.due.CertificateLine.TheVariants.{Block, Arc}
 use Rattle.certificate.specs.Check.{amount}
 use Rattle.certificate.specs.CertificateLines.{State, PitAndFlow, pit_and_flow, state, first_state, step, end, block_step, arc_step, step_at, end_at, certificate_from, count_line, id_line, arc_line}
-use Rattle.certificate.specs.CertificateGrammar.{SpellsBlock, SpellsBlocks, SpellsArc, SpellsFlow, SpellsRows}
+use Rattle.certificate.specs.CertificateGrammar.{SpellsPitBlock, SpellsPitBlocks, SpellsArc, SpellsFlow, SpellsCertificateRows}
 use Rattle.report.specs.HeadLines.{SpellsNumber}
 use Rattle.report.specs.LineByLine.{read_from}
 use Rattle.report.proofs.ReadingOn.{read_back}
@@ -34,7 +34,7 @@ record BlocksFound (graph : Graph) (left from : ℕ) (front : List ℕ) (rows : 
   own : List ℕ
   pit : c.pit ≡ front ++ own
   all : length own ≡ left
-  spelled : SpellsBlocks graph.blocks from ids own
+  spelled : SpellsPitBlocks graph.blocks from ids own
   names : SpellsNumber (codes "FLOW:") (length amounts) carrying
   few : length amounts ≤ length graph.pairs
   flow : SpellsFlow graph.pairs 0 amounts c.flow
@@ -70,7 +70,7 @@ module _ (graph : Graph) (lists : FixedLists) (count : ℕ) where
       (a.value, arc_line_found graph.pairs from r a.value a.here, same_value (state (Arc left (a.value.0 + 1)) pit (set now a.value.0 (pos a.value.1))) t a.behind)
 
   block_back : (left from : ℕ) (pit : List ℕ) (now : List ℤ) (r : Row) (t : State) → step_at graph lists (Block (suc left) from) pit now r ≡ Ok t
-      → (id : ℕ) × SpellsBlock graph.blocks from r id × (state (Block left (id + 1)) (pit ++ id ∷ []) now ≡ t)
+      → (id : ℕ) × SpellsPitBlock graph.blocks from r id × (state (Block left (id + 1)) (pit ++ id ∷ []) now ≡ t)
   unfolding step_at block_step
   block_back left from pit now r t e =
       let a = passed (id_line graph.blocks from r) (λ id. passing (state (Block left (id + 1)) (pit ++ id ∷ []) now)) t e in
@@ -158,7 +158,7 @@ module _ (graph : Graph) (lists : FixedLists) (count : ℕ) where
         counted = f.counted;
       }
 
-  pub spelled : (rows : List Row) (c : PitAndFlow) → certificate_from graph lists count (first_state graph) rows ≡ Ok c → SpellsRows graph lists rows c
+  pub spelled : (rows : List Row) (c : PitAndFlow) → certificate_from graph lists count (first_state graph) rows ≡ Ok c → SpellsCertificateRows graph lists rows c
   spelled rows c e =
       let h = head_found graph lists count [] (replicate (length graph.pairs) (pos 0)) c rows e in
       let f = h.fixed in
@@ -183,7 +183,7 @@ module _ (graph : Graph) (lists : FixedLists) (count : ℕ) where
           are = refl;
           names = subst (λ (n : ℕ). SpellsNumber (codes "IN:") n f.line) (sym many) i.names;
           few = subst (λ (n : ℕ). n ≤ graph.blocks) (sym many) i.few;
-          spelled = subst (λ (xs : List ℕ). SpellsBlocks graph.blocks 0 g.ids xs) (sym g.pit) g.spelled;
+          spelled = subst (λ (xs : List ℕ). SpellsPitBlocks graph.blocks 0 g.ids xs) (sym g.pit) g.spelled;
         };
         names_carrying = g.names;
         few_carrying = g.few;

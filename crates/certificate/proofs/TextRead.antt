@@ -9,7 +9,7 @@ use Rattle.pit_model.specs.Graph.{Graph, AreRising}
 use Rattle.certificate.specs.declared.due.CertificateLine.TheVariants.{Block, Arc}
 use Rattle.certificate.specs.Check.{amount}
 use Rattle.certificate.specs.CertificateLines.{State, PitAndFlow, pit_and_flow, state, first_state, step, end, block_step, arc_step, step_at, end_at, certificate_from, count_line, arc_line}
-use Rattle.certificate.specs.CertificateGrammar.{SpellsBlock, SpellsBlocks, SpellsFlow, SpellsRows}
+use Rattle.certificate.specs.CertificateGrammar.{SpellsPitBlock, SpellsPitBlocks, SpellsFlow, SpellsCertificateRows}
 use Rattle.report.specs.LineByLine.{read_from}
 use Rattle.report.proofs.ReadingOn.{read_on}
 use Rattle.certificate.proofs.LinesRead.{reads_count, reads_id, reads_arc}
@@ -26,12 +26,12 @@ module _ (graph : Graph) (lists : FixedLists) (count : ℕ) where
   step_on : (s t : State) (r : Row) (rows : List Row) → step_at graph lists s.due s.pit s.flow r ≡ Ok t → certificate_from graph lists count s (r ∷ rows) ≡ certificate_from graph lists count t rows
   step_on s t r rows h = read_on (step graph lists) (end count) s t r rows h
 
-  block_read : (left from id : ℕ) (pit : List ℕ) (flow : List ℤ) (r : Row) → SpellsBlock graph.blocks from r id
+  block_read : (left from id : ℕ) (pit : List ℕ) (flow : List ℤ) (r : Row) → SpellsPitBlock graph.blocks from r id
       → step_at graph lists (Block (suc left) from) pit flow r ≡ Ok (state (Block left (id + 1)) (pit ++ id ∷ []) flow)
   unfolding step_at block_step
   block_read left from id pit flow r s = rw (reads_id graph.blocks from r id s) refl
 
-  blocks_read : (from : ℕ) (rows rest : List Row) (front ids : List ℕ) (flow : List ℤ) → SpellsBlocks graph.blocks from rows ids
+  blocks_read : (from : ℕ) (rows rest : List Row) (front ids : List ℕ) (flow : List ℤ) → SpellsPitBlocks graph.blocks from rows ids
       → certificate_from graph lists count (state (Block (length ids) from) front flow) (rows ++ rest) ≡ certificate_from graph lists count (state (Block 0 (from_after from ids)) (front ++ ids) flow) rest
   blocks_read from [] rest front [] flow s = ap (λ (xs : List ℕ). certificate_from graph lists count (state (Block 0 from) xs flow) rest) (sym (append-nil front))
   blocks_read from [] rest front (id ∷ ids) flow s = absurd s
@@ -81,7 +81,7 @@ module _ (graph : Graph) (lists : FixedLists) (count : ℕ) where
       (λ k l. other k (λ e. omega arith) ∙ above k (omega arith))
       s.3
 
-  pub reads : (rows : List Row) (c : PitAndFlow) → AreRising graph.pairs → SpellsRows graph lists rows c → certificate_from graph lists count (first_state graph) rows ≡ Ok c
+  pub reads : (rows : List Row) (c : PitAndFlow) → AreRising graph.pairs → SpellsCertificateRows graph lists rows c → certificate_from graph lists count (first_state graph) rows ≡ Ok c
   reads rows c rising s =
       let lines : rows ≡ s.title ∷ s.blocks ∷ s.arcs ∷ (s.fixed ++ s.pit.count ∷ (s.pit.blocks ++ s.carrying ∷ s.amounts)) =
       s.are ∙ ap (λ (xs : List Row). s.title ∷ s.blocks ∷ s.arcs ∷ (s.fixed ++ (xs ++ s.carrying ∷ s.amounts))) s.pit.are in

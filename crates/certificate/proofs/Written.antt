@@ -15,10 +15,10 @@ use Rattle.pit_model.specs.Limits.{Between}
 use Rattle.pit_model.specs.PitText.{line_of}
 use Rattle.mine_graph.proofs.Pigeon.{pigeon}
 use Rattle.pit_model.proofs.Members.{members_few, members_below}
-use Rattle.certificate.specs.Check.{amount, AreRising, IsCandidate}
+use Rattle.certificate.specs.Check.{amount, AreAscending, IsCandidate}
 use Rattle.certificate.specs.CertificateText.{carrying, certificate_head, certificate_text, flow_head, flow_line, graph_head, list_text}
 use Rattle.certificate.specs.CertificateLines.{fixes_nothing, pit_and_flow}
-use Rattle.certificate.specs.CertificateGrammar.{SpellsBlock, SpellsBlocks, SpellsList, SpellsFormat, SpellsArc, SpellsFlow, SpellsCertificate}
+use Rattle.certificate.specs.CertificateGrammar.{SpellsPitBlock, SpellsPitBlocks, SpellsList, SpellsFormat, SpellsArc, SpellsFlow, SpellsCertificate}
 use Rattle.certificate.specs.CertificateGrammar.SpellsFormat.{with_fixed, without_fixed}
 use Rattle.certificate.proofs.LinesRead.{nothing_found}
 use Rattle.report.specs.HeadLines.{SpellsNumber}
@@ -29,9 +29,9 @@ use Rattle.report.proofs.PlainLines.{IsLine, IsWord, AreLines, word_line, text_o
 
 abbrev BlocksRead : ℕ → ℕ → ℕ → List ℕ → List (List ℕ) → Type 0
 BlocksRead n from k ids rest =
-    (rows : List Row) × (rows_from k (map decimal ids ++ rest) ≡ rows ++ rows_from (k + length ids) rest) × SpellsBlocks n from rows ids
+    (rows : List Row) × (rows_from k (map decimal ids ++ rest) ≡ rows ++ rows_from (k + length ids) rest) × SpellsPitBlocks n from rows ids
 
-blocks_read : (n from k : ℕ) (ids : List ℕ) (rest : List (List ℕ)) → n ≤ 2 ^ 22 → All (λ u. u < n) ids → AreRising ids → ((i : ℕ) → i < length ids → from ≤ get_or ids i 0) → BlocksRead n from k ids rest
+blocks_read : (n from k : ℕ) (ids : List ℕ) (rest : List (List ℕ)) → n ≤ 2 ^ 22 → All (λ u. u < n) ids → AreAscending ids → ((i : ℕ) → i < length ids → from ≤ get_or ids i 0) → BlocksRead n from k ids rest
 blocks_read n from k [] rest few below rising low =
     let same : k ≡ k + 0 = omega arith in ([], ap (λ i. rows_from i rest) same, tt)
 blocks_read n from k (id ∷ ids) rest few below rising low =
@@ -43,7 +43,7 @@ blocks_read n from k (id ∷ ids) rest few below rising low =
     (λ i j lt l. rising (suc i) (suc j) (omega arith) (omega arith))
     (λ i l. let up = rising 0 (suc i) (omega arith) (omega arith) in omega arith) in
     let places : k + 1 + length ids ≡ k + suc (length ids) = omega arith in
-    let block : SpellsBlock n from (row k (fields_of (decimal id))) id = record { field = decimal id; fields = fields; is_id = whole_read id (omega arith); known = known; rising = low 0 (omega arith) } in (
+    let block : SpellsPitBlock n from (row k (fields_of (decimal id))) id = record { field = decimal id; fields = fields; is_id = whole_read id (omega arith); known = known; rising = low 0 (omega arith) } in (
       row k (fields_of (decimal id)) ∷ others.0,
       row_yes k (decimal id) (decimal id) [] (map decimal ids ++ rest) fields
           ∙ ap (λ (rs : List Row). row k (fields_of (decimal id)) ∷ rs) (others.1 ∙ ap (λ i. others.0 ++ rows_from i rest) places),
@@ -126,10 +126,10 @@ record IsList (n : ℕ) (word ids : List ℕ) : Type 0 where
   is_word : IsWord word
   some : 0 < length word
   below : All (λ u. u < n) ids
-  rising : AreRising ids
+  rising : AreAscending ids
   short : length ids ≤ n
 
-listed : (n : ℕ) (word ids : List ℕ) → n ≤ 2 ^ 22 → IsWord word → 0 < length word → All (λ u. u < n) ids → AreRising ids → IsList n word ids
+listed : (n : ℕ) (word ids : List ℕ) → n ≤ 2 ^ 22 → IsWord word → 0 < length word → All (λ u. u < n) ids → AreAscending ids → IsList n word ids
 listed n word ids few is_word some below rising = record {
   few = few;
   is_word = is_word;
@@ -276,7 +276,7 @@ module _ (graph : Graph) (flow : List ℤ) (is : IsGraph graph.blocks graph.pair
 
   -- ---- the whole text
 
-  module _ (lists : FixedLists) (fixable : AreFixable graph.blocks lists) (pit : List ℕ) (few_pairs : length graph.pairs ≤ 2 ^ 26) (below : All (λ u. u < graph.blocks) pit) (rising : AreRising pit) where
+  module _ (lists : FixedLists) (fixable : AreFixable graph.blocks lists) (pit : List ℕ) (few_pairs : length graph.pairs ≤ 2 ^ 26) (below : All (λ u. u < graph.blocks) pit) (rising : AreAscending pit) where
     abbrev arcs : List ℕ
     arcs = carrying flow (length graph.pairs)
 

@@ -10,7 +10,7 @@ use Rattle.certificate.specs.Check.{amount}
 use Rattle.certificate.specs.CertificateLines.{PitAndFlow}
 
 -- the line of a block of n, which is at least from
-pub record SpellsBlock (n from : ℕ) (r : Row) (id : ℕ) : Type 0 where
+pub record SpellsPitBlock (n from : ℕ) (r : Row) (id : ℕ) : Type 0 where
   pub field : List ℕ
   pub fields : r.fields ≡ field ∷ []
   pub is_id : whole_of field ≡ Some id
@@ -18,11 +18,11 @@ pub record SpellsBlock (n from : ℕ) (r : Row) (id : ℕ) : Type 0 where
   pub rising : from ≤ id
 
 -- the lines of blocks, rising
-abbrev pub SpellsBlocks : ℕ → ℕ → List Row → List ℕ → Type 0
-SpellsBlocks n from [] [] = Unit {0}
-SpellsBlocks n from [] (id ∷ ids) = ⊥
-SpellsBlocks n from (r ∷ rows) [] = ⊥
-SpellsBlocks n from (r ∷ rows) (id ∷ ids) = SpellsBlock n from r id × SpellsBlocks n (id + 1) rows ids
+abbrev pub SpellsPitBlocks : ℕ → ℕ → List Row → List ℕ → Type 0
+SpellsPitBlocks n from [] [] = Unit {0}
+SpellsPitBlocks n from [] (id ∷ ids) = ⊥
+SpellsPitBlocks n from (r ∷ rows) [] = ⊥
+SpellsPitBlocks n from (r ∷ rows) (id ∷ ids) = SpellsPitBlock n from r id × SpellsPitBlocks n (id + 1) rows ids
 
 -- how many blocks follow behind this word, and the lines of these, rising
 pub record SpellsList (word : List ℕ) (n : ℕ) (rows : List Row) (ids : List ℕ) : Type 0 where
@@ -31,7 +31,7 @@ pub record SpellsList (word : List ℕ) (n : ℕ) (rows : List Row) (ids : List 
   pub are : rows ≡ count ∷ blocks
   pub names : SpellsNumber word (length ids) count
   pub few : length ids ≤ n
-  pub spelled : SpellsBlocks n 0 blocks ids
+  pub spelled : SpellsPitBlocks n 0 blocks ids
 
 -- the title, and the lines of the fixed blocks: format 1 has none, and is lawful where nothing is fixed; format 2 lists them
 pub data SpellsFormat (n : ℕ) (lists : FixedLists) (title : Row) (rows : List Row) : Type 0 where
@@ -63,7 +63,7 @@ SpellsFlow pairs from (r ∷ rows) flow =
     × SpellsFlow pairs (arc + 1) rows flow
 
 -- the lines of a certificate of the graph with these fixed blocks
-pub record SpellsRows (graph : Graph) (lists : FixedLists) (rows : List Row) (c : PitAndFlow) : Type 0 where
+pub record SpellsCertificateRows (graph : Graph) (lists : FixedLists) (rows : List Row) (c : PitAndFlow) : Type 0 where
   pub title : Row
   pub blocks : Row
   pub arcs : Row
@@ -83,4 +83,4 @@ pub record SpellsRows (graph : Graph) (lists : FixedLists) (rows : List Row) (c 
 
 -- the text spells this certificate of the graph with these fixed blocks
 abbrev pub SpellsCertificate : Graph → FixedLists → List ℕ → PitAndFlow → Type 0
-SpellsCertificate graph lists text c = SpellsRows graph lists (rows_of text) c
+SpellsCertificate graph lists text c = SpellsCertificateRows graph lists (rows_of text) c

@@ -10,7 +10,7 @@ use Rattle.std.specs.Option.{ok_or}
 use Rattle.faults.specs.Refused.{at_line}
 use Rattle.minelib_reader.specs.Text.{Row, rows_of, count_of_lines, two_of}
 use Rattle.minelib_reader.specs.Number.{whole_of, digits_of}
-use Rattle.minelib_reader.specs.Upit.{is_pair}
+use Rattle.minelib_reader.specs.Upit.{are_words}
 use Rattle.pit_model.specs.Fixed.{FixedLists}
 use Rattle.pit_model.specs.Graph.{Graph}
 use Rattle.certificate.specs.declared.due.CertificateLine.{CertificateLine}
@@ -79,9 +79,9 @@ abbrev pub list_of : FixedLists → Kind → List ℕ
 list_of lists Forced = lists.forced
 list_of lists Barred = lists.barred
 
-abbrev pub word_of : Kind → List ℕ
-word_of Forced = codes "FORCED:"
-word_of Barred = codes "BARRED:"
+abbrev pub kind_word : Kind → List ℕ
+kind_word Forced = codes "FORCED:"
+kind_word Barred = codes "BARRED:"
 
 -- the title of format 1, which has no place for fixed blocks
 unfoldable pub first_format : FixedLists → Row → Result Bool Fault
@@ -92,12 +92,12 @@ first_format lists r = do
 
 -- the title: whether it is that of format 2, which names the fixed blocks
 unfoldable pub format_line : FixedLists → Row → Result Bool Fault
-format_line lists r = if is_pair (codes "PITCERT") (codes "2") (two_of r.fields) then Ok true else first_format lists r
+format_line lists r = if are_words (codes "PITCERT") (codes "2") (two_of r.fields) then Ok true else first_format lists r
 
 -- how many blocks of a kind follow, which are as many as the list has
 unfoldable pub fixed_count_line : ℕ → FixedLists → Kind → Row → Result CertificateLine Fault
 fixed_count_line n lists kind r = do
-  count ← count_line (word_of kind) n r
+  count ← count_line (kind_word kind) n r
   same ← ok_if (count == length (list_of lists kind)) (in_certificate CountsDiffer r.line)
   Ok (Head (FixedBlock kind 0 0))
 

@@ -6,7 +6,7 @@ use Rattle.pit_model.specs.Graph.{Graph, first_of, second_of}
 use Rattle.pit_model.specs.Mine.{members}
 use Rattle.pit_model.specs.PitText.{line_of}
 use Rattle.certificate.specs.Check.{amount}
-use Rattle.certificate.specs.CertificateLines.{fixes_nothing, word_of}
+use Rattle.certificate.specs.CertificateLines.{fixes_nothing, kind_word}
 use Rattle.certificate.specs.declared.due.Kind.TheVariants.{Forced, Barred}
 
 -- the arcs that carry something, rising
@@ -30,7 +30,7 @@ list_text word ids = word ++ codes " " ++ decimal (length ids) ++ codes "\n" ++ 
 abbrev pub certificate_head : Graph → FixedLists → List ℕ
 certificate_head graph lists =
     if fixes_nothing lists then graph_head (codes "1") graph.blocks (length graph.pairs)
-    else (graph_head (codes "2") graph.blocks (length graph.pairs) ++ list_text (word_of Forced) lists.forced ++ list_text (word_of Barred) lists.barred)
+    else (graph_head (codes "2") graph.blocks (length graph.pairs) ++ list_text (kind_word Forced) lists.forced ++ list_text (kind_word Barred) lists.barred)
 
 unfoldable pub flow_head : ℕ → List ℕ
 flow_head count = codes "FLOW: " ++ decimal count ++ codes "\n"

@@ -7,11 +7,11 @@ use Rattle.pit_model.specs.Flow.{excess}
 use Rattle.pit_model.specs.Certificate.{IsReached}
 use Rattle.pit_model.specs.Limits.{Between}
 use Rattle.pit_model.specs.Fixed.{is_open}
-use Rattle.mine_graph.specs.FixedBlocks.{FixedBlocks, dug_in, left_in}
+use Rattle.mine_graph.specs.FixedBlocks.{FixedBlocks, forced_closure, barred_closure}
 
 -- each number is greater than all that stand before it
-abbrev pub AreRising : List ℕ → Type 0
-AreRising xs = (i j : ℕ) → i < j → j < length xs → get_or xs i 0 < get_or xs j 0
+abbrev pub AreAscending : List ℕ → Type 0
+AreAscending xs = (i j : ℕ) → i < j → j < length xs → get_or xs i 0 < get_or xs j 0
 
 -- the mark of a block, and the amount on an arc
 abbrev pub has : List Bool → ℕ → Bool
@@ -30,7 +30,7 @@ AreAmounts flow = (k : ℕ) → k < length flow → Between (pos 0) (amount flow
 -- what may be checked for n blocks and m arcs: a rising list of blocks, and an amount for each arc
 pub record IsCandidate (n m : ℕ) (pit : List ℕ) (flow : List ℤ) : Type 0 where
   pub below : All (λ u. u < n) pit
-  pub rising : AreRising pit
+  pub rising : AreAscending pit
   pub counted : length flow ≡ m
   pub amounts : AreAmounts flow
 
@@ -53,7 +53,7 @@ AreReached mine flow inside marks =
 
 -- a block that is neither to be dug nor to be left
 abbrev pub open_in : FixedBlocks → ℕ → Bool
-open_in fixed u = is_open (dug_in fixed) (left_in fixed) u
+open_in fixed u = is_open (forced_closure fixed) (barred_closure fixed) u
 
 -- what is tested of one pair, by the marks of its ends and the amount on it: it doesn't lead out of the set, no flow comes in
 -- over it, and none is on it where not both ends are open
@@ -81,4 +81,4 @@ pub record BlockAllows (dug left inside reached : Bool) (x : ℤ) : Type 0 where
 
 abbrev pub BlocksAllow : FixedBlocks → List ℤ → List Bool → List Bool → ℕ → Type 0
 BlocksAllow fixed excesses inside reached n =
-    (u : ℕ) → u < n → BlockAllows (dug_in fixed u) (left_in fixed u) (has inside u) (has reached u) (get_or excesses u (pos 0))
+    (u : ℕ) → u < n → BlockAllows (forced_closure fixed u) (barred_closure fixed u) (has inside u) (has reached u) (get_or excesses u (pos 0))

@@ -10,7 +10,7 @@ ghost use Rattle.pit_model.specs.Direction.{ListsPit};
 ghost use Rattle.pit_model.specs.Fixed.{IsFixedCertificate, IsNothingFixed, fixed_of, graph_of_mine};
 ghost use Rattle.pit_model.specs.declared.direction.Direction.TheVariants.{Least};
 ghost use Rattle.mine_graph.specs.FixedBlocks.{IsFixedOf};
-ghost use Rattle.certificate.specs.Check.{amount, has, open_in, AreRising, BlockAllows, BlocksAllow, IsCandidate, PairAllows, PairsAllow, RowAllows};
+ghost use Rattle.certificate.specs.Check.{amount, has, open_in, AreAscending, BlockAllows, BlocksAllow, IsCandidate, PairAllows, PairsAllow, RowAllows};
 
 use crate::excess::excesses_of;
 use crate::pit_with_flow::Certificate;
@@ -22,7 +22,7 @@ use std::alloc::{AllocError, Global};
 /// A mark for each of n blocks: whether it is on the list.
 fn marks_of(alloc: Global, n: u32, pit: &[u32]) -> Result<Vec<bool>, AllocError>
     requires below { All (λ u. u < n) pit.now }
-    requires rising { AreRising pit.now }
+    requires rising { AreAscending pit.now }
     ensures count { IfOk result (λ v. length v.items ≡ n) }
     ensures marks { IfOk result (λ v. pit.now ≡ members n (has v.items)) }
 {

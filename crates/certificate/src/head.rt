@@ -3,7 +3,7 @@
 ghost use Rattle.std.specs.Prelude.{◌≡◌, ◌<◌, IfOk};
 ghost use Rattle.minelib_reader.specs.Answer.{Gives};
 ghost use Rattle.minelib_reader.specs.Text.{row, fields_of};
-ghost use Rattle.certificate.specs.CertificateLines.{behind_fixed, fixed_count_line, fixed_id_line, fixes_nothing, format_line, head_line, inside_line, list_of, word_of};
+ghost use Rattle.certificate.specs.CertificateLines.{behind_fixed, fixed_count_line, fixed_id_line, fixes_nothing, format_line, head_line, inside_line, list_of, kind_word};
 
 use crate::due::{CertificateLine, Head, Kind};
 use crate::lines::{in_certificate, read_count, read_id};
@@ -14,7 +14,7 @@ use report::{check_count, check_title};
 
 /// The word before the number of blocks of a kind.
 pub fn word_of(kind: Kind) -> &'static [u8]
-    ensures { result.now ≡ word_of kind }
+    ensures { result.now ≡ kind_word kind }
 {
     match kind {
         Kind::Forced => b"FORCED:".as_slice(),

@@ -4,54 +4,54 @@ ghost use Rattle.std.specs.Prelude.{◌≡◌, ◌<◌, ◌≤◌, ◌↔◌, �
 ghost use Rattle.pit_model.specs.Graph.{second_of};
 ghost use Rattle.pit_model.specs.Mine.{arcs};
 ghost use Rattle.pit_model.specs.Size.{most_blocks};
-ghost use Rattle.mine_graph.specs.Flood.{IsTrail, TakesIn, is_in};
+ghost use Rattle.mine_graph.specs.BreadthFirst.{IsTrail, VisitsExactly, is_visited};
 ghost use Rattle.certificate.specs.Check.{amount, has, AreExcesses, AreReached};
 ghost use Rattle.certificate.specs.Reaching.{IsVisited, Sends};
 
 use crate::excess::has_flow;
-use mine_graph::{Flood, Graph, Instance};
+use mine_graph::{BreadthFirst, Graph, Instance};
 use std::alloc::{AllocError, Global};
 use std::ops::Range;
 
 /// Takes in the block, where it lies inside.
-fn visit(flood: &mut Flood, inside: &[bool], block: u32)
-    requires below { block < length flood.old.marks.items }
-    requires same { length inside.now ≡ length flood.old.marks.items }
-    requires trail { IsTrail flood.old }
-    ensures { TakesIn (IsVisited inside.now (λ x. true) (λ x. block) 0 1) flood.old flood.new }
+fn visit(search: &mut BreadthFirst, inside: &[bool], block: u32)
+    requires below { block < length search.old.marks.items }
+    requires same { length inside.now ≡ length search.old.marks.items }
+    requires trail { IsTrail search.old }
+    ensures { VisitsExactly (IsVisited inside.now (λ x. true) (λ x. block) 0 1) search.old search.new }
 {
     if inside[block as usize] {
-        flood.take_in(block);
+        search.visit(block);
     }
 }
 
 /// Visits the blocks of positive excess.
-fn visit_starts(flood: &mut Flood, inside: &[bool], excesses: &[i128])
-    requires few { length flood.old.marks.items ≤ most_blocks }
-    requires count { length excesses.now ≡ length flood.old.marks.items }
-    requires same { length inside.now ≡ length flood.old.marks.items }
-    requires trail { IsTrail flood.old }
-    ensures { TakesIn (IsVisited inside.now (λ x. int_lt (pos 0) (get_or excesses.now x (pos 0))) (λ x. x) 0 (length excesses.now)) flood.old flood.new }
+fn visit_starts(search: &mut BreadthFirst, inside: &[bool], excesses: &[i128])
+    requires few { length search.old.marks.items ≤ most_blocks }
+    requires count { length excesses.now ≡ length search.old.marks.items }
+    requires same { length inside.now ≡ length search.old.marks.items }
+    requires trail { IsTrail search.old }
+    ensures { VisitsExactly (IsVisited inside.now (λ x. int_lt (pos 0) (get_or excesses.now x (pos 0))) (λ x. x) 0 (length excesses.now)) search.old search.new }
 {
     for u in 0..excesses.len() {
         if excesses[u] > 0 {
-            visit(flood, inside, u as u32);
+            visit(search, inside, u as u32);
         }
     }
 }
 
 /// Visits the blocks that are needed by the pairs of a row.
-fn visit_needed(flood: &mut Flood, inside: &[bool], graph: &Graph, row: Range<u32>)
+fn visit_needed(search: &mut BreadthFirst, inside: &[bool], graph: &Graph, row: Range<u32>)
     requires order { row.start ≤ row.end }
     requires within { row.end ≤ length graph.now.pairs }
-    requires blocks { length flood.old.marks.items ≡ graph.now.blocks }
-    requires same { length inside.now ≡ length flood.old.marks.items }
-    requires trail { IsTrail flood.old }
-    ensures { TakesIn (IsVisited inside.now (λ x. true) (second_of graph.now.pairs) row.start row.end) flood.old flood.new }
+    requires blocks { length search.old.marks.items ≡ graph.now.blocks }
+    requires same { length inside.now ≡ length search.old.marks.items }
+    requires trail { IsTrail search.old }
+    ensures { VisitsExactly (IsVisited inside.now (λ x. true) (second_of graph.now.pairs) row.start row.end) search.old search.new }
 {
     graph.law();
     for k in row.start..row.end {
-        visit(flood, inside, graph.needed(k));
+        visit(search, inside, graph.needed(k));
     }
 }
 
@@ -69,19 +69,19 @@ fn sends(graph: &Graph, flow: &[i128], from: u32, to: u32) -> bool
 }
 
 /// Visits the blocks from which flow comes to a block.
-fn visit_users(flood: &mut Flood, inside: &[bool], graph: &Graph, flow: &[i128], block: u32)
+fn visit_users(search: &mut BreadthFirst, inside: &[bool], graph: &Graph, flow: &[i128], block: u32)
     requires block { block < graph.now.blocks }
     requires counted { length flow.now ≡ length graph.now.pairs }
-    requires blocks { length flood.old.marks.items ≡ graph.now.blocks }
-    requires same { length inside.now ≡ length flood.old.marks.items }
-    requires trail { IsTrail flood.old }
-    ensures { TakesIn (λ u. Sends graph.now.pairs flow.now u block × (has inside.now u ≡ true)) flood.old flood.new }
+    requires blocks { length search.old.marks.items ≡ graph.now.blocks }
+    requires same { length inside.now ≡ length search.old.marks.items }
+    requires trail { IsTrail search.old }
+    ensures { VisitsExactly (λ u. Sends graph.now.pairs flow.now u block × (has inside.now u ≡ true)) search.old search.new }
 {
     graph.law();
     let users = graph.users(block);
     for i in 0..users.len() {
         if sends(graph, flow, users[i], block) {
-            visit(flood, inside, users[i]);
+            visit(search, inside, users[i]);
         }
     }
 }
@@ -103,15 +103,15 @@ pub fn reached_of(
 {
     mine.law();
     let graph: &Graph = mine.graph();
-    let mut flood = Flood::new(alloc, graph.n())?;
-    visit_starts(&mut flood, inside, excesses);
+    let mut search = BreadthFirst::new(alloc, graph.n())?;
+    visit_starts(&mut search, inside, excesses);
     for head in 0..inside.len() {
-        if head == flood.tail {
+        if head == search.tail {
             break;
         }
-        let block = flood.queue[head];
-        visit_needed(&mut flood, inside, graph, graph.arcs_of(block));
-        visit_users(&mut flood, inside, graph, flow, block);
+        let block = search.queue[head];
+        visit_needed(&mut search, inside, graph, graph.arcs_of(block));
+        visit_users(&mut search, inside, graph, flow, block);
     }
-    Ok(flood.marks)
+    Ok(search.marks)
 }

@@ -53,8 +53,8 @@ AddsOptions more old new = (name : Text) (had : List Choice) → HasOptions name
 abbrev pub mine_options : List Choice
 mine_options = needed (codes "model") ∷ needed (codes "prec") ∷ offered (codes "fixed") ∷ []
 
-abbrev pub asked_options : List Choice
-asked_options =
+abbrev pub settings_options : List Choice
+settings_options =
     standing (codes "mode") (codes "single") ∷ standing (codes "workers") (codes "4") ∷ offered (codes "budget") ∷ standing (codes "pit") (codes "least") ∷ []
 
 abbrev pub watch_options : List Choice
@@ -70,10 +70,10 @@ abbrev pub column_options : List Choice
 column_options = needed (codes "revenue") ∷ needed (codes "cost") ∷ []
 
 abbrev pub solve_options : List Choice
-solve_options = asked_options ++ mine_options ++ output_options ++ watch_options
+solve_options = settings_options ++ mine_options ++ output_options ++ watch_options
 
 abbrev pub shells_options : List Choice
-shells_options = blocks_options ++ column_options ++ needed (codes "factors") ∷ asked_options ++ watch_options
+shells_options = blocks_options ++ column_options ++ needed (codes "factors") ∷ settings_options ++ watch_options
 
 -- a subcommand's name and its options
 abbrev pub subcommand_of : Shape → Text × List Choice

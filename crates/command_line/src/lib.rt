@@ -2,7 +2,7 @@
 #![tactic(auto)]
 
 ghost use Rattle.std.specs.Prelude.{◌≡◌, ◌∷◌, [], ◌++◌, codes, IfOk};
-ghost use Rattle.command_line.specs.Options.{asked_options, blocks_options, check_options, column_options, mine_options, needed, offered, output_options, replay_options, shells_options, solve_options, standing, subcommands_in, watch_options, AddsOptions, HasOptions, IsOption};
+ghost use Rattle.command_line.specs.Options.{settings_options, blocks_options, check_options, column_options, mine_options, needed, offered, output_options, replay_options, shells_options, solve_options, standing, subcommands_in, watch_options, AddsOptions, HasOptions, IsOption};
 
 use clap::{Arg, ArgAction, Command, value_parser};
 use std::alloc::{AllocError, Global};
@@ -165,7 +165,7 @@ fn shells_command<'a>(alloc: Global) -> Result<Command<'a>, AllocError>
         .about("Writes the nested pits: the ultimate pit at each price factor")
         .after_help(STATUSES);
     let shells = with_columns(alloc, with_blocks(alloc, shells)?)?.arg(factors_list(alloc))?;
-    with_watch(alloc, with_asked(alloc, shells, 5)?)
+    with_watch(alloc, with_settings(alloc, shells, 5)?)
 }
 
 /// The word of the mode.
@@ -223,12 +223,12 @@ fn pit_word<'a>(alloc: Global) -> Arg<'a>
 
 /// What is asked for: the word of the mode and that of the pit, which `runs` checks, the number of workers and the budget of
 /// mergers. Help shows them in places from this one on.
-fn with_asked<'a>(
+fn with_settings<'a>(
     alloc: Global,
     command: Command<'a>,
     place: usize,
 ) -> Result<Command<'a>, AllocError>
-    ensures { IfOk result (AddsOptions asked_options command.entry) }
+    ensures { IfOk result (AddsOptions settings_options command.entry) }
 {
     command
         .arg(mode_word(alloc).display_order(place))?
@@ -293,7 +293,7 @@ fn solve_command<'a>(alloc: Global) -> Result<Command<'a>, AllocError>
     let solve = Command::new(alloc, "solve")
         .about("Writes the smallest closed set of greatest worth: the ultimate pit")
         .after_help(STATUSES);
-    let solve = with_mine(alloc, with_asked(alloc, solve, 3)?)?;
+    let solve = with_mine(alloc, with_settings(alloc, solve, 3)?)?;
     with_watch(alloc, with_outputs(alloc, solve)?)
 }
 

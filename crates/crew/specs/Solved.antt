@@ -10,8 +10,8 @@ use Rattle.pit_model.specs.Journal.{is_used_up, applied_count, IsLawful, AreSeat
 use Rattle.pit_model.specs.FirstRun.{HasMerger, HasNoMerger, IsFirstMerger}
 use Rattle.certificate.specs.Certificate.{IsCertificateOf}
 use Rattle.pit_model.specs.Version.{applied_arcs, version_tree}
-use Rattle.proposals.specs.declared.knows.WorkerLedger.{WorkerLedger}
-use Rattle.tree_lock.specs.Held.{Held, Decides}
+use Rattle.proposals.specs.declared.seat_state.WorkerLedger.{WorkerLedger}
+use Rattle.tree_lock.specs.HolderState.{HolderState, Decides}
 use Rattle.tree_lock.specs.Served.{MeetsJournal}
 use Rattle.merging.specs.declared.outcome.Outcome.{Outcome}
 use Rattle.merging.specs.declared.outcome.Outcome.TheVariants.{Pit, Exhausted}
@@ -28,22 +28,22 @@ pub record IsSolvedTogether (mine : Instance) (workers : ℕ) (budget : Option �
   pub ends : EndsBy mine budget journal outcome
 
 -- nothing more is to be done: no merger arc is left, or the budget is used up
-abbrev pub IsEnded : Held → Type 0
+abbrev pub IsEnded : HolderState → Type 0
 IsEnded held = HasNoMerger held.mine held.tree ⊎ IsTrue (is_used_up held.budget (applied_count held.journal))
 
 -- the first merger arc was decided for the driver; or there was none, and nothing changed
-abbrev pub DecidesFirst : Held → Held → Option Verdict → Type 0
+abbrev pub DecidesFirst : HolderState → HolderState → Option Verdict → Type 0
 DecidesFirst old new None = HasNoMerger old.mine old.tree × (new ≡ old)
 DecidesFirst old new (Some verdict) = (arc : ℕ) × IsFirstMerger old.mine old.tree (Some arc) × Decides arc old new verdict
 
 -- a worker's seats have met the holder's: what it asked and collected agrees with the entries under its seat, and its seat to look
 -- from, which is None only while it is lent, is told of all mergers
-abbrev pub HasMet : List Entry → WorkerLedger → Option (List ℕ) → Type 0
-HasMet journal asks looks = MeetsJournal asks journal × IfSome looks (λ list. list ≡ applied_arcs journal)
+abbrev pub IsSynchronised : List Entry → WorkerLedger → Option (List ℕ) → Type 0
+IsSynchronised journal asks looks = MeetsJournal asks journal × IfSome looks (λ list. list ≡ applied_arcs journal)
 
 -- how a round ends, from the holder that the workers met: the driver found no merger arc or no budget for it, and nothing more is to be
 -- done; or it merged over the first one
-abbrev pub RoundEnds : Held → Held → Bool → Type 0
+abbrev pub RoundEnds : HolderState → HolderState → Bool → Type 0
 RoundEnds met after true = IsEnded after × (DecidesFirst met after None ⊎ DecidesFirst met after (Some Spent))
 RoundEnds met after false = DecidesFirst met after (Some Applied)
 

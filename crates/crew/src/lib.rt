@@ -4,9 +4,9 @@
 
 mod driver;
 mod gate;
-mod route;
 mod shared;
 mod sweeps;
+mod work_chunks;
 mod worker;
 
 pub use gate::{Gate, OpenGate};

@@ -9,8 +9,8 @@ ghost use Rattle.crew.specs.Solved.{IsSolvedTogether};
 
 use crate::driver::end_of;
 use crate::gate::Gate;
-use crate::route::Route;
 use crate::sweeps::Crew;
+use crate::work_chunks::WorkChunks;
 use crate::worker::Worker;
 use faults::Fault;
 use merging::Outcome;
@@ -27,7 +27,7 @@ use tree_lock::{Entry, Holder, LockId, SharedTree, UnnamedList};
 const MOST_WORKERS: u32 = 64;
 
 /// What a solve begins with: the opening tree and its budget, and the list of mergers and the board, which have no name yet.
-struct Beginning {
+struct Setup {
     tree: NormTree,
     budget: Option<u64>,
     list: UnnamedList,
@@ -90,7 +90,7 @@ fn run_crew<'a, S: LockId + Send + Sync, G: Gate + Sync, R: Threads + Wait + Syn
 fn solve_at<S: LockId + Send + Sync, G: Gate + Sync, R: Threads + Wait + Sync>(
     rt: &R,
     alloc: Global,
-    begun: Beginning,
+    begun: Setup,
     chunk: u32,
     gate: &G,
 ) -> Result<(Outcome, Vec<Entry>), Fault>
@@ -104,13 +104,13 @@ fn solve_at<S: LockId + Send + Sync, G: Gate + Sync, R: Threads + Wait + Sync>(
     ensures solved { IfOk result (λ r. IsSolvedTogether S.mine S.workers S.budget r.0 r.1.items) }
     ensures refused { IfErr result IsNoRoom }
 {
-    let Beginning {
+    let Setup {
         tree,
         budget,
         list,
         unnamed,
     } = begun;
-    let route = Route::opening(alloc, &tree, chunk)?;
+    let work = WorkChunks::opening(alloc, &tree, chunk)?;
     let arcs = tree.instance().graph().arcs();
     let (board, seats, holder_seat) = Board::<S>::new(alloc, unnamed, arcs)?;
     let shared = SharedTree::<S>::new(alloc, list, tree, budget, &board, holder_seat)?;
@@ -118,7 +118,7 @@ fn solve_at<S: LockId + Send + Sync, G: Gate + Sync, R: Threads + Wait + Sync>(
     let crew = Crew {
         board: &board,
         workers,
-        route,
+        work,
         chunk,
         gate,
     };
@@ -147,7 +147,7 @@ pub fn solve_shared<G: Gate + Sync, R: Threads + Wait + Sync>(
     if workers > MOST_WORKERS {
         return Err(Fault::no_seat());
     }
-    let begun = Beginning {
+    let begun = Setup {
         tree: NormTree::start(alloc, instance)?,
         budget,
         list: UnnamedList::new()?,

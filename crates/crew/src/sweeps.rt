@@ -1,15 +1,15 @@
-//! The sweeps of mode shared: in each, the workers go over a route, each in a thread of its own; between two of them the
+//! The sweeps of mode shared: in each, the workers go over chunks of arcs, each in a thread of its own; between two of them the
 //! driver has the tree alone, and decides the first merger arc that they left.
 ghost use Rattle.std.specs.Prelude.{◌≡◌, IfOk, IfErr};
 ghost use Rattle.faults.specs.Refused.{no_memory, no_seat, IsNoRoom};
 ghost use Rattle.pit_model.specs.Mine.{arcs};
 ghost use Rattle.std.specs.List.{All};
-ghost use Rattle.tree_lock.specs.Held.{Held};
-ghost use Rattle.crew.specs.Solved.{HasMet, IsEnded, RoundEnds};
+ghost use Rattle.tree_lock.specs.HolderState.{HolderState};
+ghost use Rattle.crew.specs.Solved.{IsSynchronised, IsEnded, RoundEnds};
 
 use crate::driver::is_ended;
 use crate::gate::Gate;
-use crate::route::Route;
+use crate::work_chunks::WorkChunks;
 use crate::worker::{Sweep, Worker};
 use faults::Fault;
 use norm_tree::NormTree;
@@ -27,7 +27,7 @@ pub struct Crew<'a, S: LockId, G: Gate> {
     pub board: &'a Board<S>,
     pub workers: Vec<Worker<S>>,
     /// What the next sweep goes over.
-    pub route: Route,
+    pub work: WorkChunks,
     /// How many arcs a worker draws at once.
     pub chunk: u32,
     pub gate: &'a G,
@@ -73,12 +73,12 @@ fn as_count(length: usize) -> u32 {
 }
 
 /// The seats of each meet the holder's.
-fn meet_all<S: LockId>(board: &Board<S>, workers: &mut [Worker<S>], holder: &mut Holder<S>)
+fn synchronise_all<S: LockId>(board: &Board<S>, workers: &mut [Worker<S>], holder: &mut Holder<S>)
     ensures same { holder.new ≡ holder.old }
-    ensures met { All (λ worker. HasMet holder.old.journal worker.asks worker.looks) workers.new }
+    ensures met { All (λ worker. IsSynchronised holder.old.journal worker.asks worker.looks) workers.new }
 {
     for worker in workers.iter_mut() {
-        worker.meet(board, holder);
+        worker.synchronise(board, holder);
     }
 }
 
@@ -100,7 +100,7 @@ impl<'a, S: LockId + Send + Sync, G: Gate + Sync> Crew<'a, S, G> {
             board: self.board,
             shared,
             draws: &draws,
-            route: &self.route,
+            work: &self.work,
             gate: self.gate,
         };
         let swept = run_workers(rt, &sweep, &mut self.workers, &mut draw_seats);
@@ -113,11 +113,11 @@ impl<'a, S: LockId + Send + Sync, G: Gate + Sync> Crew<'a, S, G> {
     }
 
     /// Each worker's seats meet the holder's.
-    fn meet(&mut self, holder: &mut Holder<S>)
+    fn synchronise(&mut self, holder: &mut Holder<S>)
         ensures same { holder.new ≡ holder.old }
-        ensures met { All (λ worker. HasMet holder.old.journal worker.asks worker.looks) self.new.workers.items }
+        ensures met { All (λ worker. IsSynchronised holder.old.journal worker.asks worker.looks) self.new.workers.items }
     {
-        meet_all(self.board, &mut self.workers, holder);
+        synchronise_all(self.board, &mut self.workers, holder);
     }
 
     /// One sweep, with a counter of its own.
@@ -130,21 +130,21 @@ impl<'a, S: LockId + Send + Sync, G: Gate + Sync> Crew<'a, S, G> {
         requires { S.arcs ≡ arcs S.mine }
         ensures { IfErr result IsNoRoom }
     {
-        let chunks = as_count(self.route.chunks());
+        let chunks = as_count(self.work.chunks());
         let unnamed = UnnamedDraws::new(alloc, chunks, as_count(self.workers.len()))?;
         self.sweep_by::<Brand, R>(rt, alloc, shared, unnamed)
     }
 
-    /// Makes the route of the next sweep over the tree.
+    /// Makes the chunks of the next sweep over the tree.
     fn renew(&mut self, alloc: Global, tree: &NormTree) -> Result<(), Fault>
         ensures workers { self.new.workers ≡ self.old.workers }
         ensures refused { IfErr result (λ e. e ≡ no_memory) }
     {
-        self.route = Route::over_mergers(alloc, tree, self.chunk)?;
+        self.work = WorkChunks::over_mergers(alloc, tree, self.chunk)?;
         Ok(())
     }
 
-    /// The driver's decision after a sweep: it answers whether the solve has ended, and else makes the route of the next sweep.
+    /// The driver's decision after a sweep: it answers whether the solve has ended, and else makes the chunks of the next sweep.
     fn decide<R: Threads + Wait + Sync>(
         &mut self,
         rt: &R,
@@ -152,10 +152,10 @@ impl<'a, S: LockId + Send + Sync, G: Gate + Sync> Crew<'a, S, G> {
         holder: &mut Holder<S>,
     ) -> Result<bool, Fault>
         ensures ended { IfOk result (RoundEnds holder.old holder.new) }
-        ensures met { All (λ worker. HasMet holder.old.journal worker.asks worker.looks) self.new.workers.items }
+        ensures met { All (λ worker. IsSynchronised holder.old.journal worker.asks worker.looks) self.new.workers.items }
         ensures refused { IfErr result IsNoRoom }
     {
-        self.meet(holder);
+        self.synchronise(holder);
         holder.tree().instance().counters().swept();
         if is_ended(rt, holder)? {
             return Ok(true);
@@ -173,7 +173,7 @@ impl<'a, S: LockId + Send + Sync, G: Gate + Sync> Crew<'a, S, G> {
         holder: Holder<S>,
     ) -> Result<(Holder<S>, bool), Fault>
         requires { S.arcs ≡ arcs S.mine }
-        ensures ended { IfOk result (λ r. (met : Held) × RoundEnds met r.0 r.1 × All (λ worker. HasMet met.journal worker.asks worker.looks) self.new.workers.items) }
+        ensures ended { IfOk result (λ r. (met : HolderState) × RoundEnds met r.0 r.1 × All (λ worker. IsSynchronised met.journal worker.asks worker.looks) self.new.workers.items) }
         ensures refused { IfErr result IsNoRoom }
     {
         let shared = SharedTree::of_holder(holder);

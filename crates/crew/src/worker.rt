@@ -2,10 +2,10 @@
 //! it sees there, serves the board under the lock where nobody else did, and collects its reply.
 ghost use Rattle.std.specs.Prelude.{◌≡◌, ◌<◌, ◌≤◌, suc, None, IfSome, IsTrue};
 ghost use Rattle.pit_model.specs.Mine.{arcs};
-ghost use Rattle.crew.specs.Solved.{HasMet, HasSeen, LooksFor};
+ghost use Rattle.crew.specs.Solved.{IsSynchronised, HasSeen, LooksFor};
 
 use crate::gate::Gate;
-use crate::route::Route;
+use crate::work_chunks::WorkChunks;
 use proposals::{Board, CounterId, DrawSeat, Draws, WorkerSeat};
 use std::sync::{MutexGuard, Wait};
 use tree_lock::{Holder, LockId, LookSeat, SharedTree, Verdict};
@@ -72,7 +72,7 @@ pub struct Sweep<'a, S: LockId, G: Gate, L: CounterId> {
     pub board: &'a Board<S>,
     pub shared: &'a SharedTree<S>,
     pub draws: &'a Draws<L>,
-    pub route: &'a Route,
+    pub work: &'a WorkChunks,
     pub gate: &'a G,
     ghost known: { S.arcs ≡ arcs S.mine },
 }
@@ -136,7 +136,7 @@ impl<S: LockId> Worker<S> {
 
     /// Collects the reply of whoever has the lock, or serves once the lock is free. It waits for the lock only where it found it
     /// taken so often.
-    fn meet_holder<'a, G: Gate, L: CounterId, R: Wait>(
+    fn synchronise_with_holder<'a, G: Gate, L: CounterId, R: Wait>(
         &mut self,
         rt: &R,
         sweep: &Sweep<'a, S, G, L>,
@@ -172,7 +172,7 @@ impl<S: LockId> Worker<S> {
         match (self.collect(sweep), held) {
             (Some(goes_on), held) => (goes_on, held),
             (None, Some(held)) => self.serve(rt, sweep, held),
-            (None, None) => self.meet_holder(rt, sweep),
+            (None, None) => self.synchronise_with_holder(rt, sweep),
         }
     }
 
@@ -208,7 +208,7 @@ impl<S: LockId> Worker<S> {
             let Some(number) = sweep.draws.draw(draw_seat) else {
                 return;
             };
-            if !self.go_over(rt, sweep, sweep.route.chunk(number)) {
+            if !self.go_over(rt, sweep, sweep.work.chunk(number)) {
                 return;
             }
         }
@@ -224,10 +224,10 @@ impl<S: LockId> Worker<S> {
 
     /// Lets its seats meet the holder's after a sweep. What it asked and collected then agrees with the entries under its seat,
     /// and it is told of all mergers that were made.
-    pub fn meet(&mut self, board: &Board<S>, holder: &mut Holder<S>)
+    pub fn synchronise(&mut self, board: &Board<S>, holder: &mut Holder<S>)
         ensures same { holder.new ≡ holder.old }
         ensures asks { self.new.asks ≡ self.old.asks }
-        ensures met { HasMet holder.old.journal self.new.asks self.new.looks }
+        ensures met { IsSynchronised holder.old.journal self.new.asks self.new.looks }
     {
         holder.settle(board, &mut self.asks);
         match &mut self.looks {

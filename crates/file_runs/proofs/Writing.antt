@@ -10,8 +10,8 @@ use Rattle.solver.specs.declared.mode.Mode.TheVariants.{Single, Parts, Shared}
 use Rattle.runs.specs.Chosen.{IsCountable, progress_of}
 use Rattle.runs.specs.Journaled.{MayJournal}
 use Rattle.runs.specs.Run.{MayWrite}
-use Rattle.runs.specs.declared.asked.Asked.{Asked}
-use Rattle.file_runs.specs.Made.{certificate_toward, journal_of, journal_toward}
+use Rattle.runs.specs.declared.settings.SolveSettings.{SolveSettings}
+use Rattle.file_runs.specs.Made.{certificate_toward, wanted_journal, journal_toward}
 use Rattle.file_runs.specs.Solved.{IsUnwrittenIfAny}
 
 countable : {W : Type 0} → (progress : W → Progress) (writer : Option W) → IsUnwrittenIfAny progress writer → IsCountable (progress_of progress writer)
@@ -39,13 +39,13 @@ may_record mode Least journal_name certificate_name journal_at journal certifica
 may_record mode Greatest journal_name certificate_name journal_at journal certificate_at certificate named certificate_named =
     inr (not_there journal_at journal named, not_there certificate_at certificate certificate_named)
 
-pub may_write : {T J C : Type 0} → (asked : Asked) (journal_name certificate_name : Option T) (journal_at : J → Progress) (certificate_at : C → Progress) (journal : Option J) (certificate : Option C)
-    → IsUnwrittenIfAny journal_at journal → is_some journal ≡ is_some (journal_of asked journal_name)
-    → IsUnwrittenIfAny certificate_at certificate → is_some certificate ≡ is_some (certificate_toward asked.pit certificate_name)
-    → MayWrite journal_at certificate_at asked journal certificate
-may_write asked journal_name certificate_name journal_at certificate_at journal certificate journal_new journal_named certificate_new certificate_named = record {
+pub may_write : {T J C : Type 0} → (settings : SolveSettings) (journal_name certificate_name : Option T) (journal_at : J → Progress) (certificate_at : C → Progress) (journal : Option J) (certificate : Option C)
+    → IsUnwrittenIfAny journal_at journal → is_some journal ≡ is_some (wanted_journal settings journal_name)
+    → IsUnwrittenIfAny certificate_at certificate → is_some certificate ≡ is_some (certificate_toward settings.pit certificate_name)
+    → MayWrite journal_at certificate_at settings journal certificate
+may_write settings journal_name certificate_name journal_at certificate_at journal certificate journal_new journal_named certificate_new certificate_named = record {
   journal_countable = countable journal_at journal journal_new;
   certificate_countable = countable certificate_at certificate certificate_new;
-  may_journal = may_journal asked.mode asked.pit journal_name journal_at journal journal_named;
-  may_record = may_record asked.mode asked.pit journal_name certificate_name journal_at journal certificate_at certificate journal_named certificate_named;
+  may_journal = may_journal settings.mode settings.pit journal_name journal_at journal journal_named;
+  may_record = may_record settings.mode settings.pit journal_name certificate_name journal_at journal certificate_at certificate journal_named certificate_named;
 }

@@ -16,4 +16,4 @@ pub record Ended (code : ℕ) (before after : Progress) (Ends : Result Status Fa
   pub outcome : Result Status Fault
   pub ends : Ends outcome
   pub status : code ≡ status_of outcome
-  pub told : Tells outcome before after
+  pub reported : Tells outcome before after

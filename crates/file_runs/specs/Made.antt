@@ -8,7 +8,7 @@ use Rattle.faults.specs.declared.source.Source.{Source}
 use Rattle.faults.specs.declared.source.Source.TheVariants as sources
 use Rattle.pit_model.specs.declared.direction.Direction.{Direction}
 use Rattle.pit_model.specs.declared.direction.Direction.TheVariants.{Least, Greatest}
-use Rattle.runs.specs.declared.asked.Asked.{Asked}
+use Rattle.runs.specs.declared.settings.SolveSettings.{SolveSettings}
 use Rattle.runs.specs.declared.status.Status.{Status}
 use Rattle.solver.specs.declared.mode.Mode.{Mode}
 use Rattle.solver.specs.declared.mode.Mode.TheVariants.{Shared}
@@ -24,8 +24,8 @@ abbrev pub journal_toward : {T : Type 0} → Direction → Mode → Option T →
 journal_toward Least mode name = journal_in mode name
 journal_toward Greatest mode name = None
 
-abbrev pub journal_of : {T : Type 0} → Asked → Option T → Option T
-journal_of asked name = journal_toward asked.pit asked.mode name
+abbrev pub wanted_journal : {T : Type 0} → SolveSettings → Option T → Option T
+wanted_journal settings name = journal_toward settings.pit settings.mode name
 
 -- the least pit alone has a certificate
 abbrev pub certificate_toward : {T : Type 0} → Direction → Option T → Option T
@@ -39,17 +39,17 @@ pub record Wanted : Type 0 where
 
 abbrev pub wanted_by : SolveOptions → Wanted
 wanted_by options = record {
-  journal = journal_of options.asked (option_copied options.journal);
-  certificate = certificate_toward options.asked.pit (option_copied options.certificate);
+  journal = wanted_journal options.settings (option_copied options.journal);
+  certificate = certificate_toward options.settings.pit (option_copied options.certificate);
 }
 
 -- what the outputs hold, where there are such and that is known
-pub record Held : Type 0 where
+pub record OutputContents : Type 0 where
   pub journal : Option (List ℕ)
   pub certificate : Option (List ℕ)
 
-abbrev pub held : Option (List ℕ) → Option (List ℕ) → Held
-held journal certificate = record { journal = journal; certificate = certificate }
+abbrev pub output_contents : Option (List ℕ) → Option (List ℕ) → OutputContents
+output_contents journal certificate = record { journal = journal; certificate = certificate }
 
 -- an output when it ends: what it is, whether there is one, what it holds, and whether it is to be kept
 pub record Output : Type 0 where
@@ -66,9 +66,9 @@ pub record Finished : Type 0 where
   pub outcome : Result Status Fault
   pub has_journal : Bool
   pub has_certificate : Bool
-  pub holds : Held
+  pub holds : OutputContents
 
-abbrev pub finished : Result Status Fault → Bool → Bool → Held → Finished
+abbrev pub finished : Result Status Fault → Bool → Bool → OutputContents → Finished
 finished outcome has_journal has_certificate holds = record { outcome = outcome; has_journal = has_journal; has_certificate = has_certificate; holds = holds }
 
 -- a run ended at its budget
@@ -107,7 +107,7 @@ module _ {F JournalOut CertificateOut Model Prec Fixed Certificate Journal Block
   EndsIfAny files output result old new = MatchBool output.is_there (Ends files output result old new) ((result ≡ Ok tt) × (new ≡ old))
 
   -- the outputs beside the pit were made, where they are wanted, and hold this: the journal, and then the certificate
-  pub record MakesOutputs (files : Making F JournalOut CertificateOut Model Prec Fixed Certificate Journal Blocks) (wanted : Wanted) (holds : Held) (old new : F) : Type 0 where
+  pub record MakesOutputs (files : Making F JournalOut CertificateOut Model Prec Fixed Certificate Journal Blocks) (wanted : Wanted) (holds : OutputContents) (old new : F) : Type 0 where
     pub behind_journal : F
     pub journal_made : MakesIfAny files sources.Journal wanted.journal holds.journal old behind_journal
     pub certificate_made : MakesIfAny files sources.Certificate wanted.certificate holds.certificate behind_journal new

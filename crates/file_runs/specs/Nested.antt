@@ -6,7 +6,7 @@ use Rattle.faults.specs.declared.source.Source.TheVariants as sources
 use Rattle.minelib_reader.specs.Answer.{FailsAt}
 use Rattle.minelib_reader.specs.Device.{Progress}
 use Rattle.minelib_reader.specs.declared.input.FileReader.{FileReader}
-use Rattle.shells.specs.FactorList.{numbers_of, IsFirstItemFault, SpellsFactors}
+use Rattle.shells.specs.FactorList.{item_numbers, IsFirstItemFault, SpellsFactors}
 use Rattle.shells.specs.Grown.{EachEndsWithin}
 use Rattle.runs.specs.ShellsRun.{HoldsOfDeposit, IsShellsDone, RefusesShellsRun}
 use Rattle.runs.specs.Solve.{Reading}
@@ -14,7 +14,7 @@ use Rattle.runs.specs.declared.status.Status.{Status}
 use Rattle.file_runs.specs.declared.options.ShellsOptions.{ShellsOptions}
 use Rattle.file_runs.specs.Faults.{IsUnopened}
 use Rattle.file_runs.specs.Opened.{IsFromFront}
-use Rattle.file_runs.specs.Place.{InputPlace, IsNotRun, State, given_by}
+use Rattle.file_runs.specs.Place.{InputPlace, IsNotRun, FileState, given_by}
 
 -- what went through the readers and the writer of a run of `shells`
 pub record ShellsCourse : Type 1 where
@@ -26,16 +26,16 @@ pub record ShellsCourse : Type 1 where
 -- how a run of `shells` with these factors ends
 abbrev pub RunsShells : ShellsOptions → List ℕ → ShellsCourse → Result Status Fault → Type 0
 RunsShells options factors run (Ok status) =
-    IsShellsDone options.asked.pit run.blocks run.prec options.revenue options.cost factors run.before run.after status
-    × HoldsOfDeposit run.blocks run.prec options.revenue options.cost (λ deposit. EachEndsWithin options.asked.mode options.asked.pit deposit factors)
+    IsShellsDone options.settings.pit run.blocks run.prec options.revenue options.cost factors run.before run.after status
+    × HoldsOfDeposit run.blocks run.prec options.revenue options.cost (λ deposit. EachEndsWithin options.settings.mode options.settings.pit deposit factors)
 RunsShells options factors run (Err e) =
-    RefusesShellsRun options.asked.mode options.asked.pit e.refusal e run.blocks run.prec options.revenue options.cost factors run.before run.after
+    RefusesShellsRun options.settings.mode options.settings.pit e.refusal e run.blocks run.prec options.revenue options.cost factors run.before run.after
 
 module _ {F Model Prec Fixed Certificate Journal Blocks : Type 0} where
   -- the text spells no factors, and no file was opened; a file could not be opened, and nothing else was done; or both were opened,
   -- and the run was over their readers, from their fronts, with the factors that the text spells
-  pub data EndsShells (place : InputPlace F Model Prec Fixed Certificate Journal Blocks) (options : ShellsOptions) (old new : State F) (result : Result Status Fault) : Type 0 where
-    no_factors : (fault : Fault) → FailsAt fault.refusal fault (IsFirstItemFault (numbers_of options.factors.now)) → new.files ≡ old.files
+  pub data EndsShells (place : InputPlace F Model Prec Fixed Certificate Journal Blocks) (options : ShellsOptions) (old new : FileState F) (result : Result Status Fault) : Type 0 where
+    no_factors : (fault : Fault) → FailsAt fault.refusal fault (IsFirstItemFault (item_numbers options.factors.now)) → new.files ≡ old.files
         → IsNotRun fault old new result → EndsShells place options old new result
     no_blocks : (fault : Fault) (factors : List ℕ) → SpellsFactors options.factors.now factors
         → IsUnopened sources.Blocks fault → place.files.lacks old.files options.blocks.now sources.Blocks new.files

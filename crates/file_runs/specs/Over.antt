@@ -9,7 +9,7 @@ use Rattle.minelib_reader.specs.declared.device.InBytes.{Ghosts as Reader}
 use Rattle.minelib_reader.specs.declared.input.FileReader.{FileReader}
 use Rattle.runs.specs.Check.{IsChecked, RefusesCheck}
 use Rattle.runs.specs.Kept.{KeepsTexts}
-use Rattle.runs.specs.Replay.{IsToldReplay, RefusesReplay}
+use Rattle.runs.specs.Replay.{ReportsReplay, RefusesReplay}
 use Rattle.runs.specs.Solve.{Files, Reading}
 use Rattle.runs.specs.declared.mine.MineFiles.{MineFiles}
 use Rattle.runs.specs.declared.status.Status.{Status}
@@ -18,7 +18,7 @@ use Rattle.file_runs.specs.declared.options.MineNames.{MineNames}
 use Rattle.file_runs.specs.declared.options.ReplayOptions.{ReplayOptions}
 use Rattle.file_runs.specs.Faults.{IsUnopened}
 use Rattle.file_runs.specs.Opened.{AreFromFront, IsFromFront, LacksMine, MineTexts, OpensMine}
-use Rattle.file_runs.specs.Place.{InputPlace, IsNotRun, State, given, given_by}
+use Rattle.file_runs.specs.Place.{InputPlace, IsNotRun, FileState, given, given_by}
 
 -- how a run of `check` ends
 abbrev pub RunsCheck : Files → Reading → Progress → Progress → Result Status Fault → Type 0
@@ -27,7 +27,7 @@ RunsCheck files certificate before after (Err e) = RefusesCheck e.refusal e file
 
 -- how a run of `replay` ends
 abbrev pub RunsReplay : Files → Reading → Progress → Progress → Result Status Fault → Type 0
-RunsReplay files journal before after (Ok status) = IsToldReplay files journal before after status
+RunsReplay files journal before after (Ok status) = ReportsReplay files journal before after status
 RunsReplay files journal before after (Err e) = RefusesReplay e.refusal e files journal before after
 
 -- the names of a mine and of the file behind it; what that is, how its reader counts, and how a run over all of them ends
@@ -41,7 +41,7 @@ pub record Over (S : Type 0) : Type 1 where
 module _ {F Model Prec Fixed Certificate Journal Blocks : Type 0} where
   -- a file could not be opened, and nothing else was done; or the files of a mine were opened, and then the one behind them, and
   -- the run was over the readers of these, from their fronts
-  pub data EndsOver {S : Type 0} (place : InputPlace F Model Prec Fixed Certificate Journal Blocks) (call : Over S) (old new : State F) (result : Result Status Fault) : Type 0 where
+  pub data EndsOver {S : Type 0} (place : InputPlace F Model Prec Fixed Certificate Journal Blocks) (call : Over S) (old new : FileState F) (result : Result Status Fault) : Type 0 where
     no_mine : (fault : Fault) → LacksMine place.files call.mine fault old.files new.files → IsNotRun fault old new result → EndsOver place call old new result
     no_last : (fault : Fault) (texts : MineTexts) (f : F) → OpensMine place.files call.mine texts old.files f → IsUnopened call.source fault → place.files.lacks f call.last call.source new.files
         → IsNotRun fault old new result → EndsOver place call old new result
@@ -53,7 +53,7 @@ module _ {F Model Prec Fixed Certificate Journal Blocks : Type 0} where
         → EndsOver place call old new result
 
   -- how a call of `check` ends
-  abbrev pub EndsCheck : InputPlace F Model Prec Fixed Certificate Journal Blocks → CheckOptions → State F → State F → Result Status Fault → Type 0
+  abbrev pub EndsCheck : InputPlace F Model Prec Fixed Certificate Journal Blocks → CheckOptions → FileState F → FileState F → Result Status Fault → Type 0
   EndsCheck place options old new result = EndsOver place (record {
     mine = options.mine;
     last = options.certificate.now;
@@ -63,8 +63,8 @@ module _ {F Model Prec Fixed Certificate Journal Blocks : Type 0} where
   }) old new result
 
   -- how a call of `replay` ends
-  abbrev pub EndsReplay : InputPlace F Model Prec Fixed Certificate Journal Blocks → ReplayOptions → State F → State F → Result Status Fault → Type 0
-  EndsReplay place options old new result = EndsOver place (record {
+  abbrev pub EndsReplayCall : InputPlace F Model Prec Fixed Certificate Journal Blocks → ReplayOptions → FileState F → FileState F → Result Status Fault → Type 0
+  EndsReplayCall place options old new result = EndsOver place (record {
     mine = options.mine;
     last = options.journal.now;
     source = sources.Journal;

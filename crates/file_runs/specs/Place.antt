@@ -34,17 +34,17 @@ pub record OutputPlace (F JournalOut CertificateOut Model Prec Fixed Certificate
   pub writers : Writers (StreamWriter JournalOut) (StreamWriter CertificateOut)
 
 -- what a call changes: the files, and what standard output has taken
-pub record State (F : Type 0) : Type 0 where
+pub record FileState (F : Type 0) : Type 0 where
   pub files : F
   pub out : Progress
 
-abbrev pub state : {F : Type 0} → F → Progress → State F
-state files out = record { files = files; out = out }
+abbrev pub file_state : {F : Type 0} → F → Progress → FileState F
+file_state files out = record { files = files; out = out }
 
 -- a call ended by a fault before its run: nothing was written
-pub record IsNotRun {F : Type 0} (fault : Fault) (old new : State F) (result : Result Status Fault) : Type 0 where
+pub record IsNotRun {F : Type 0} (fault : Fault) (old new : FileState F) (result : Result Status Fault) : Type 0 where
   pub unwritten : new.out ≡ old.out
-  pub told : result ≡ Err fault
+  pub reported : result ≡ Err fault
 
 -- what one reader gave in a run that left it so
 abbrev pub given_by : {S : Type 0} → Reader S → S → S → Reading

@@ -2,7 +2,7 @@
 ghost use Rattle.std.specs.Prelude.{◌<◌, ◌^◌};
 ghost use Rattle.file_runs.specs.Ended.{Ended};
 ghost use Rattle.file_runs.specs.Over.{EndsCheck};
-ghost use Rattle.file_runs.specs.Place.{state};
+ghost use Rattle.file_runs.specs.Place.{file_state};
 
 use crate::ending::report_fault;
 use crate::inputs::InputFiles;
@@ -23,7 +23,7 @@ fn check_files<F: InputFiles, W: OutBytes>(
     out: &mut W,
 ) -> Result<Status, Fault>
     requires countable { (W.progress out.old).failures < 2 ^ 63 }
-    ensures { EndsCheck ⟦<F as Readable>⟧.place options.now (state files.old (W.progress out.old)) (state files.new (W.progress out.new)) result }
+    ensures { EndsCheck ⟦<F as Readable>⟧.place options.now (file_state files.old (W.progress out.old)) (file_state files.new (W.progress out.new)) result }
 {
     let mine = open_mine(files, &options.mine)?;
     let certificate = files.open_certificate(options.certificate)?;
@@ -51,7 +51,7 @@ pub fn check_call<F: InputFiles, W: OutBytes, E: OutBytes>(
     requires out_countable { (W.progress out.old).failures < 2 ^ 63 }
     requires err_countable { (E.progress err.old).failures < 2 ^ 63 }
     ensures { Ended result (E.progress err.old) (E.progress err.new) (EndsCheck ⟦<F as Readable>⟧.place options.now
-        (state files.old (W.progress out.old)) (state files.new (W.progress out.new))) }
+        (file_state files.old (W.progress out.old)) (file_state files.new (W.progress out.new))) }
 {
     let outcome = check_files(alloc, files, options, out);
     report_fault(err, &outcome)

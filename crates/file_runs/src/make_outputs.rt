@@ -3,14 +3,14 @@ ghost use Rattle.std.specs.Prelude.{◌≡◌, ◌&&◌, ◌||◌, IfOk, IfErr, 
 ghost use Rattle.faults.specs.declared.source.Source.TheVariants as sources;
 ghost use Rattle.file_runs.specs.Faults.{IsUnmade};
 ghost use Rattle.file_runs.specs.Opened.{known_if_any};
-ghost use Rattle.file_runs.specs.Made.{EndsIfAny, EndsOutputs, MakesIfAny, MakesOutputs, SparesIfAny, SparesOutputs, behind_outputs, certificate_toward, finished, held, is_exhausted as ended_at_budget, journal_of, output as output_of, wanted_by};
+ghost use Rattle.file_runs.specs.Made.{EndsIfAny, EndsOutputs, MakesIfAny, MakesOutputs, SparesIfAny, SparesOutputs, behind_outputs, certificate_toward, finished, output_contents, is_exhausted as ended_at_budget, wanted_journal, output as output_of, wanted_by};
 
 use crate::inputs::MineStreams;
 use crate::options::SolveOptions;
 use crate::outputs::OutputFiles;
 use faults::{Fault, Refusal};
 use pit_model::Direction;
-use runs::{Asked, Status};
+use runs::{SolveSettings, Status};
 use solver::Mode;
 use std::io::Write;
 
@@ -21,12 +21,12 @@ pub(crate) type MadeOutputs<F> = (
 );
 
 /// The name of the journal, where one may be written: mode shared alone has a journal, and of the least pit.
-fn journal_wanted<'a>(asked: Asked, name: Option<&'a str>) -> Option<&'a str>
-    ensures { option_copied result ≡ journal_of asked (option_copied name.entry) }
+fn journal_wanted<'a>(settings: SolveSettings, name: Option<&'a str>) -> Option<&'a str>
+    ensures { option_copied result ≡ wanted_journal settings (option_copied name.entry) }
 {
-    match asked.pit {
+    match settings.pit {
         Direction::Greatest => None,
-        Direction::Least => match asked.mode {
+        Direction::Least => match settings.mode {
             Mode::Shared { .. } => name,
             Mode::Single { .. } | Mode::Parts => None,
         },
@@ -113,15 +113,15 @@ pub(crate) fn make_outputs<F: OutputFiles>(
     inputs: &MineStreams<F>,
 ) -> Result<MadeOutputs<F>, Fault>
     ensures made { IfOk result (λ r. MakesOutputs F.OutputFiles.own (wanted_by options.now)
-        (held (known_if_any (⟦<F::JournalOut as Write>⟧.contents) r.0) (known_if_any (⟦<F::CertificateOut as Write>⟧.contents) r.1)) files.old files.new) }
+        (output_contents (known_if_any (⟦<F::JournalOut as Write>⟧.contents) r.0) (known_if_any (⟦<F::CertificateOut as Write>⟧.contents) r.1)) files.old files.new) }
     ensures journal_named { IfOk result (λ r. is_some r.0 ≡ is_some (wanted_by options.now).journal) }
     ensures certificate_named { IfOk result (λ r. is_some r.1 ≡ is_some (wanted_by options.now).certificate) }
     ensures unmade { IfErr result IsUnmade }
     ensures spared { IfErr result (λ _. SparesOutputs F.OutputFiles.own (wanted_by options.now) files.old files.new) }
 {
-    let asked = options.asked;
-    let journal = make_journal_if_any(files, journal_wanted(asked, options.journal), inputs)?;
-    let path = certificate_wanted(asked.pit, options.certificate);
+    let settings = options.settings;
+    let journal = make_journal_if_any(files, journal_wanted(settings, options.journal), inputs)?;
+    let path = certificate_wanted(settings.pit, options.certificate);
     match make_certificate_if_any(files, path, inputs, journal.as_ref()) {
         Ok(certificate) => Ok((journal, certificate)),
         Err(fault) => {
@@ -176,7 +176,7 @@ pub(crate) fn end_outputs<F: OutputFiles>(
     outcome: Result<Status, Fault>,
 ) -> Result<Status, Fault>
     ensures { EndsOutputs F.OutputFiles.own (finished outcome (is_some outputs.0) (is_some outputs.1)
-        (held (known_if_any (⟦<F::JournalOut as Write>⟧.contents) outputs.0) (known_if_any (⟦<F::CertificateOut as Write>⟧.contents) outputs.1))) result files.old files.new }
+        (output_contents (known_if_any (⟦<F::JournalOut as Write>⟧.contents) outputs.0) (known_if_any (⟦<F::CertificateOut as Write>⟧.contents) outputs.1))) result files.old files.new }
 {
     let (journal, certificate) = outputs;
     let is_kept = keeps_journal(&outcome);

@@ -2,7 +2,7 @@
 ghost use Rattle.std.specs.Prelude.{◌<◌, ◌^◌};
 ghost use Rattle.file_runs.specs.Ended.{Ended};
 ghost use Rattle.file_runs.specs.Nested.{EndsShells};
-ghost use Rattle.file_runs.specs.Place.{state};
+ghost use Rattle.file_runs.specs.Place.{file_state};
 
 use crate::ending::report_fault;
 use crate::inputs::InputFiles;
@@ -25,15 +25,15 @@ fn shells_files<R: AllocGlobal + Threads + Wait + Sync, F: InputFiles, W: OutByt
     out: &mut W,
 ) -> Result<Status, Fault>
     requires countable { (W.progress out.old).failures < 2 ^ 63 }
-    ensures { EndsShells ⟦<F as Readable>⟧.place options.now (state files.old (W.progress out.old)) (state files.new (W.progress out.new)) result }
+    ensures { EndsShells ⟦<F as Readable>⟧.place options.now (file_state files.old (W.progress out.old)) (file_state files.new (W.progress out.new)) result }
 {
     let alloc = rt.alloc();
     let factors = Factors::read(alloc, options.factors)?;
     let blocks = files.open_blocks(options.blocks)?;
     let prec = files.open_prec(options.prec)?;
     let counters = files.counters();
-    let mut blocks = FileReader::watched(blocks, counters.share());
-    let mut prec = FileReader::watched(prec, counters);
+    let mut blocks = FileReader::with_counters(blocks, counters.share());
+    let mut prec = FileReader::with_counters(prec, counters);
     run_shells(
         rt,
         alloc,
@@ -43,8 +43,8 @@ fn shells_files<R: AllocGlobal + Threads + Wait + Sync, F: InputFiles, W: OutByt
         options.revenue,
         options.cost,
         &factors,
-        options.asked.mode,
-        options.asked.pit,
+        options.settings.mode,
+        options.settings.pit,
     )
 }
 
@@ -60,7 +60,7 @@ pub fn shells_call<R: AllocGlobal + Threads + Wait + Sync, F: InputFiles, W: Out
     requires out_countable { (W.progress out.old).failures < 2 ^ 63 }
     requires err_countable { (E.progress err.old).failures < 2 ^ 63 }
     ensures { Ended result (E.progress err.old) (E.progress err.new) (EndsShells ⟦<F as Readable>⟧.place options.now
-        (state files.old (W.progress out.old)) (state files.new (W.progress out.new))) }
+        (file_state files.old (W.progress out.old)) (file_state files.new (W.progress out.new))) }
 {
     let outcome = shells_files(rt, files, options, out);
     report_fault(err, &outcome)

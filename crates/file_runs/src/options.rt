@@ -1,6 +1,6 @@
 //! What a call is asked for.
 
-use runs::Asked;
+use runs::SolveSettings;
 
 /// The files of a mine. That of the fixed blocks is there where some are.
 #[derive(Clone, Copy)]
@@ -17,7 +17,7 @@ pub struct SolveOptions<'a> {
     pub mine: MineNames<'a>,
     pub certificate: Option<&'a str>,
     pub journal: Option<&'a str>,
-    pub asked: Asked,
+    pub settings: SolveSettings,
 }
 
 /// The files of `shells`, the columns of revenue and cost, the text of the factors, how to solve, and for which pits.
@@ -28,7 +28,7 @@ pub struct ShellsOptions<'a> {
     pub revenue: u32,
     pub cost: u32,
     pub factors: &'a str,
-    pub asked: Asked,
+    pub settings: SolveSettings,
 }
 
 /// The files of `check`.

@@ -17,7 +17,7 @@ fn reader_of<X: InputStream + Drop>(fixed: Option<X>, counters: &Counters) -> Op
 {
     match fixed {
         None => None,
-        Some(stream) => Some(FileReader::watched(stream, counters.share())),
+        Some(stream) => Some(FileReader::with_counters(stream, counters.share())),
     }
 }
 
@@ -34,8 +34,8 @@ pub(crate) fn readers_of<M: InputStream + Drop, P: InputStream + Drop, X: InputS
 {
     let MineFiles { model, prec, fixed } = mine;
     MineFiles {
-        model: FileReader::watched(model, counters.share()),
-        prec: FileReader::watched(prec, counters.share()),
+        model: FileReader::with_counters(model, counters.share()),
+        prec: FileReader::with_counters(prec, counters.share()),
         fixed: reader_of(fixed, counters),
     }
 }

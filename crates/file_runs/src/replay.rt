@@ -1,8 +1,8 @@
 //! `replay` over files.
 ghost use Rattle.std.specs.Prelude.{◌<◌, ◌^◌};
 ghost use Rattle.file_runs.specs.Ended.{Ended};
-ghost use Rattle.file_runs.specs.Over.{EndsReplay};
-ghost use Rattle.file_runs.specs.Place.{state};
+ghost use Rattle.file_runs.specs.Over.{EndsReplayCall};
+ghost use Rattle.file_runs.specs.Place.{file_state};
 
 use crate::ending::report_fault;
 use crate::inputs::InputFiles;
@@ -23,7 +23,7 @@ fn replay_files<F: InputFiles, W: OutBytes>(
     out: &mut W,
 ) -> Result<Status, Fault>
     requires countable { (W.progress out.old).failures < 2 ^ 63 }
-    ensures { EndsReplay ⟦<F as Readable>⟧.place options.now (state files.old (W.progress out.old)) (state files.new (W.progress out.new)) result }
+    ensures { EndsReplayCall ⟦<F as Readable>⟧.place options.now (file_state files.old (W.progress out.old)) (file_state files.new (W.progress out.new)) result }
 {
     let mine = open_mine(files, &options.mine)?;
     let journal = files.open_journal(options.journal)?;
@@ -50,8 +50,8 @@ pub fn replay_call<F: InputFiles, W: OutBytes, E: OutBytes>(
 ) -> u8
     requires out_countable { (W.progress out.old).failures < 2 ^ 63 }
     requires err_countable { (E.progress err.old).failures < 2 ^ 63 }
-    ensures { Ended result (E.progress err.old) (E.progress err.new) (EndsReplay ⟦<F as Readable>⟧.place options.now
-        (state files.old (W.progress out.old)) (state files.new (W.progress out.new))) }
+    ensures { Ended result (E.progress err.old) (E.progress err.new) (EndsReplayCall ⟦<F as Readable>⟧.place options.now
+        (file_state files.old (W.progress out.old)) (file_state files.new (W.progress out.new))) }
 {
     let outcome = replay_files(alloc, files, options, out);
     report_fault(err, &outcome)

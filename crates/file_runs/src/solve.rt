@@ -1,8 +1,8 @@
 //! `solve` over files.
 ghost use Rattle.std.specs.Prelude.{◌<◌, ◌^◌};
 ghost use Rattle.file_runs.specs.Ended.{Ended};
-ghost use Rattle.file_runs.specs.Place.{state};
-ghost use Rattle.file_runs.specs.Solved.{EndsSolve};
+ghost use Rattle.file_runs.specs.Place.{file_state};
+ghost use Rattle.file_runs.specs.Solved.{EndsSolveCall};
 
 use crate::ending::report_fault;
 use crate::make_outputs::{end_outputs, make_outputs};
@@ -28,7 +28,7 @@ fn solve_files<R: AllocGlobal + Threads + Wait + Sync, F: OutputFiles, W: OutByt
     out: W,
 ) -> (Result<Status, Fault>, W)
     requires countable { (W.progress out).failures < 2 ^ 63 }
-    ensures { EndsSolve ⟦<F as Writable>⟧.place options.now (state files.old (W.progress out)) (state files.new (W.progress result.1)) result.0 }
+    ensures { EndsSolveCall ⟦<F as Writable>⟧.place options.now (file_state files.old (W.progress out)) (file_state files.new (W.progress result.1)) result.0 }
 {
     let mine = match open_mine(files, &options.mine) {
         Ok(mine) => mine,
@@ -51,8 +51,8 @@ fn solve_files<R: AllocGlobal + Threads + Wait + Sync, F: OutputFiles, W: OutByt
         &mut journal,
         &mut certificate,
         &mut out,
-        options.asked.mode,
-        options.asked.pit,
+        options.settings.mode,
+        options.settings.pit,
     );
     let made = (output_of(journal), output_of(certificate));
     (end_outputs(files, made, outcome), out)
@@ -68,8 +68,8 @@ pub fn solve_call<
 >(rt: &R, files: &mut F, options: &SolveOptions<'_>, out: W, err: &mut E) -> (u8, W)
     requires out_countable { (W.progress out).failures < 2 ^ 63 }
     requires err_countable { (E.progress err.old).failures < 2 ^ 63 }
-    ensures { Ended result.0 (E.progress err.old) (E.progress err.new) (EndsSolve ⟦<F as Writable>⟧.place options.now
-        (state files.old (W.progress out)) (state files.new (W.progress result.1))) }
+    ensures { Ended result.0 (E.progress err.old) (E.progress err.new) (EndsSolveCall ⟦<F as Writable>⟧.place options.now
+        (file_state files.old (W.progress out)) (file_state files.new (W.progress result.1))) }
 {
     let (outcome, out) = solve_files(rt, files, options, out);
     (report_fault(err, &outcome), out)

@@ -1,9 +1,9 @@
 -- What the holder's seat holds after a claim, for callers that go on from it.
 use Rattle.std.proofs.Common.{◌≡◌, ℕ, zero, suc, ◌-◌, ◌<◌, ◌≤◌, List, [], ◌∷◌, length, get_or, set, Some, refl, ap, ◌∙◌, subst, sym, arith, length-set}
-use Rattle.proposals.specs.declared.knows.Served.{Served}
-use Rattle.proposals.specs.Ledger.{nothing, served, claimed_from, answered_to, claiming}
+use Rattle.proposals.specs.declared.seat_state.Served.{Served}
+use Rattle.proposals.specs.Ledger.{nothing_served, served, claimed_from, answered_to, claiming}
 
-set_there : (ss : List Served) (i : ℕ) (x : Served) → i < length ss → get_or (set ss i x) i nothing ≡ x
+set_there : (ss : List Served) (i : ℕ) (x : Served) → i < length ss → get_or (set ss i x) i nothing_served ≡ x
 set_there [] i x lt = absurd (omega arith)
 set_there (y ∷ ys) zero x lt = refl
 set_there (y ∷ ys) (suc i) x lt = set_there ys i x (omega arith)

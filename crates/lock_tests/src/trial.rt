@@ -39,7 +39,7 @@ pub struct Setting {
 }
 
 /// What a lock begins with, of which no type has the name yet.
-struct Beginning<'a> {
+struct Setup<'a> {
     list: UnnamedList,
     unnamed: UnnamedBoard,
     mine: &'a Instance,
@@ -88,7 +88,7 @@ fn end<S: LockId, R: Wait>(
 fn try_at<S: LockId, T: Trial, R: Wait>(
     rt: &R,
     alloc: Global,
-    begun: Beginning,
+    begun: Setup,
     setting: &Setting,
     trial: &T,
 ) -> Result<Failed, Fault>
@@ -99,7 +99,7 @@ fn try_at<S: LockId, T: Trial, R: Wait>(
     requires arcs { S.arcs ≡ 4294967295 }
     requires workers { begun.unnamed.words ≡ S.workers }
 {
-    let Beginning {
+    let Setup {
         list,
         unnamed,
         mine,
@@ -121,7 +121,7 @@ pub fn failure_of<T: Trial, R: Wait>(
     let list = UnnamedList::new()?;
     let unnamed = UnnamedBoard::new(alloc, setting.workers)?;
     let mine = spelled(alloc, setting.mine)?;
-    let begun = Beginning {
+    let begun = Setup {
         list,
         unnamed,
         mine: &mine,

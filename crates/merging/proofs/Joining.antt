@@ -16,10 +16,10 @@ use Rattle.mine_graph.specs.Parts.{AreParts}
 use Rattle.pit_model.proofs.Members.{members_below, members_each, members_place, members_rise}
 use Rattle.certificate.specs.Check.{IsCandidate, has, amount, most_amount}
 use Rattle.merging.specs.declared.solved_part.SolvedPart.{SolvedPart}
-use Rattle.merging.specs.Parts.{graph_of, IsSolvedPart, AreSolved, named, AreMarked, AreCarried, IsListed, ArePlaced}
+use Rattle.merging.specs.Parts.{graph_of_instance, IsSolvedPart, AreSolved, named, ArePitMarks, AreCarried, IsListed, ArePlaced}
 
 -- ---- marks
-pub none_marked : (blocks pit : List ℕ) (marks : List Bool) → AreMarked blocks pit 0 marks marks
+pub none_marked : (blocks pit : List ℕ) (marks : List Bool) → ArePitMarks blocks pit 0 marks marks
 none_marked blocks pit marks = record { size = refl; grows = λ v e. e; only = λ v e. inl e; all = λ i l. absurd (omega arith) }
 
 -- ---- flow
@@ -95,7 +95,7 @@ module _ (mine : Instance) (parts : List SolvedPart) (is : IsInstance mine) (are
     abbrev test : ℕ → Bool
     test u = eqb (are.label u) i
 
-    part_is : IsPart (graph_of mine) test p.blocks.items (graph_of p.mine)
+    part_is : IsPart (graph_of_instance mine) test p.blocks.items (graph_of_instance p.mine)
     part_is = are.each i p at
 
     pub blocks_rise : Rises p.blocks.items
@@ -138,8 +138,8 @@ module _ (mine : Instance) (parts : List SolvedPart) (is : IsInstance mine) (are
   -- one part more
   module _ (i : ℕ) (p : SolvedPart) (at : StandsAt parts i p) (marks marks1 : List Bool) (flow flow1 : List ℤ)
       (was : ArePlaced mine parts marks flow i)
-      (marked_more : AreMarked p.blocks.items p.certificate.pit.items (length p.certificate.pit.items) marks marks1)
-      (carried : AreCarried (graph_of mine) p.blocks.items (graph_of p.mine) p.certificate.flow.items (arcs p.mine) flow flow1) where
+      (marked_more : ArePitMarks p.blocks.items p.certificate.pit.items (length p.certificate.pit.items) marks marks1)
+      (carried : AreCarried (graph_of_instance mine) p.blocks.items (graph_of_instance p.mine) p.certificate.flow.items (arcs p.mine) flow flow1) where
     -- a block of another part isn't named by the pit of this one
     apart : (j : ℕ) (q : SolvedPart) (to : StandsAt parts j q) (u x : ℕ) → j < i → u < q.mine.blocks → x < length p.certificate.pit.items
         → named p.blocks.items p.certificate.pit.items x ≡ get_or q.blocks.items u 0 → ⊥
@@ -185,15 +185,15 @@ module _ (mine : Instance) (parts : List SolvedPart) (is : IsInstance mine) (are
 
     -- a pair of another part isn't one of this one
     placed_still : (j : ℕ) (q : SolvedPart) → j < i + 1 → StandsAt parts j q → (k a : ℕ) → k < arcs q.mine → a < arcs mine
-        → IsRenumbered (graph_of mine) q.blocks.items (graph_of q.mine) k a → amount flow1 a ≡ amount q.certificate.flow.items k
+        → IsRenumbered (graph_of_instance mine) q.blocks.items (graph_of_instance q.mine) k a → amount flow1 a ≡ amount q.certificate.flow.items k
     placed_still j q low to k a l m r = ⊎_elim
         (λ (s : j ≡ i).
         let same : p ≡ q = stands_once parts i p q at (subst (λ x. StandsAt parts x q) s to) in
         let below : k < arcs p.mine = subst (λ (x : SolvedPart). k < arcs x.mine) (sym same) l in
-        let here : IsRenumbered (graph_of mine) p.blocks.items (graph_of p.mine) k a = subst (λ (x : SolvedPart). IsRenumbered (graph_of mine) x.blocks.items (graph_of x.mine) k a) (sym same) r in
+        let here : IsRenumbered (graph_of_instance mine) p.blocks.items (graph_of_instance p.mine) k a = subst (λ (x : SolvedPart). IsRenumbered (graph_of_instance mine) x.blocks.items (graph_of_instance x.mine) k a) (sym same) r in
         subst (λ (x : SolvedPart). amount flow1 a ≡ amount x.certificate.flow.items k) same (carried.placed k a below m here))
         (λ (ne : j ≡ i → ⊥).
-        let none : (x : ℕ) → x < arcs p.mine → IsRenumbered (graph_of mine) p.blocks.items (graph_of p.mine) x a → ⊥ = λ x h s.
+        let none : (x : ℕ) → x < arcs p.mine → IsRenumbered (graph_of_instance mine) p.blocks.items (graph_of_instance p.mine) x a → ⊥ = λ x h s.
         let one = (lies i p at (source p.mine x) ((are.instances i p at).graph.in_range x h).0).1 in
         let two = (lies j q to (source q.mine k) ((are.instances j q to).graph.in_range k l).0).1 in
         let first = ap are.label (s.0 ∙ sym r.0) in
@@ -226,7 +226,7 @@ module _ (mine : Instance) (parts : List SolvedPart) (is : IsInstance mine) (are
       place_of k (inl l) = ((part_is i p at).inside k l).0
       place_of k (inr l) = 0
 
-      place_is : (k : ℕ) (c : (k < arcs p.mine) ⊎ (arcs p.mine ≤ k)) → k < arcs p.mine → (place_of k c < arcs mine) × IsRenumbered (graph_of mine) p.blocks.items (graph_of p.mine) k (place_of k c)
+      place_is : (k : ℕ) (c : (k < arcs p.mine) ⊎ (arcs p.mine ≤ k)) → k < arcs p.mine → (place_of k c < arcs mine) × IsRenumbered (graph_of_instance mine) p.blocks.items (graph_of_instance p.mine) k (place_of k c)
       unfolding place_of
       place_is k (inl l) h = let r = (part_is i p at).inside k l in (r.1, r.2)
       place_is k (inr l) h = absurd (omega arith)
@@ -234,7 +234,7 @@ module _ (mine : Instance) (parts : List SolvedPart) (is : IsInstance mine) (are
       arc_at : ℕ → ℕ
       arc_at k = place_of k (cases_lt k (arcs p.mine))
 
-      arc_is : (k : ℕ) → k < arcs p.mine → (arc_at k < arcs mine) × IsRenumbered (graph_of mine) p.blocks.items (graph_of p.mine) k (arc_at k)
+      arc_is : (k : ℕ) → k < arcs p.mine → (arc_at k < arcs mine) × IsRenumbered (graph_of_instance mine) p.blocks.items (graph_of_instance p.mine) k (arc_at k)
       unfolding arc_at
       arc_is k l = place_is k (cases_lt k (arcs p.mine)) l
 
@@ -254,7 +254,7 @@ module _ (mine : Instance) (parts : List SolvedPart) (is : IsInstance mine) (are
           (cases_Bool (has marks (get_or p.blocks.items u 0))))
           (cases_Bool (shown.set u))
 
-      of_part : (k : ℕ) → k < arcs mine → are.label (source mine k) ≡ i → (l : ℕ) × (l < arcs p.mine) × IsRenumbered (graph_of mine) p.blocks.items (graph_of p.mine) l k
+      of_part : (k : ℕ) → k < arcs mine → are.label (source mine k) ≡ i → (l : ℕ) × (l < arcs p.mine) × IsRenumbered (graph_of_instance mine) p.blocks.items (graph_of_instance p.mine) l k
       of_part k m e = (part_is i p at).all k m (eq-eqb (are.label (source mine k)) i e) (eq-eqb (are.label (target mine k)) i (sym (are.together k m) ∙ e))
 
       carried_is : IsCarried mine (has marks) (amount flow) p.mine shown.set (amount p.certificate.flow.items) (λ u. get_or p.blocks.items u 0) arc_at
@@ -266,8 +266,8 @@ module _ (mine : Instance) (parts : List SolvedPart) (is : IsInstance mine) (are
         arc_inside = λ k l. (arc_is k l).0;
         arc_once = λ k l h m e.
             let r = (arc_is k h).1 in
-            let s = subst (λ x. IsRenumbered (graph_of mine) p.blocks.items (graph_of p.mine) l x) (sym e) (arc_is l m).1 in
-            one_pair (graph_of mine) p.blocks.items (graph_of p.mine) is.graph (are.instances i p at).graph (blocks_count i p at) (blocks_rise i p at) k l (arc_at k) h m r s;
+            let s = subst (λ x. IsRenumbered (graph_of_instance mine) p.blocks.items (graph_of_instance p.mine) l x) (sym e) (arc_is l m).1 in
+            one_pair (graph_of_instance mine) p.blocks.items (graph_of_instance p.mine) is.graph (are.instances i p at).graph (blocks_count i p at) (blocks_rise i p at) k l (arc_at k) h m r s;
         same_source = λ k l. (arc_is k l).1.0;
         same_target = λ k l. (arc_is k l).1.1;
         same_flow = λ k l. sym (all.placed i p at.0 at k (arc_at k) l (arc_is k l).0 (arc_is k l).1);
@@ -278,7 +278,7 @@ module _ (mine : Instance) (parts : List SolvedPart) (is : IsInstance mine) (are
             (λ (e : target mine k ≡ get_or p.blocks.items u 0). are.together k m ∙ ap are.label e ∙ here)
             end in
             let f = of_part k m label_is in
-            (f.0, f.1, one_place (graph_of mine) p.blocks.items (graph_of p.mine) is.graph (are.instances i p at).graph (blocks_count i p at) (blocks_rise i p at) f.0 (arc_at f.0) k (arc_is f.0 f.1).0 m (arc_is f.0 f.1).1 f.2);
+            (f.0, f.1, one_place (graph_of_instance mine) p.blocks.items (graph_of_instance p.mine) is.graph (are.instances i p at).graph (blocks_count i p at) (blocks_rise i p at) f.0 (arc_at f.0) k (arc_is f.0 f.1).0 m (arc_is f.0 f.1).1 f.2);
       }
 
     certified_at : (u : ℕ) → u < mine.blocks → IsCertifiedAt mine (has marks) (amount flow) u
@@ -342,7 +342,7 @@ zipped_long mine [] (y ∷ ys) h = absurd h
 zipped_long mine (x ∷ xs) [] h = absurd h
 zipped_long mine (x ∷ xs) (y ∷ ys) h = ap suc (zipped_long mine xs ys h.1)
 
-pub are_solved : (mine : Instance) (parts : List Part) (solved : List SolvedPart) → IsInstance mine → AreParts (graph_of mine) parts → AllZip (IsSolvedPart mine) parts solved → AreSolved mine solved
+pub are_solved : (mine : Instance) (parts : List Part) (solved : List SolvedPart) → IsInstance mine → AreParts (graph_of_instance mine) parts → AllZip (IsSolvedPart mine) parts solved → AreSolved mine solved
 are_solved mine parts solved is fall by =
     let long = zipped_long mine parts solved by in
     record {
@@ -358,8 +358,8 @@ are_solved mine parts solved is fall by =
       each = λ i p at.
           let x = zipped_at mine parts solved by i p at in
           let s = x.2 in
-          subst (λ g. IsPart (graph_of mine) (λ u. eqb (fall.label u) i) p.blocks.items g) (sym s.graph)
-          (subst (λ bs. IsPart (graph_of mine) (λ u. eqb (fall.label u) i) bs x.0.graph) (sym s.blocks) (fall.each i x.0 x.1));
+          subst (λ g. IsPart (graph_of_instance mine) (λ u. eqb (fall.label u) i) p.blocks.items g) (sym s.graph)
+          (subst (λ bs. IsPart (graph_of_instance mine) (λ u. eqb (fall.label u) i) bs x.0.graph) (sym s.blocks) (fall.each i x.0 x.1));
       values = λ i p at u l.
           let s = (zipped_at mine parts solved by i p at).2 in
           s.values u l ∙ ap (λ bs. value mine (get_or bs u 0)) (sym s.blocks);

@@ -4,7 +4,7 @@ use Rattle.std.specs.Prelude.{Bool, ◌≤◌}
 use Rattle.pit_model.specs.Mine.{members}
 use Rattle.pit_model.proofs.Members.{members_each, members_few, members_rise}
 use Rattle.pit_model.specs.Graph.{AreApart, AreInRange, IsAcyclic, IsGraph}
-use Rattle.pit_model.specs.Cycle.{AcyclicHasNoNeedy}
+use Rattle.pit_model.specs.Cycle.{AcyclicIsWellFounded}
 use Rattle.faults.specs.declared.fault.Fault.{Fault}
 use Rattle.faults.specs.declared.refusal.Refusal.{Refusal}
 use Rattle.faults.specs.declared.refusal.Refusal.TheVariants.{NoMemory, Cycle}
@@ -50,7 +50,7 @@ module _ (n : ℕ) (whole : List (ℕ × ℕ)) (numbers : List ℕ) (pairs : Lis
       before
 
 -- pairs without a cycle are refused for want of memory alone
-pub only_memory : AcyclicHasNoNeedy → (pairs : List (ℕ × ℕ)) (n : ℕ) (refusal : Refusal) (fault : Fault) → IsAcyclic pairs → RefusesPairs pairs n refusal fault → fault ≡ no_memory
+pub only_memory : AcyclicIsWellFounded → (pairs : List (ℕ × ℕ)) (n : ℕ) (refusal : Refusal) (fault : Fault) → IsAcyclic pairs → RefusesPairs pairs n refusal fault → fault ≡ no_memory
 only_memory law pairs n NoMemory fault acyclic is = is
 only_memory law pairs n (Cycle list) fault acyclic is =
     let walked = is.0.walked in

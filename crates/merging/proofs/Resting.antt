@@ -12,13 +12,13 @@ use Rattle.pit_model.proofs.Fixed.{settled_are_apart}
 use Rattle.pit_model.proofs.Members.{members_below, members_each, members_ext, members_place, members_rise}
 use Rattle.pit_model.proofs.RestCertificates.{rest_certificate_is_open}
 use Rattle.pit_model.proofs.Simple.{instance_is_simple}
-use Rattle.mine_graph.specs.FixedBlocks.{FixedBlocks, IsFixedOf, dug_in, left_in}
+use Rattle.mine_graph.specs.FixedBlocks.{FixedBlocks, IsFixedOf, forced_closure, barred_closure}
 use Rattle.certificate.specs.Certificate.{IsCertificateOf}
 use Rattle.certificate.specs.Check.{IsCandidate, amount, has, most_amount, open_in}
 use Rattle.certificate.specs.declared.pit_with_flow.Certificate.{Certificate}
-use Rattle.merging.specs.Parts.{AreCarried, AreMarked, named}
-use Rattle.merging.specs.Rest.{IsRestIn, ListsJoined}
-use Rattle.merging.specs.declared.rest.Rest.{Rest}
+use Rattle.merging.specs.Parts.{AreCarried, ArePitMarks, named}
+use Rattle.merging.specs.Reduced.{IsRestIn, ListsJoined}
+use Rattle.merging.specs.declared.reduced_mine.ReducedMine.{ReducedMine}
 use Rattle.merging.proofs.Joining.{Rises, rises_once}
 
 plain_or : (b : Bool) → b || false ≡ b
@@ -51,19 +51,19 @@ module _ (n : ℕ) (fixed : FixedBlocks) (blocks : List ℕ) (are : blocks ≡ m
       (subst (λ v. v < n) (sym same) each.0, ap (open_in fixed) same ∙ each.1)
 
   -- so it need be neither dug nor left
-  not_dug : (i : ℕ) → i < length blocks → dug_in fixed (get_or blocks i 0) ≡ false
+  not_dug : (i : ℕ) → i < length blocks → forced_closure fixed (get_or blocks i 0) ≡ false
   not_dug i l = ⊎_elim
-      (λ (d : dug_in fixed (get_or blocks i 0) ≡ true). absurd (true≢false (sym (is_open_block i l).1 ∙ ap not (or_left (dug_in fixed (get_or blocks i 0)) (left_in fixed (get_or blocks i 0)) d))))
-      (λ (e : dug_in fixed (get_or blocks i 0) ≡ false). e)
-      (cases_Bool (dug_in fixed (get_or blocks i 0)))
+      (λ (d : forced_closure fixed (get_or blocks i 0) ≡ true). absurd (true≢false (sym (is_open_block i l).1 ∙ ap not (or_left (forced_closure fixed (get_or blocks i 0)) (barred_closure fixed (get_or blocks i 0)) d))))
+      (λ (e : forced_closure fixed (get_or blocks i 0) ≡ false). e)
+      (cases_Bool (forced_closure fixed (get_or blocks i 0)))
 
-  not_left : (i : ℕ) → i < length blocks → left_in fixed (get_or blocks i 0) ≡ true → ⊥
-  not_left i l h = true≢false (sym (is_open_block i l).1 ∙ ap not (or_right (dug_in fixed (get_or blocks i 0)) (left_in fixed (get_or blocks i 0)) h))
+  not_left : (i : ℕ) → i < length blocks → barred_closure fixed (get_or blocks i 0) ≡ true → ⊥
+  not_left i l h = true≢false (sym (is_open_block i l).1 ∙ ap not (or_right (forced_closure fixed (get_or blocks i 0)) (barred_closure fixed (get_or blocks i 0)) h))
 
-  module _ (apart : (u : ℕ) → left_in fixed u ≡ true → dug_in fixed u ≡ false) (found : List ℕ) (before marks : List Bool) (size : length before ≡ n) (dug : (u : ℕ) → u < n → has before u ≡ dug_in fixed u)
-      (was : AreMarked blocks found (length found) before marks) (set : ℕ → Bool) (listed : found ≡ members (length blocks) set) where
+  module _ (apart : (u : ℕ) → barred_closure fixed u ≡ true → forced_closure fixed u ≡ false) (found : List ℕ) (before marks : List Bool) (size : length before ≡ n) (dug : (u : ℕ) → u < n → has before u ≡ forced_closure fixed u)
+      (was : ArePitMarks blocks found (length found) before marks) (set : ℕ → Bool) (listed : found ≡ members (length blocks) set) where
     abbrev after : ℕ → Bool
-    after u = has marks u || dug_in fixed u
+    after u = has marks u || forced_closure fixed u
 
     found_each : (j : ℕ) → j < length found → (get_or found j 0 < length blocks) × (set (get_or found j 0) ≡ true)
     found_each j l =
@@ -72,7 +72,7 @@ module _ (n : ℕ) (fixed : FixedBlocks) (blocks : List ℕ) (are : blocks ≡ m
         (subst (λ v. v < length blocks) (sym same) at.0, ap set same ∙ at.1)
 
     -- what is marked must be dug, or was found
-    marked_so : (u : ℕ) → u < n → has marks u ≡ true → (dug_in fixed u ≡ true) ⊎ ((i : ℕ) × (i < length blocks) × (set i ≡ true) × (get_or blocks i 0 ≡ u))
+    marked_so : (u : ℕ) → u < n → has marks u ≡ true → (forced_closure fixed u ≡ true) ⊎ ((i : ℕ) × (i < length blocks) × (set i ≡ true) × (get_or blocks i 0 ≡ u))
     marked_so u l h = ⊎_elim
         (λ (b : has before u ≡ true). inl (sym (dug u l) ∙ b))
         (λ (p : (j : ℕ) × (j < length found) × (named blocks found j ≡ u)).
@@ -96,7 +96,7 @@ module _ (n : ℕ) (fixed : FixedBlocks) (blocks : List ℕ) (are : blocks ≡ m
         (λ (t : set i ≡ true). found_marked i l t ∙ sym t)
         (λ (f : set i ≡ false). ⊎_elim
         (λ (m : has marks u ≡ true). absurd (⊎_elim
-        (λ (d : dug_in fixed u ≡ true). true≢false (sym d ∙ not_dug i l))
+        (λ (d : forced_closure fixed u ≡ true). true≢false (sym d ∙ not_dug i l))
         (λ (p : (j : ℕ) × (j < length blocks) × (set j ≡ true) × (get_or blocks j 0 ≡ u)).
         true≢false (sym p.2 ∙ ap set (rises_once blocks blocks_rise p.0 i p.1 l p.3) ∙ f))
         (marked_so u (is_open_block i l).0 m)))
@@ -104,7 +104,7 @@ module _ (n : ℕ) (fixed : FixedBlocks) (blocks : List ℕ) (are : blocks ≡ m
         (cases_Bool (has marks u)))
         (cases_Bool (set i))
 
-    misses : (u : ℕ) → left_in fixed u ≡ true → after u ≡ false
+    misses : (u : ℕ) → barred_closure fixed u ≡ true → after u ≡ false
     misses u h = ap (λ b. has marks u || b) (apart u h) ∙ ⊎_elim
         (λ (t : has marks u ≡ true). absurd (⊎_elim
         (λ (b : has before u ≡ true). ⊎_elim
@@ -112,7 +112,7 @@ module _ (n : ℕ) (fixed : FixedBlocks) (blocks : List ℕ) (are : blocks ≡ m
         (λ (far : n ≤ u). none_outside before u (omega arith) b)
         (cases_lt u n))
         (λ (p : (j : ℕ) × (j < length found) × (named blocks found j ≡ u)).
-        not_left (get_or found p.0 0) (found_each p.0 p.1).0 (ap (left_in fixed) p.2 ∙ h))
+        not_left (get_or found p.0 0) (found_each p.0 p.1).0 (ap (barred_closure fixed) p.2 ∙ h))
         (was.only u t)))
         (λ (f : has marks u ≡ false). ap (λ b. b || false) f)
         (cases_Bool (has marks u))
@@ -123,13 +123,13 @@ module _ (n : ℕ) (fixed : FixedBlocks) (blocks : List ℕ) (are : blocks ≡ m
       listed =
           ap (λ m. members m (has marks)) (was.size ∙ size)
           ∙ members_ext n (has marks) after (λ u l. ⊎_elim
-          (λ (d : dug_in fixed u ≡ true). was.grows u (dug u l ∙ d) ∙ sym (or_right (has marks u) (dug_in fixed u) d))
-          (λ (none : dug_in fixed u ≡ false). sym (ap (λ b. has marks u || b) none ∙ plain_or (has marks u)))
-          (cases_Bool (dug_in fixed u)));
-      joined = record { keeps = λ u d. or_right (has marks u) (dug_in fixed u) d; misses = misses; adds = adds };
+          (λ (d : forced_closure fixed u ≡ true). was.grows u (dug u l ∙ d) ∙ sym (or_right (has marks u) (forced_closure fixed u) d))
+          (λ (none : forced_closure fixed u ≡ false). sym (ap (λ b. has marks u || b) none ∙ plain_or (has marks u)))
+          (cases_Bool (forced_closure fixed u)));
+      joined = record { keeps = λ u d. or_right (has marks u) (forced_closure fixed u) d; misses = misses; adds = adds };
     }
 
-module _ (mine : Instance) (fixed : FixedBlocks) (rest : Rest) (of : IsFixedOf (graph_of_mine mine) fixed) (is : IsRestIn mine fixed rest) where
+module _ (mine : Instance) (fixed : FixedBlocks) (rest : ReducedMine) (of : IsFixedOf (graph_of_mine mine) fixed) (is : IsRestIn mine fixed rest) where
   abbrev blocks : List ℕ
   blocks = rest.blocks.items
 
@@ -151,7 +151,7 @@ module _ (mine : Instance) (fixed : FixedBlocks) (rest : Rest) (of : IsFixedOf (
         let two : open_in fixed (target mine a) ≡ true = ap (open_in fixed) (sym names.1) ∙ (is_open_in (target rest.mine k) second).1 in
         ap (λ b. b && open_in fixed (target mine a)) one ∙ two
 
-    idle : IsIdle mine (dug_in fixed) (left_in fixed) (amount flow)
+    idle : IsIdle mine (forced_closure fixed) (barred_closure fixed) (amount flow)
     idle a l closed = was.rest a (λ k m names. true≢false (sym (open_ends k a m names) ∙ closed)) ∙ none a
 
     same_flow : IsSameFlow mine blocks (graph_of_mine rest.mine) (amount flow) (amount found.flow.items)
@@ -177,16 +177,16 @@ module _ (mine : Instance) (fixed : FixedBlocks) (rest : Rest) (of : IsFixedOf (
         let list = joined set (shown.certifies.listed ∙ ap (λ n. members n set) count) in
         let here : Certifies (mine_among mine blocks (graph_of_mine rest.mine)) set (amount found.flow.items) =
         subst (λ (m : Instance). Certifies m set (amount found.flow.items)) is.mine_is shown.certifies.certifies in
-        let whole = (rest_certificate_is_open mine (fixed_of fixed.lists) (dug_in fixed) (left_in fixed) blocks (graph_of_mine rest.mine) list.after set (amount flow) (amount found.flow.items)
+        let whole = (rest_certificate_is_open mine (fixed_of fixed.lists) (forced_closure fixed) (barred_closure fixed) blocks (graph_of_mine rest.mine) list.after set (amount flow) (amount found.flow.items)
         (instance_is_simple mine inst) is.is_rest list.joined idle same_flow).0 here in (
           record {
-            dug = dug_in fixed;
-            left = left_in fixed;
+            dug = forced_closure fixed;
+            left = barred_closure fixed;
             settled = of.settled;
             set = list.after;
             listed = list.listed;
             counted = ap (λ (xs : List ℤ). length xs) same ∙ was.size ∙ size;
-            certifies = subst (λ (xs : List ℤ). CertifiesOpen mine (dug_in fixed) (left_in fixed) list.after (amount xs)) (sym same) whole;
+            certifies = subst (λ (xs : List ℤ). CertifiesOpen mine (forced_closure fixed) (barred_closure fixed) list.after (amount xs)) (sym same) whole;
           },
           record {
             below = subst (All (λ u. u < mine.blocks)) (sym list.listed) (members_below mine.blocks list.after);
@@ -197,5 +197,5 @@ module _ (mine : Instance) (fixed : FixedBlocks) (rest : Rest) (of : IsFixedOf (
         )
 
 -- no block must be both dug and left
-pub none_both : (mine : Instance) (fixed : FixedBlocks) → IsFixedOf (graph_of_mine mine) fixed → (u : ℕ) → left_in fixed u ≡ true → dug_in fixed u ≡ false
-none_both mine fixed of = settled_are_apart mine (fixed_of fixed.lists) (dug_in fixed) (left_in fixed) of.settled of.clash_free
+pub none_both : (mine : Instance) (fixed : FixedBlocks) → IsFixedOf (graph_of_mine mine) fixed → (u : ℕ) → barred_closure fixed u ≡ true → forced_closure fixed u ≡ false
+none_both mine fixed of = settled_are_apart mine (fixed_of fixed.lists) (forced_closure fixed) (barred_closure fixed) of.settled of.clash_free

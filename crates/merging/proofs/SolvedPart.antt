@@ -8,13 +8,13 @@ use Rattle.mine_graph.specs.declared.part.Part.{Part}
 use Rattle.mine_graph.specs.Parts.{AreParts}
 use Rattle.pit_model.proofs.Members.{members_each, members_rise}
 use Rattle.std.specs.List.{All}
-use Rattle.merging.specs.Parts.{IsPartOf, graph_of}
+use Rattle.merging.specs.Parts.{IsPartOf, graph_of_instance}
 
 pub same_graph : (g : Graph) (blocks : ℕ) (pairs : List (ℕ × ℕ)) → blocks ≡ g.blocks → pairs ≡ g.pairs → record { blocks = blocks; pairs = pairs } ≡ g
 same_graph g blocks pairs b p = ap (λ x. record { blocks = x; pairs = pairs }) b ∙ ap (λ y. record { blocks = g.blocks; pairs = y }) p
 
 -- each of the parts is one
-pub parts_of : (mine : Instance) (whole : Graph) (parts : List Part) → whole ≡ graph_of mine → AreParts whole parts → All (IsPartOf mine) parts
+pub parts_of : (mine : Instance) (whole : Graph) (parts : List Part) → whole ≡ graph_of_instance mine → AreParts whole parts → All (IsPartOf mine) parts
 parts_of mine whole parts is fall i d l =
     let here : get_or parts i (get_or parts i d) ≡ get_or parts i d = get_or_default parts i (get_or parts i d) d l in
     let part = fall.each i (get_or parts i d) (l, here) in
@@ -34,11 +34,11 @@ module _ (whole own : Graph) (set : ℕ → Bool) (blocks : List ℕ) (is : IsPa
 
 -- the same part, where its graphs and its blocks were taken from memory
 pub same_part : (mine own : Instance) (set : ℕ → Bool) (blocks : List ℕ) (whole_now own_now : Graph) (blocks_now : List ℕ)
-    → whole_now ≡ graph_of mine → own_now ≡ graph_of own → blocks_now ≡ blocks → IsPart (graph_of mine) set blocks (graph_of own) → IsPart whole_now set blocks_now own_now
+    → whole_now ≡ graph_of_instance mine → own_now ≡ graph_of_instance own → blocks_now ≡ blocks → IsPart (graph_of_instance mine) set blocks (graph_of_instance own) → IsPart whole_now set blocks_now own_now
 same_part mine own set blocks whole_now own_now blocks_now w o b is =
     subst (λ g. IsPart g set blocks_now own_now) (sym w)
-    (subst (λ g. IsPart (graph_of mine) set blocks_now g) (sym o)
-    (subst (λ xs. IsPart (graph_of mine) set xs (graph_of own)) (sym b) is))
+    (subst (λ g. IsPart (graph_of_instance mine) set blocks_now g) (sym o)
+    (subst (λ xs. IsPart (graph_of_instance mine) set xs (graph_of_instance own)) (sym b) is))
 
-pub graph_is : (g : Graph) (mine : Instance) → g.blocks ≡ mine.blocks → g.pairs ≡ mine.pairs → g ≡ graph_of mine
+pub graph_is : (g : Graph) (mine : Instance) → g.blocks ≡ mine.blocks → g.pairs ≡ mine.pairs → g ≡ graph_of_instance mine
 graph_is g mine b p = sym (same_graph g mine.blocks mine.pairs (sym b) (sym p))

@@ -2,4 +2,4 @@ pub mod Solved
 pub mod Replayed
 pub mod Order
 pub mod Parts
-pub mod Rest
+pub mod Reduced

@@ -9,16 +9,16 @@ use Rattle.certificate.specs.Certificate.{IsCertificateOf}
 use Rattle.certificate.specs.Check.{has, amount}
 use Rattle.merging.specs.declared.solved_part.SolvedPart.{SolvedPart}
 
-abbrev pub graph_of : Instance → Graph
-graph_of mine = record { blocks = mine.blocks; pairs = mine.pairs }
+abbrev pub graph_of_instance : Instance → Graph
+graph_of_instance mine = record { blocks = mine.blocks; pairs = mine.pairs }
 
 abbrev pub IsPartOf : Instance → Part → Type 0
-IsPartOf mine part = (set : ℕ → Bool) × IsPart (graph_of mine) set part.blocks.items part.graph
+IsPartOf mine part = (set : ℕ → Bool) × IsPart (graph_of_instance mine) set part.blocks.items part.graph
 
 -- an instance of the part, with its values in the whole, and its answer
 pub record IsSolvedPart (mine : Instance) (part : Part) (solved : SolvedPart) : Type 0 where
   pub blocks : solved.blocks.items ≡ part.blocks.items
-  pub graph : graph_of solved.mine ≡ part.graph
+  pub graph : graph_of_instance solved.mine ≡ part.graph
   pub values : (u : ℕ) → u < solved.mine.blocks → value solved.mine u ≡ value mine (get_or part.blocks.items u 0)
   pub instance : IsInstance solved.mine
   pub answer : IsCertificateOf solved.mine solved.certificate
@@ -28,7 +28,7 @@ pub record AreSolved (mine : Instance) (parts : List SolvedPart) : Type 0 where
   pub label : ℕ → ℕ
   pub labelled : (u : ℕ) → u < mine.blocks → label u < length parts
   pub together : (k : ℕ) → k < arcs mine → label (source mine k) ≡ label (target mine k)
-  pub each : (i : ℕ) (p : SolvedPart) → StandsAt parts i p → IsPart (graph_of mine) (λ u. label u == i) p.blocks.items (graph_of p.mine)
+  pub each : (i : ℕ) (p : SolvedPart) → StandsAt parts i p → IsPart (graph_of_instance mine) (λ u. label u == i) p.blocks.items (graph_of_instance p.mine)
   pub values : (i : ℕ) (p : SolvedPart) → StandsAt parts i p → (u : ℕ) → u < p.mine.blocks → value p.mine u ≡ value mine (get_or p.blocks.items u 0)
   pub instances : (i : ℕ) (p : SolvedPart) → StandsAt parts i p → IsInstance p.mine
   pub answers : (i : ℕ) (p : SolvedPart) → StandsAt parts i p → IsCertificateOf p.mine p.certificate
@@ -38,7 +38,7 @@ abbrev pub named : List ℕ → List ℕ → ℕ → ℕ
 named blocks pit i = get_or blocks (get_or pit i 0) 0
 
 -- the blocks that the first places of a pit name were marked, and no others
-pub record AreMarked (blocks pit : List ℕ) (count : ℕ) (before marks : List Bool) : Type 0 where
+pub record ArePitMarks (blocks pit : List ℕ) (count : ℕ) (before marks : List Bool) : Type 0 where
   pub size : length marks ≡ length before
   pub grows : (v : ℕ) → has before v ≡ true → has marks v ≡ true
   pub only : (v : ℕ) → has marks v ≡ true → (has before v ≡ true) ⊎ ((i : ℕ) × (i < count) × (named blocks pit i ≡ v))
@@ -61,4 +61,4 @@ pub record ArePlaced (mine : Instance) (parts : List SolvedPart) (marks : List B
   pub listed : (i : ℕ) (p : SolvedPart) → i < count → StandsAt parts i p → (u : ℕ) → IsListed p.certificate.pit.items u → has marks (get_or p.blocks.items u 0) ≡ true
   pub owned : (v : ℕ) → has marks v ≡ true → (i : ℕ) × (p : SolvedPart) × (i < count) × StandsAt parts i p × (u : ℕ) × (u < p.mine.blocks) × (get_or p.blocks.items u 0 ≡ v)
   pub placed : (i : ℕ) (p : SolvedPart) → i < count → StandsAt parts i p → (k a : ℕ) → k < arcs p.mine → a < arcs mine
-      → IsRenumbered (graph_of mine) p.blocks.items (graph_of p.mine) k a → amount flow a ≡ amount p.certificate.flow.items k
+      → IsRenumbered (graph_of_instance mine) p.blocks.items (graph_of_instance p.mine) k a → amount flow a ≡ amount p.certificate.flow.items k

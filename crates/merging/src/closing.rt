@@ -20,7 +20,7 @@ fn merge_all(tree: &mut NormTree)
 }
 
 /// Merges until no merger arc is left. An index is made only where there is one. Refused for want of memory alone.
-pub fn merge_rest(tree: NormTree) -> Result<NormTree, Fault>
+pub fn merge_remaining(tree: NormTree) -> Result<NormTree, Fault>
     ensures mine { IfOk result (λ t. t.mine ≡ tree.mine) }
     ensures none_left { IfOk result (λ t. (k : ℕ) → is_merger t.mine t.tree k ≡ false) }
     ensures refused { IfErr result (λ e. e ≡ no_memory) }

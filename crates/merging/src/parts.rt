@@ -8,12 +8,12 @@ ghost use Rattle.faults.specs.Refused.{no_memory};
 ghost use Rattle.pit_model.specs.Mine.{value};
 ghost use Rattle.certificate.specs.Certificate.{IsCertificateOf};
 ghost use Rattle.certificate.specs.Check.{ShowsPit};
-ghost use Rattle.merging.specs.Parts.{graph_of, IsPartOf, IsSolvedPart};
+ghost use Rattle.merging.specs.Parts.{graph_of_instance, IsPartOf, IsSolvedPart};
 
-use crate::joined::join_parts;
-use crate::one_part::is_one_part;
-use crate::single::{certificate_of, pit_of};
+use crate::lift::join_parts;
+use crate::single::{solve_certificate, solve_pit};
 use crate::solved_part::SolvedPart;
+use crate::union_find::is_one_part;
 use certificate::Certificate;
 use faults::Fault;
 use mine_graph::{Graph, Instance, Part};
@@ -23,7 +23,7 @@ use std::sync::Arc;
 use std::thread::Threads;
 
 /// The values of some blocks.
-pub(crate) fn values_of(
+pub(crate) fn values_at(
     alloc: Global,
     instance: &Instance,
     blocks: &[u32],
@@ -45,11 +45,11 @@ fn solve_part(alloc: Global, instance: &Instance, part: Part) -> Result<SolvedPa
     ensures { MatchResult result (IsSolvedPart instance.now part) (λ e. e ≡ no_memory) }
 {
     instance.law();
-    let values = values_of(alloc, instance, &part.blocks)?;
+    let values = values_at(alloc, instance, &part.blocks)?;
     let counters = instance.counters().share();
-    let mine = Instance::watched(Arc::new(alloc, part.graph)?, values, counters);
+    let mine = Instance::with_counters(Arc::new(alloc, part.graph)?, values, counters);
     mine.law();
-    let certificate = certificate_of(alloc, &mine)?;
+    let certificate = solve_certificate(alloc, &mine)?;
     Ok(SolvedPart {
         blocks: part.blocks,
         mine,
@@ -126,7 +126,7 @@ pub fn solve_parts<R: Threads + Sync>(
 {
     match join_of_parts(rt, alloc, instance)? {
         Some(joined) => Ok(joined),
-        None => certificate_of(alloc, instance),
+        None => solve_certificate(alloc, instance),
     }
 }
 
@@ -143,6 +143,6 @@ pub fn pit_by_parts<R: Threads + Sync>(
     instance.law();
     match join_of_parts(rt, alloc, instance)? {
         Some(joined) => Ok(joined.pit),
-        None => pit_of(alloc, instance),
+        None => solve_pit(alloc, instance),
     }
 }

@@ -10,7 +10,7 @@ ghost use Rattle.pit_model.specs.Mine.{arcs};
 
 use crate::lowest_label::{merge_by_lowest_label, mergers_by_lowest_label};
 use faults::Fault;
-use mine_graph::{Graph, Instance, acyclic_has_no_needy, marked_numbers};
+use mine_graph::{Graph, Instance, acyclic_is_well_founded, marked_numbers};
 use need_rows::NeedRows;
 use norm_tree::BareTree;
 use std::alloc::{AllocError, Global};
@@ -86,7 +86,7 @@ fn graph_of_arcs(alloc: Global, graph: &Graph, arcs: &[u32]) -> Result<Graph, Fa
     ensures refused { IfErr result (λ e. e ≡ no_memory) }
 {
     graph.law();
-    acyclic_has_no_needy();
+    acyclic_is_well_founded();
     let needs = pairs_at(alloc, graph, arcs)?;
     let links = Graph::of_rows(alloc, graph.n(), needs)?;
     Ok(links)

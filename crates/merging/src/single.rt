@@ -8,7 +8,7 @@ ghost use Rattle.certificate.specs.Check.{ShowsPit};
 ghost use Rattle.merging.specs.Solved.{IsSolvedAlone};
 
 use crate::budget_bound::is_enough;
-use crate::closing::merge_rest;
+use crate::closing::merge_remaining;
 use crate::first_mergers::make_first_mergers;
 use crate::lowest_label::merge_by_lowest_label;
 use crate::outcome::Outcome;
@@ -27,7 +27,7 @@ fn solved_tree(alloc: Global, instance: &Instance) -> Result<NormTree, Fault>
 {
     let mut bare = BareTree::start(alloc, instance)?;
     merge_by_lowest_label(alloc, &mut bare)?;
-    merge_rest(NormTree::from_bare(bare)?)
+    merge_remaining(NormTree::from_bare(bare)?)
 }
 
 /// The certificate in a tree with no merger arc left. Refused for want of memory alone.
@@ -43,7 +43,7 @@ fn certificate_in(alloc: Global, tree: &NormTree) -> Result<Certificate, Fault>
 }
 
 /// The pit with its certificate. Refused for want of memory alone.
-pub(crate) fn certificate_of(alloc: Global, instance: &Instance) -> Result<Certificate, Fault>
+pub(crate) fn solve_certificate(alloc: Global, instance: &Instance) -> Result<Certificate, Fault>
     ensures answer { IfOk result (IsCertificateOf instance.now) }
     ensures refused { IfErr result (λ e. e ≡ no_memory) }
 {
@@ -52,7 +52,7 @@ pub(crate) fn certificate_of(alloc: Global, instance: &Instance) -> Result<Certi
 }
 
 /// The pit alone: the flow that shows it stays in the tree. Refused for want of memory alone.
-pub fn pit_of(alloc: Global, instance: &Instance) -> Result<Vec<u32>, Fault>
+pub fn solve_pit(alloc: Global, instance: &Instance) -> Result<Vec<u32>, Fault>
     ensures shown { IfOk result (λ pit. ShowsPit instance.now pit.items) }
     ensures refused { IfErr result (λ e. e ≡ no_memory) }
 {
@@ -66,7 +66,7 @@ fn solve_freely(alloc: Global, instance: &Instance) -> Result<Outcome, Fault>
     ensures solved { IfOk result (IsSolvedAlone instance.now None) }
     ensures refused { IfErr result (λ e. e ≡ no_memory) }
 {
-    Ok(Outcome::Pit(certificate_of(alloc, instance)?))
+    Ok(Outcome::Pit(solve_certificate(alloc, instance)?))
 }
 
 /// The tree after the mergers of the first run, at most as many as the budget.
@@ -109,7 +109,7 @@ fn solve_within(alloc: Global, instance: &Instance, budget: u64) -> Result<Outco
     instance.law();
     budget_suffices();
     if is_enough(instance, budget) {
-        Ok(Outcome::Pit(certificate_of(alloc, instance)?))
+        Ok(Outcome::Pit(solve_certificate(alloc, instance)?))
     } else {
         solve_by_first_run(alloc, instance, budget)
     }

@@ -6,12 +6,12 @@ use Rattle.std.specs.Prelude.{not}
 use Rattle.std.proofs.lemmas.Bool.{cases_eq, cases_lt, true≢false, eq-eqb, ne_eqb, and_parts, eqb-true, lt-ltb, ltb-true, not-true}
 use Rattle.std.proofs.lemmas.List.{get_or_past}
 use Rattle.pit_model.specs.Graph.{first_of, second_of, AreInRange, IsAcyclic}
-use Rattle.pit_model.specs.Cycle.{IsNeedy, IsLargestNeedy, AcyclicHasNoNeedy}
-use Rattle.mine_graph.specs.Queue.{is_open, IsSettled}
+use Rattle.pit_model.specs.Cycle.{HasPredecessorInside, IsLargestWithPredecessorInside, AcyclicIsWellFounded}
+use Rattle.mine_graph.specs.Queue.{is_unhandled, IsProcessed}
 use Rattle.mine_graph.specs.Left.{left_over}
 use Rattle.need_rows.proofs.Count.{count-some}
 
--- both lists have the same pairs, turned round
+-- each list has the transposed pairs of the other
 pub record AreTurned (pairs arcs : List (ℕ × ℕ)) : Type 0 where
   pub forth : (k : ℕ) → k < length pairs → (l : ℕ) × (l < length arcs) × (first_of arcs l ≡ second_of pairs k) × (second_of arcs l ≡ first_of pairs k)
   pub back : (l : ℕ) → l < length arcs → (k : ℕ) × (k < length pairs) × (second_of pairs k ≡ first_of arcs l) × (first_of pairs k ≡ second_of arcs l)
@@ -37,7 +37,7 @@ place-is order (suc t) i u apart l e = ⊎_elim
     (cases_eq i t)
 
 -- the other way round it is a height as well, less what stands behind
-pub acyclic_along : (arcs : List (ℕ × ℕ)) (left order : List ℕ) (tail : ℕ) → AreInRange arcs (length left) → IsSettled arcs left order tail tail
+pub acyclic_along : (arcs : List (ℕ × ℕ)) (left order : List ℕ) (tail : ℕ) → AreInRange arcs (length left) → IsProcessed arcs left order tail tail
     → ((u : ℕ) → u < length left → get_or left u 0 ≡ 0) → IsAcyclic arcs
 acyclic_along arcs left order tail range end none = (
   λ u. tail - place order tail u,
@@ -54,7 +54,7 @@ acyclic_along arcs left order tail range end none = (
 )
 
 module _ (pairs arcs : List (ℕ × ℕ)) (left order : List ℕ) (tail : ℕ)
-    (turn : AreTurned pairs arcs) (range : AreInRange pairs (length left)) (end : IsSettled arcs left order tail tail) where
+    (turn : AreTurned pairs arcs) (range : AreInRange pairs (length left)) (end : IsProcessed arcs left order tail tail) where
   -- where nothing is left, the place in the queue is a height
   pub acyclic : ((u : ℕ) → u < length left → get_or left u 0 ≡ 0) → IsAcyclic pairs
   acyclic none = (
@@ -80,11 +80,11 @@ module _ (pairs arcs : List (ℕ × ℕ)) (left order : List ℕ) (tail : ℕ)
   past u h = ⊎_elim (λ (l : u < length left). l) (λ (l : length left ≤ u). absurd (over-some u h (get_or_past left u 0 l))) (cases_lt u (length left))
 
   -- what is left over is needy
-  over-needy : IsNeedy pairs (length left) (left_over left)
+  over-needy : HasPredecessorInside pairs (length left) (left_over left)
   over-needy u h =
       let below = past u h in
       let some = over-some u h in
-      let o = count-some (length arcs) (is_open arcs end.handled u) (λ e. some (end.counted.counts u below ∙ e)) in
+      let o = count-some (length arcs) (is_unhandled arcs end.handled u) (λ e. some (end.counted.counts u below ∙ e)) in
       let parts = and_parts (eqb (second_of arcs o.0) u) (not (end.handled o.0)) o.2 in
       let off : end.handled o.0 ≡ false = not-true (end.handled o.0) parts.1 in
       let b = turn.back o.0 o.1 in (
@@ -101,7 +101,7 @@ module _ (pairs arcs : List (ℕ × ℕ)) (left order : List ℕ) (tail : ℕ)
       )
 
   -- no queued block lies in a needy set
-  none_queued : (other : ℕ → Bool) → IsNeedy pairs (length left) other → (t i : ℕ) → i < t → t ≤ tail → other (get_or order i 0) ≡ true → ⊥
+  none_queued : (other : ℕ → Bool) → HasPredecessorInside pairs (length left) other → (t i : ℕ) → i < t → t ≤ tail → other (get_or order i 0) ≡ true → ⊥
   none_queued other needy zero i h l e = absurd (omega arith)
   none_queued other needy (suc t) i h l e =
       let r = needy (get_or order i 0) e in
@@ -110,7 +110,7 @@ module _ (pairs arcs : List (ℕ × ℕ)) (left order : List ℕ) (tail : ℕ)
       let s = end.counted.sooner i a.0 (omega arith) a.1 (a.3 ∙ r.1.2) in
       none_queued other needy t s.0 (let j = s.1 in omega arith) (omega arith) (ap other (s.2 ∙ a.2) ∙ r.1.3)
 
-  pub over-largest : IsLargestNeedy pairs (length left) (left_over left)
+  pub over-largest : IsLargestWithPredecessorInside pairs (length left) (left_over left)
   over-largest = record {
     needy = over-needy;
     largest = λ other needy u h. over-true u (λ z.
@@ -120,7 +120,7 @@ module _ (pairs arcs : List (ℕ × ℕ)) (left order : List ℕ) (tail : ℕ)
 
 -- a height excludes a needy set
 by_height : (pairs : List (ℕ × ℕ)) (n : ℕ) (set : ℕ → Bool) (height : ℕ → ℕ) → ((k : ℕ) → k < length pairs → height (second_of pairs k) < height (first_of pairs k))
-    → IsNeedy pairs n set → (t u : ℕ) → height u < t → set u ≡ true → ⊥
+    → HasPredecessorInside pairs n set → (t u : ℕ) → height u < t → set u ≡ true → ⊥
 by_height pairs n set height falls needy zero u h e = absurd (omega arith)
 by_height pairs n set height falls needy (suc t) u h e =
     let r = needy u e in
@@ -128,5 +128,5 @@ by_height pairs n set height falls needy (suc t) u h e =
     let s = ap height r.1.2 in
     by_height pairs n set height falls needy t (second_of pairs r.1.0) (omega arith) r.1.3
 
-pub acyclic_has_no_needy : AcyclicHasNoNeedy
-acyclic_has_no_needy pairs n set acyclic needy u h = by_height pairs n set acyclic.0 acyclic.1 needy (suc (acyclic.0 u)) u (omega arith) h
+pub acyclic_is_well_founded : AcyclicIsWellFounded
+acyclic_is_well_founded pairs n set acyclic needy u h = by_height pairs n set acyclic.0 acyclic.1 needy (suc (acyclic.0 u)) u (omega arith) h

@@ -3,7 +3,7 @@ use Rattle.std.proofs.Common.{◌≡◌, ℕ, suc, true, false, arith, ⊎_elim,
 use Rattle.std.proofs.lemmas.Bool.{cases_Bool, eq-eqb, eqb-true, false≢true}
 use Rattle.std.proofs.lemmas.List.Folds.{list_any_at}
 use Rattle.pit_model.specs.Fixed.{is_among}
-use Rattle.mine_graph.specs.Flood.{IsAt}
+use Rattle.mine_graph.specs.BreadthFirst.{IsAt}
 
 pub among_here : (xs : List ℕ) (u : ℕ) → IsAt (λ x. get_or xs x 0) 0 (length xs) u → is_among xs u ≡ true
 among_here xs u at = list_any_at (λ x. eqb x u) xs at.0 0 at.2 (eq-eqb (get_or xs at.0 0) u at.3)

@@ -1,81 +1,81 @@
 -- The lists of a new graph.
 use Rattle.std.proofs.Common.{◌≡◌, ℕ, ◌+◌, ◌-◌, ◌<◌, ◌≤◌, Bool, sym, ap, ◌∙◌, arith, subst, List, get_or, length}
 use Rattle.pit_model.specs.Graph.{AreInRange, AreSamePairs, AreApart, AreRising, IsAcyclic}
-use Rattle.pit_model.specs.Cycle.{IsNeedy, IsLargestNeedy, IsLeastNeeded, IsCycleList}
+use Rattle.pit_model.specs.Cycle.{HasPredecessorInside, IsLargestWithPredecessorInside, IsLeastNeeded, IsCycleList}
 use Rattle.faults.specs.declared.fault.Fault.{Fault}
 use Rattle.faults.specs.declared.refusal.Refusal.{Refusal}
 use Rattle.faults.specs.declared.refusal.Refusal.TheVariants.{NoMemory, Cycle}
 use Rattle.mine_graph.specs.Faults.{RefusesPairs, IsGraphFault}
 use Rattle.need_rows.specs.Rows.{pairs_of, AreStarts, Spell}
 use Rattle.need_rows.proofs.Spelled.{spelled}
-use Rattle.mine_graph.specs.Rows.{by_second}
-use Rattle.mine_graph.specs.Queue.{IsCountedDown}
+use Rattle.mine_graph.specs.Rows.{transposed_pairs}
+use Rattle.mine_graph.specs.Queue.{IsAllProcessed}
 use Rattle.mine_graph.specs.Left.{left_over}
-use Rattle.mine_graph.proofs.Order.{by_second-from, by_second-range, by_second-to, twice, twice-same}
+use Rattle.mine_graph.proofs.Order.{transposed_pairs-from, transposed_pairs-range, transposed_pairs-to, twice, twice-same}
 use Rattle.mine_graph.proofs.Acyclic.{AreTurned, acyclic, over-largest, acyclic_along}
 
-pub turned_pairs : (qs : List (ℕ × ℕ)) (n : ℕ) → AreInRange qs n → AreTurned qs (by_second qs n)
-turned_pairs qs n range = record {
-  forth = λ k h. let a = by_second-to qs n k h (range k h).1 in (a.0, a.1, ap (λ (x : ℕ × ℕ). x.0) a.2, ap (λ (x : ℕ × ℕ). x.1) a.2);
-  back = λ l h. let b = by_second-from qs n l h in (b.0, b.1, sym (ap (λ (x : ℕ × ℕ). x.0) b.2), sym (ap (λ (x : ℕ × ℕ). x.1) b.2));
+pub transposed_are_turned : (qs : List (ℕ × ℕ)) (n : ℕ) → AreInRange qs n → AreTurned qs (transposed_pairs qs n)
+transposed_are_turned qs n range = record {
+  forth = λ k h. let a = transposed_pairs-to qs n k h (range k h).1 in (a.0, a.1, ap (λ (x : ℕ × ℕ). x.0) a.2, ap (λ (x : ℕ × ℕ). x.1) a.2);
+  back = λ l h. let b = transposed_pairs-from qs n l h in (b.0, b.1, sym (ap (λ (x : ℕ × ℕ). x.0) b.2), sym (ap (λ (x : ℕ × ℕ). x.1) b.2));
 }
 
-needy-back : (ps qs : List (ℕ × ℕ)) (n : ℕ) (set : ℕ → Bool) → AreSamePairs ps qs → IsNeedy qs n set → IsNeedy ps n set
+needy-back : (ps qs : List (ℕ × ℕ)) (n : ℕ) (set : ℕ → Bool) → AreSamePairs ps qs → HasPredecessorInside qs n set → HasPredecessorInside ps n set
 needy-back ps qs n set same needy u h =
     let r = needy u h in
     let b = same.back r.1.0 r.1.1 in
     (r.0, (b.0, b.1, ap (λ (x : ℕ × ℕ). x.0) b.2 ∙ r.1.2, ap (λ (x : ℕ × ℕ). set x.1) b.2 ∙ r.1.3))
 
-needy-forth : (ps qs : List (ℕ × ℕ)) (n : ℕ) (set : ℕ → Bool) → AreSamePairs ps qs → IsNeedy ps n set → IsNeedy qs n set
+needy-forth : (ps qs : List (ℕ × ℕ)) (n : ℕ) (set : ℕ → Bool) → AreSamePairs ps qs → HasPredecessorInside ps n set → HasPredecessorInside qs n set
 needy-forth ps qs n set same needy u h =
     let r = needy u h in
     let b = same.forth r.1.0 r.1.1 in
     (r.0, (b.0, b.1, ap (λ (x : ℕ × ℕ). x.0) b.2 ∙ r.1.2, ap (λ (x : ℕ × ℕ). set x.1) b.2 ∙ r.1.3))
 
-pub largest-back : (ps qs : List (ℕ × ℕ)) (n : ℕ) (set : ℕ → Bool) → AreSamePairs ps qs → IsLargestNeedy qs n set → IsLargestNeedy ps n set
+pub largest-back : (ps qs : List (ℕ × ℕ)) (n : ℕ) (set : ℕ → Bool) → AreSamePairs ps qs → IsLargestWithPredecessorInside qs n set → IsLargestWithPredecessorInside ps n set
 largest-back ps qs n set same l = record {
   needy = needy-back ps qs n set same l.needy;
   largest = λ other needy. l.largest other (needy-forth ps qs n other same needy);
 }
 
 -- the rows of one pass spell the pairs in the order of their seconds
-pub turned_once : (pairs : List (ℕ × ℕ)) (starts seconds : List ℕ) (n : ℕ) → AreInRange pairs n → Spell (by_second pairs n) starts seconds n → pairs_of starts seconds ≡ by_second pairs n
-turned_once pairs starts seconds n range by = spelled (by_second pairs n) starts n by.begin seconds (by_second-range pairs n range) by.hold
+pub transposed_once : (pairs : List (ℕ × ℕ)) (starts seconds : List ℕ) (n : ℕ) → AreInRange pairs n → Spell (transposed_pairs pairs n) starts seconds n → pairs_of starts seconds ≡ transposed_pairs pairs n
+transposed_once pairs starts seconds n range by = spelled (transposed_pairs pairs n) starts n by.begin seconds (transposed_pairs-range pairs n range) by.hold
 
 -- the rows of two passes spell the same pairs in their order
-module _ (pairs half : List (ℕ × ℕ)) (starts seconds : List ℕ) (n : ℕ) (range : AreInRange pairs n) (once : half ≡ by_second pairs n) (by : Spell (by_second half n) starts seconds n) where
+module _ (pairs half : List (ℕ × ℕ)) (starts seconds : List ℕ) (n : ℕ) (range : AreInRange pairs n) (once : half ≡ transposed_pairs pairs n) (by : Spell (transposed_pairs half n) starts seconds n) where
   half_range : AreInRange half n
-  half_range = subst (λ q. AreInRange q n) (sym once) (by_second-range pairs n range)
+  half_range = subst (λ q. AreInRange q n) (sym once) (transposed_pairs-range pairs n range)
 
-  again : pairs_of starts seconds ≡ by_second (by_second pairs n) n
-  again = turned_once half starts seconds n half_range by ∙ ap (λ q. by_second q n) once
+  again : pairs_of starts seconds ≡ transposed_pairs (transposed_pairs pairs n) n
+  again = transposed_once half starts seconds n half_range by ∙ ap (λ q. transposed_pairs q n) once
 
   pub twice_same : AreSamePairs pairs (pairs_of starts seconds)
   twice_same = subst (AreSamePairs pairs) (sym again) (twice-same pairs n range)
 
   pub twice_range : AreInRange (pairs_of starts seconds) n
-  twice_range = subst (λ q. AreInRange q n) (sym (turned_once half starts seconds n half_range by)) (by_second-range half n half_range)
+  twice_range = subst (λ q. AreInRange q n) (sym (transposed_once half starts seconds n half_range by)) (transposed_pairs-range half n half_range)
 
   pub twice_rising : AreApart pairs → AreRising (pairs_of starts seconds)
   twice_rising apart = subst AreRising (sym again) (twice pairs n apart)
 
   pub twice_starts : AreStarts (pairs_of starts seconds) starts n
-  twice_starts = subst (λ q. AreStarts q starts n) (sym (turned_once half starts seconds n half_range by)) by.begin
+  twice_starts = subst (λ q. AreStarts q starts n) (sym (transposed_once half starts seconds n half_range by)) by.begin
 
-module _ (pairs turned : List (ℕ × ℕ)) (left : List ℕ) (n : ℕ) (range : AreInRange pairs n) (is : turned ≡ by_second pairs n) (size : length left ≡ n)
-    (end : IsCountedDown turned left) where
+module _ (pairs turned : List (ℕ × ℕ)) (left : List ℕ) (n : ℕ) (range : AreInRange pairs n) (is : turned ≡ transposed_pairs pairs n) (size : length left ≡ n)
+    (end : IsAllProcessed turned left) where
   are_turned : AreTurned pairs turned
-  are_turned = subst (AreTurned pairs) (sym is) (turned_pairs pairs n range)
+  are_turned = subst (AreTurned pairs) (sym is) (transposed_are_turned pairs n range)
 
   -- what counting needs down leaves over is the largest needy set
-  pub over_turned : IsLargestNeedy pairs (length left) (left_over left)
+  pub over_turned : IsLargestWithPredecessorInside pairs (length left) (left_over left)
   over_turned = over-largest pairs turned left end.order end.tail are_turned (subst (AreInRange pairs) (sym size) range) end.settled
 
   pub acyclic_turned : ((u : ℕ) → u < length left → get_or left u 0 ≡ 0) → IsAcyclic pairs
   acyclic_turned none = acyclic pairs turned left end.order end.tail are_turned (subst (AreInRange pairs) (sym size) range) end.settled none
 
 -- nothing is left over along the pairs as they lie
-pub acyclic_as_they_lie : (pairs : List (ℕ × ℕ)) (left : List ℕ) (n : ℕ) → AreInRange pairs n → length left ≡ n → IsCountedDown pairs left
+pub acyclic_as_they_lie : (pairs : List (ℕ × ℕ)) (left : List ℕ) (n : ℕ) → AreInRange pairs n → length left ≡ n → IsAllProcessed pairs left
     → ((u : ℕ) → u < length left → get_or left u 0 ≡ 0) → IsAcyclic pairs
 acyclic_as_they_lie pairs left n range size end none = acyclic_along pairs left end.order end.tail (subst (AreInRange pairs) (sym size) range) end.settled none
 

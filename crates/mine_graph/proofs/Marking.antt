@@ -1,21 +1,21 @@
--- The block of a pair lies between those of the landmarks round it.
+-- The block of a pair lies between those of the samples around it.
 use Rattle.std.proofs.Common.{ℕ, ◌+◌, ◌*◌, ◌/◌, ◌<◌, ◌≤◌, arith, List, get_or, length}
 use Rattle.pit_model.specs.Graph.{first_of, AreRising}
-use Rattle.mine_graph.specs.Rows.{AreLandmarks}
+use Rattle.mine_graph.specs.Rows.{AreRowSamples}
 use Rattle.need_rows.proofs.Rising.{firsts_rise}
 
-module _ (pairs : List (ℕ × ℕ)) (landmarks : List ℕ) (marks : AreLandmarks pairs landmarks) (rising : AreRising pairs) (k : ℕ) (inside : k < length pairs) where
-  pub mark_below : k / 64 < length landmarks
+module _ (pairs : List (ℕ × ℕ)) (row_samples : List ℕ) (marks : AreRowSamples pairs row_samples) (rising : AreRising pairs) (k : ℕ) (inside : k < length pairs) where
+  pub mark_below : k / 64 < length row_samples
   mark_below = let enough = marks.enough in omega arith
 
-  pub mark_least : get_or landmarks (k / 64) 0 ≤ first_of pairs k
+  pub mark_least : get_or row_samples (k / 64) 0 ≤ first_of pairs k
   mark_least =
       let here = marks.each (k / 64) mark_below in
       let is = here.1 in
       let less = firsts_rise pairs rising (k / 64 * 64) k (omega arith) inside in
       omega arith
 
-  pub mark_most : k / 64 + 1 < length landmarks → first_of pairs k ≤ get_or landmarks (k / 64 + 1) 0
+  pub mark_most : k / 64 + 1 < length row_samples → first_of pairs k ≤ get_or row_samples (k / 64 + 1) 0
   mark_most more =
       let next = marks.each (k / 64 + 1) more in
       let is = next.1 in

@@ -7,12 +7,12 @@ use Rattle.std.proofs.lemmas.List.{get_or-set_same, get_or-set_other, length-set
 use Rattle.pit_model.specs.Graph.{first_of, second_of}
 use Rattle.need_rows.specs.Rows.{AreStarts}
 use Rattle.need_rows.specs.Count.{count}
-use Rattle.mine_graph.specs.Queue.{leads_to, is_open, IsQueue, IsCounted, IsSettled}
+use Rattle.mine_graph.specs.Queue.{leads_to, is_unhandled, IsQueue, IsCounted, IsProcessed}
 use Rattle.need_rows.proofs.Count.{count-same, count-fewer, count-none, count-yes, count-no}
 use Rattle.mine_graph.proofs.Pigeon.{pigeon_more}
 
 -- settled up to `head`, and the arcs from `begin` up to `k` of the block at `head` are handled too
-pub record IsSettling (arcs : List (ℕ × ℕ)) (left order : List ℕ) (tail head begin k end : ℕ) : Type 0 where
+pub record IsProcessing (arcs : List (ℕ × ℕ)) (left order : List ℕ) (tail head begin k end : ℕ) : Type 0 where
   pub handled : ℕ → Bool
   pub counted : IsCounted arcs left order tail handled
   pub done : (x : ℕ) → x < length arcs → handled x ≡ true → (j : ℕ) × (j < suc head) × (get_or order j 0 ≡ first_of arcs x)
@@ -36,26 +36,26 @@ and_arc-other h k x ne = ⊎_elim
     (λ (e : h x ≡ false). or_from (h x) (eqb x k) e (ne_eqb x k ne) ∙ sym e)
     (cases_Bool (h x))
 
-open-yes : (arcs : List (ℕ × ℕ)) (h : ℕ → Bool) (u k : ℕ) → second_of arcs k ≡ u → h k ≡ false → is_open arcs h u k ≡ true
+open-yes : (arcs : List (ℕ × ℕ)) (h : ℕ → Bool) (u k : ℕ) → second_of arcs k ≡ u → h k ≡ false → is_unhandled arcs h u k ≡ true
 open-yes arcs h u k e off = and_from (eqb (second_of arcs k) u) (not (h k)) (eq-eqb (second_of arcs k) u e) (ap not off)
 
-open-done : (arcs : List (ℕ × ℕ)) (h : ℕ → Bool) (u k : ℕ) → h k ≡ true → is_open arcs h u k ≡ false
+open-done : (arcs : List (ℕ × ℕ)) (h : ℕ → Bool) (u k : ℕ) → h k ≡ true → is_unhandled arcs h u k ≡ false
 open-done arcs h u k so = and_right (eqb (second_of arcs k) u) (not (h k)) (ap not so)
 
-open-off : (arcs : List (ℕ × ℕ)) (h : ℕ → Bool) (u k : ℕ) → (second_of arcs k ≡ u → ⊥) → is_open arcs h u k ≡ false
+open-off : (arcs : List (ℕ × ℕ)) (h : ℕ → Bool) (u k : ℕ) → (second_of arcs k ≡ u → ⊥) → is_unhandled arcs h u k ≡ false
 open-off arcs h u k ne = and_left (eqb (second_of arcs k) u) (not (h k)) (ne_eqb (second_of arcs k) u ne)
 
 module _ (arcs : List (ℕ × ℕ)) (h : ℕ → Bool) (k : ℕ) (l : k < length arcs) (off : h k ≡ false) where
-  same_test : (u x : ℕ) → (x ≡ k → ⊥) → is_open arcs h u x ≡ is_open arcs (and_arc h k) u x
+  same_test : (u x : ℕ) → (x ≡ k → ⊥) → is_unhandled arcs h u x ≡ is_unhandled arcs (and_arc h k) u x
   same_test u x ne = ap (λ b. eqb (second_of arcs x) u && not b) (sym (and_arc-other h k x ne))
 
-  pub open-here : count (length arcs) (is_open arcs h (second_of arcs k)) ≡ count (length arcs) (is_open arcs (and_arc h k) (second_of arcs k)) + 1
-  open-here = count-fewer (length arcs) k (is_open arcs h (second_of arcs k)) (is_open arcs (and_arc h k) (second_of arcs k)) l
+  pub open-here : count (length arcs) (is_unhandled arcs h (second_of arcs k)) ≡ count (length arcs) (is_unhandled arcs (and_arc h k) (second_of arcs k)) + 1
+  open-here = count-fewer (length arcs) k (is_unhandled arcs h (second_of arcs k)) (is_unhandled arcs (and_arc h k) (second_of arcs k)) l
       (open-yes arcs h (second_of arcs k) k refl off) (open-done arcs (and_arc h k) (second_of arcs k) k (and_arc-here h k))
       (λ x m ne. same_test (second_of arcs k) x ne)
 
-  pub open-there : (u : ℕ) → (u ≡ second_of arcs k → ⊥) → count (length arcs) (is_open arcs h u) ≡ count (length arcs) (is_open arcs (and_arc h k) u)
-  open-there u ne = count-same (length arcs) (is_open arcs h u) (is_open arcs (and_arc h k) u)
+  pub open-there : (u : ℕ) → (u ≡ second_of arcs k → ⊥) → count (length arcs) (is_unhandled arcs h u) ≡ count (length arcs) (is_unhandled arcs (and_arc h k) u)
+  open-there u ne = count-same (length arcs) (is_unhandled arcs h u) (is_unhandled arcs (and_arc h k) u)
       (λ x m. ⊎_elim
       (λ (e : x ≡ k). open-off arcs h u x (λ s. ne (sym (ap (second_of arcs) (sym e) ∙ s))) ∙ sym (open-off arcs (and_arc h k) u x (λ s. ne (sym (ap (second_of arcs) (sym e) ∙ s)))))
       (λ (d : x ≡ k → ⊥). same_test u x d)
@@ -63,22 +63,22 @@ module _ (arcs : List (ℕ × ℕ)) (h : ℕ → Bool) (k : ℕ) (l : k < length
 
 -- an arc that leads to a queued block is handled
 pub all_handled : (arcs : List (ℕ × ℕ)) (left : List ℕ) (h : ℕ → Bool) (u k : ℕ)
-    → get_or left u 0 ≡ count (length arcs) (is_open arcs h u) → get_or left u 0 ≡ 0 → k < length arcs → second_of arcs k ≡ u → h k ≡ true
+    → get_or left u 0 ≡ count (length arcs) (is_unhandled arcs h u) → get_or left u 0 ≡ 0 → k < length arcs → second_of arcs k ≡ u → h k ≡ true
 all_handled arcs left h u k is none l e = ⊎_elim
     (λ (so : h k ≡ true). so)
-    (λ (off : h k ≡ false). absurd (false≢true (sym (count-none (length arcs) (is_open arcs h u) (sym is ∙ none) k l) ∙ open-yes arcs h u k e off)))
+    (λ (off : h k ≡ false). absurd (false≢true (sym (count-none (length arcs) (is_unhandled arcs h u) (sym is ∙ none) k l) ∙ open-yes arcs h u k e off)))
     (cases_Bool (h k))
 
 -- one arc is handled: first what is left, then the queue
 module _ (arcs : List (ℕ × ℕ)) (left order : List ℕ) (tail : ℕ) (h : ℕ → Bool) (k : ℕ)
     (l : k < length arcs) (off : h k ≡ false) (range : second_of arcs k < length left) (was : IsCounted arcs left order tail h) where
-  pub some_left : get_or left (second_of arcs k) 0 ≡ count (length arcs) (is_open arcs (and_arc h k) (second_of arcs k)) + 1
+  pub some_left : get_or left (second_of arcs k) 0 ≡ count (length arcs) (is_unhandled arcs (and_arc h k) (second_of arcs k)) + 1
   some_left = was.counts (second_of arcs k) range ∙ open-here arcs h k l off
 
   abbrev less : List ℕ
   less = set left (second_of arcs k) (get_or left (second_of arcs k) 0 - 1)
 
-  pub less-here : get_or less (second_of arcs k) 0 ≡ count (length arcs) (is_open arcs (and_arc h k) (second_of arcs k))
+  pub less-here : get_or less (second_of arcs k) 0 ≡ count (length arcs) (is_unhandled arcs (and_arc h k) (second_of arcs k))
   less-here = get_or-set_same left (second_of arcs k) (get_or left (second_of arcs k) 0 - 1) 0 range ∙ (let e = some_left in omega arith)
 
   pub less-there : (v : ℕ) → (v ≡ second_of arcs k → ⊥) → get_or less v 0 ≡ get_or left v 0
@@ -87,9 +87,9 @@ module _ (arcs : List (ℕ × ℕ)) (left order : List ℕ) (tail : ℕ) (h : �
   pub less-size : length less ≡ length left
   less-size = length-set left (second_of arcs k) (get_or left (second_of arcs k) 0 - 1)
 
-  pub less-counts : (v : ℕ) → v < length less → get_or less v 0 ≡ count (length arcs) (is_open arcs (and_arc h k) v)
+  pub less-counts : (v : ℕ) → v < length less → get_or less v 0 ≡ count (length arcs) (is_unhandled arcs (and_arc h k) v)
   less-counts v m = ⊎_elim
-      (λ (e : v ≡ second_of arcs k). ap (λ x. get_or less x 0) e ∙ less-here ∙ ap (λ x. count (length arcs) (is_open arcs (and_arc h k) x)) (sym e))
+      (λ (e : v ≡ second_of arcs k). ap (λ x. get_or less x 0) e ∙ less-here ∙ ap (λ x. count (length arcs) (is_unhandled arcs (and_arc h k) x)) (sym e))
       (λ (ne : v ≡ second_of arcs k → ⊥). less-there v ne ∙ was.counts v (let e = less-size in omega arith) ∙ open-there arcs h k l off v ne)
       (cases_eq v (second_of arcs k))
 
@@ -187,12 +187,12 @@ open_all true = refl
 open_all false = refl
 
 -- nothing is handled at first
-pub settled_none : (arcs : List (ℕ × ℕ)) (left order : List ℕ) (tail : ℕ) → ((u : ℕ) → u < length left → get_or left u 0 ≡ count (length arcs) (leads_to arcs u)) → IsQueue left order tail → IsSettled arcs left order tail 0
-settled_none arcs left order tail counts queue = record {
+pub processed_none : (arcs : List (ℕ × ℕ)) (left order : List ℕ) (tail : ℕ) → ((u : ℕ) → u < length left → get_or left u 0 ≡ count (length arcs) (leads_to arcs u)) → IsQueue left order tail → IsProcessed arcs left order tail 0
+processed_none arcs left order tail counts queue = record {
   handled = λ k. false;
   counted = record {
     queue = queue;
-    counts = λ u h. counts u h ∙ count-same (length arcs) (leads_to arcs u) (is_open arcs (λ k. false) u) (λ k l. open_all (leads_to arcs u k));
+    counts = λ u h. counts u h ∙ count-same (length arcs) (leads_to arcs u) (is_unhandled arcs (λ k. false) u) (λ k l. open_all (leads_to arcs u k));
     sooner = λ i k h l e.
         let f = queue.free i h in
         let z : count (length arcs) (leads_to arcs (get_or order i 0)) ≡ 0 = sym (counts (get_or order i 0) f.0) ∙ f.1 in
@@ -206,8 +206,8 @@ settled_none arcs left order tail counts queue = record {
 module _ (arcs : List (ℕ × ℕ)) (starts left order : List ℕ) (tail head begin end : ℕ)
     (csr : AreStarts arcs starts (length left)) (below : get_or order head 0 < length left)
     (b : begin ≡ get_or starts (get_or order head 0) 0) (f : end ≡ get_or starts (get_or order head 0 + 1) 0) where
-  pub settling_none : head < tail → IsSettled arcs left order tail head → IsSettling arcs left order tail head begin begin end
-  settling_none ahead was = record {
+  pub processing_none : head < tail → IsProcessed arcs left order tail head → IsProcessing arcs left order tail head begin begin end
+  processing_none ahead was = record {
     handled = was.handled;
     counted = was.counted;
     done = λ x l e. let d = was.done x l e in (d.0, omega (arith, d.1), d.2);
@@ -223,8 +223,8 @@ module _ (arcs : List (ℕ × ℕ)) (starts left order : List ℕ) (tail head be
         (cases_Bool (was.handled x));
   }
 
-  pub settling_all : (k : ℕ) → end ≤ k → IsSettling arcs left order tail head begin k end → IsSettled arcs left order tail (suc head)
-  settling_all k past was = record {
+  pub processing_all : (k : ℕ) → end ≤ k → IsProcessing arcs left order tail head begin k end → IsProcessed arcs left order tail (suc head)
+  processing_all k past was = record {
     handled = was.handled;
     counted = was.counted;
     done = was.done;
@@ -239,7 +239,7 @@ module _ (arcs : List (ℕ × ℕ)) (starts left order : List ℕ) (tail head be
 -- one arc of the block
 module _ (arcs : List (ℕ × ℕ)) (left order : List ℕ) (tail head begin k end : ℕ) (ahead : head < tail) (from : begin ≤ k) (to : k < end)
     (l : k < length arcs) (range : second_of arcs k < length left) (same : length order ≡ length left)
-    (owner : first_of arcs k ≡ get_or order head 0) (was : IsSettling arcs left order tail head begin k end) where
+    (owner : first_of arcs k ≡ get_or order head 0) (was : IsProcessing arcs left order tail head begin k end) where
   pub off : was.handled k ≡ false
   off = was.coming k (omega arith) to
 
@@ -267,9 +267,9 @@ module _ (arcs : List (ℕ × ℕ)) (left order : List ℕ) (tail head begin k e
   pub fits : tail < length order
   fits = room arcs left order tail was.handled k l off range was.counted same
 
-  pub settling_still : (get_or (set left (second_of arcs k) (get_or left (second_of arcs k) 0 - 1)) (second_of arcs k) 0 ≡ 0 → ⊥)
-      → IsSettling arcs (set left (second_of arcs k) (get_or left (second_of arcs k) 0 - 1)) order tail head begin (k + 1) end
-  settling_still more = record {
+  pub processing_still : (get_or (set left (second_of arcs k) (get_or left (second_of arcs k) 0 - 1)) (second_of arcs k) 0 ≡ 0 → ⊥)
+      → IsProcessing arcs (set left (second_of arcs k) (get_or left (second_of arcs k) 0 - 1)) order tail head begin (k + 1) end
+  processing_still more = record {
     handled = and_arc was.handled k;
     counted = still arcs left order tail was.handled k l off range was.counted more;
     done = done_more;
@@ -278,9 +278,9 @@ module _ (arcs : List (ℕ × ℕ)) (left order : List ℕ) (tail head begin k e
     coming = coming_more;
   }
 
-  pub settling_free : get_or (set left (second_of arcs k) (get_or left (second_of arcs k) 0 - 1)) (second_of arcs k) 0 ≡ 0
-      → IsSettling arcs (set left (second_of arcs k) (get_or left (second_of arcs k) 0 - 1)) (set order tail (second_of arcs k)) (tail + 1) head begin (k + 1) end
-  settling_free none =
+  pub processing_free : get_or (set left (second_of arcs k) (get_or left (second_of arcs k) 0 - 1)) (second_of arcs k) 0 ≡ 0
+      → IsProcessing arcs (set left (second_of arcs k) (get_or left (second_of arcs k) 0 - 1)) (set order tail (second_of arcs k)) (tail + 1) head begin (k + 1) end
+  processing_free none =
       let old : (i : ℕ) → i < tail → get_or (set order tail (second_of arcs k)) i 0 ≡ get_or order i 0 = λ i m. get_or-set_other order tail i (second_of arcs k) 0 (λ e. omega arith) in
       record {
         handled = and_arc was.handled k;

@@ -3,7 +3,7 @@ use Rattle.std.proofs.Common.{◌≡◌, ℕ, ◌<◌, ◌^◌, arith, ⊎_elim,
 use Rattle.std.specs.Prelude.{ℤ, pos, ◌≤ℤ◌}
 use Rattle.std.proofs.lemmas.Int.{ints}
 use Rattle.std.proofs.lemmas.Bool.{cases_eq}
-use Rattle.mine_graph.specs.Kept.{AreWithinLimits}
+use Rattle.mine_graph.specs.Invariant.{AreWithinLimits}
 
 module _ (values : List ℤ) (at : ℕ) (x : ℤ) (kept : AreWithinLimits (length values) values) (below : at < length values) (more : get_or values at (pos 0) ≤ℤ x) (most : x ≤ℤ pos (10 ^ 23)) where
   pub raised_within : AreWithinLimits (length (set values at x)) (set values at x)

@@ -5,7 +5,7 @@ use Rattle.std.specs.Prelude.{◌⊎◌, IsTrue}
 use Rattle.std.proofs.lemmas.Bool.{cases_eq, cases_lt, cases_order, lt-ltb, ltb-true}
 use Rattle.std.proofs.lemmas.List.{get_or-set_same, get_or-set_other, get_or_past, get_or-take, length-take-le, drop-take}
 use Rattle.pit_model.specs.Graph.{first_of, second_of, AreRising}
-use Rattle.pit_model.specs.Cycle.{IsLargestNeedy, IsLeast, IsLeastNeeded, IsWalk, IsCycleList}
+use Rattle.pit_model.specs.Cycle.{IsLargestWithPredecessorInside, IsLeast, IsLeastNeeded, IsWalk, IsCycleList}
 use Rattle.need_rows.specs.Rows.{AreStarts}
 use Rattle.mine_graph.specs.Left.{left_over}
 use Rattle.mine_graph.proofs.Pigeon.{pigeon_more}
@@ -137,7 +137,7 @@ module _ (pairs : List (ℕ × ℕ)) (left path : List ℕ) (places : List ℕ) 
         (let l = r.1 in omega arith, ap (λ k. get_or path k 0) e ∙ r.2)
 
 -- the walk, cut after its last block
-pub cycle_is : (pairs : List (ℕ × ℕ)) (left path : List ℕ) (visit count : ℕ) → IsLargestNeedy pairs (length left) (left_over left) → IsWalk pairs (left_over left) path count → visit < count → count ≤ length path
+pub cycle_is : (pairs : List (ℕ × ℕ)) (left path : List ℕ) (visit count : ℕ) → IsLargestWithPredecessorInside pairs (length left) (left_over left) → IsWalk pairs (left_over left) path count → visit < count → count ≤ length path
     → IsLeastNeeded pairs (left_over left) (get_or path (count - 1) 0) (get_or path visit 0) → (cycle : List ℕ) → cycle ≡ drop visit (take count path) → IsCycleList pairs (length left) cycle
 cycle_is pairs left path visit count largest walk l room step cycle is =
     let size : length (take count path) ≡ count = length-take-le count path room in

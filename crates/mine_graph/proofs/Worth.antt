@@ -8,7 +8,7 @@ use mir.Val.{SFits}
 use mir.Syntax.{w128}
 use Rattle.pit_model.specs.Sum.{total}
 use Rattle.pit_model.specs.Size.{most_blocks}
-use Rattle.mine_graph.specs.Kept.{AreWithinLimits}
+use Rattle.mine_graph.specs.Invariant.{AreWithinLimits}
 
 -- a sum of numbers within 10^23 of 0
 pub total-small : (n : ℕ) (f : ℕ → ℤ) → ((i : ℕ) → i < n → (neg_ℤ (pos (10 ^ 23)) ≤ℤ f i) × (f i ≤ℤ pos (10 ^ 23)))

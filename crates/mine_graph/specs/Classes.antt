@@ -4,29 +4,29 @@ use Rattle.std.specs.Prelude.{◌≡◌, ◌⊎◌, ℕ, ◌<◌, ◌≤◌, tru
 use Rattle.pit_model.specs.Graph.{Graph, first_of, second_of}
 use Rattle.pit_model.specs.Part.{IsClass}
 use Rattle.mine_graph.specs.Renumbered.{has_label}
-use Rattle.mine_graph.specs.declared.flood.Flood.{Flood}
-use Rattle.mine_graph.specs.Flood.{HasNeighbours, IsTrail, is_in}
+use Rattle.mine_graph.specs.declared.breadth_first.BreadthFirst.{BreadthFirst}
+use Rattle.mine_graph.specs.BreadthFirst.{HasNeighbours, IsTrail, is_visited}
 
 abbrev pub label_of : List ℕ → ℕ → ℕ
 label_of labels u = get_or labels u 0
 
-abbrev pub IsFree : List ℕ → ℕ → Type 0
-IsFree labels u = label_of labels u ≡ length labels
+abbrev pub IsUnlabelled : List ℕ → ℕ → Type 0
+IsUnlabelled labels u = label_of labels u ≡ length labels
 
 -- the blocks that are in have a class, one of so many, and the others have none
-pub record HaveClasses (pairs : List (ℕ × ℕ)) (flood : Flood) (labels : List ℕ) (count : ℕ) : Type 0 where
-  pub trail : IsTrail flood
-  pub whole : HasNeighbours pairs flood
-  pub size : length flood.marks.items ≡ length labels
-  pub some : (u : ℕ) → is_in flood u ≡ true → label_of labels u < count
-  pub none : (u : ℕ) → u < length labels → is_in flood u ≡ false → IsFree labels u
+pub record HaveClasses (pairs : List (ℕ × ℕ)) (search : BreadthFirst) (labels : List ℕ) (count : ℕ) : Type 0 where
+  pub trail : IsTrail search
+  pub whole : HasNeighbours pairs search
+  pub size : length search.marks.items ≡ length labels
+  pub some : (u : ℕ) → is_visited search u ≡ true → label_of labels u < count
+  pub none : (u : ℕ) → u < length labels → is_visited search u ≡ false → IsUnlabelled labels u
 
 -- so many classes are found, those of all blocks below `next`, numbered in the order of their least blocks
 pub record AreClasses (graph : Graph) (labels : List ℕ) (count next : ℕ) : Type 0 where
   pub size : length labels ≡ graph.blocks
   pub few : count ≤ next
   pub passed : (u : ℕ) → u < next → label_of labels u < count
-  pub either : (u : ℕ) → u < graph.blocks → IsFree labels u ⊎ (label_of labels u < count)
+  pub either : (u : ℕ) → u < graph.blocks → IsUnlabelled labels u ⊎ (label_of labels u < count)
   pub together : (k : ℕ) → k < length graph.pairs → label_of labels (first_of graph.pairs k) ≡ label_of labels (second_of graph.pairs k)
   pub rooted : (i : ℕ) → i < count → (root : ℕ) × (root < next) × IsClass graph (has_label labels i) root
   pub rising : (i u : ℕ) → i < label_of labels u → u < graph.blocks → label_of labels u < count → (v : ℕ) × (v < u) × (label_of labels v ≡ i)

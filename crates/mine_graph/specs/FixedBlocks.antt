@@ -27,17 +27,17 @@ abbrev pub mark_of : List Bool → ℕ → Bool
 mark_of marks u = get_or marks u false
 
 -- the block must be dug; it must be left
-abbrev pub dug_in : FixedBlocks → ℕ → Bool
-dug_in fixed u = mark_of fixed.dug_marks u
+abbrev pub forced_closure : FixedBlocks → ℕ → Bool
+forced_closure fixed u = mark_of fixed.dug_marks u
 
-abbrev pub left_in : FixedBlocks → ℕ → Bool
-left_in fixed u = mark_of fixed.left_marks u
+abbrev pub barred_closure : FixedBlocks → ℕ → Bool
+barred_closure fixed u = mark_of fixed.left_marks u
 
 -- fixed blocks of a graph: none is both to be dug and barred
 pub record IsFixedOf (graph : Graph) (fixed : FixedBlocks) : Type 0 where
   pub fixable : AreFixable graph.blocks fixed.lists
-  pub settled : AreSettled graph.pairs (fixed_of fixed.lists) (dug_in fixed) (left_in fixed)
-  pub clash_free : IsClashFree (fixed_of fixed.lists) (dug_in fixed)
+  pub settled : AreSettled graph.pairs (fixed_of fixed.lists) (forced_closure fixed) (barred_closure fixed)
+  pub clash_free : IsClashFree (fixed_of fixed.lists) (forced_closure fixed)
 
 -- why blocks can't be fixed: no memory; or the least barred block that must be dug
 abbrev pub RefusesFixed : Graph → FixedLists → Refusal → Fault → Type 0

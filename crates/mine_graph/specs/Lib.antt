@@ -3,10 +3,10 @@ pub mod FixedBlocks
 pub mod Queue
 pub mod Left
 pub mod Users
-pub mod Kept
+pub mod Invariant
 pub mod Faults
 pub mod Renumbered
 pub mod Classes
 pub mod Parts
-pub mod Flood
+pub mod BreadthFirst
 pub mod Raised

@@ -1,12 +1,12 @@
 //! The classes of blocks that pairs join, in whichever direction (weakly connected components): from the least block without
-//! a class, a flood takes in neighbour after neighbour. So time is linear in blocks and pairs, and the classes are numbered in
+//! a class, a breadth-first search visits neighbour after neighbour. So time is linear in blocks and pairs, and the classes are numbered in
 //! the order of their least blocks.
 ghost use Rattle.std.specs.Prelude.{◌≡◌, ◌<◌, ◌+◌, ℕ, false, length, get_or, IfOk};
 ghost use Rattle.std.specs.List.{All};
-ghost use Rattle.mine_graph.specs.Flood.{IsAt, IsTrail, is_in};
-ghost use Rattle.mine_graph.specs.Classes.{label_of, IsFree, AreClasses};
+ghost use Rattle.mine_graph.specs.BreadthFirst.{IsAt, IsTrail, is_visited};
+ghost use Rattle.mine_graph.specs.Classes.{label_of, IsUnlabelled, AreClasses};
 
-use crate::flood::Flood;
+use crate::breadth_first::BreadthFirst;
 use crate::graph::Graph;
 use std::alloc::AllocError;
 
@@ -23,21 +23,21 @@ fn label_all(blocks: &[u32], label: u32, labels: &mut [u32])
 }
 
 /// Gives each block the number of its class, and answers how many there are.
-fn label_classes(graph: &Graph, flood: &mut Flood, labels: &mut [u32]) -> u32
-    requires trail { IsTrail flood.old }
-    requires blocks { length flood.old.marks.items ≡ graph.now.blocks }
-    requires none { (u : ℕ) → is_in flood.old u ≡ false }
+fn label_classes(graph: &Graph, search: &mut BreadthFirst, labels: &mut [u32]) -> u32
+    requires trail { IsTrail search.old }
+    requires blocks { length search.old.marks.items ≡ graph.now.blocks }
+    requires none { (u : ℕ) → is_visited search.old u ≡ false }
     requires size { length labels.old ≡ graph.now.blocks }
-    requires free { (u : ℕ) → u < graph.now.blocks → IsFree labels.old u }
+    requires free { (u : ℕ) → u < graph.now.blocks → IsUnlabelled labels.old u }
     ensures { AreClasses graph.now labels.new result graph.now.blocks }
 {
     graph.law();
     let mut count = 0;
     for root in 0..graph.n() {
-        if !flood.marks[root as usize] {
-            let begin = flood.tail;
-            flood.take_joined(graph, root);
-            label_all(&flood.queue[begin..flood.tail], count, labels);
+        if !search.marks[root as usize] {
+            let begin = search.tail;
+            search.visit_joined(graph, root);
+            label_all(&search.queue[begin..search.tail], count, labels);
             count += 1;
         }
     }
@@ -61,8 +61,8 @@ impl Graph {
         let alloc = self.alloc();
         let n = self.n();
         let mut labels = vec![in alloc; n; n as usize]?;
-        let mut flood = Flood::new(alloc, n)?;
-        let count = label_classes(self, &mut flood, &mut labels);
+        let mut search = BreadthFirst::new(alloc, n)?;
+        let count = label_classes(self, &mut search, &mut labels);
         Ok(Classes { labels, count })
     }
 }

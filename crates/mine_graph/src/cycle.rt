@@ -3,7 +3,7 @@
 //! counting down left over.
 ghost use Rattle.std.specs.Prelude.{◌≡◌, ℕ, ◌-◌, ◌^◌, ◌<◌, ◌≤◌, length, get_or, IfOk, IsTrue};
 ghost use Rattle.pit_model.specs.Graph.{first_of, second_of, AreInRange, AreRising};
-ghost use Rattle.pit_model.specs.Cycle.{AcyclicHasNoNeedy, IsCycleList, IsLargestNeedy, IsLeast, IsLeastNeeded, IsNeedy, IsWalk};
+ghost use Rattle.pit_model.specs.Cycle.{AcyclicIsWellFounded, IsCycleList, IsLargestWithPredecessorInside, IsLeast, IsLeastNeeded, HasPredecessorInside, IsWalk};
 ghost use Rattle.need_rows.specs.Lent.{pairs_in};
 ghost use Rattle.need_rows.specs.Rows.{AreStarts};
 ghost use Rattle.mine_graph.specs.Left.{left_over};
@@ -12,8 +12,8 @@ use need_rows::Rows;
 use std::alloc::{AllocError, Global};
 
 /// Pairs without a cycle have no needy set but the empty one: so a cycle is named only where there is one.
-pub fn acyclic_has_no_needy()
-    ensures { AcyclicHasNoNeedy }
+pub fn acyclic_is_well_founded()
+    ensures { AcyclicIsWellFounded }
 {}
 
 /// The least block that the block needs of those of which something is left.
@@ -48,7 +48,7 @@ fn walk_round(
     requires few { length left.now < 2 ^ 31 }
     requires range { AreInRange (pairs_in rows) (length left.now) }
     requires starts { AreStarts (pairs_in rows) rows.starts.now (length left.now) }
-    requires needy { IsNeedy (pairs_in rows) (length left.now) (left_over left.now) }
+    requires needy { HasPredecessorInside (pairs_in rows) (length left.now) (left_over left.now) }
     requires first { IsLeast (left_over left.now) first }
     requires path { length path.old ≡ length left.now }
     requires places { length places.old ≡ length left.now }
@@ -82,7 +82,7 @@ pub fn cycle_of(
     requires few { length left.now < 2 ^ 31 }
     requires range { AreInRange (pairs_in rows) (length left.now) }
     requires starts { AreStarts (pairs_in rows) rows.starts.now (length left.now) }
-    requires largest { IsLargestNeedy (pairs_in rows) (length left.now) (left_over left.now) }
+    requires largest { IsLargestWithPredecessorInside (pairs_in rows) (length left.now) (left_over left.now) }
     requires first { IsLeast (left_over left.now) first }
     ensures { IfOk result (λ cycle. IsCycleList (pairs_in rows.entry) (length left.now) cycle.items) }
 {

@@ -6,9 +6,9 @@ ghost use Rattle.faults.specs.Refused.{no_memory};
 ghost use Rattle.pit_model.specs.Fixed.{AreFixable, IsFixedRest, fixed_of, is_among, is_open};
 ghost use Rattle.pit_model.specs.Cycle.{IsLeast};
 ghost use Rattle.pit_model.specs.Graph.{Graph as AnyGraph};
-ghost use Rattle.mine_graph.specs.FixedBlocks.{IsFixedOf, RefusesFixed, dug_in, left_in, lists_of, mark_of, no_lists};
+ghost use Rattle.mine_graph.specs.FixedBlocks.{IsFixedOf, RefusesFixed, forced_closure, barred_closure, lists_of, mark_of, no_lists};
 
-use crate::flood::{Way, closure_of};
+use crate::breadth_first::{Way, closure_of};
 use crate::graph::Graph;
 use crate::part::Part;
 use faults::Fault;
@@ -62,7 +62,7 @@ fn first_marked(blocks: &[u32], marks: &[bool]) -> Option<u32>
 /// A mark for each of n blocks: whether it must be dug or left.
 fn settled_marks(alloc: Global, n: u32, fixed: &Fixed) -> Result<Vec<bool>, AllocError>
     ensures count { IfOk result (λ v. length v.items ≡ n) }
-    ensures marks { IfOk result (λ v. (u : ℕ) → u < n → mark_of v.items u ≡ (dug_in fixed.now u || left_in fixed.now u)) }
+    ensures marks { IfOk result (λ v. (u : ℕ) → u < n → mark_of v.items u ≡ (forced_closure fixed.now u || barred_closure fixed.now u)) }
 {
     (0..n)
         .map(|u| fixed.must_dig(u) || fixed.must_leave(u))
@@ -139,7 +139,7 @@ impl Fixed {
 
     /// Whether a block must be dug: it is forced in, or a block that is needs it, directly or through others.
     pub fn must_dig(&self, u: u32) -> bool
-        ensures { result ≡ dug_in self.now u }
+        ensures { result ≡ forced_closure self.now u }
     {
         match &self.settled {
             None => false,
@@ -149,7 +149,7 @@ impl Fixed {
 
     /// Whether a block must be left: it is barred, or needs a block that is, directly or through others.
     pub fn must_leave(&self, u: u32) -> bool
-        ensures { result ≡ left_in self.now u }
+        ensures { result ≡ barred_closure self.now u }
     {
         match &self.settled {
             None => false,
@@ -159,7 +159,7 @@ impl Fixed {
 
     /// Whether a block is neither to be dug nor to be left.
     pub fn is_open(&self, u: u32) -> bool
-        ensures { result ≡ is_open (dug_in self.now) (left_in self.now) u }
+        ensures { result ≡ is_open (forced_closure self.now) (barred_closure self.now) u }
     {
         !self.must_dig(u) && !self.must_leave(u)
     }
@@ -167,7 +167,7 @@ impl Fixed {
     /// The rest: the open blocks with the pairs among them. Refused for want of memory alone.
     pub fn rest(&self, graph: &Graph) -> Result<Part, Fault>
         requires { IsFixedOf graph.now self.now }
-        ensures rest { IfOk result (λ p. IsFixedRest graph.now (fixed_of self.now.lists) (dug_in self.now) (left_in self.now) p.blocks.items p.graph) }
+        ensures rest { IfOk result (λ p. IsFixedRest graph.now (fixed_of self.now.lists) (forced_closure self.now) (barred_closure self.now) p.blocks.items p.graph) }
         ensures no_memory { IfErr result (λ e. e ≡ no_memory) }
     {
         graph.law();

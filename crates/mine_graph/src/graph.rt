@@ -1,4 +1,4 @@
-//! The graph of the pairs "u needs p". Making one puts the pairs into their order (rising.rt) and refuses by a cycle where they
+//! The graph of the pairs "u needs p". Making one puts the pairs into their order (sort_rows.rt) and refuses by a cycle where they
 //! have one (no_cycle.rt); so its type carries that it has none.
 ghost use Rattle.std.specs.Prelude.{◌≡◌, ◌<◌, ◌≤◌, ◌↔◌, ℕ, length, get_or, IfOk, IfErr, IfSome, IfNone};
 ghost use Rattle.pit_model.specs.Size.{most_blocks, most_pairs};
@@ -9,10 +9,10 @@ ghost use Rattle.mine_graph.specs.Faults.{IsGraphFault};
 ghost use Rattle.need_rows.specs.Rows.{pairs_of, AreStarts};
 ghost use Rattle.mine_graph.specs.Users.{AreUsers};
 
-use crate::landmarks::{STEP, landmarks_of, next_landmark, row_between};
 use crate::no_cycle::check_acyclic;
-use crate::rising::in_order;
-use crate::way_back::turned_rows;
+use crate::row_samples::{STEP, next_row_sample, row_between, sample_rows};
+use crate::sort_rows::sort_rows;
+use crate::transpose::transposed_rows;
 use faults::Fault;
 use need_rows::{NeedRows, Rows};
 use std::alloc::{AllocError, Global};
@@ -30,19 +30,19 @@ pub struct Graph {
     user_starts: Vec<u32>,
     users: Vec<u32>,
     /// The block of every 64th pair.
-    landmarks: Vec<u32>,
+    row_samples: Vec<u32>,
 }
 
 impl Model for Graph {
     ghost use Rattle.pit_model.specs.Graph.{Graph};
-    ghost use Rattle.mine_graph.specs.Kept.{IsKept};
+    ghost use Rattle.mine_graph.specs.Invariant.{GraphInvariant};
     ghost use Rattle.need_rows.specs.Rows.{pairs_of};
 
     ghost Value = { Graph };
 
     ghost view = { λ g. record { blocks = g.blocks; pairs = pairs_of g.starts.items g.needs.items } };
 
-    ghost invariant = { λ g. IsKept g.blocks g.starts.items g.needs.items g.user_starts.items g.users.items g.landmarks.items };
+    ghost invariant = { λ g. GraphInvariant g.blocks g.starts.items g.needs.items g.user_starts.items g.users.items g.row_samples.items };
 }
 
 impl Graph {
@@ -85,7 +85,7 @@ impl Graph {
         ensures refused { IfErr result (IsGraphFault needs.pairs n) }
     {
         let (starts, needs) = needs.into_rows();
-        let (starts, needs) = in_order(alloc, n, starts, needs)?;
+        let (starts, needs) = sort_rows(alloc, n, starts, needs)?;
         let rows = Rows {
             starts: &starts,
             seconds: &needs,
@@ -112,15 +112,15 @@ impl Graph {
             starts: &starts,
             seconds: &needs,
         };
-        let (user_starts, users) = turned_rows(alloc, n, rows)?;
-        let landmarks = landmarks_of(alloc, n, rows)?;
+        let (user_starts, users) = transposed_rows(alloc, n, rows)?;
+        let row_samples = sample_rows(alloc, n, rows)?;
         Ok(Graph {
             blocks: n,
             starts,
             needs,
             user_starts,
             users,
-            landmarks,
+            row_samples,
         })
     }
 
@@ -165,14 +165,14 @@ impl Graph {
         self.needs.len() as u32
     }
 
-    /// The block that needs another by the pair with that number, by halving between landmarks.
+    /// The block that needs another by the pair with that number, by binary search between samples.
     fn first(&self, k: u32) -> u32
         requires { k < length self.now.pairs }
         ensures { result ≡ first_of self.now.pairs k }
     {
         let mark = k as usize / STEP;
-        let least = self.landmarks[mark];
-        let most = next_landmark(&self.landmarks, mark, self.blocks - 1);
+        let least = self.row_samples[mark];
+        let most = next_row_sample(&self.row_samples, mark, self.blocks - 1);
         row_between(&self.starts, least, most, k)
     }
 
@@ -212,7 +212,7 @@ impl Graph {
         &self.users[begin..end]
     }
 
-    /// The graph with each pair turned round: the blocks that need a block there are those that it needs here. Refused for want of
+    /// The transposed graph: the blocks that need a block there are those that it needs here. Refused for want of
     /// memory alone. Time is linear in blocks and pairs.
     pub fn reversed(&self) -> Result<Graph, Fault>
         ensures reversed { IfOk result (λ g. IsReversed self.now g) }

@@ -42,11 +42,11 @@ impl Instance {
         ensures pairs { result.pairs ≡ graph.value.pairs }
         ensures values { result.values ≡ values.items }
     {
-        Instance::watched(graph, values, Counters::none())
+        Instance::with_counters(graph, values, Counters::none())
     }
 
     /// The same as `new` gives, over which these counters count.
-    pub fn watched(graph: Arc<Graph>, values: Vec<i128>, counters: Counters) -> Instance
+    pub fn with_counters(graph: Arc<Graph>, values: Vec<i128>, counters: Counters) -> Instance
         requires count { length values.items ≡ graph.value.blocks }
         requires low { (u : ℕ) → u < graph.value.blocks → neg_ℤ (pos (10 ^ 23)) ≤ℤ get_or values.items u (pos 0) }
         requires high { (u : ℕ) → u < graph.value.blocks → get_or values.items u (pos 0) ≤ℤ pos (10 ^ 23) }
@@ -127,13 +127,13 @@ impl Instance {
     }
 
     /// The value of a block grows by an amount. The sum is within 10^23.
-    pub fn raise(&mut self, block: u32, amount: i128)
+    pub fn increase_value(&mut self, block: u32, amount: i128)
         requires below { block < self.old.blocks }
         requires least { pos 0 ≤ℤ amount }
         requires most { (value self.old block +ℤ amount) ≤ℤ pos (10 ^ 23) }
         ensures { self.new ≡ raised_at self.old block amount }
     {
-        self.values.raise(block, amount);
+        self.values.increase_value(block, amount);
     }
 
     /// The summed value of a list of blocks, in millionths where the values are: for the members of a set, its worth.

@@ -1,14 +1,14 @@
-//! Whether pairs have a cycle. Counting down along the pairs as they lie tells it; only where something is left over are they
-//! turned round, to count needs down, and the cycle is named by what is left then (cycle.rt).
+//! Whether pairs have a cycle: a topological order along the pairs as they lie decides it. Only if blocks are left over are the pairs
+//! transposed and ordered once more, and the blocks left then name the cycle (cycle.rt).
 ghost use Rattle.std.specs.Prelude.{◌≡◌, ℕ, ◌^◌, ◌<◌, ◌≤◌, length, get_or, IfOk, IfErr};
 ghost use Rattle.pit_model.specs.Graph.{AreInRange, AreRising, IsAcyclic};
 ghost use Rattle.mine_graph.specs.Faults.{IsGraphFault};
 ghost use Rattle.need_rows.specs.Lent.{pairs_in};
 ghost use Rattle.need_rows.specs.Rows.{AreStarts};
 
-use crate::count_down::{arcs_left, first_left};
 use crate::cycle::cycle_of;
-use crate::way_back::turned_rows;
+use crate::topological_order::{first_left, in_degrees_left};
+use crate::transpose::transposed_rows;
 use faults::{Fault, Refusal, Source};
 use need_rows::Rows;
 use std::alloc::Global;
@@ -23,12 +23,12 @@ fn refuse_cycle(alloc: Global, n: u32, rows: Rows<'_>) -> Result<(), Fault>
     ensures acyclic { IfOk result (λ _. IsAcyclic (pairs_in rows.entry)) }
     ensures refused { IfErr result (IsGraphFault (pairs_in rows.entry) n) }
 {
-    let (starts, seconds) = turned_rows(alloc, n, rows)?;
+    let (starts, seconds) = transposed_rows(alloc, n, rows)?;
     let turned = Rows {
         starts: &starts,
         seconds: &seconds,
     };
-    let left = arcs_left(alloc, n, turned)?;
+    let left = in_degrees_left(alloc, n, turned)?;
     match first_left(&left) {
         None => Ok(()),
         Some(first) => Err(Fault::at_line(
@@ -50,7 +50,7 @@ pub fn check_acyclic(alloc: Global, n: u32, rows: Rows<'_>) -> Result<(), Fault>
     ensures acyclic { IfOk result (λ _. IsAcyclic (pairs_in rows.entry)) }
     ensures refused { IfErr result (IsGraphFault (pairs_in rows.entry) n) }
 {
-    let left = arcs_left(alloc, n, rows)?;
+    let left = in_degrees_left(alloc, n, rows)?;
     match first_left(&left) {
         None => Ok(()),
         Some(_) => refuse_cycle(alloc, n, rows),

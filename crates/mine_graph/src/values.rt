@@ -4,7 +4,7 @@ ghost use Rattle.std.specs.List.{All};
 ghost use Rattle.pit_model.specs.Sum.{total, when};
 ghost use Rattle.pit_model.specs.Mine.{members};
 ghost use Rattle.pit_model.specs.Size.{most_blocks};
-ghost use Rattle.mine_graph.specs.Kept.{AreWithinLimits};
+ghost use Rattle.mine_graph.specs.Invariant.{AreWithinLimits};
 
 use std::alloc::{AllocError, Global};
 use std::marker::Model;
@@ -17,7 +17,7 @@ pub struct Values {
 
 impl Model for Values {
     ghost use Rattle.std.specs.Prelude.{ℤ, List, length};
-    ghost use Rattle.mine_graph.specs.Kept.{AreWithinLimits};
+    ghost use Rattle.mine_graph.specs.Invariant.{AreWithinLimits};
 
     ghost Value = { List ℤ };
 
@@ -67,7 +67,7 @@ impl Values {
     }
 
     /// The value of a block grows by an amount.
-    pub(crate) fn raise(&mut self, u: u32, amount: i128)
+    pub(crate) fn increase_value(&mut self, u: u32, amount: i128)
         requires below { u < length self.old }
         requires least { pos 0 ≤ℤ amount }
         requires most { (get_or self.old u (pos 0) +ℤ amount) ≤ℤ pos (10 ^ 23) }

@@ -15,13 +15,13 @@ use Rattle.pit_model.specs.Fixed.{AreFixable, FixedLists, is_among}
 use Rattle.minelib_reader.specs.Checks.{◌>>=◌, ok_if}
 use Rattle.minelib_reader.specs.Text.{Row, two_of}
 use Rattle.minelib_reader.specs.Number.{whole_of}
-use Rattle.minelib_reader.specs.Fixed.{in_fixed, word_of, is_forced_by, fixed_line, fixed_lists, fixed_from, with_block}
+use Rattle.minelib_reader.specs.Fixed.{in_fixed, fixing_word, is_forced_by, fixed_line, fixed_lists, fixed_from, with_block}
 use Rattle.minelib_reader.specs.FixedGrammar.{SpellsFixedLine, SpellsFixedLines}
 use Rattle.minelib_reader.proofs.CheckLemmas.{passed, passing, same_value, value_there, test_holds, both_fields}
 
 -- ---- what is spelled is read
 
-reads_word : (is_forced : Bool) → is_forced_by (word_of is_forced) ≡ Some is_forced
+reads_word : (is_forced : Bool) → is_forced_by (fixing_word is_forced) ≡ Some is_forced
 unfolding is_forced_by
 reads_word true = refl
 reads_word false = refl
@@ -42,13 +42,13 @@ reads n from (r ∷ rows) lists s =
 
 -- ---- what is read is spelled
 
-word_found : (word : List ℕ) (is_forced : Bool) → is_forced_by word ≡ Some is_forced → word ≡ word_of is_forced
+word_found : (word : List ℕ) (is_forced : Bool) → is_forced_by word ≡ Some is_forced → word ≡ fixing_word is_forced
 unfolding is_forced_by
 word_found word is_forced e = by_tests (bytes_eq word (codes "in")) (bytes_eq word (codes "out")) refl refl e
   where
-    by_tests : (a b : Bool) → bytes_eq word (codes "in") ≡ a → bytes_eq word (codes "out") ≡ b → (if a then Some true else (if b then Some false else None)) ≡ Some is_forced → word ≡ word_of is_forced
-    by_tests true b first second e = (bytes_eq-Decides word (codes "in")).0 first ∙ ap word_of (same_Some true is_forced e)
-    by_tests false true first second e = (bytes_eq-Decides word (codes "out")).0 second ∙ ap word_of (same_Some false is_forced e)
+    by_tests : (a b : Bool) → bytes_eq word (codes "in") ≡ a → bytes_eq word (codes "out") ≡ b → (if a then Some true else (if b then Some false else None)) ≡ Some is_forced → word ≡ fixing_word is_forced
+    by_tests true b first second e = (bytes_eq-Decides word (codes "in")).0 first ∙ ap fixing_word (same_Some true is_forced e)
+    by_tests false true first second e = (bytes_eq-Decides word (codes "out")).0 second ∙ ap fixing_word (same_Some false is_forced e)
     by_tests false false first second e = absurd cc
 
 pub line_found : (n from : ℕ) (r : Row) (line : Bool × ℕ) → fixed_line n from r ≡ Ok line → SpellsFixedLine n from r line.0 line.1

@@ -12,7 +12,7 @@ use Rattle.minelib_reader.specs.FirstFault.{IsFirstFault}
 use Rattle.minelib_reader.specs.Text.{Row, two_and_more}
 use Rattle.minelib_reader.specs.Number.{whole_of}
 use Rattle.pit_model.specs.Size.{most_pairs}
-use Rattle.minelib_reader.specs.Prec.{in_precedence, needs_from, front_of, needs_line, pairs_of, pairs_from}
+use Rattle.minelib_reader.specs.Prec.{in_precedence, needs_from, front_of, needs_line, pairs_of_line, pairs_from}
 use Rattle.minelib_reader.specs.PrecFault.{number_or_zero, first_number, second_number, from_behind, total_behind, needs_line_fault, fault_behind}
 use Rattle.minelib_reader.proofs.CheckLemmas.{passed, stopped, passing, same_value, value_there, test_holds}
 use Rattle.std.proofs.lemmas.Option.{same_Some}
@@ -102,7 +102,7 @@ behind_line n from total r rows line h k =
     ∙ ap (λ (c : ℕ). needs_line_fault n (from_behind (line.0 + 1) (take k rows)) (total_behind (total + c) (take k rows)) (slice_get rows k)) (count_is n from total r line f)
 
 abbrev with_line : ℕ × List ℕ → List (ℕ × ℕ) → Result (List (ℕ × ℕ)) Fault
-with_line line others = passing (pairs_of line.0 line.1 ++ others)
+with_line line others = passing (pairs_of_line line.0 line.1 ++ others)
 
 pub fails_first : (n from total : ℕ) (rows : List Row) (e : Fault) → pairs_from n from total rows ≡ Err e → IsFirstFault (fault_behind n from total rows) e
 unfolding pairs_from

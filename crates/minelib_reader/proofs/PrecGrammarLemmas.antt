@@ -13,7 +13,7 @@ use Rattle.minelib_reader.specs.Text.{Row}
 use Rattle.minelib_reader.specs.Number.{whole_of}
 use Rattle.pit_model.specs.Fixed.{is_among}
 use Rattle.pit_model.specs.Size.{most_pairs}
-use Rattle.minelib_reader.specs.Prec.{in_precedence, need_of, needs_from, front_of, needs_line, pairs_of, pairs_from}
+use Rattle.minelib_reader.specs.Prec.{in_precedence, need_of, needs_from, front_of, needs_line, pairs_of_line, pairs_from}
 use Rattle.minelib_reader.specs.PrecGrammar.{AreDistinct, numbers_of, SpellsLine, SpellsPairs}
 use Rattle.minelib_reader.proofs.CheckLemmas.{passed, passing, same_value, value_there, test_holds}
 use Rattle.minelib_reader.proofs.PrecFaultLemmas.{line_found}
@@ -174,6 +174,6 @@ pub spelled : (n from total : ℕ) (rows : List Row) (pairs : List (ℕ × ℕ))
 unfolding pairs_from
 spelled n from total [] pairs e = sym (same_value [] pairs e)
 spelled n from total (r ∷ rows) pairs e =
-    let a = passed (needs_line n from total r) (λ line. pairs_from n (line.0 + 1) (total + length line.1) rows >>= λ others. passing (pairs_of line.0 line.1 ++ others)) pairs e in
-    let b = passed (pairs_from n (a.value.0 + 1) (total + length a.value.1) rows) (λ others. passing (pairs_of a.value.0 a.value.1 ++ others)) pairs a.behind in
-    (a.value.0, a.value.1, b.value, line_spelled n from total r a.value a.here, sym (same_value (pairs_of a.value.0 a.value.1 ++ b.value) pairs b.behind), spelled n (a.value.0 + 1) (total + length a.value.1) rows b.value b.here)
+    let a = passed (needs_line n from total r) (λ line. pairs_from n (line.0 + 1) (total + length line.1) rows >>= λ others. passing (pairs_of_line line.0 line.1 ++ others)) pairs e in
+    let b = passed (pairs_from n (a.value.0 + 1) (total + length a.value.1) rows) (λ others. passing (pairs_of_line a.value.0 a.value.1 ++ others)) pairs a.behind in
+    (a.value.0, a.value.1, b.value, line_spelled n from total r a.value a.here, sym (same_value (pairs_of_line a.value.0 a.value.1 ++ b.value) pairs b.behind), spelled n (a.value.0 + 1) (total + length a.value.1) rows b.value b.here)

@@ -11,7 +11,7 @@ use Rattle.minelib_reader.specs.Checks.{◌>>=◌}
 use Rattle.minelib_reader.specs.Marks.{AddsFirst, AreMarked, with_seen}
 use Rattle.pit_model.specs.Fixed.{is_among}
 use Rattle.minelib_reader.specs.Number.{whole_of}
-use Rattle.minelib_reader.specs.Prec.{need_of, needs_from, pairs_of}
+use Rattle.minelib_reader.specs.Prec.{need_of, needs_from, pairs_of_line}
 
 abbrev Needs : Type 0
 Needs = Result (List ℕ) Fault
@@ -21,7 +21,7 @@ pub record SoFar (n id line : ℕ) (first marks : List ℕ) (rest : List (List �
   pub seen : List ℕ
   pub read : with_seen seen (needs_from n id line (first ++ seen) rest) ≡ total
   pub marked : AreMarked n id marks (first ++ seen)
-  pub pushed : now ≡ old ++ pairs_of id seen
+  pub pushed : now ≡ old ++ pairs_of_line id seen
 
 regroup : (seen : List ℕ) (p : ℕ) (read : Needs) → with_seen seen (read >>= λ ps. Ok (p ∷ ps)) ≡ with_seen (seen ++ p ∷ []) read
 regroup seen p (Ok ps) = ap (λ (xs : List ℕ). Ok xs) (simp append_assoc)
@@ -66,7 +66,7 @@ module _ (n id line : ℕ) (first marks : List ℕ) where
         seen = s.seen ++ p ∷ [];
         read = ap (λ (xs : List ℕ). with_seen (s.seen ++ p ∷ []) (needs_from n id line xs rest)) (sym same) ∙ sym one ∙ s.read;
         marked = λ q below. marked_by n id p marks all len lt s.marked q below (eqb p q) refl ∙ ap (λ (xs : List ℕ). is_among xs q) same;
-        pushed = ap (λ (ps : List (ℕ × ℕ)). ps ++ (id, p) ∷ []) s.pushed ∙ append_assoc old (pairs_of id s.seen) ((id, p) ∷ []) ∙ ap (λ (ps : List (ℕ × ℕ)). old ++ ps) (sym (map-append (λ (q : ℕ). (id, q)) s.seen (p ∷ [])));
+        pushed = ap (λ (ps : List (ℕ × ℕ)). ps ++ (id, p) ∷ []) s.pushed ∙ append_assoc old (pairs_of_line id s.seen) ((id, p) ∷ []) ∙ ap (λ (ps : List (ℕ × ℕ)). old ++ ps) (sym (map-append (λ (q : ℕ). (id, q)) s.seen (p ∷ [])));
       }
 
   pub stops : (e : Fault) (f : List ℕ) (rest : List (List ℕ)) (total : Needs) (old now : List (ℕ × ℕ)) → (s : SoFar n id line first marks (f ∷ rest) total old now)
@@ -91,17 +91,17 @@ module _ (n id line : ℕ) (first marks : List ℕ) where
 
 -- behind the blocks that rise stand those that were marked
 pub both_added : (n id line : ℕ) (fields left : List (List ℕ)) (old between new : List (ℕ × ℕ)) (ps : List ℕ) (first : AddsFirst n id fields left old between)
-    → needs_from n id line first.seen left ≡ Ok ps → new ≡ between ++ pairs_of id ps
-    → (qs : List ℕ) × (needs_from n id line [] fields ≡ Ok qs) × (new ≡ old ++ pairs_of id qs)
+    → needs_from n id line first.seen left ≡ Ok ps → new ≡ between ++ pairs_of_line id ps
+    → (qs : List ℕ) × (needs_from n id line [] fields ≡ Ok qs) × (new ≡ old ++ pairs_of_line id qs)
 both_added n id line fields left old between new ps first behind pushed = (
   first.seen ++ ps,
   sym (first.read line) ∙ ap (with_seen first.seen) behind,
-  pushed ∙ ap (λ (xs : List (ℕ × ℕ)). xs ++ pairs_of id ps) first.pairs ∙ append_assoc old (pairs_of id first.seen) (pairs_of id ps)
+  pushed ∙ ap (λ (xs : List (ℕ × ℕ)). xs ++ pairs_of_line id ps) first.pairs ∙ append_assoc old (pairs_of_line id first.seen) (pairs_of_line id ps)
       ∙ ap (λ (xs : List (ℕ × ℕ)). old ++ xs) (sym (map-append (λ (p : ℕ). (id, p)) first.seen ps)),
 )
 
 pub first_alone : (n id line : ℕ) (fields : List (List ℕ)) (old new : List (ℕ × ℕ)) (first : AddsFirst n id fields [] old new)
-    → (qs : List ℕ) × (needs_from n id line [] fields ≡ Ok qs) × (new ≡ old ++ pairs_of id qs)
+    → (qs : List ℕ) × (needs_from n id line [] fields ≡ Ok qs) × (new ≡ old ++ pairs_of_line id qs)
 unfolding needs_from
 first_alone n id line fields old new first = (first.seen, sym (first.read line) ∙ ap (λ (xs : List ℕ). Ok xs) (append-nil first.seen), first.pairs)
 
@@ -136,7 +136,7 @@ rises_on n id f rest all least old now p whole below other le s =
             let h = need_new n id line seen f p whole below other under in
             let one : with_seen seen (needs_from n id line seen (f ∷ rest)) ≡ with_seen (seen ++ p ∷ []) (needs_from n id line (seen ++ p ∷ []) rest) = rw h (regroup seen p (needs_from n id line (seen ++ p ∷ []) rest)) in sym one ∙ s.adds.read line;
         below = All-push (λ q. q < n) seen p s.adds.below below;
-        pairs = ap (λ (ps : List (ℕ × ℕ)). ps ++ (id, p) ∷ []) s.adds.pairs ∙ append_assoc old (pairs_of id seen) ((id, p) ∷ []) ∙ ap (λ (ps : List (ℕ × ℕ)). old ++ ps) (sym (map-append (λ (q : ℕ). (id, q)) seen (p ∷ [])));
+        pairs = ap (λ (ps : List (ℕ × ℕ)). ps ++ (id, p) ∷ []) s.adds.pairs ∙ append_assoc old (pairs_of_line id seen) ((id, p) ∷ []) ∙ ap (λ (ps : List (ℕ × ℕ)). old ++ ps) (sym (map-append (λ (q : ℕ). (id, q)) seen (p ∷ [])));
       };
       under = All-push (λ q. q < p + 1) seen p (All-weaker (λ q. q < p) (λ q. q < p + 1) (λ q lt. omega (arith, lt)) seen under) (omega arith);
     }
@@ -147,13 +147,13 @@ rises_none n id all old = record {
   under = λ k d l. absurd (omega (arith, l));
 }
 
-needs_named : (id : ℕ) (needs : List ℕ) → map (λ pair. pair.1) (pairs_of id needs) ≡ needs
+needs_named : (id : ℕ) (needs : List ℕ) → map (λ pair. pair.1) (pairs_of_line id needs) ≡ needs
 needs_named id [] = refl
 needs_named id (p ∷ ps) = ap (λ (xs : List ℕ). p ∷ xs) (needs_named id ps)
 
 -- the blocks that the pairs name which were added last
-pub named_last : (id : ℕ) (old : List (ℕ × ℕ)) (needs : List ℕ) (new : List (ℕ × ℕ)) (count : ℕ) (named : List ℕ) → count ≡ length old → new ≡ old ++ pairs_of id needs
+pub named_last : (id : ℕ) (old : List (ℕ × ℕ)) (needs : List ℕ) (new : List (ℕ × ℕ)) (count : ℕ) (named : List ℕ) → count ≡ length old → new ≡ old ++ pairs_of_line id needs
     → named ≡ map (λ pair. pair.1) (drop count new) → named ≡ needs
 named_last id old needs new count named same is are =
     are ∙ ap (λ (k : ℕ). map (λ (pair : ℕ × ℕ). pair.1) (drop k new)) same ∙ ap (λ (ps : List (ℕ × ℕ)). map (λ (pair : ℕ × ℕ). pair.1) (drop (length old) ps)) is
-    ∙ ap (map (λ (pair : ℕ × ℕ). pair.1)) (drop-append_seam old (pairs_of id needs)) ∙ needs_named id needs
+    ∙ ap (map (λ (pair : ℕ × ℕ). pair.1)) (drop-append_seam old (pairs_of_line id needs)) ∙ needs_named id needs

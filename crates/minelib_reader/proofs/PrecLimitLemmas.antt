@@ -6,7 +6,7 @@ use Rattle.std.proofs.lemmas.List.Elements.{All-nil, All-append, All-head, All-t
 use Rattle.std.specs.List.{All}
 use Rattle.minelib_reader.specs.Text.{Row}
 use Rattle.pit_model.specs.Size.{most_pairs}
-use Rattle.minelib_reader.specs.Prec.{pairs_of}
+use Rattle.minelib_reader.specs.Prec.{pairs_of_line}
 use Rattle.minelib_reader.specs.PrecGrammar.{AreDistinct, SpellsLine, SpellsPairs}
 use Rattle.minelib_reader.specs.PrecLimits.{ArePrecedences}
 
@@ -23,7 +23,7 @@ distinct-append {A = A} (x ∷ xs) ys dx dy apart = (
   distinct-append xs ys dx.1 dy (All-tail (λ x'. All (λ y. y ≢ x') ys) x xs apart),
 )
 
-distinct-pairs_of : (id : ℕ) (ps : List ℕ) → AreDistinct ps → AreDistinct (pairs_of id ps)
+distinct-pairs_of : (id : ℕ) (ps : List ℕ) → AreDistinct ps → AreDistinct (pairs_of_line id ps)
 distinct-pairs_of id [] d = tt
 distinct-pairs_of id (p ∷ ps) d = (
   All-map (λ y. y ≢ (id, p)) (λ q. (id, q)) ps (λ k e lt same. d.0 k e lt (ap (λ (x : ℕ × ℕ). x.1) same)),
@@ -37,7 +37,7 @@ distinct_at (x ∷ xs) d zero (suc l) lt in-list same = d.0 l (0, 0) (omega (ari
 distinct_at (x ∷ xs) d (suc k) zero lt in-list same = absurd (omega (arith, lt))
 distinct_at (x ∷ xs) d (suc k) (suc l) lt in-list same = distinct_at xs d.1 k l (omega (arith, lt)) (omega (arith, in-list)) same
 
-good_line : (n from total : ℕ) (r : Row) (id : ℕ) (needs : List ℕ) → SpellsLine n from total r id needs → All (IsGood n from) (pairs_of id needs)
+good_line : (n from total : ℕ) (r : Row) (id : ℕ) (needs : List ℕ) → SpellsLine n from total r id needs → All (IsGood n from) (pairs_of_line id needs)
 good_line n from total r id needs s = All-map (IsGood n from) (λ p. (id, p)) needs (λ k d lt. record {
   from_is = s.rising;
   below = (s.known, s.below k d lt);
@@ -63,16 +63,16 @@ all_good n from total (r ∷ rows) pairs le s =
     let rising = line.rising in
     let count = ih.few in
     let pair_with : ℕ → ℕ × ℕ = λ p. (id, p) in
-    let size : length (pairs_of id needs) ≡ length needs = length-map needs pair_with in
-    let apart : All (λ x. All (λ y. y ≢ x) behind) (pairs_of id needs) =
+    let size : length (pairs_of_line id needs) ≡ length needs = length-map needs pair_with in
+    let apart : All (λ x. All (λ y. y ≢ x) behind) (pairs_of_line id needs) =
     All-map (λ x. All (λ y. y ≢ x) behind) (λ p. (id, p)) needs (λ k d lt j e in-list same.
     let more = (ih.good j e in-list).from_is in
     let first = ap (λ (x : ℕ × ℕ). x.0) same in
     omega (arith, more, first)) in
-    let all : AllGood n from total (pairs_of id needs ++ behind) = record {
-      few = omega (arith, count, length-append (pairs_of id needs) behind, size);
-      good = All-append (IsGood n from) (pairs_of id needs) behind (good_line n from total r id needs line) (lower n from (id + 1) behind (omega (arith, rising)) ih.good);
-      distinct = distinct-append (pairs_of id needs) behind (distinct-pairs_of id needs line.distinct) ih.distinct apart;
+    let all : AllGood n from total (pairs_of_line id needs ++ behind) = record {
+      few = omega (arith, count, length-append (pairs_of_line id needs) behind, size);
+      good = All-append (IsGood n from) (pairs_of_line id needs) behind (good_line n from total r id needs line) (lower n from (id + 1) behind (omega (arith, rising)) ih.good);
+      distinct = distinct-append (pairs_of_line id needs) behind (distinct-pairs_of id needs line.distinct) ih.distinct apart;
     } in
     subst (λ (x : List (ℕ × ℕ)). AllGood n from total x) (sym s.4) all
 

@@ -5,7 +5,7 @@ use Rattle.faults.specs.declared.fault.Fault.{Fault}
 use Rattle.minelib_reader.specs.Checks.{◌>>=◌}
 use Rattle.minelib_reader.specs.Text.{Row}
 use Rattle.minelib_reader.specs.Marks.{AddsLine, AddsRows, with_pairs}
-use Rattle.minelib_reader.specs.Prec.{need_of, needs_from, front_of, needs_line, pairs_of, pairs_from}
+use Rattle.minelib_reader.specs.Prec.{need_of, needs_from, front_of, needs_line, pairs_of_line, pairs_from}
 use Rattle.minelib_reader.proofs.CheckLemmas.{passed, same_value}
 
 -- as many predecessors are read as fields name them
@@ -18,11 +18,11 @@ length_needs n id line seen (f ∷ fields) ps h =
     ap length (sym (same_value (a.value ∷ b.value) ps b.behind)) ∙ ap suc (length_needs n id line (seen ++ a.value ∷ []) fields b.value b.here)
 
 -- so many pairs are added as fields name predecessors
-pub named : (n id line : ℕ) (seen : List ℕ) (fields : List (List ℕ)) (ps : List ℕ) (old new : List (ℕ × ℕ)) → needs_from n id line seen fields ≡ Ok ps → new ≡ old ++ pairs_of id ps → length new ≡ length old + length fields
+pub named : (n id line : ℕ) (seen : List ℕ) (fields : List (List ℕ)) (ps : List ℕ) (old new : List (ℕ × ℕ)) → needs_from n id line seen fields ≡ Ok ps → new ≡ old ++ pairs_of_line id ps → length new ≡ length old + length fields
 named n id line seen fields ps old new h pushed =
     let pair_with : ℕ → ℕ × ℕ = λ p. (id, p) in
-    let size : length (pairs_of id ps) ≡ length ps = length-map ps pair_with in
-    omega (arith, ap length pushed, length-append old (pairs_of id ps), size, length_needs n id line seen fields ps h)
+    let size : length (pairs_of_line id ps) ≡ length ps = length-map ps pair_with in
+    omega (arith, ap length pushed, length-append old (pairs_of_line id ps), size, length_needs n id line seen fields ps h)
 
 pub front_stops : (e : Fault) (n from total : ℕ) (r : Row) → front_of n from total r ≡ Err e → needs_line n from total r ≡ Err e
 unfolding needs_line
@@ -33,7 +33,7 @@ unfolding needs_line
 needs_stop e n from total r front f h = rw (f, h) refl
 
 pub line_added : (n from total : ℕ) (r : Row) (front : ℕ × ℕ × List (List ℕ)) (ps : List ℕ) (old new : List (ℕ × ℕ)) → front_of n from total r ≡ Ok front → needs_from n front.0 r.line [] front.2 ≡ Ok ps
-    → front.1 ≡ length front.2 → new ≡ old ++ pairs_of front.0 ps → AddsLine n from total r old new (front.0 + 1) (total + front.1)
+    → front.1 ≡ length front.2 → new ≡ old ++ pairs_of_line front.0 ps → AddsLine n from total r old new (front.0 + 1) (total + front.1)
 unfolding needs_line
 line_added n from total r front ps old new f h count pairs = record {
   id = front.0;
@@ -60,10 +60,10 @@ pub go_on : (n from total from' total' : ℕ) (rows rest : List Row) (r : Row) (
 unfolding pairs_from
 go_on n from total from' total' rows rest r old new all are a so_far =
     let behind = pairs_from n (a.id + 1) (total + length a.needs) rest in
-    let one : with_pairs old (pairs_from n from total rows) ≡ with_pairs (old ++ pairs_of a.id a.needs) behind = rw (are, a.read) (regroup old (pairs_of a.id a.needs) behind) in
+    let one : with_pairs old (pairs_from n from total rows) ≡ with_pairs (old ++ pairs_of_line a.id a.needs) behind = rw (are, a.read) (regroup old (pairs_of_line a.id a.needs) behind) in
     ap (λ (x : List (ℕ × ℕ)). with_pairs x (pairs_from n from' total' rest)) a.pairs
-    ∙ ap (λ (k : ℕ). with_pairs (old ++ pairs_of a.id a.needs) (pairs_from n k total' rest)) a.next
-    ∙ ap (λ (k : ℕ). with_pairs (old ++ pairs_of a.id a.needs) (pairs_from n (a.id + 1) k rest)) a.sum
+    ∙ ap (λ (k : ℕ). with_pairs (old ++ pairs_of_line a.id a.needs) (pairs_from n k total' rest)) a.next
+    ∙ ap (λ (k : ℕ). with_pairs (old ++ pairs_of_line a.id a.needs) (pairs_from n (a.id + 1) k rest)) a.sum
     ∙ sym one ∙ so_far
 
 pub stop : (e : Fault) (n from total : ℕ) (rows rest : List Row) (r : Row) (old : List (ℕ × ℕ)) (all : Pairs) → rows ≡ r ∷ rest → needs_line n from total r ≡ Err e → with_pairs old (pairs_from n from total rows) ≡ all → all ≡ Err e

@@ -10,7 +10,7 @@ use Rattle.std.specs.Option.{ok_or}
 use Rattle.minelib_reader.specs.Text.{Row, two_of}
 use Rattle.minelib_reader.specs.Number.{whole_of, decimal_of}
 use Rattle.pit_model.specs.Size.{most_blocks}
-use Rattle.minelib_reader.specs.Upit.{Upit, upit, starts_by, is_word, is_pair, in_model, due, name_line, type_line, blocks_line, objective_line, value_line, values_from, ended, header_of, upit_of_rows}
+use Rattle.minelib_reader.specs.Upit.{Upit, upit, starts_by, is_word, are_words, in_model, due, name_line, type_line, blocks_line, objective_line, value_line, values_from, ended, header_of, upit_of_rows}
 use Rattle.minelib_reader.specs.UpitGrammar.{SpellsValue, SpellsValues, SpellsHeader, SpellsRows}
 use Rattle.minelib_reader.proofs.CheckLemmas.{passed, passing, same_value, value_there, test_holds, both_fields}
 use Rattle.std.proofs.lemmas.Slice.Eq.{bytes_eq-Decides}
@@ -88,7 +88,7 @@ word w [] e = absurd cc
 word w (f ∷ []) e = ap (λ (x : List ℕ). x ∷ []) ((bytes_eq-Decides f w).0 e)
 word w (f ∷ g ∷ fs) e = absurd cc
 
-pair_found : (x y : List ℕ) (o : Option (List ℕ × List ℕ)) → is_pair x y o ≡ true → o ≡ Some (x, y)
+pair_found : (x y : List ℕ) (o : Option (List ℕ × List ℕ)) → are_words x y o ≡ true → o ≡ Some (x, y)
 pair_found x y None e = absurd cc
 pair_found x y (Some p) e =
     let parts = and_parts (bytes_eq p.0 x) (bytes_eq p.1 y) e in
@@ -100,7 +100,7 @@ name_found r u e = starts (codes "NAME:") r.fields (test_holds (starts_by (codes
 
 type_found : (r : Row) (u : Unit {0}) → type_line r ≡ Ok u → r.fields ≡ codes "TYPE:" ∷ codes "UPIT" ∷ []
 unfolding type_line
-type_found r u e = both_fields r.fields (codes "TYPE:", codes "UPIT") (pair_found (codes "TYPE:") (codes "UPIT") (two_of r.fields) (test_holds (is_pair (codes "TYPE:") (codes "UPIT") (two_of r.fields)) (in_model WrongHeader r.line) u e))
+type_found r u e = both_fields r.fields (codes "TYPE:", codes "UPIT") (pair_found (codes "TYPE:") (codes "UPIT") (two_of r.fields) (test_holds (are_words (codes "TYPE:") (codes "UPIT") (two_of r.fields)) (in_model WrongHeader r.line) u e))
 
 blocks_found : (r : Row) (n : ℕ) → blocks_line r ≡ Ok n → (number : List ℕ) × (r.fields ≡ codes "NBLOCKS:" ∷ number ∷ []) × (whole_of number ≡ Some n) × (n ≤ most_blocks)
 unfolding blocks_line

@@ -16,9 +16,9 @@ abbrev pub in_fixed : Refusal → ℕ → Fault
 in_fixed refusal line = at_line Fixed refusal line
 
 -- the word that forces a block in, or the one that bars it
-abbrev pub word_of : Bool → List ℕ
-word_of true = codes "in"
-word_of false = codes "out"
+abbrev pub fixing_word : Bool → List ℕ
+fixing_word true = codes "in"
+fixing_word false = codes "out"
 
 -- whether a word forces a block in; nothing where it does neither
 unfoldable pub is_forced_by : List ℕ → Option Bool

@@ -3,12 +3,12 @@ use Rattle.std.specs.Prelude.{◌≡◌, ℕ, ◌+◌, ◌<◌, ◌≤◌, Bool,
 use Rattle.pit_model.specs.Fixed.{FixedLists}
 use Rattle.minelib_reader.specs.Text.{Row, rows_of}
 use Rattle.minelib_reader.specs.Number.{whole_of}
-use Rattle.minelib_reader.specs.Fixed.{word_of, fixed_lists, with_block}
+use Rattle.minelib_reader.specs.Fixed.{fixing_word, fixed_lists, with_block}
 
 -- the line of a block that is forced in or else barred, where its id is at least from
 pub record SpellsFixedLine (n from : ℕ) (r : Row) (is_forced : Bool) (id : ℕ) : Type 0 where
   pub field : List ℕ
-  pub fields : r.fields ≡ word_of is_forced ∷ field ∷ []
+  pub fields : r.fields ≡ fixing_word is_forced ∷ field ∷ []
   pub is_id : whole_of field ≡ Some id
   pub known : id < n
   pub rising : from ≤ id

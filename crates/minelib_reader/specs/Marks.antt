@@ -4,7 +4,7 @@ use Rattle.std.specs.List.{All}
 use Rattle.faults.specs.declared.fault.Fault.{Fault}
 use Rattle.pit_model.specs.Fixed.{is_among}
 use Rattle.pit_model.specs.Graph.{Graph}
-use Rattle.minelib_reader.specs.Prec.{needs_from, needs_line, pairs_from, pairs_of}
+use Rattle.minelib_reader.specs.Prec.{needs_from, needs_line, pairs_from, pairs_of_line}
 use Rattle.minelib_reader.specs.Checks.{◌>>=◌}
 use Rattle.minelib_reader.specs.Text.{Row}
 
@@ -21,14 +21,14 @@ pub record AddsFirst (n id : ℕ) (fields left : List (List ℕ)) (old new : Lis
   pub seen : List ℕ
   pub read : (line : ℕ) → with_seen seen (needs_from n id line seen left) ≡ needs_from n id line [] fields
   pub below : All (λ p. p < n) seen
-  pub pairs : new ≡ old ++ pairs_of id seen
+  pub pairs : new ≡ old ++ pairs_of_line id seen
 
 -- the line is lawful, its pairs stand behind those before, and this is the least id and the sum behind it
 pub record AddsLine (n from total : ℕ) (r : Row) (old new : List (ℕ × ℕ)) (from_after total_after : ℕ) : Type 0 where
   pub id : ℕ
   pub needs : List ℕ
   pub read : needs_line n from total r ≡ Ok (id, needs)
-  pub pairs : new ≡ old ++ pairs_of id needs
+  pub pairs : new ≡ old ++ pairs_of_line id needs
   pub next : from_after ≡ id + 1
   pub sum : total_after ≡ total + length needs
 

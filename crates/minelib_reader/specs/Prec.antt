@@ -52,8 +52,8 @@ needs_line n from total r = do
   Ok (front.0, needs)
 
 -- the pairs of a block with each block that it needs
-abbrev pub pairs_of : ℕ → List ℕ → List (ℕ × ℕ)
-pairs_of id needs = map (λ p. (id, p)) needs
+abbrev pub pairs_of_line : ℕ → List ℕ → List (ℕ × ℕ)
+pairs_of_line id needs = map (λ p. (id, p)) needs
 
 -- the pairs of all lines
 unfoldable pub pairs_from : ℕ → ℕ → ℕ → List Row → Result (List (ℕ × ℕ)) Fault
@@ -61,7 +61,7 @@ pairs_from n from total [] = Ok []
 pairs_from n from total (r ∷ rows) = do
   line ← needs_line n from total r
   others ← pairs_from n (line.0 + 1) (total + length line.1) rows
-  Ok (pairs_of line.0 line.1 ++ others)
+  Ok (pairs_of_line line.0 line.1 ++ others)
 
 -- the pairs that a text spells for n blocks, or its first fault
 abbrev pub prec_of : ℕ → List ℕ → Result (List (ℕ × ℕ)) Fault

@@ -4,7 +4,7 @@ use Rattle.std.specs.List.{All}
 use Rattle.minelib_reader.specs.Text.{Row, rows_of}
 use Rattle.minelib_reader.specs.Number.{whole_of}
 use Rattle.pit_model.specs.Size.{most_pairs}
-use Rattle.minelib_reader.specs.Prec.{pairs_of}
+use Rattle.minelib_reader.specs.Prec.{pairs_of_line}
 
 -- nothing stands twice in the list
 abbrev pub AreDistinct : {A : Type 0} → List A → Type 0
@@ -35,7 +35,7 @@ pub record SpellsLine (n from total : ℕ) (r : Row) (id : ℕ) (needs : List �
 abbrev pub SpellsPairs : ℕ → ℕ → ℕ → List Row → List (ℕ × ℕ) → Type 0
 SpellsPairs n from total [] pairs = pairs ≡ []
 SpellsPairs n from total (r ∷ rows) pairs =
-    (id : ℕ) × (needs : List ℕ) × (behind : List (ℕ × ℕ)) × SpellsLine n from total r id needs × (pairs ≡ pairs_of id needs ++ behind)
+    (id : ℕ) × (needs : List ℕ) × (behind : List (ℕ × ℕ)) × SpellsLine n from total r id needs × (pairs ≡ pairs_of_line id needs ++ behind)
     × SpellsPairs n (id + 1) (total + length needs) rows behind
 
 -- the text spells these pairs for n blocks

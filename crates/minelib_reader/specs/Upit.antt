@@ -31,15 +31,15 @@ is_word word (f ∷ []) = bytes_eq f word
 is_word word fs = false
 
 -- the fields are these two words
-abbrev pub is_pair : List ℕ → List ℕ → Option (List ℕ × List ℕ) → Bool
-is_pair a b None = false
-is_pair a b (Some p) = bytes_eq p.0 a && bytes_eq p.1 b
+abbrev pub are_words : List ℕ → List ℕ → Option (List ℕ × List ℕ) → Bool
+are_words a b None = false
+are_words a b (Some p) = bytes_eq p.0 a && bytes_eq p.1 b
 
 unfoldable pub name_line : Row → Result (Unit {0}) Fault
 name_line r = ok_if (starts_by (codes "NAME:") r.fields) (in_model WrongHeader r.line)
 
 unfoldable pub type_line : Row → Result (Unit {0}) Fault
-type_line r = ok_if (is_pair (codes "TYPE:") (codes "UPIT") (two_of r.fields)) (in_model WrongHeader r.line)
+type_line r = ok_if (are_words (codes "TYPE:") (codes "UPIT") (two_of r.fields)) (in_model WrongHeader r.line)
 
 -- the number of blocks
 unfoldable pub blocks_line : Row → Result ℕ Fault

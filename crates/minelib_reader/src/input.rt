@@ -70,11 +70,11 @@ impl<S: InputStream + Drop> FileReader<S> {
         ensures known { ⟦<FileReader<S> as InBytes>⟧.known_text result ≡ prepend_known [] (S.remaining stream) }
         ensures sound { S.IsSound stream → ⟦<FileReader<S> as InBytes>⟧.IsSound result }
     {
-        FileReader::watched(stream, Counters::none())
+        FileReader::with_counters(stream, Counters::none())
     }
 
     /// The same as `new` gives. These counters are told how many bytes are read.
-    pub fn watched(stream: S, counters: Counters) -> FileReader<S>
+    pub fn with_counters(stream: S, counters: Counters) -> FileReader<S>
         ensures start { ⟦<FileReader<S> as InBytes>⟧.progress result ≡ unread (2 ^ 40) }
         ensures known { ⟦<FileReader<S> as InBytes>⟧.known_text result ≡ prepend_known [] (S.remaining stream) }
         ensures sound { S.IsSound stream → ⟦<FileReader<S> as InBytes>⟧.IsSound result }

@@ -13,7 +13,7 @@ ghost use Rattle.pit_model.specs.Size.{most_pairs};
 ghost use Rattle.minelib_reader.specs.Answer.{Gives, Answers, AnswersBy, FailsBy, FailsAt};
 ghost use Rattle.minelib_reader.specs.Marks.{AddsFirst, AddsLine, AddsRows, AreMarked, AreRowsSoFar, with_pairs};
 ghost use Rattle.minelib_reader.specs.Number.{whole_of};
-ghost use Rattle.minelib_reader.specs.Prec.{in_precedence, need_of, needs_from, front_of, needs_line, pairs_from, pairs_of, prec_of};
+ghost use Rattle.minelib_reader.specs.Prec.{in_precedence, need_of, needs_from, front_of, needs_line, pairs_from, pairs_of_line, prec_of};
 ghost use Rattle.minelib_reader.specs.PrecFault.{IsFirstPrecFault};
 ghost use Rattle.minelib_reader.specs.PrecGrammar.{SpellsPrec};
 ghost use Rattle.minelib_reader.specs.PrecLimits.{ArePrecedences};
@@ -142,7 +142,7 @@ fn push_marked(
     requires row { needs.old.blocks ≡ block.id }
     requires old_marks { All (λ m. m ≤ block.id + 1) marks.old.items }
     ensures ok { IfOk result (λ _. (seen : List ℕ) → AreMarked block.n block.id marks.old.items seen
-        → (ps : List ℕ) × (needs_from block.n block.id block.line seen (fields_of text.now) ≡ Ok ps) × (needs.new.pairs ≡ needs.old.pairs ++ pairs_of block.id ps)) }
+        → (ps : List ℕ) × (needs_from block.n block.id block.line seen (fields_of text.now) ≡ Ok ps) × (needs.new.pairs ≡ needs.old.pairs ++ pairs_of_line block.id ps)) }
     ensures err { IfErr result (λ e. (seen : List ℕ) → AreMarked block.n block.id marks.old.items seen → FailsBy e.refusal e (needs_from block.n block.id block.line seen (fields_of text.now))) }
     ensures sizes { length marks.new.items ≡ block.n }
     ensures new_marks { All (λ m. m ≤ block.id + 1) marks.new.items }
@@ -171,7 +171,7 @@ fn read_needs(
     requires few { length needs.old.pairs < 2 ^ 32 }
     requires order { needs.old.blocks ≤ block.id }
     requires old_marks { All (λ m. m ≤ block.id) marks.old.items }
-    ensures ok { IfOk result (λ _. (ps : List ℕ) × (needs_from block.n block.id block.line [] (fields_of text.now) ≡ Ok ps) × (needs.new.pairs ≡ needs.old.pairs ++ pairs_of block.id ps)) }
+    ensures ok { IfOk result (λ _. (ps : List ℕ) × (needs_from block.n block.id block.line [] (fields_of text.now) ≡ Ok ps) × (needs.new.pairs ≡ needs.old.pairs ++ pairs_of_line block.id ps)) }
     ensures named { IfOk result (λ named. named ≡ length (fields_of text.now)) }
     ensures err { IfErr result (λ e. FailsBy e.refusal e (needs_from block.n block.id block.line [] (fields_of text.now))) }
     ensures sizes { length marks.new.items ≡ block.n }

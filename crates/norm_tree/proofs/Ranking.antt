@@ -12,7 +12,7 @@ use Rattle.pit_model.specs.Flow.{excess}
 use Rattle.pit_model.specs.Tree.{Tree, flow, IsNormalised}
 use Rattle.pit_model.specs.Limits.{IsInstance, most_worth}
 use Rattle.pit_model.specs.Rank.{positive_part, positive_excess, positive_worth, rank}
-use Rattle.norm_tree.specs.Excesses.{AreExcesses}
+use Rattle.norm_tree.specs.Excesses.{AreTreeExcesses}
 use Rattle.pit_model.proofs.Sums.{total-same}
 use Rattle.pit_model.proofs.Simple.{instance_is_simple}
 use Rattle.pit_model.proofs.Bound.{flows_stay_within_limits}
@@ -80,7 +80,7 @@ module _ (mine : Instance) (tree : Tree) (good : IsInstance mine) (normalised : 
   pub rank_cast : to_z w128 (of_z w128 (rank mine tree)) ≡ rank mine tree
   rank_cast = to_z-of_z w128 (rank mine tree) rank_fits
 
-  module _ (excesses : List ℤ) (count : length excesses ≡ mine.blocks) (are : AreExcesses mine excesses tree.flows) where
+  module _ (excesses : List ℤ) (count : length excesses ≡ mine.blocks) (are : AreTreeExcesses mine excesses tree.flows) where
     pub excesses_small : (u : ℕ) → u < length excesses → get_or excesses u (pos 0) ≤ℤ pos most_worth
     excesses_small u l =
         let below : u < mine.blocks = omega arith in

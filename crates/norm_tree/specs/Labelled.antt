@@ -7,25 +7,25 @@ pub record Labelled : Type 0 where
   pub graph : Graph
   pub strong : List Bool
 
-abbrev pub labelled : Graph → List Bool → Labelled
-labelled graph strong = record { graph = graph; strong = strong }
+abbrev pub with_labels : Graph → List Bool → Labelled
+with_labels graph strong = record { graph = graph; strong = strong }
 
 abbrev pub label : List Bool → ℕ → Bool
 label strong u = get_or strong u false
 
 -- the pair leads from a strong block to a weak one
-abbrev pub is_open : Labelled → ℕ → Bool
-is_open l k = nat_lt k (length l.graph.pairs) && label l.strong (first_of l.graph.pairs k) && not (label l.strong (second_of l.graph.pairs k))
+abbrev pub is_candidate : Labelled → ℕ → Bool
+is_candidate l k = nat_lt k (length l.graph.pairs) && label l.strong (first_of l.graph.pairs k) && not (label l.strong (second_of l.graph.pairs k))
 
 -- no such pair leads from a block below the bound
 abbrev pub IsClosedBelow : Labelled → ℕ → Type 0
-IsClosedBelow l bound = (k : ℕ) → first_of l.graph.pairs k < bound → is_open l k ≡ false
+IsClosedBelow l bound = (k : ℕ) → first_of l.graph.pairs k < bound → is_candidate l k ≡ false
 
 -- each block from which such a pair leads is marked
-abbrev pub AreMarked : Labelled → List Bool → Type 0
-AreMarked l marks = (k : ℕ) → is_open l k ≡ true → get_or marks (first_of l.graph.pairs k) false ≡ true
+abbrev pub AreSourcesMarked : Labelled → List Bool → Type 0
+AreSourcesMarked l marks = (k : ℕ) → is_candidate l k ≡ true → get_or marks (first_of l.graph.pairs k) false ≡ true
 
 pub record IsIndexed (graph : Graph) (strong marks : List Bool) : Type 0 where
   pub sized : length strong ≡ graph.blocks
   pub room : length marks ≡ graph.blocks
-  pub marked : AreMarked (labelled graph strong) marks
+  pub marked : AreSourcesMarked (with_labels graph strong) marks

@@ -4,7 +4,7 @@ ghost use Rattle.std.specs.Prelude.{◌≡◌, ℕ, ◌<◌, ◌≤◌, ◌==◌
 ghost use Rattle.pit_model.specs.Size.{most_blocks};
 ghost use Rattle.faults.specs.Refused.{no_memory};
 ghost use Rattle.pit_model.specs.Graph.{first_of, second_of};
-ghost use Rattle.norm_tree.specs.Labelled.{is_open, label, labelled, IsClosedBelow, IsIndexed};
+ghost use Rattle.norm_tree.specs.Labelled.{is_candidate, label, with_labels, IsClosedBelow, IsIndexed};
 
 use crate::marks::Marks;
 use faults::Fault;
@@ -76,9 +76,9 @@ pub(crate) fn first_open_need(graph: &Graph, strong: &[bool], block: u32) -> Opt
     requires labelled { length strong.now ≡ graph.now.blocks }
     requires inside { block < graph.now.blocks }
     ensures own { IfSome result (λ k. first_of graph.now.pairs k ≡ block) }
-    ensures open { IfSome result (λ k. IsTrue (is_open (labelled graph.now strong.now) k)) }
-    ensures first { IfSome result (λ k. (l : ℕ) → l < k → first_of graph.now.pairs l ≡ block → is_open (labelled graph.now strong.now) l ≡ false) }
-    ensures none { IsNone result → (l : ℕ) → l < length graph.now.pairs → first_of graph.now.pairs l ≡ block → is_open (labelled graph.now strong.now) l ≡ false }
+    ensures open { IfSome result (λ k. IsTrue (is_candidate (with_labels graph.now strong.now) k)) }
+    ensures first { IfSome result (λ k. (l : ℕ) → l < k → first_of graph.now.pairs l ≡ block → is_candidate (with_labels graph.now strong.now) l ≡ false) }
+    ensures none { IsNone result → (l : ℕ) → l < length graph.now.pairs → first_of graph.now.pairs l ≡ block → is_candidate (with_labels graph.now strong.now) l ≡ false }
 {
     if strong[block as usize] {
         first_weak_need(graph, strong, block)
@@ -116,9 +116,9 @@ impl Index {
     /// The first pair by number that leads from a strong block to a weak one.
     pub(crate) fn first(&self, graph: &Graph, strong: &[bool]) -> Option<u32>
         requires { IsIndexed graph.now strong.now self.now.marks }
-        ensures merger { IfSome result (λ k. IsTrue (is_open (labelled graph.now strong.now) k)) }
-        ensures least { IfSome result (λ k. (l : ℕ) → l < k → is_open (labelled graph.now strong.now) l ≡ false) }
-        ensures none { IsNone result → (k : ℕ) → is_open (labelled graph.now strong.now) k ≡ false }
+        ensures merger { IfSome result (λ k. IsTrue (is_candidate (with_labels graph.now strong.now) k)) }
+        ensures least { IfSome result (λ k. (l : ℕ) → l < k → is_candidate (with_labels graph.now strong.now) l ≡ false) }
+        ensures none { IsNone result → (k : ℕ) → is_candidate (with_labels graph.now strong.now) k ≡ false }
     {
         graph.law();
         let mut from = 0;
@@ -136,7 +136,7 @@ impl Index {
     fn first_block(&self, graph: &Graph, strong: &[bool]) -> u32
         requires { IsIndexed graph.now strong.now self.now.marks }
         ensures inside { result ≤ graph.now.blocks }
-        ensures closed { IsClosedBelow (labelled graph.now strong.now) result }
+        ensures closed { IsClosedBelow (with_labels graph.now strong.now) result }
     {
         graph.law();
         match self.first(graph, strong) {

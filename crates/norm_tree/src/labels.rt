@@ -1,7 +1,7 @@
 //! The label of each block, strong or weak, and the first merger arc by them: by an index, or by a look at each strong block.
 ghost use Rattle.std.specs.Prelude.{◌≡◌, ℕ, ◌<◌, false, length, set, IsTrue, IfOk, IfErr, IfSome, IsNone};
 ghost use Rattle.faults.specs.Refused.{no_memory};
-ghost use Rattle.norm_tree.specs.Labelled.{is_open, label, labelled};
+ghost use Rattle.norm_tree.specs.Labelled.{is_candidate, label, with_labels};
 
 use crate::index::{Index, first_open_need};
 use faults::Fault;
@@ -33,9 +33,9 @@ impl Model for Labels {
 /// The first pair by number that leads from a strong block to a weak one, by a look at the pairs of each strong block.
 fn first_open(graph: &Graph, strong: &[bool]) -> Option<u32>
     requires { length strong.now ≡ graph.now.blocks }
-    ensures merger { IfSome result (λ k. IsTrue (is_open (labelled graph.now strong.now) k)) }
-    ensures least { IfSome result (λ k. (l : ℕ) → l < k → is_open (labelled graph.now strong.now) l ≡ false) }
-    ensures none { IsNone result → (k : ℕ) → is_open (labelled graph.now strong.now) k ≡ false }
+    ensures merger { IfSome result (λ k. IsTrue (is_candidate (with_labels graph.now strong.now) k)) }
+    ensures least { IfSome result (λ k. (l : ℕ) → l < k → is_candidate (with_labels graph.now strong.now) l ≡ false) }
+    ensures none { IsNone result → (k : ℕ) → is_candidate (with_labels graph.now strong.now) k ≡ false }
 {
     graph.law();
     for block in 0..graph.n() {
@@ -138,9 +138,9 @@ impl Labels {
 
     /// The first pair by number that leads from a strong block to a weak one.
     pub(crate) fn first_merger(&self) -> Option<u32>
-        ensures merger { IfSome result (λ k. IsTrue (is_open self.now k)) }
-        ensures least { IfSome result (λ k. (l : ℕ) → l < k → is_open self.now l ≡ false) }
-        ensures none { IsNone result → (k : ℕ) → is_open self.now k ≡ false }
+        ensures merger { IfSome result (λ k. IsTrue (is_candidate self.now k)) }
+        ensures least { IfSome result (λ k. (l : ℕ) → l < k → is_candidate self.now l ≡ false) }
+        ensures none { IsNone result → (k : ℕ) → is_candidate self.now k ≡ false }
     {
         match &self.index {
             Some(index) => index.first(&self.graph, &self.strong),

@@ -4,12 +4,12 @@
 mod bare;
 mod flow;
 mod gather;
+mod increase_value;
 mod index;
 mod labels;
 mod marks;
 mod merge;
 mod pit;
-mod raise;
 mod rank;
 mod renew;
 mod tree;

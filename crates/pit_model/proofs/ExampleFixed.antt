@@ -6,7 +6,7 @@ use Rattle.std.proofs.lemmas.Bool.{cases_eq, false≢true}
 use Rattle.pit_model.specs.Graph.{first_of, second_of}
 use Rattle.pit_model.specs.Flow.{excess}
 use Rattle.pit_model.specs.Certificate.{IsReached}
-use Rattle.pit_model.specs.Fixed.{AreSettled, CertifiesOpen, IsClosedAlong, IsClosure, is_among, is_open, turned}
+use Rattle.pit_model.specs.Fixed.{AreSettled, CertifiesOpen, IsClosedAlong, IsClosure, is_among, is_open, transposed}
 use Rattle.pit_model.specs.Fixed.IsRestOf.{some_fixed}
 use Rattle.pit_model.specs.ExampleMines.{field}
 use Rattle.pit_model.specs.ExamplePits.{FixedPitsOfField, amounts, fix}
@@ -36,8 +36,8 @@ nobody = is_among []
 along : (set : ℕ → Bool) → all_below 3 (λ k. not (set (first_of field.pairs k)) || set (second_of field.pairs k)) ≡ true → IsClosedAlong field.pairs set
 along set tested k l h = implied (set (first_of field.pairs k)) (set (second_of field.pairs k)) (each_below 3 (λ i. not (set (first_of field.pairs i)) || set (second_of field.pairs i)) tested k l) h
 
-back : (set : ℕ → Bool) → all_below 3 (λ k. not (set (first_of (turned field.pairs) k)) || set (second_of (turned field.pairs) k)) ≡ true → IsClosedAlong (turned field.pairs) set
-back set tested k l h = implied (set (first_of (turned field.pairs) k)) (set (second_of (turned field.pairs) k)) (each_below 3 (λ i. not (set (first_of (turned field.pairs) i)) || set (second_of (turned field.pairs) i)) tested k l) h
+back : (set : ℕ → Bool) → all_below 3 (λ k. not (set (first_of (transposed field.pairs) k)) || set (second_of (transposed field.pairs) k)) ≡ true → IsClosedAlong (transposed field.pairs) set
+back set tested k l h = implied (set (first_of (transposed field.pairs) k)) (set (second_of (transposed field.pairs) k)) (each_below 3 (λ i. not (set (first_of (transposed field.pairs) i)) || set (second_of (transposed field.pairs) i)) tested k l) h
 
 dug_is : IsClosure field.pairs (is_among (3 ∷ [])) dug
 dug_is = record {
@@ -50,7 +50,7 @@ dug_is = record {
       (three_of 0 1 3 u h);
 }
 
-left_is : IsClosure (turned field.pairs) (is_among (0 ∷ [])) left
+left_is : IsClosure (transposed field.pairs) (is_among (0 ∷ [])) left
 left_is = record {
   holds = λ u h. subst (λ v. left v ≡ true) (sym (one_of 0 u h)) refl;
   closed = back left refl;
@@ -69,7 +69,7 @@ nobody_is pairs = record {
 }
 
 forced_settled : AreSettled field.pairs (fix (3 ∷ []) []) dug nobody
-forced_settled = record { dug_is = dug_is; left_is = nobody_is (turned field.pairs) }
+forced_settled = record { dug_is = dug_is; left_is = nobody_is (transposed field.pairs) }
 
 barred_settled : AreSettled field.pairs (fix [] (0 ∷ [])) nobody left
 barred_settled = record { dug_is = nobody_is field.pairs; left_is = left_is }

@@ -8,7 +8,7 @@ use Rattle.pit_model.specs.declared.shell.Shell.{Shell}
 use Rattle.pit_model.specs.Fixed.{is_among}
 use Rattle.pit_model.specs.JournalText.{most_seat}
 use Rattle.pit_model.specs.Uniqueness.{plain}
-use Rattle.pit_model.specs.ExampleTraces.{entry}
+use Rattle.pit_model.specs.ExampleTraces.{journal_entry}
 use Rattle.pit_model.specs.ExampleLists.{ShortLists}
 use Rattle.pit_model.proofs.ExampleFixed.{one_of}
 use Rattle.pit_model.proofs.ExamplePits.{pits_of_two_blocks}
@@ -17,7 +17,7 @@ below_four : (x : ℕ) → x < 4 → (k d : ℕ) → k < 1 → slice_index_or (x
 below_four x l zero d h = l
 below_four x l (suc k) d h = absurd (omega (arith, h))
 
-seated : (k : ℕ) (d : Entry) → k < 1 → ((slice_index_or (entry 64 2 Applied ∷ []) k d).seat ≤ most_seat) × ((slice_index_or (entry 64 2 Applied ∷ []) k d).arc < 3)
+seated : (k : ℕ) (d : Entry) → k < 1 → ((slice_index_or (journal_entry 64 2 Applied ∷ []) k d).seat ≤ most_seat) × ((slice_index_or (journal_entry 64 2 Applied ∷ []) k d).arc < 3)
 seated zero d l = (omega arith, omega arith)
 seated (suc k) d l = absurd (omega (arith, l))
 
@@ -53,8 +53,8 @@ short_lists = record {
   };
   not_both = λ are. are.apart 3 refl refl;
   seated = seated;
-  no_arc_past_the_last = λ are. omega (arith, (are 0 (entry 0 0 Applied) (omega arith)).1);
-  no_seat_past_the_last = λ are. omega (arith, (are 0 (entry 0 0 Applied) (omega arith)).0);
+  no_arc_past_the_last = λ are. omega (arith, (are 0 (journal_entry 0 0 Applied) (omega arith)).1);
+  no_seat_past_the_last = λ are. omega (arith, (are 0 (journal_entry 0 0 Applied) (omega arith)).0);
   within = λ inner outer a b u has.
       subst (λ xs. Contains xs u) (sym (blocks_of outer 1000 (0 ∷ 1 ∷ []) (pos 0) b)) (one_within u (subst (λ xs. Contains xs u) (blocks_of inner 400 (0 ∷ []) (pos 0) a) has));
   not_without = λ inner outer a b within.

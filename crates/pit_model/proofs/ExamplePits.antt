@@ -7,13 +7,13 @@ use Rattle.pit_model.specs.Sum.{when}
 use Rattle.pit_model.specs.Mine.{Instance, instance_of, source, target, value}
 use Rattle.pit_model.specs.Certificate.{IsReached}
 use Rattle.pit_model.specs.Fixed.{is_among}
-use Rattle.pit_model.specs.Direction.{nothing}
+use Rattle.pit_model.specs.Direction.{no_blocks_fixed}
 use Rattle.pit_model.specs.Fixed.IsRestOf.{all_open}
 use Rattle.pit_model.specs.ExampleMines.{cut_fork, two_blocks}
 use Rattle.pit_model.specs.ExamplePits.{CertificatesOfSmallMines, PitsOfTwoBlocks, amounts, loss}
 use Rattle.pit_model.proofs.Duality.{certificate_gives_pit}
 use Rattle.pit_model.proofs.Fixed.{closed_is_allowed}
-use Rattle.pit_model.proofs.Turned.{nothing_fixed}
+use Rattle.pit_model.proofs.Dual.{nothing_fixed}
 use Rattle.pit_model.proofs.Tested.{certified, closed_at, each_below, implied, in_range}
 
 -- blocks 1 and 2 of the fork, of which 1 has an excess
@@ -42,15 +42,15 @@ both_in zero l = refl
 both_in (suc zero) l = refl
 both_in (suc (suc u)) l = absurd (omega arith)
 
--- the two blocks that break even, turned round
-abbrev turned_round : Instance
-turned_round = instance_of 2 (pos 5 ∷ loss 5 ∷ []) ((0, 1) ∷ [])
+-- the dual of the two blocks that break even
+abbrev transposed_back : Instance
+transposed_back = instance_of 2 (pos 5 ∷ loss 5 ∷ []) ((0, 1) ∷ [])
 
-one_pair : (k : ℕ) → k < 1 → (l : ℕ) × (l < 1) × (get_or turned_round.pairs l (0, 0) ≡ get_or turned_round.pairs k (0, 0))
+one_pair : (k : ℕ) → k < 1 → (l : ℕ) × (l < 1) × (get_or transposed_back.pairs l (0, 0) ≡ get_or transposed_back.pairs k (0, 0))
 one_pair zero l = (0, omega arith, refl)
 one_pair (suc k) l = absurd (omega arith)
 
-both_signs : (u : ℕ) → u < 2 → value turned_round u ≡ pos 0 -ℤ value (two_blocks (loss 5) (pos 5)) u
+both_signs : (u : ℕ) → u < 2 → value transposed_back u ≡ pos 0 -ℤ value (two_blocks (loss 5) (pos 5)) u
 both_signs zero l = refl
 both_signs (suc zero) l = refl
 both_signs (suc (suc u)) l = absurd (omega arith)
@@ -71,11 +71,11 @@ pits_of_two_blocks =
       not_alone = λ alone. absurd (false≢true (alone 0 (omega arith) refl));
       waste_alone = λ k l h. implied _ _ (each_below 1 (closed_at even (is_among (0 ∷ []))) refl k l) h;
       greatest = record {
-        allowed = closed_is_allowed even nothing nothing_fixed both closed;
+        allowed = closed_is_allowed even no_blocks_fixed nothing_fixed both closed;
         best = λ other ok. even_worth (other 0) (other 1) (ok.closed 0 (omega arith));
         largest = λ other ok equal u l h. both_in u l;
       };
-      not_nothing = λ pit. absurd (false≢true (pit.largest both (closed_is_allowed even nothing nothing_fixed both closed) refl 0 (omega arith) refl));
+      not_nothing = λ pit. absurd (false≢true (pit.largest both (closed_is_allowed even no_blocks_fixed nothing_fixed both closed) refl 0 (omega arith) refl));
       searched = (
         even,
         all_open nothing_fixed refl,
@@ -85,9 +85,9 @@ pits_of_two_blocks =
           negated = both_signs;
         },
         record {
-          in_range = λ k l. let e : k ≡ 0 = omega arith in subst (λ i. (source turned_round i < 2) × (target turned_round i < 2)) (sym e) (omega arith, omega arith);
+          in_range = λ k l. let e : k ≡ 0 = omega arith in subst (λ i. (source transposed_back i < 2) × (target transposed_back i < 2)) (sym e) (omega arith, omega arith);
           rising = λ k l less inside. absurd (omega arith);
-          acyclic = (λ u. 1 - u, λ k l. let e : k ≡ 0 = omega arith in subst (λ i. (1 - target turned_round i) < (1 - source turned_round i)) (sym e) (omega arith));
+          acyclic = (λ u. 1 - u, λ k l. let e : k ≡ 0 = omega arith in subst (λ i. (1 - target transposed_back i) < (1 - source transposed_back i)) (sym e) (omega arith));
         },
       );
     }

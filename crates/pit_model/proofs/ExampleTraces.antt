@@ -6,7 +6,7 @@ use Rattle.std.proofs.lemmas.List.Elements.{All-cons, All-head, All-nil}
 use Rattle.pit_model.specs.declared.journal.Entry.{Entry}
 use Rattle.pit_model.specs.FirstRun.{first_run}
 use Rattle.pit_model.specs.ExampleMines.{split_fork}
-use Rattle.pit_model.specs.ExampleTraces.{CutTrace, JournalsOfForks, KeptTrace, RunOfCutFork, SplitTrace, TracesOfForks, entry, split_last}
+use Rattle.pit_model.specs.ExampleTraces.{CutTrace, JournalsOfForks, KeptTrace, RunOfCutFork, SplitTrace, TracesOfForks, journal_entry, split_last}
 use Rattle.pit_model.proofs.FirstRuns.{first_merger_is_least}
 
 cut_trace : CutTrace
@@ -65,9 +65,9 @@ journals_of_forks = record {
   replayed = refl;
   counted = refl;
   listed = refl;
-  seated = All-cons Seated (entry 3 2 Stale) [] (omega arith, omega arith) (All-nil Seated);
-  no_seat_behind = λ seated. let h = All-head Seated (entry 4 2 Stale) [] seated in absurd (omega arith);
-  no_arc_behind = λ seated. let h = All-head Seated (entry 3 3 Stale) [] seated in absurd (omega arith);
+  seated = All-cons Seated (journal_entry 3 2 Stale) [] (omega arith, omega arith) (All-nil Seated);
+  no_seat_behind = λ seated. let h = All-head Seated (journal_entry 4 2 Stale) [] seated in absurd (omega arith);
+  no_arc_behind = λ seated. let h = All-head Seated (journal_entry 3 3 Stale) [] seated in absurd (omega arith);
   spends = record {
     lawful = (refl, (refl, (refl, (refl, (refl, (refl, tt))))));
     left = (1, refl);

@@ -11,8 +11,8 @@ use Rattle.pit_model.specs.declared.direction.Direction.{Direction}
 use Rattle.pit_model.specs.declared.direction.Direction.TheVariants.{Greatest, Least}
 use Rattle.pit_model.specs.Graph.{Graph}
 use Rattle.pit_model.specs.Mine.{Instance, IsSimple, arcs, source, target, value}
-use Rattle.pit_model.specs.Fixed.{Fixed, IsClashFree, IsFixedJoined, IsFixedRest, graph_of_mine, is_open, mine_among, turned}
-use Rattle.pit_model.specs.Direction.{IsPitToward, IsTurned, nothing}
+use Rattle.pit_model.specs.Fixed.{Fixed, IsClashFree, IsFixedJoined, IsFixedRest, graph_of_mine, is_open, mine_among, transposed}
+use Rattle.pit_model.specs.Direction.{IsPitToward, IsDual, no_blocks_fixed}
 use Rattle.pit_model.specs.Tree.{Tree, flow, is_merger, is_strong, opening, IsNormalised}
 use Rattle.pit_model.specs.Merger.{merged}
 use Rattle.pit_model.specs.Rank.{rank}
@@ -20,11 +20,11 @@ use Rattle.pit_model.specs.FirstRun.{HasMerger, HasNoMerger, IsFirstMerger, firs
 use Rattle.pit_model.specs.Journal.{applied_count, replay}
 use Rattle.pit_model.specs.Existence.{BudgetSuffices, PitExists, PitTowardExists}
 use Rattle.pit_model.proofs.Duality.{certificate_gives_pit}
-use Rattle.pit_model.proofs.Fixed.{none_fixes_nothing, settled_are_apart, turned_at, turned_count}
+use Rattle.pit_model.proofs.Fixed.{none_fixes_nothing, settled_are_apart, transposed_at, transposed_count}
 use Rattle.pit_model.proofs.OneRest.{part_once}
 use Rattle.pit_model.proofs.Rest.{part_each}
 use Rattle.pit_model.proofs.Simple.{graph_is_simple}
-use Rattle.pit_model.proofs.Turned.{complement_is_greatest, nothing_fixed, rest_gives_pit_toward}
+use Rattle.pit_model.proofs.Dual.{complement_is_greatest, nothing_fixed, rest_gives_pit_toward}
 use Rattle.pit_model.proofs.FirstRuns.{after_first_none, after_first_some, first_merger_is_least, first_run-suc, first_run-zero, first_run_is_normalised}
 use Rattle.pit_model.proofs.Gathered.{merger_keeps_normalised}
 use Rattle.pit_model.proofs.Journals.{journal_keeps_normalised, replayed}
@@ -114,18 +114,18 @@ budget_suffices = record {
 -- ---- toward each direction, and with fixed blocks
 
 module _ (mine : Instance) (simple : IsSimple mine) where
-  abbrev turned_mine : Instance
-  turned_mine = record { blocks = mine.blocks; values = map (λ u. pos 0 -ℤ value mine u) (range_with_len 0 mine.blocks); pairs = turned mine.pairs }
+  abbrev dual_mine : Instance
+  dual_mine = record { blocks = mine.blocks; values = map (λ u. pos 0 -ℤ value mine u) (range_with_len 0 mine.blocks); pairs = transposed mine.pairs }
 
-  swapped : (k : ℕ) → k < length (turned mine.pairs) → (k < arcs mine) × (source turned_mine k ≡ target mine k) × (target turned_mine k ≡ source mine k)
+  swapped : (k : ℕ) → k < length (transposed mine.pairs) → (k < arcs mine) × (source dual_mine k ≡ target mine k) × (target dual_mine k ≡ source mine k)
   swapped k l =
-      let size = turned_count mine.pairs in
+      let size = transposed_count mine.pairs in
       let inside : k < length mine.pairs = omega arith in
-      let at = turned_at mine.pairs k inside in
+      let at = transposed_at mine.pairs k inside in
       (inside, ap (λ (q : ℕ × ℕ). q.0) at, ap (λ (q : ℕ × ℕ). q.1) at)
 
-  turned_is : IsTurned mine turned_mine
-  turned_is = record {
+  dual_is : IsDual mine dual_mine
+  dual_is = record {
     reversed = record { same_blocks = refl; pairs_are = record { count = refl; forth = λ k l. (k, l, refl); back = λ k l. (k, l, refl) } };
     counted = length-map (range_with_len 0 mine.blocks) (λ u. pos 0 -ℤ value mine u) ∙ length-range_with_len 0 mine.blocks;
     negated = λ u l.
@@ -135,8 +135,8 @@ module _ (mine : Instance) (simple : IsSimple mine) where
         get_or-map (λ v. pos 0 -ℤ value mine v) (range_with_len 0 mine.blocks) u 0 (pos 0) inside ∙ ap (λ v. pos 0 -ℤ value mine v) (get_or-range_with_len 0 mine.blocks u 0 l ∙ plain);
   }
 
-  turned_simple : IsSimple turned_mine
-  turned_simple = record {
+  dual_simple : IsSimple dual_mine
+  dual_simple = record {
     in_range = λ k l. let at = swapped k l in let ends = simple.in_range k at.0 in let a = at.1 in let b = at.2 in (omega arith, omega arith);
     once = λ k l k_below l_below a b.
         let at = swapped k k_below in
@@ -148,11 +148,11 @@ module _ (mine : Instance) (simple : IsSimple mine) where
         simple.one_way k l at.0 there.0 (sym at.2 ∙ b ∙ there.1) (sym at.1 ∙ a ∙ there.2);
   }
 
-free_exists : (direction : Direction) (mine : Instance) → IsSimple mine → (set : ℕ → Bool) × IsPitToward direction mine nothing set
-free_exists Least mine simple = let pit = pit_exists mine simple in (pit.0, (none_fixes_nothing mine nothing pit.0 nothing_fixed).1 pit.1)
+free_exists : (direction : Direction) (mine : Instance) → IsSimple mine → (set : ℕ → Bool) × IsPitToward direction mine no_blocks_fixed set
+free_exists Least mine simple = let pit = pit_exists mine simple in (pit.0, (none_fixes_nothing mine no_blocks_fixed pit.0 nothing_fixed).1 pit.1)
 free_exists Greatest mine simple =
-    let pit = pit_exists (turned_mine mine simple) (turned_simple mine simple) in
-    (λ u. not (pit.0 u), complement_is_greatest mine (turned_mine mine simple) pit.0 (turned_is mine simple) pit.1)
+    let pit = pit_exists (dual_mine mine simple) (dual_simple mine simple) in
+    (λ u. not (pit.0 u), complement_is_greatest mine (dual_mine mine simple) pit.0 (dual_is mine simple) pit.1)
 
 differs : (a b : ℕ) → (a ≡ b → ⊥) → eqb a b ≡ false
 differs a b ne = grind (arith)

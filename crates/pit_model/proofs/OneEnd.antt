@@ -8,13 +8,13 @@ use Rattle.pit_model.specs.declared.direction.Direction.{Direction}
 use Rattle.pit_model.specs.declared.direction.Direction.TheVariants.{Least, Greatest}
 use Rattle.pit_model.specs.Graph.{AreSamePairs, Graph, IsGraph, first_of, second_of}
 use Rattle.pit_model.specs.Mine.{Instance, instance_of}
-use Rattle.pit_model.specs.Fixed.{turned}
+use Rattle.pit_model.specs.Fixed.{transposed}
 use Rattle.pit_model.specs.Part.{AreConnected, AreNeighbours, IsClass}
 use Rattle.pit_model.specs.Deposit.{Deposit, graph_of, mine_at, values_at}
 use Rattle.pit_model.specs.Shells.{IsShellBefore, factor_of}
 use Rattle.pit_model.specs.FirstRun.{HasMerger, HasNoMerger, first_run}
 use Rattle.pit_model.specs.OneEnd.{BudgetEndsOneWay, PartsAreOne, SearchedIsOne, ShellRestIsOne}
-use Rattle.pit_model.specs.Direction.{IsSearched, IsTurned, nothing}
+use Rattle.pit_model.specs.Direction.{IsSearched, IsDual, no_blocks_fixed}
 use Rattle.pit_model.proofs.OneOrder.{pairs_have_one_order}
 use Rattle.pit_model.proofs.Members.{members_ext}
 use Rattle.pit_model.proofs.OneRest.{one_part, rest_is_one}
@@ -82,16 +82,16 @@ same_through ps qs rs q r = record {
   back = λ k l. let at = r.back k l in let there = q.forth at.0 at.1 in (there.0, there.1, there.2 ∙ at.2);
 }
 
--- an instance is turned round in one way
-turned_is_one : (mine other second : Instance) → IsTurned mine other → IsTurned mine second → IsGraph other.blocks other.pairs → IsGraph second.blocks second.pairs → other ≡ second
-turned_is_one mine other second is is_second graph second_graph =
+-- an instance has one dual
+dual_is_one : (mine other second : Instance) → IsDual mine other → IsDual mine second → IsGraph other.blocks other.pairs → IsGraph second.blocks second.pairs → other ≡ second
+dual_is_one mine other second is is_second graph second_graph =
     let blocks : other.blocks ≡ second.blocks = is.reversed.same_blocks ∙ sym is_second.reversed.same_blocks in
     let mine_blocks : other.blocks ≡ mine.blocks = is.reversed.same_blocks in
     let count : length other.values ≡ length second.values = is.counted ∙ blocks ∙ sym is_second.counted in
     let values : other.values ≡ second.values = ext_get_or (pos 0) other.values second.values count (λ u l.
     let below : u < mine.blocks = subst (λ n. u < n) (is.counted ∙ mine_blocks) l in
     is.negated u below ∙ sym (is_second.negated u below)) in
-    let pairs : other.pairs ≡ second.pairs = pairs_have_one_order other.pairs second.pairs (same_through (turned mine.pairs) other.pairs second.pairs is.reversed.pairs_are is_second.reversed.pairs_are) graph.rising second_graph.rising in
+    let pairs : other.pairs ≡ second.pairs = pairs_have_one_order other.pairs second.pairs (same_through (transposed mine.pairs) other.pairs second.pairs is.reversed.pairs_are is_second.reversed.pairs_are) graph.rising second_graph.rising in
     ap (λ n. instance_of n other.values other.pairs) blocks
     ∙ ap (λ (vs : List ℤ). instance_of second.blocks vs other.pairs) values
     ∙ ap (λ (ps : List (ℕ × ℕ)). instance_of second.blocks second.values ps) pairs
@@ -100,7 +100,7 @@ pub searched_is_one : SearchedIsOne
 searched_is_one Least mine fixed searched other is is_other = rest_is_one mine fixed searched other is is_other
 searched_is_one Greatest mine fixed searched other is is_other =
     let same : is.0 ≡ is_other.0 = rest_is_one mine fixed is.0 is_other.0 is.1 is_other.1 in
-    turned_is_one is_other.0 searched other (subst (λ (rest : Instance). IsTurned rest searched) same is.2) is_other.2 is.3 is_other.3
+    dual_is_one is_other.0 searched other (subst (λ (rest : Instance). IsDual rest searched) same is.2) is_other.2 is.3 is_other.3
 
 pub budget_ends_one_way : BudgetEndsOneWay
 budget_ends_one_way = record {
@@ -108,6 +108,6 @@ budget_ends_one_way = record {
       not_both searched other budget (searched_is_one direction mine fixed searched other is is_other) left none;
   of_factor = λ direction deposit factors k rest second searched other budget is is_second searched_is other_is left none.
       let same = shell_rest_is_one direction deposit factors k rest second is is_second in
-      let here = subst (λ (m : Instance). IsSearched direction m nothing searched) same searched_is in
-      not_both searched other budget (searched_is_one direction second nothing searched other here other_is) left none;
+      let here = subst (λ (m : Instance). IsSearched direction m no_blocks_fixed searched) same searched_is in
+      not_both searched other budget (searched_is_one direction second no_blocks_fixed searched other here other_is) left none;
 }

@@ -15,23 +15,23 @@ use Rattle.pit_model.specs.Mine.{Instance, worth}
 use Rattle.pit_model.specs.Deposit.{Deposit, mine_at}
 use Rattle.pit_model.specs.PitText.{with_decimals}
 use Rattle.pit_model.specs.Shells.{IsShell}
-use Rattle.pit_model.specs.ShellText.{shells_head, shell_line, block_line, has_block, first_factor, last_pit, shells_text}
-use Rattle.pit_model.specs.Direction.{IsPitToward, nothing}
+use Rattle.pit_model.specs.ShellText.{shells_head, shell_line, block_factor_line, has_block, first_factor, last_pit, shells_text}
+use Rattle.pit_model.specs.Direction.{IsPitToward, no_blocks_fixed}
 use Rattle.pit_model.specs.Uniqueness.{AreOneSet, ShellsAreOne, plain}
 use Rattle.pit_model.proofs.Fixed.{fixed_pit_is_one}
-use Rattle.pit_model.proofs.Turned.{greatest_is_one}
+use Rattle.pit_model.proofs.Dual.{greatest_is_one}
 
 abbrev pub Plain : Type 0
 Plain = ℕ × List ℕ × ℤ
 
 -- toward each direction two pits are one set
-pub pit_toward_is_one : (direction : Direction) (mine : Instance) (pit other : ℕ → Bool) → IsPitToward direction mine nothing pit → IsPitToward direction mine nothing other → AreOneSet mine pit other
-pit_toward_is_one Least mine pit other is is_other = fixed_pit_is_one mine nothing pit other is is_other
-pit_toward_is_one Greatest mine pit other is is_other = greatest_is_one mine nothing pit other is is_other
+pub pit_toward_is_one : (direction : Direction) (mine : Instance) (pit other : ℕ → Bool) → IsPitToward direction mine no_blocks_fixed pit → IsPitToward direction mine no_blocks_fixed other → AreOneSet mine pit other
+pit_toward_is_one Least mine pit other is is_other = fixed_pit_is_one mine no_blocks_fixed pit other is is_other
+pit_toward_is_one Greatest mine pit other is is_other = greatest_is_one mine no_blocks_fixed pit other is is_other
 
 one_shell : (direction : Direction) (deposit : Deposit) (s t : Shell) → IsShell direction deposit s → IsShell direction deposit t → s.factor ≡ t.factor → plain s ≡ plain t
 one_shell direction deposit s t is is_other at =
-    let one = pit_toward_is_one direction (mine_at deposit s.factor) is.set is_other.set is.is_pit (subst (λ k. IsPitToward direction (mine_at deposit k) nothing is_other.set) (sym at) is_other.is_pit) in
+    let one = pit_toward_is_one direction (mine_at deposit s.factor) is.set is_other.set is.is_pit (subst (λ k. IsPitToward direction (mine_at deposit k) no_blocks_fixed is_other.set) (sym at) is_other.is_pit) in
     let blocks : s.pit.items ≡ t.pit.items = is.listed ∙ one.listed ∙ sym is_other.listed in
     let worths : s.worth ≡ t.worth = is.worth_is ∙ one.worths ∙ ap (λ k. worth (mine_at deposit k) is_other.set) at ∙ sym is_other.worth_is in
     ap (λ k. (k, s.pit.items, s.worth)) at ∙ ap (λ xs. (t.factor, xs, s.worth)) blocks ∙ ap (λ w. (t.factor, t.pit.items, w)) worths
@@ -78,8 +78,8 @@ first_is u (s ∷ ss) = ⊎_elim
     (λ (no : has_block u s ≡ false). rw no (first_is u ss))
     (cases_Bool (has_block u s))
 
-blocks_are : (us : List ℕ) (ss : List Shell) → flat_map (block_line ss) us ≡ flat_map (plain_block (map plain ss)) us
-unfolding block_line plain_block
+blocks_are : (us : List ℕ) (ss : List Shell) → flat_map (block_factor_line ss) us ≡ flat_map (plain_block (map plain ss)) us
+unfolding block_factor_line plain_block
 blocks_are [] ss = refl
 blocks_are (u ∷ us) ss = rw (first_is u ss, blocks_are us ss) refl
 
@@ -97,8 +97,8 @@ last_is ss =
 pub text_is : (n : ℕ) (ss : List Shell) → shells_text n ss ≡ plain_text n (map plain ss)
 unfolding plain_text
 text_is n ss =
-    ap (λ k. shells_head n k ++ flat_map shell_line ss ++ flat_map (block_line ss) (last_pit ss)) (sym (length-map ss plain))
-    ∙ ap (λ ls. shells_head n (length (map plain ss)) ++ ls ++ flat_map (block_line ss) (last_pit ss)) (lines_are ss)
+    ap (λ k. shells_head n k ++ flat_map shell_line ss ++ flat_map (block_factor_line ss) (last_pit ss)) (sym (length-map ss plain))
+    ∙ ap (λ ls. shells_head n (length (map plain ss)) ++ ls ++ flat_map (block_factor_line ss) (last_pit ss)) (lines_are ss)
     ∙ ap (λ ls. shells_head n (length (map plain ss)) ++ flat_map plain_line (map plain ss) ++ ls)
     (blocks_are (last_pit ss) ss ∙ ap (flat_map (plain_block (map plain ss))) (last_is ss))
 

@@ -8,7 +8,7 @@ use Rattle.pit_model.specs.Flow.{HasResidual}
 use Rattle.pit_model.specs.Certificate.{Certifies, IsCertificate}
 use Rattle.pit_model.specs.Deposit.{value_at}
 use Rattle.pit_model.specs.Fixed.{Fixed, IsClash, IsFixedCertificate, IsFixedPit, IsRestOf, fixed_of, is_among}
-use Rattle.pit_model.specs.Direction.{IsPitToward, IsSearched, nothing}
+use Rattle.pit_model.specs.Direction.{IsPitToward, IsSearched, no_blocks_fixed}
 use Rattle.pit_model.specs.Shells.{IsRest, IsShell}
 use Rattle.pit_model.specs.Uniqueness.{plain}
 use Rattle.pit_model.specs.ExampleMines.{cut_fork, field, pair_deposit, three_deposit, two_blocks}
@@ -27,9 +27,9 @@ pub record PitsOfTwoBlocks : Type 0 where
   pub not_both : IsPit (two_blocks (loss 5) (pos 5)) (is_among (0 ∷ 1 ∷ [])) → ⊥
   pub not_alone : IsClosed (two_blocks (loss 5) (pos 5)) (is_among (1 ∷ [])) → ⊥
   pub waste_alone : IsClosed (two_blocks (loss 5) (pos 5)) (is_among (0 ∷ []))
-  pub greatest : IsPitToward Greatest (two_blocks (loss 5) (pos 5)) nothing (is_among (0 ∷ 1 ∷ []))
-  pub not_nothing : IsPitToward Greatest (two_blocks (loss 5) (pos 5)) nothing (is_among []) → ⊥
-  pub searched : IsSearched Greatest (two_blocks (loss 5) (pos 5)) nothing (instance_of 2 (pos 5 ∷ loss 5 ∷ []) ((0, 1) ∷ []))
+  pub greatest : IsPitToward Greatest (two_blocks (loss 5) (pos 5)) no_blocks_fixed (is_among (0 ∷ 1 ∷ []))
+  pub not_nothing : IsPitToward Greatest (two_blocks (loss 5) (pos 5)) no_blocks_fixed (is_among []) → ⊥
+  pub searched : IsSearched Greatest (two_blocks (loss 5) (pos 5)) no_blocks_fixed (instance_of 2 (pos 5 ∷ loss 5 ∷ []) ((0, 1) ∷ []))
 
 -- the law: two flows show the pit of the fork; each condition refuses what breaks it alone
 pub record CertificatesOfSmallMines : Type 0 where

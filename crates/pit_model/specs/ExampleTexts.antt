@@ -6,14 +6,14 @@ use Rattle.pit_model.specs.PitText.{pit_text}
 use Rattle.pit_model.specs.JournalText.{journal_text}
 use Rattle.pit_model.specs.ShellText.{shells_text}
 use Rattle.pit_model.specs.Uniqueness.{plain}
-use Rattle.pit_model.specs.ExampleTraces.{entry}
+use Rattle.pit_model.specs.ExampleTraces.{journal_entry}
 
 -- the law: so they read
 pub record TextsOfSmallAnswers : Type 0 where
   pub pit : pit_text 5 (1 ∷ 4 ∷ []) (neg_ℤ (pos 3000001)) ≡ codes "PIT\nBLOCKS: 5\nIN: 2\nWORTH: -3.000001\n1\n4\n"
   pub empty_pit : pit_text 1 [] (pos 0) ≡ codes "PIT\nBLOCKS: 1\nIN: 0\nWORTH: 0.000000\n"
   pub journal :
-      journal_text 4 3 (Some 20) (entry 1 0 Applied ∷ entry 12 2 Stale ∷ entry 0 1 Spent ∷ [])
+      journal_text 4 3 (Some 20) (journal_entry 1 0 Applied ∷ journal_entry 12 2 Stale ∷ journal_entry 0 1 Spent ∷ [])
       ≡ codes "PITJOURNAL 1\nBLOCKS: 4\nARCS: 3\nBUDGET: 20\nENTRIES: 3\n1 0 1\n12 2 2\n0 1 3\n"
   pub empty_journal : journal_text 4 3 None [] ≡ codes "PITJOURNAL 1\nBLOCKS: 4\nARCS: 3\nBUDGET: none\nENTRIES: 0\n"
   pub shells :

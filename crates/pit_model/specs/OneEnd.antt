@@ -4,7 +4,7 @@ use Rattle.pit_model.specs.declared.direction.Direction.{Direction}
 use Rattle.pit_model.specs.Graph.{Graph}
 use Rattle.pit_model.specs.Mine.{Instance}
 use Rattle.pit_model.specs.Part.{IsClass}
-use Rattle.pit_model.specs.Direction.{IsSearched, nothing}
+use Rattle.pit_model.specs.Direction.{IsSearched, no_blocks_fixed}
 use Rattle.pit_model.specs.Fixed.{Fixed}
 use Rattle.pit_model.specs.FirstRun.{HasMerger, HasNoMerger, first_run}
 use Rattle.pit_model.specs.Deposit.{Deposit}
@@ -37,5 +37,5 @@ pub record BudgetEndsOneWay : Type 0 where
       → IsSearched direction mine fixed other → HasMerger searched (first_run searched budget) → HasNoMerger other (first_run other budget) → ⊥
   pub of_factor :
       (direction : Direction) (deposit : Deposit) (factors : List ℕ) (k : ℕ) (rest second searched other : Instance) (budget : ℕ)
-      → IsRest direction deposit factors k rest → IsRest direction deposit factors k second → IsSearched direction rest nothing searched
-      → IsSearched direction second nothing other → HasMerger searched (first_run searched budget) → HasNoMerger other (first_run other budget) → ⊥
+      → IsRest direction deposit factors k rest → IsRest direction deposit factors k second → IsSearched direction rest no_blocks_fixed searched
+      → IsSearched direction second no_blocks_fixed other → HasMerger searched (first_run searched budget) → HasNoMerger other (first_run other budget) → ⊥

@@ -13,7 +13,7 @@ pub record DiffersAt (mine : Instance) (budget : Option ℕ) (journal : List Ent
   pub differs : IsLawful mine budget (take k journal) → ⊥
 
 -- each verdict is lawful, and no merger arc is left
-pub record IsSettled (mine : Instance) (budget : Option ℕ) (journal : List Entry) : Type 0 where
+pub record IsComplete (mine : Instance) (budget : Option ℕ) (journal : List Entry) : Type 0 where
   pub lawful : IsLawful mine budget journal
   pub none_left : HasNoMerger mine (replay mine journal)
 

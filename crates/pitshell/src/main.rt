@@ -4,11 +4,11 @@
 
 mod options;
 mod output;
+mod progress;
 mod stats;
 mod streams;
 mod system_files;
 mod watch;
-mod watched_runs;
 
 use clap::error::ErrorKind;
 use command_line::command;
@@ -16,6 +16,7 @@ use faults::Fault;
 use file_runs::report_fault;
 use minelib_reader::StreamWriter;
 use options::{Options, WatchOptions};
+use progress::run_with_progress;
 use runs::Status;
 use std::alloc::{AllocError, AllocGlobal};
 use std::process::ExitCode;
@@ -24,7 +25,6 @@ use std::thread::Threads;
 use std::time::Clock;
 use std::{env, io};
 use streams::StandIns;
-use watched_runs::watched_call;
 
 /// Tells how a run ended: a fault goes to standard error, and the exit status is answered.
 fn ended(rt: &HostRuntime, outcome: Result<Status, Fault>) -> ExitCode {
@@ -74,8 +74,8 @@ fn run<R: AllocGlobal + Threads + Wait + Clock + Eprint + Sync>(
             None => Ok(ExitCode::from(2)),
             Some(Err(line)) => Ok(not_understood(rt, line)),
             Some(Ok(options)) => {
-                let asked = WatchOptions::of(&matches);
-                Ok(ExitCode::from(watched_call(rt, threads, &options, &asked)?))
+                let settings = WatchOptions::of(&matches);
+                Ok(ExitCode::from(run_with_progress(rt, threads, &options, &settings)?))
             }
         },
     }

@@ -2,7 +2,7 @@
 
 use clap::ArgMatches;
 use file_runs::{CheckOptions, MineNames, ReplayOptions, ShellsOptions, SolveOptions};
-use runs::{Asked, mode_fault, mode_of, pit_fault, pit_of};
+use runs::{SolveSettings, mode_fault, parse_mode, parse_pit, pit_fault};
 use solver::Mode;
 
 /// One subcommand with its options.
@@ -61,25 +61,25 @@ fn mode_in(found: &ArgMatches<'_>, journal: bool) -> Option<Result<Mode, &'stati
     let budget = found.get_one::<u64>("budget");
     match mode_fault(word, budget.is_some(), journal) {
         Some(line) => Some(Err(line)),
-        None => Some(Ok(mode_of(word, workers, budget))),
+        None => Some(Ok(parse_mode(word, workers, budget))),
     }
 }
 
 /// What a subcommand is asked for, or what is wrong with it: of the mode first, then of the pit or of a certificate or a journal
 /// beside it. None where the parse has let through what it refuses.
-fn asked_in(
+fn settings_in(
     found: &ArgMatches<'_>,
     certificate: bool,
     journal: bool,
-) -> Option<Result<Asked, &'static str>> {
+) -> Option<Result<SolveSettings, &'static str>> {
     let word = found.get_str("pit")?;
     match mode_in(found, journal)? {
         Err(line) => Some(Err(line)),
         Ok(mode) => match pit_fault(word, certificate, journal) {
             Some(line) => Some(Err(line)),
-            None => Some(Ok(Asked {
+            None => Some(Ok(SolveSettings {
                 mode,
-                pit: pit_of(word),
+                pit: parse_pit(word),
             })),
         },
     }
@@ -89,28 +89,28 @@ fn asked_in(
 fn solve_of<'a>(found: &ArgMatches<'a>) -> Option<Result<Options<'a>, &'static str>> {
     let certificate = found.get_str("certificate");
     let journal = found.get_str("journal");
-    match asked_in(found, certificate.is_some(), journal.is_some())? {
+    match settings_in(found, certificate.is_some(), journal.is_some())? {
         Err(line) => Some(Err(line)),
-        Ok(asked) => Some(Ok(Options::Solve(SolveOptions {
+        Ok(settings) => Some(Ok(Options::Solve(SolveOptions {
             mine: mine_in(found)?,
             certificate,
             journal,
-            asked,
+            settings,
         }))),
     }
 }
 
 /// The options of `shells`.
 fn shells_of<'a>(found: &ArgMatches<'a>) -> Option<Result<Options<'a>, &'static str>> {
-    match asked_in(found, false, false)? {
+    match settings_in(found, false, false)? {
         Err(line) => Some(Err(line)),
-        Ok(asked) => Some(Ok(Options::Shells(ShellsOptions {
+        Ok(settings) => Some(Ok(Options::Shells(ShellsOptions {
             blocks: found.get_str("blocks")?,
             prec: found.get_str("prec")?,
             revenue: u32::try_from(found.get_one::<u64>("revenue")?).ok()?,
             cost: u32::try_from(found.get_one::<u64>("cost")?).ok()?,
             factors: found.get_str("factors")?,
-            asked,
+            settings,
         }))),
     }
 }

@@ -84,7 +84,7 @@ impl Watcher {
     }
 
     /// How long it may sleep.
-    fn rest(&self) -> Duration {
+    fn time_left(&self) -> Duration {
         self.due.saturating_sub(self.looked)
     }
 }
@@ -131,7 +131,7 @@ pub fn watch<R: AllocGlobal + Wait + Clock + Eprint>(
         if phase == Phase::Ended {
             break;
         }
-        counters.wait_at(rt, phase, watcher.rest());
+        counters.wait_at(rt, phase, watcher.time_left());
         if watcher.look(rt, phase) {
             if let Some(counted) = counters.stats() {
                 tell(rt, phase, &counted);

@@ -6,16 +6,16 @@ ghost use Rattle.std.specs.Prelude.{◌≡◌, ◌≢◌, ◌↔◌, ◌<◌, �
 ghost use Rattle.faults.specs.Words.{number_of};
 ghost use Rattle.faults.specs.declared.refusal.Refusal.{Refusal as AnyRefusal};
 ghost use Rattle.arrays.specs.Certified.{CertifyMarks, IsRefusedCertified, IsRefusedCheck, MarkCertified};
-ghost use Rattle.arrays.specs.Cycles.{SpellNoCycle, WritesCycle};
+ghost use Rattle.arrays.specs.Cycles.{EncodeNoCycle, WritesCycle};
 ghost use Rattle.arrays.specs.Nested.{MarkShells};
-ghost use Rattle.arrays.specs.Parts.{AreParts};
+ghost use Rattle.arrays.specs.Halves.{AreHalves};
 ghost use Rattle.arrays.specs.Refused.{IsRefusedBy, IsRefusedShells, RefusesRows};
 ghost use Rattle.arrays.specs.Solved.{MarkPit};
-ghost use Rattle.arrays.specs.Spelled.{priced_rows};
+ghost use Rattle.arrays.specs.Encoded.{priced_rows};
 
 use arrays::{
-    Certified, DepositArrays, MineArrays, Parts, Rows, Unsound, check_marks, find_cycle, have_room,
-    mark_certified, mark_pit, mark_shells, numbers_of, parts_of, write_parts,
+    ArrayError, Certified, DepositArrays, Halves, MineArrays, Rows, check_marks, find_cycle,
+    have_room, join_halves, mark_certified, mark_pit, mark_shells, split_i128, write_halves,
 };
 use faults::Refusal;
 use std::alloc::Global;
@@ -36,7 +36,7 @@ impl PitshellFound {
         ensures worth { pos (2 ^ 64) *ℤ result.worth_high +ℤ pos result.worth_low ≡ worth }
         ensures place { result.place ≡ 0 }
     {
-        let Parts { high, low } = parts_of(worth);
+        let Halves { high, low } = split_i128(worth);
         PitshellFound {
             worth_high: high,
             worth_low: low,
@@ -57,7 +57,7 @@ impl PitshellFound {
     }
 }
 
-/// The pit of the mine that the arrays spell: block u is worth `values[u]` millionths, and needs the blocks `needs[k]` for k from
+/// The pit of the mine that the arrays encode: block u is worth `values[u]` millionths, and needs the blocks `needs[k]` for k from
 /// `starts[u]` up to, and without, `starts[u + 1]`. `numbers[u]` is 1 where block u is forced in, 2 where it is barred, else 0; there
 /// may be none at all. Of the best sets it is the smallest, or the greatest. Where the answer is 0, `marks[u]` is 1 if block u is in the pit, and else 0.
 #[unsafe(no_mangle)]
@@ -97,7 +97,7 @@ pub extern "C" fn pitshell_solve(
     }
 }
 
-/// The nested pits of the deposit that the arrays spell: block u yields `revenues[u]` and costs `costs[u]` millionths, and needs blocks as
+/// The nested pits of the deposit that the arrays encode: block u yields `revenues[u]` and costs `costs[u]` millionths, and needs blocks as
 /// in `pitshell_solve`; at a factor f it is worth f * revenue - 1000 * cost, in billionths. Where the answer is 0, `firsts[u]` is the
 /// number, from 0, of the first factor whose pit holds block u, or how many factors there are where none does, and the pit of factor k
 /// is worth `worths_high[k]` times 2^64 plus `worths_low[k]`.
@@ -114,7 +114,7 @@ pub extern "C" fn pitshell_shells(
     worths_low: &mut [u64],
     place: &mut u32,
 ) -> u32
-    ensures solved { result ≡ 0 → (amounts : List ℤ) × AreParts amounts worths_high.new worths_low.new × MarkShells (priced_rows revenues.now costs.now starts.now needs.now) factors.now firsts.new amounts }
+    ensures solved { result ≡ 0 → (amounts : List ℤ) × AreHalves amounts worths_high.new worths_low.new × MarkShells (priced_rows revenues.now costs.now starts.now needs.now) factors.now firsts.new amounts }
     ensures refused { result ≢ 0 → IsRefusedShells (priced_rows revenues.now costs.now starts.now needs.now) factors.now firsts.old worths_high.old worths_low.old result place.new }
     ensures kept { result ≢ 0 → (firsts.new ≡ firsts.old) × (worths_high.new ≡ worths_high.old) × (worths_low.new ≡ worths_low.old) }
     ensures no_place { result ≡ 0 → place.new ≡ 0 }
@@ -133,17 +133,17 @@ pub extern "C" fn pitshell_shells(
     };
     match mark_shells(alloc, &deposit, factors, firsts) {
         Ok(worths) => {
-            write_parts(&worths, worths_high, worths_low);
+            write_halves(&worths, worths_high, worths_low);
             0
         }
-        Err(Unsound { refusal, place: at }) => {
+        Err(ArrayError { refusal, place: at }) => {
             *place = at;
             refusal.number()
         }
     }
 }
 
-/// The pit of the mine that the arrays spell, as `pitshell_solve` finds the smallest, with the flow that shows it: on the pair of the need
+/// The pit of the mine that the arrays encode, as `pitshell_solve` finds the smallest, with the flow that shows it: on the pair of the need
 /// at place k flow `flow_high[k]` times 2^64 plus `flow_low[k]` millionths. The blocks of each row rise.
 #[unsafe(no_mangle)]
 pub extern "C" fn pitshell_certificate(
@@ -156,7 +156,7 @@ pub extern "C" fn pitshell_certificate(
     flow_low: &mut [u64],
     found: &mut PitshellFound,
 ) -> u32
-    ensures solved { result ≡ 0 → (amounts : List ℤ) × AreParts amounts flow_high.new flow_low.new
+    ensures solved { result ≡ 0 → (amounts : List ℤ) × AreHalves amounts flow_high.new flow_low.new
         × MarkCertified values.now starts.now needs.now marks.new amounts (pos (2 ^ 64) *ℤ found.new.worth_high +ℤ pos found.new.worth_low) }
     ensures refused { result ≢ 0 → IsRefusedCertified (length values.now) starts.now needs.now marks.old flow_high.old flow_low.old result found.new.place }
     ensures kept { result ≢ 0 → (marks.new ≡ marks.old) × (flow_high.new ≡ flow_high.old) × (flow_low.new ≡ flow_low.old) }
@@ -177,18 +177,18 @@ pub extern "C" fn pitshell_certificate(
         marks,
     ) {
         Ok(Certified { worth, flow }) => {
-            write_parts(&flow, flow_high, flow_low);
+            write_halves(&flow, flow_high, flow_low);
             *found = PitshellFound::worth(worth);
             0
         }
-        Err(Unsound { refusal, place }) => {
+        Err(ArrayError { refusal, place }) => {
             *found = PitshellFound::refused(place);
             refusal.number()
         }
     }
 }
 
-/// Whether a flow shows that the marked blocks are the pit of the mine that the arrays spell, whoever made it; places, parts and rows are
+/// Whether a flow shows that the marked blocks are the pit of the mine that the arrays encode, whoever made it; places, parts and rows are
 /// as in `pitshell_certificate`. Where the answer is 0, `yes` says so.
 #[unsafe(no_mangle)]
 pub extern "C" fn pitshell_check(
@@ -202,7 +202,7 @@ pub extern "C" fn pitshell_check(
     yes: &mut bool,
     place: &mut u32,
 ) -> u32
-    ensures answered { result ≡ 0 → (amounts : List ℤ) × AreParts amounts flow_high.now flow_low.now
+    ensures answered { result ≡ 0 → (amounts : List ℤ) × AreHalves amounts flow_high.now flow_low.now
         × (IsTrue yes.new ↔ CertifyMarks values.now starts.now needs.now marks.now amounts) }
     ensures refused { result ≢ 0 → IsRefusedCheck (length values.now) starts.now needs.now marks.now flow_high.now flow_low.now result place.new }
     ensures no { result ≢ 0 → yes.new ≡ false }
@@ -213,7 +213,7 @@ pub extern "C" fn pitshell_check(
     if !have_room(needs.len(), flow_high, flow_low) {
         return Refusal::CountsDiffer.number();
     }
-    let Ok(flow) = numbers_of(alloc, flow_high, flow_low) else {
+    let Ok(flow) = join_halves(alloc, flow_high, flow_low) else {
         return Refusal::NoMemory.number();
     };
     match check_marks(
@@ -230,7 +230,7 @@ pub extern "C" fn pitshell_check(
             *yes = answer;
             0
         }
-        Err(Unsound { refusal, place: at }) => {
+        Err(ArrayError { refusal, place: at }) => {
             *place = at;
             refusal.number()
         }
@@ -250,7 +250,7 @@ pub extern "C" fn pitshell_cycle(
     count: &mut usize,
     place: &mut u32,
 ) -> u32
-    ensures none { result ≡ 0 → count.new ≡ 0 → SpellNoCycle blocks starts.now needs.now }
+    ensures none { result ≡ 0 → count.new ≡ 0 → EncodeNoCycle blocks starts.now needs.now }
     ensures some { result ≡ 0 → 0 < count.new → WritesCycle blocks starts.now needs.now cycle.new count.new }
     ensures refused { result ≢ 0 → (refusal : AnyRefusal) × (result ≡ number_of refusal) × RefusesRows blocks starts.now needs.now refusal place.new }
     ensures kept { result ≢ 0 → cycle.new ≡ cycle.old }
@@ -273,7 +273,7 @@ pub extern "C" fn pitshell_cycle(
             *count = found;
             0
         }
-        Err(Unsound { refusal, place: at }) => {
+        Err(ArrayError { refusal, place: at }) => {
             *place = at;
             refusal.number()
         }

@@ -10,19 +10,19 @@ use Rattle.atomic_table.specs.declared.shared.Seat.{Seat}
 use Rattle.atomic_table.proofs.Lists.{at_set, set_else}
 use Rattle.proposals.specs.declared.draw_ledger.DrawLedger.{DrawLedger}
 use Rattle.proposals.specs.declared.draw_ledger.Batch.{Batch}
-use Rattle.proposals.specs.Drawn.{one_if, times, past, total, hand, Fits, Given, batch, whole, drawing, all_drawn, IsEachBelowOnce, Drew, nobody, cut, one_seat, gathered}
+use Rattle.proposals.specs.Drawn.{one_if, times, past, sum_over, hand, Fits, Given, batch, whole, drawing, all_drawn, IsEachBelowOnce, Drew, empty_draws, cut, one_seat, gathered}
 use Rattle.proposals.specs.DrawSeats.{IsDrawer}
 use Rattle.proposals.proofs.Dealing.{at_end}
 
 abbrev pub St : Type 0
 St = State (Unit {0}) DrawLedger
 
-pub total_set : (f : DrawLedger → ℕ) (l : List DrawLedger) (i : ℕ) (v w : DrawLedger) → get_elem? l i ≡ some v → total f (set l i w) + f v ≡ total f l + f w
+pub total_set : (f : DrawLedger → ℕ) (l : List DrawLedger) (i : ℕ) (v w : DrawLedger) → get_elem? l i ≡ some v → sum_over f (set l i w) + f v ≡ sum_over f l + f w
 total_set f [] i v w e = absurd (some-ne-none v (sym e))
 total_set f (x ∷ xs) zero v w e = let s : f x ≡ f v = ap f (some-injective x v e) in omega arith
 total_set f (x ∷ xs) (suc i) v w e = let h = total_set f xs i v w e in omega arith
 
-total_snoc : (f : DrawLedger → ℕ) (l : List DrawLedger) (v : DrawLedger) → total f (l ++ v ∷ []) ≡ total f l + f v
+total_snoc : (f : DrawLedger → ℕ) (l : List DrawLedger) (v : DrawLedger) → sum_over f (l ++ v ∷ []) ≡ sum_over f l + f v
 total_snoc f [] v = omega arith
 total_snoc f (x ∷ xs) v = let h = total_snoc f xs v in omega arith
 
@@ -37,7 +37,7 @@ past_append c (y ∷ ys) m = let h = past_append c ys m in omega arith
 abbrev Each : Batch → List DrawLedger → Type 0
 Each k l = (j : ℕ) (v : DrawLedger) → get_elem? l j ≡ some v → Fits k v
 
-total_below : (k : Batch) (l : List DrawLedger) → Each k l → total (λ v. past k.chunks v.drawn) l ≤ total (λ v. v.seats) l
+total_below : (k : Batch) (l : List DrawLedger) → Each k l → sum_over (λ v. past k.chunks v.drawn) l ≤ sum_over (λ v. v.seats) l
 total_below k [] h = omega arith
 total_below k (x ∷ xs) h = let a = (h 0 x refl).once_past in let b = total_below k xs (λ j v e. h (suc j) v e) in omega arith
 
@@ -67,7 +67,7 @@ next_bound : (n c d : ℕ) → n ≤ c + d → n + 1 ≤ c + (d + cond (ltb n c)
 next_bound n c d le = grind (arith, nat_tests)
 
 -- a seat that is not done has room: were it done, the seats that are done would still be no more than the seats
-slack : (k : Batch) (s : St) (h : Given k s) (id : ℕ) (v : DrawLedger) → get_elem? s.views id ≡ some v → v.seats ≡ 1 → past k.chunks v.drawn ≡ 0 → total (λ x. past k.chunks x.drawn) s.views + 1 ≤ k.seats
+slack : (k : Batch) (s : St) (h : Given k s) (id : ℕ) (v : DrawLedger) → get_elem? s.views id ≡ some v → v.seats ≡ 1 → past k.chunks v.drawn ≡ 0 → sum_over (λ x. past k.chunks x.drawn) s.views + 1 ≤ k.seats
 slack k s h id v at one going =
     let w : DrawLedger = hand v.chunks 1 (k.chunks ∷ []) in
     let p : past k.chunks w.drawn ≡ 1 = let u = is_past k.chunks in omega arith in
@@ -103,7 +103,7 @@ may_draw k slots id me one going s h _ at _ = subst Goal (sym found) (w, keeps, 
     now_past : past k.chunks w.drawn ≡ cond (ltb n k.chunks) 0 1
     now_past = let u = past_append k.chunks me.0.drawn (n ∷ []) in omega (arith, none_past, u)
 
-    room : total (λ x. past k.chunks x.drawn) s.views + 1 ≤ k.seats
+    room : sum_over (λ x. past k.chunks x.drawn) s.views + 1 ≤ k.seats
     room = slack k s h id me.0 at one none_past
 
     next : (n + 1) % 18446744073709551616 ≡ n + 1
@@ -112,7 +112,7 @@ may_draw k slots id me one going s h _ at _ = subst Goal (sym found) (w, keeps, 
     fits : Fits k w
     fits = record { same = λ _. same; once_past = let u = one_past n k.chunks in omega (arith, now_past, one); empty = λ e. absurd (omega (arith, one)) }
 
-    pasts : total (λ x. past k.chunks x.drawn) (set s.views id w) ≡ total (λ x. past k.chunks x.drawn) s.views + cond (ltb n k.chunks) 0 1
+    pasts : sum_over (λ x. past k.chunks x.drawn) (set s.views id w) ≡ sum_over (λ x. past k.chunks x.drawn) s.views + cond (ltb n k.chunks) 0 1
     pasts = let t = total_set (λ (x : DrawLedger). past k.chunks x.drawn) s.views id me.0 w at in omega (arith, t, none_past, now_past)
 
     given : Given k (stepped s 0 ((n + 1) % 18446744073709551616) id me.1 w keeps)
@@ -121,22 +121,22 @@ may_draw k slots id me one going s h _ at _ = subst Goal (sym found) (w, keeps, 
       words = ap (λ (l : List ℕ). set l 0 ((n + 1) % 18446744073709551616)) h.words ∙ ap (λ (z : ℕ). z ∷ []) next;
       once = λ x. let t = total_set (λ (v : DrawLedger). times x v.drawn) s.views id me.0 w at in let u = times_append x me.0.drawn (n ∷ []) in let o = once_next x n in let p = h.once x in omega arith;
       seats = let t = total_set (λ (v : DrawLedger). v.seats) s.views id me.0 w at in let p = h.seats in omega arith;
-      bound = subst (λ (y : ℕ). n + 1 ≤ k.chunks + y) (sym pasts) (next_bound n k.chunks (total (λ x. past k.chunks x.drawn) s.views) h.bound);
+      bound = subst (λ (y : ℕ). n + 1 ≤ k.chunks + y) (sym pasts) (next_bound n k.chunks (sum_over (λ x. past k.chunks x.drawn) s.views) h.bound);
       each = each_set k s.views id w h.each fits;
       small = h.small;
     }
 
 -- a seat that stands for none may come at any time
-pub may_enter : (k : Batch) (slots i : ℕ) → Enters (Given k) slots i (λ _ w. w ≡ nobody)
+pub may_enter : (k : Batch) (slots i : ℕ) → Enters (Given k) slots i (λ _ w. w ≡ empty_draws)
 may_enter k slots i s h _ _ = (
-  nobody,
+  empty_draws,
   record {
     counter = h.counter;
     words = h.words;
-    once = λ x. let t = total_snoc (λ (v : DrawLedger). times x v.drawn) s.views nobody in let p = h.once x in omega arith;
-    seats = let t = total_snoc (λ (v : DrawLedger). v.seats) s.views nobody in let p = h.seats in omega arith;
-    bound = let t = total_snoc (λ (v : DrawLedger). past k.chunks v.drawn) s.views nobody in let p = h.bound in omega arith;
-    each = each_snoc k s.views nobody h.each record { same = λ lt. absurd (omega arith); once_past = omega arith; empty = λ _. refl };
+    once = λ x. let t = total_snoc (λ (v : DrawLedger). times x v.drawn) s.views empty_draws in let p = h.once x in omega arith;
+    seats = let t = total_snoc (λ (v : DrawLedger). v.seats) s.views empty_draws in let p = h.seats in omega arith;
+    bound = let t = total_snoc (λ (v : DrawLedger). past k.chunks v.drawn) s.views empty_draws in let p = h.bound in omega arith;
+    each = each_snoc k s.views empty_draws h.each record { same = λ lt. absurd (omega arith); once_past = omega arith; empty = λ _. refl };
     small = h.small;
   },
   refl,
@@ -160,14 +160,14 @@ may_cut k id v some_left clean s h at = record {
     front = set s.views id (cut v)
 
 -- one seat takes another in
-pub may_gather : (k : Batch) (id other : ℕ) (v w : DrawLedger) → 0 < w.seats → Joins (Given k) id v other w (gathered v w) nobody
+pub may_gather : (k : Batch) (id other : ℕ) (v w : DrawLedger) → 0 < w.seats → Joins (Given k) id v other w (gathered v w) empty_draws
 may_gather k id other v w full s h at apart there = record {
   counter = h.counter;
   words = h.words;
-  once = λ x. let t = total_set (λ (u : DrawLedger). times x u.drawn) s.views id v both at in let u = total_set (λ (u : DrawLedger). times x u.drawn) mid other w nobody there in let a = times_append x v.drawn w.drawn in let p = h.once x in omega arith;
-  seats = let t = total_set (λ (u : DrawLedger). u.seats) s.views id v both at in let u = total_set (λ (u : DrawLedger). u.seats) mid other w nobody there in let p = h.seats in omega arith;
-  bound = let t = total_set (λ (u : DrawLedger). past k.chunks u.drawn) s.views id v both at in let u = total_set (λ (u : DrawLedger). past k.chunks u.drawn) mid other w nobody there in let a = past_append k.chunks v.drawn w.drawn in let p = h.bound in omega arith;
-  each = each_set k mid other nobody
+  once = λ x. let t = total_set (λ (u : DrawLedger). times x u.drawn) s.views id v both at in let u = total_set (λ (u : DrawLedger). times x u.drawn) mid other w empty_draws there in let a = times_append x v.drawn w.drawn in let p = h.once x in omega arith;
+  seats = let t = total_set (λ (u : DrawLedger). u.seats) s.views id v both at in let u = total_set (λ (u : DrawLedger). u.seats) mid other w empty_draws there in let p = h.seats in omega arith;
+  bound = let t = total_set (λ (u : DrawLedger). past k.chunks u.drawn) s.views id v both at in let u = total_set (λ (u : DrawLedger). past k.chunks u.drawn) mid other w empty_draws there in let a = past_append k.chunks v.drawn w.drawn in let p = h.bound in omega arith;
+  each = each_set k mid other empty_draws
       (each_set k s.views id both h.each record {
         same = λ _. theirs.same full;
         once_past = let a = past_append k.chunks v.drawn w.drawn in let b = (h.each id v at).once_past in let c = theirs.once_past in omega arith;
@@ -187,7 +187,7 @@ may_gather k id other v w full s h at apart there = record {
     theirs = h.each other w (sym (set_else s.views id other both apart) ∙ there)
 
 -- seats that stand for none have drawn nothing
-all_zero : (x : ℕ) (l : List DrawLedger) → ((j : ℕ) (v : DrawLedger) → get_elem? l j ≡ some v → v.seats ≡ 0 → v.drawn ≡ []) → total (λ v. v.seats) l ≡ 0 → total (λ v. times x v.drawn) l ≡ 0
+all_zero : (x : ℕ) (l : List DrawLedger) → ((j : ℕ) (v : DrawLedger) → get_elem? l j ≡ some v → v.seats ≡ 0 → v.drawn ≡ []) → sum_over (λ v. v.seats) l ≡ 0 → sum_over (λ v. times x v.drawn) l ≡ 0
 all_zero x [] h e = refl
 all_zero x (v ∷ vs) h e =
     let clean : times x v.drawn ≡ 0 = ap (times x) (h 0 v refl (omega (arith, e))) in
@@ -196,7 +196,7 @@ all_zero x (v ∷ vs) h e =
 
 -- the last state of a counter, seen by a seat that stands for all: the others stand for none, so it has drawn all that was drawn
 pub all_seen : (k : Batch) (id : ℕ) (m : DrawLedger) (ws : List ℕ) (xs : List (Unit {0})) (c : ℕ) → Final (Seen (Given k) id m) ws xs → m.seats ≡ k.seats → get_elem? ws 0 ≡ some c → IsEachBelowOnce c m.drawn
-all_seen k id m ws xs c f full at x = subst (λ (z : ℕ). times x m.drawn ≡ one_if (ltb x z)) stands (let a = none_else in let t = total_set (λ (v : DrawLedger). times x v.drawn) s.views id m nobody seat in let p = h.once x in omega arith)
+all_seen k id m ws xs c f full at x = subst (λ (z : ℕ). times x m.drawn ≡ one_if (ltb x z)) stands (let a = none_else in let t = total_set (λ (v : DrawLedger). times x v.drawn) s.views id m empty_draws seat in let p = h.once x in omega arith)
   where
     s : St
     s = f.0
@@ -211,12 +211,12 @@ all_seen k id m ws xs c f full at x = subst (λ (z : ℕ). times x m.drawn ≡ o
     stands = some-injective h.counter c (ap (λ (l : List ℕ). get_elem? l 0) (sym h.words ∙ f.2) ∙ at)
 
     rest : List DrawLedger
-    rest = set s.views id nobody
+    rest = set s.views id empty_draws
 
-    none_else : total (λ v. times x v.drawn) rest ≡ 0
+    none_else : sum_over (λ v. times x v.drawn) rest ≡ 0
     none_else = all_zero x rest
-        (λ j v e z. (each_set k s.views id nobody h.each record { same = λ lt. absurd (omega arith); once_past = omega arith; empty = λ _. refl } j v e).empty z)
-        (let t = total_set (λ (v : DrawLedger). v.seats) s.views id m nobody seat in let q = h.seats in omega (arith, t, q, full))
+        (λ j v e z. (each_set k s.views id empty_draws h.each record { same = λ lt. absurd (omega arith); once_past = omega arith; empty = λ _. refl } j v e).empty z)
+        (let t = total_set (λ (v : DrawLedger). v.seats) s.views id m empty_draws seat in let q = h.seats in omega (arith, t, q, full))
 
 -- the counter at the start
 pub may_begin : (c n : ℕ) → c < 4294967296 → n < 4294967296 → Given (batch c n) (opening (0 ∷ []) [] (whole (batch c n)))

@@ -8,21 +8,21 @@ use Rattle.atomic_table.specs.Table.{step, Allows}
 use Rattle.atomic_table.specs.Seated.{TableId}
 use Rattle.atomic_table.specs.declared.shared.Seat.{Seat}
 use Rattle.pit_model.specs.declared.journal.Verdict.{Verdict}
-use Rattle.proposals.specs.declared.knows.WorkerLedger.{WorkerLedger}
-use Rattle.proposals.specs.declared.knows.Served.{Served}
-use Rattle.proposals.specs.declared.knows.HolderLedger.{HolderLedger}
-use Rattle.proposals.specs.declared.knows.Knows.{Knows}
-use Rattle.proposals.specs.Ledger.{code, reply, Boarded, knows, nothing, served, answered_to, OpenIs, asking, withdrawn, collecting, worker_ledger_or, holder_ledger_or, claiming, answering, unclaiming, claimed_from, HolderView, serving, looking, Asked, Withdrew, Collected, Looked, Claimed, Answered, Unclaimed, Meets, Agreed, meeting, worker_part, holder_part}
+use Rattle.proposals.specs.declared.seat_state.WorkerLedger.{WorkerLedger}
+use Rattle.proposals.specs.declared.seat_state.Served.{Served}
+use Rattle.proposals.specs.declared.seat_state.HolderLedger.{HolderLedger}
+use Rattle.proposals.specs.declared.seat_state.SeatState.{SeatState}
+use Rattle.proposals.specs.Ledger.{code, reply, Boarded, seat_state, nothing_served, served, answered_to, OpenIs, asking, withdrawn, collecting, worker_ledger_or, holder_ledger_or, claiming, answering, unclaiming, claimed_from, HolderView, serving, looking, Asked, Withdrew, Collected, Looked, Claimed, Answered, Unclaimed, Meets, Agreed, meeting, worker_part, holder_part}
 use Rattle.proposals.specs.Seats.{worker_ledger_in, holder_ledger_in, IsWorker, IsHolder, IsHolding}
 use Rattle.proposals.proofs.Turns.{arcs_snoc}
 use Rattle.proposals.proofs.Workers.{may_ask, may_collect, may_withdraw}
 use Rattle.proposals.proofs.Holders.{may_look, may_claim, may_answer, may_unclaim, may_agree}
 
 abbrev S : Type 0
-S = Seat (Unit {0}) Knows
+S = Seat (Unit {0}) SeatState
 
 -- a seat after a step that gave its worker the worker_ledger d
-pub now_worker : (z : TableId) (cell : ℕ) (before after : Option ℕ) (s t : S) (d : WorkerLedger) → IsWorker z cell before s → t.table_id ≡ s.table_id → t.me ≡ (knows (Some d) s.me.0.holder, s.me.1) → d.cell ≡ (worker_ledger_in s).cell → OpenIs after d
+pub now_worker : (z : TableId) (cell : ℕ) (before after : Option ℕ) (s t : S) (d : WorkerLedger) → IsWorker z cell before s → t.table_id ≡ s.table_id → t.me ≡ (seat_state (Some d) s.me.0.holder, s.me.1) → d.cell ≡ (worker_ledger_in s).cell → OpenIs after d
     → IsWorker z cell after t
 now_worker z cell before after s t d w same me at ask =
     let is : worker_ledger_in t ≡ d = ap (λ m. worker_ledger_or m.0.worker) me in record {
@@ -46,7 +46,7 @@ same_worker z cell ask s t w same me =
       ask = subst (λ (x : WorkerLedger). OpenIs ask x) (sym is) w.ask;
     }
 
-pub worker_ledger_now : (s t : S) (d : WorkerLedger) (h : Option HolderLedger) (c : List (ℕ × Unit {0})) → t.me ≡ (knows (Some d) h, c) → worker_ledger_in t ≡ d
+pub worker_ledger_now : (s t : S) (d : WorkerLedger) (h : Option HolderLedger) (c : List (ℕ × Unit {0})) → t.me ≡ (seat_state (Some d) h, c) → worker_ledger_in t ≡ d
 worker_ledger_now s t d h c me = ap (λ m. worker_ledger_or m.0.worker) me
 
 module _ (z : TableId) (n slots cell : ℕ) (s : S) where
@@ -69,7 +69,7 @@ module _ (z : TableId) (n slots cell : ℕ) (s : S) where
   collected_as a k v t w same told low is =
       let got = (told (worker_ledger_in s) a w.is w.ask.0).0 low in
       let u : v ≡ got.0 = is got.0 got.1 in
-      let me : t.me ≡ (knows (Some (collecting (worker_ledger_in s) (reply a v))) s.me.0.holder, s.me.1) = got.2 ∙ (λ i. (knows (Some (collecting (worker_ledger_in s) (reply a (sym u i)))) s.me.0.holder, s.me.1)) in
+      let me : t.me ≡ (seat_state (Some (collecting (worker_ledger_in s) (reply a v))) s.me.0.holder, s.me.1) = got.2 ∙ (λ i. (seat_state (Some (collecting (worker_ledger_in s) (reply a (sym u i)))) s.me.0.holder, s.me.1)) in
       (now_worker z cell (Some a) None s t (collecting (worker_ledger_in s) (reply a v)) w same me refl (w.ask.0 ∙ sym (arcs_snoc (worker_ledger_in s).collected (reply a v))), worker_ledger_now s t (collecting (worker_ledger_in s) (reply a v)) s.me.0.holder s.me.1 me)
 
   pub not_collected_as : (a k : ℕ) (t : S) → IsWorker z cell (Some a) s → t.table_id ≡ s.table_id → Collected (step slots cell 0 0 none) s.me k t.me → 4 ≤ k → IsWorker z cell (Some a) t × (worker_ledger_in t ≡ worker_ledger_in s)
@@ -82,7 +82,7 @@ module _ (z : TableId) (n slots cell : ℕ) (s : S) where
   not_withdrawn_as a k t w same told miss = let me = (told (worker_ledger_in s) w.is).1 miss in (same_worker z cell (Some a) s t w same me, ap (λ m. worker_ledger_or m.0.worker) me)
 
 -- the holder's seat after a step that left it with this ledger
-pub now_holder : (z : TableId) (s t : S) (q : HolderLedger) → IsHolder z s → t.table_id ≡ s.table_id → t.me ≡ (knows s.me.0.worker (Some q), s.me.1) → length q.served ≡ z.words → IsHolder z t
+pub now_holder : (z : TableId) (s t : S) (q : HolderLedger) → IsHolder z s → t.table_id ≡ s.table_id → t.me ≡ (seat_state s.me.0.worker (Some q), s.me.1) → length q.served ≡ z.words → IsHolder z t
 now_holder z s t q w same me wide =
     let is : holder_ledger_in t ≡ q = ap (λ m. holder_ledger_or m.0.holder) me in
     record { table = same ∙ w.table; empty = ap (λ m. m.1) me ∙ w.empty; is = ap (λ m. m.0.holder) me ∙ ap (λ (x : HolderLedger). Some x) (sym is); wide = ap (λ (x : HolderLedger). length x.served) is ∙ wide }
@@ -148,8 +148,8 @@ holds_less z arcs s t i x h g ended inside e = record { seat = g; each_worker = 
   where
     before : (j a : ℕ) → claimed_from (set (holder_ledger_in s).served i x) j ≡ Some a → claimed_from (holder_ledger_in s).served j ≡ Some a
     before j a is = dite (ℕ_discrete j i)
-        (λ (same : j ≡ i). absurd (let w = h.seat.wide in let k : Some a ≡ None = sym is ∙ (ap (λ k. claimed_from (set (holder_ledger_in s).served i x) k) same ∙ (ap (λ (y : Served). y.claimed) (get_or-set_same (holder_ledger_in s).served i x nothing (omega (arith, w))) ∙ ended)) in cc))
-        (λ other. ap (λ (y : Served). y.claimed) (sym (get_or-set_other (holder_ledger_in s).served i j x nothing other)) ∙ is)
+        (λ (same : j ≡ i). absurd (let w = h.seat.wide in let k : Some a ≡ None = sym is ∙ (ap (λ k. claimed_from (set (holder_ledger_in s).served i x) k) same ∙ (ap (λ (y : Served). y.claimed) (get_or-set_same (holder_ledger_in s).served i x nothing_served (omega (arith, w))) ∙ ended)) in cc))
+        (λ other. ap (λ (y : Served). y.claimed) (sym (get_or-set_other (holder_ledger_in s).served i j x nothing_served other)) ∙ is)
 
 -- after a step that claimed the arc a from the cell i
 pub holds_more : (z : TableId) (arcs : List ℕ) (s t : S) (i a : ℕ) → IsHolding z arcs s → IsHolder z t → i < z.words → (holder_ledger_in t).served ≡ claiming (holder_ledger_in s).served i a → IsHolding z (set arcs i a) t
@@ -158,10 +158,10 @@ holds_more z arcs s t i a h g inside e = record { seat = g; each_worker = length
     now : (j b : ℕ) → claimed_from (claiming (holder_ledger_in s).served i a) j ≡ Some b → get_or (set arcs i a) j 0 ≡ b
     now j b is = dite (ℕ_discrete j i)
         (λ (same : j ≡ i). let w = h.seat.wide in let c = h.each_worker in
-        let k : Some b ≡ Some a = sym is ∙ (ap (λ k. claimed_from (claiming (holder_ledger_in s).served i a) k) same ∙ ap (λ (y : Served). y.claimed) (get_or-set_same (holder_ledger_in s).served i (served (answered_to (holder_ledger_in s).served i) (Some a)) nothing (omega (arith, w)))) in
+        let k : Some b ≡ Some a = sym is ∙ (ap (λ k. claimed_from (claiming (holder_ledger_in s).served i a) k) same ∙ ap (λ (y : Served). y.claimed) (get_or-set_same (holder_ledger_in s).served i (served (answered_to (holder_ledger_in s).served i) (Some a)) nothing_served (omega (arith, w)))) in
         let f : b ≡ a = cc in
         ap (λ k. get_or (set arcs i a) k 0) same ∙ (get_or-set_same arcs i a 0 (omega (arith, c)) ∙ sym f))
-        (λ other. get_or-set_other arcs i j a 0 other ∙ h.kept j b (ap (λ (y : Served). y.claimed) (sym (get_or-set_other (holder_ledger_in s).served i j (served (answered_to (holder_ledger_in s).served i) (Some a)) nothing other)) ∙ is))
+        (λ other. get_or-set_other arcs i j a 0 other ∙ h.kept j b (ap (λ (y : Served). y.claimed) (sym (get_or-set_other (holder_ledger_in s).served i j (served (answered_to (holder_ledger_in s).served i) (Some a)) nothing_served other)) ∙ is))
 
 -- the worker w has a cell
 pub cell_in : (z t : TableId) (xs ys : HolderView) (w : ℕ) → t ≡ z → length xs.served ≡ z.words → xs ≡ ys → 0 < w → w ≤ length ys.served → w - 1 < t.words
@@ -174,7 +174,7 @@ agree_as z n slots cell ask s t u w h me = subst (λ (i : ℕ). Allows (Boarded 
 -- and from the split afterwards: u is the joined seat, v the same after the load, x and y its two parts
 pub parted : (z : TableId) (slots cell k : ℕ) (ask : Option ℕ) (s t u v x y : S) → IsWorker z cell ask s → IsHolder z t → u.me ≡ (meeting s.me.0 t.me.0, s.me.1) → u.table_id ≡ s.table_id → v.table_id ≡ u.table_id → x.table_id ≡ v.table_id → y.table_id ≡ v.table_id
     → Agreed (step slots cell 0 0 none) u.me k v.me → x.me ≡ (worker_part v.me.0, v.me.1) → y.me ≡ (holder_part v.me.0, [])
-    → IsWorker z cell ask x × IsHolder z y × (worker_ledger_in x ≡ worker_ledger_in s) × (holder_ledger_in y ≡ holder_ledger_in t) × Meets (worker_ledger_in s) (get_or (holder_ledger_in t).served (worker_ledger_in s).cell nothing)
+    → IsWorker z cell ask x × IsHolder z y × (worker_ledger_in x ≡ worker_ledger_in s) × (holder_ledger_in y ≡ holder_ledger_in t) × Meets (worker_ledger_in s) (get_or (holder_ledger_in t).served (worker_ledger_in s).cell nothing_served)
 parted z slots cell k ask s t u v x y w h me a b c d told xm ym =
     let vm : v.me ≡ (meeting s.me.0 t.me.0, s.me.1) = told.0 ∙ me in
     let xw : x.me.0.worker ≡ s.me.0.worker = ap (λ m. m.0.worker) xm ∙ ap (λ m. m.0.worker) vm in

@@ -2,9 +2,9 @@
 use Rattle.std.proofs.Common.{ℕ, List, sym, refl, subst, inl, inr, get_or}
 use Rattle.atomic_table.specs.Table.{State}
 use Rattle.proposals.specs.declared.verdict.Reply.{Reply}
-use Rattle.proposals.specs.declared.knows.Served.{Served}
-use Rattle.proposals.specs.declared.knows.Knows.{Knows}
-use Rattle.proposals.specs.Ledger.{Phase, idle, asks, claims, gave, took, SmallAt, word_at, word_of, asked_at, answered_at, collected_at, claimed_at, asked, collected, served_of, nothing, Boarded}
+use Rattle.proposals.specs.declared.seat_state.Served.{Served}
+use Rattle.proposals.specs.declared.seat_state.SeatState.{SeatState}
+use Rattle.proposals.specs.Ledger.{Phase, idle, asks, claims, gave, took, SmallAt, word_at, cell_word, asked_at, answered_at, collected_at, claimed_at, asked, collected, served_of, nothing_served, Boarded}
 use Rattle.proposals.specs.Law.{Stands, LedgerStands}
 use Rattle.proposals.proofs.Turns.{word_is}
 use Rattle.proposals.proofs.Holders.{row_of}
@@ -16,13 +16,13 @@ by_phase done (took r) small = inr (inl (r.verdict, done, r, refl, refl, refl, r
 by_phase done (asks a) small = inr (inr (inl (a, small, refl, refl, refl, refl)))
 by_phase done (claims a) small = inr (inr (inr (a, small, refl, refl, refl, refl)))
 
-pub ledger_stands : (n : ℕ) (s : State (Unit {0}) Knows) → Boarded n s → LedgerStands s
+pub ledger_stands : (n : ℕ) (s : State (Unit {0}) SeatState) → Boarded n s → LedgerStands s
 ledger_stands n s b j h v u d q at is there has =
     let f = b.workers j v d at is in
     let w = word_is n s b d.cell f.at f.is in
     let e = row_of n s b h d.cell u q f.at there has f.is in
-    let row : Stands (word_of f.at) (asked f.at) (served_of f.at).answered (collected f.at) (served_of f.at).claimed = by_phase f.at.done f.at.phase (b.small d.cell f.at f.is) in
-    subst (λ (x : ℕ). Stands x d.asked (get_or q.served d.cell nothing).answered d.collected (get_or q.served d.cell nothing).claimed) (sym w)
-    (subst (λ (x : Served). Stands (word_of f.at) d.asked x.answered d.collected x.claimed) (sym e)
-    (subst (λ (x : List ℕ). Stands (word_of f.at) x (served_of f.at).answered d.collected (served_of f.at).claimed) (sym f.asks)
-    (subst (λ (x : List Reply). Stands (word_of f.at) (asked f.at) (served_of f.at).answered x (served_of f.at).claimed) (sym f.takes) row)))
+    let row : Stands (cell_word f.at) (asked f.at) (served_of f.at).answered (collected f.at) (served_of f.at).claimed = by_phase f.at.done f.at.phase (b.small d.cell f.at f.is) in
+    subst (λ (x : ℕ). Stands x d.asked (get_or q.served d.cell nothing_served).answered d.collected (get_or q.served d.cell nothing_served).claimed) (sym w)
+    (subst (λ (x : Served). Stands (cell_word f.at) d.asked x.answered d.collected x.claimed) (sym e)
+    (subst (λ (x : List ℕ). Stands (cell_word f.at) x (served_of f.at).answered d.collected (served_of f.at).claimed) (sym f.asks)
+    (subst (λ (x : List Reply). Stands (cell_word f.at) (asked f.at) (served_of f.at).answered x (served_of f.at).claimed) (sym f.takes) row)))

@@ -10,11 +10,11 @@ use Rattle.std.proofs.lemmas.List.{set-get_or}
 use Rattle.atomic_table.specs.Table.{State, keeps, stepped}
 use Rattle.atomic_table.proofs.Lists.{at_set, set_here, set_else, set_again, at_map}
 use Rattle.proposals.specs.declared.verdict.Reply.{Reply}
-use Rattle.proposals.specs.declared.knows.WorkerLedger.{WorkerLedger}
-use Rattle.proposals.specs.declared.knows.Served.{Served}
-use Rattle.proposals.specs.declared.knows.HolderLedger.{HolderLedger}
-use Rattle.proposals.specs.declared.knows.Knows.{Knows}
-use Rattle.proposals.specs.Ledger.{arcs, Row, SmallAt, word_of, asked, collected, served_of, WorkerFits, HolderFits, Boarded, knows}
+use Rattle.proposals.specs.declared.seat_state.WorkerLedger.{WorkerLedger}
+use Rattle.proposals.specs.declared.seat_state.Served.{Served}
+use Rattle.proposals.specs.declared.seat_state.HolderLedger.{HolderLedger}
+use Rattle.proposals.specs.declared.seat_state.SeatState.{SeatState}
+use Rattle.proposals.specs.Ledger.{arcs_in, CellState, SmallAt, cell_word, asked, collected, served_of, WorkerFits, HolderFits, Boarded, seat_state}
 
 pub index_at : (l : List ℕ) (i a : ℕ) → get_elem? l i ≡ some a → get_or l i 0 ≡ a
 index_at [] i a e = absurd (some-ne-none a (sym e))
@@ -33,13 +33,13 @@ snoc_last (x ∷ xs) a b e = snoc_last xs a b (cc)
 pub longer : (l : List ℕ) (a : ℕ) → l ++ a ∷ [] ≡ l → ⊥
 longer l a e = omega (arith, length-append l (a ∷ []), ap length e)
 
-pub arcs_snoc : (l : List Reply) (r : Reply) → arcs (l ++ r ∷ []) ≡ arcs l ++ r.arc ∷ []
+pub arcs_snoc : (l : List Reply) (r : Reply) → arcs_in (l ++ r ∷ []) ≡ arcs_in l ++ r.arc ∷ []
 arcs_snoc l r = map-append (λ (x : Reply). x.arc) l (r ∷ [])
 
-abbrev pub KeepsWorkerLedger : Row → Row → Type 0
+abbrev pub KeepsWorkerLedger : CellState → CellState → Type 0
 KeepsWorkerLedger r r' = (asked r' ≡ asked r) × (collected r' ≡ collected r)
 
-module _ (rows : List Row) (i : ℕ) (r r' : Row) (at : get_elem? rows i ≡ some r) where
+module _ (rows : List CellState) (i : ℕ) (r r' : CellState) (at : get_elem? rows i ≡ some r) where
   pub worker_ledger_kept : (owner : ℕ → ℕ) (most j : ℕ) (d : WorkerLedger) → KeepsWorkerLedger r r' → WorkerFits rows owner most j d → WorkerFits (set rows i r') owner most j d
   worker_ledger_kept owner most j d k f = dite (ℕ_discrete d.cell i)
       (λ e. let same : f.at ≡ r = some-injective f.at r (sym f.is ∙ (ap (get_elem? rows) e ∙ at)) in record {
@@ -73,10 +73,10 @@ module _ (rows : List Row) (i : ℕ) (r r' : Row) (at : get_elem? rows i ≡ som
       keep
 
 abbrev pub St : Type 0
-St = State (Unit {0}) Knows
+St = State (Unit {0}) SeatState
 
 -- a step of the seat id on the word i, whose row goes from r to r'
-pub turn : (n : ℕ) (s : St) (h : Boarded n s) (id i k : ℕ) (c : List (ℕ × Unit {0})) (r r' : Row) (w : Knows) → get_elem? h.rows i ≡ some r → k ≡ word_of r' → SmallAt r'.phase → i < h.dealt
+pub turn : (n : ℕ) (s : St) (h : Boarded n s) (id i k : ℕ) (c : List (ℕ × Unit {0})) (r r' : CellState) (w : SeatState) → get_elem? h.rows i ≡ some r → k ≡ cell_word r' → SmallAt r'.phase → i < h.dealt
     → KeepsWorkerLedger r r' ⊎ (h.owner i ≡ id) → (served_of r' ≡ served_of r) ⊎ (h.holder ≡ id)
     → ((d : WorkerLedger) → w.worker ≡ Some d → WorkerFits (set h.rows i r') h.owner h.dealt id d)
     → ((q : HolderLedger) → w.holder ≡ Some q → HolderFits (set h.rows i r') h.holder h.dealt id q)
@@ -86,31 +86,31 @@ turn n s h id i k c r r' w at word small old worker_ledgers holder_ledgers mine 
   owner = h.owner;
   holder = h.holder;
   dealt = h.dealt;
-  words = ap (λ (l : List ℕ). set l i k) h.words ∙ (ap (set (map word_of h.rows) i) word ∙ sym (map-set word_of h.rows i r'));
+  words = ap (λ (l : List ℕ). set l i k) h.words ∙ (ap (set (map cell_word h.rows) i) word ∙ sym (map-set cell_word h.rows i r'));
   wide = length-set h.rows i r' ∙ h.wide;
-  small = λ j x e. ⊎_elim (λ (t : (j ≡ i) × (r' ≡ x)). subst (λ (y : Row). SmallAt y.phase) t.1 small) (λ (t : (j ≢ i) × (get_elem? h.rows j ≡ some x)). h.small j x t.1) (at_set h.rows i j r' x e);
+  small = λ j x e. ⊎_elim (λ (t : (j ≡ i) × (r' ≡ x)). subst (λ (y : CellState). SmallAt y.phase) t.1 small) (λ (t : (j ≢ i) × (get_elem? h.rows j ≡ some x)). h.small j x t.1) (at_set h.rows i j r' x e);
   new = λ j x le e. ⊎_elim (λ (t : (j ≡ i) × (r' ≡ x)). absurd (let f = t.0 in omega arith)) (λ (t : (j ≢ i) × (get_elem? h.rows j ≡ some x)). h.new j x le t.1) (at_set h.rows i j r' x e);
   workers = λ j v d e is. ⊎_elim
-      (λ (t : (j ≡ id) × (w ≡ v)). subst (λ (z : ℕ). WorkerFits (set h.rows i r') h.owner h.dealt z d) (sym t.0) (mine d (ap (λ (x : Knows). x.worker) t.1 ∙ is)))
+      (λ (t : (j ≡ id) × (w ≡ v)). subst (λ (z : ℕ). WorkerFits (set h.rows i r') h.owner h.dealt z d) (sym t.0) (mine d (ap (λ (x : SeatState). x.worker) t.1 ∙ is)))
       (λ (t : (j ≢ id) × (get_elem? s.views j ≡ some v)). worker_ledger_else h.rows i r r' at h.owner h.dealt id j d worker_ledgers t.0 (h.workers j v d t.1 is))
       (at_set s.views id j w v e);
   holders = λ j v q e is. ⊎_elim
-      (λ (t : (j ≡ id) × (w ≡ v)). subst (λ (z : ℕ). HolderFits (set h.rows i r') h.holder h.dealt z q) (sym t.0) (holds q (ap (λ (x : Knows). x.holder) t.1 ∙ is)))
+      (λ (t : (j ≡ id) × (w ≡ v)). subst (λ (z : ℕ). HolderFits (set h.rows i r') h.holder h.dealt z q) (sym t.0) (holds q (ap (λ (x : SeatState). x.holder) t.1 ∙ is)))
       (λ (t : (j ≢ id) × (get_elem? s.views j ≡ some v)). holder_ledger_else h.rows i r r' at h.holder h.dealt id j q holder_ledgers t.0 (h.holders j v q t.1 is))
       (at_set s.views id j w v e);
 }
 
 -- the word of a row
-pub word_is : (n : ℕ) (s : St) (h : Boarded n s) (i : ℕ) (r : Row) → get_elem? h.rows i ≡ some r → get_or s.words i 0 ≡ word_of r
-word_is n s h i r at = ap (λ (l : List ℕ). get_or l i 0) h.words ∙ index_at (map word_of h.rows) i (word_of r) (at_map word_of h.rows i r at)
+pub word_is : (n : ℕ) (s : St) (h : Boarded n s) (i : ℕ) (r : CellState) → get_elem? h.rows i ≡ some r → get_or s.words i 0 ≡ cell_word r
+word_is n s h i r at = ap (λ (l : List ℕ). get_or l i 0) h.words ∙ index_at (map cell_word h.rows) i (cell_word r) (at_map cell_word h.rows i r at)
 
 -- a step of a worker
-pub works : (n : ℕ) (s : St) (h : Boarded n s) (id k : ℕ) (c : List (ℕ × Unit {0})) (v : Knows) (d d' : WorkerLedger) (r r' : Row) → get_elem? s.views id ≡ some v → v.worker ≡ Some d → get_elem? h.rows d.cell ≡ some r
-    → k ≡ word_of r' → SmallAt r'.phase → served_of r' ≡ served_of r → d'.cell ≡ d.cell → d'.asked ≡ asked r' → d'.collected ≡ collected r'
-    → Boarded n (stepped s d.cell k id c (knows (Some d') v.holder) keeps)
+pub works : (n : ℕ) (s : St) (h : Boarded n s) (id k : ℕ) (c : List (ℕ × Unit {0})) (v : SeatState) (d d' : WorkerLedger) (r r' : CellState) → get_elem? s.views id ≡ some v → v.worker ≡ Some d → get_elem? h.rows d.cell ≡ some r
+    → k ≡ cell_word r' → SmallAt r'.phase → served_of r' ≡ served_of r → d'.cell ≡ d.cell → d'.asked ≡ asked r' → d'.collected ≡ collected r'
+    → Boarded n (stepped s d.cell k id c (seat_state (Some d') v.holder) keeps)
 works n s h id k c v d d' r r' seat is at word small served cell asked' collected' =
     let f = h.workers id v d seat is in
-    turn n s h id d.cell k c r r' (knows (Some d') v.holder) at word small f.within (inr f.own) (inl served)
+    turn n s h id d.cell k c r r' (seat_state (Some d') v.holder) at word small f.within (inr f.own) (inl served)
     (λ x e. let same : d' ≡ x = cc in subst (λ (y : WorkerLedger). WorkerFits (set h.rows d.cell r') h.owner h.dealt id y) same record {
       own = ap h.owner cell ∙ f.own;
       within = subst (λ (y : ℕ). y < h.dealt) (sym cell) f.within;
@@ -122,7 +122,7 @@ works n s h id k c v d d' r r' seat is at word small served cell asked' collecte
     (λ q e. let g = h.holders id v q seat e in record { own = g.own; count = g.count; serves = g.serves ∙ sym (holder_ledgers_same h.rows d.cell r r' at served) })
 
 -- a step that changes no word: the seat id has the view w
-pub retold : (n : ℕ) (s : St) (h : Boarded n s) (id i : ℕ) (c : List (ℕ × Unit {0})) (w : Knows)
+pub retold : (n : ℕ) (s : St) (h : Boarded n s) (id i : ℕ) (c : List (ℕ × Unit {0})) (w : SeatState)
     → ((d : WorkerLedger) → w.worker ≡ Some d → WorkerFits h.rows h.owner h.dealt id d)
     → ((q : HolderLedger) → w.holder ≡ Some q → HolderFits h.rows h.holder h.dealt id q)
     → Boarded n (stepped s i (get_or s.words i 0) id c w keeps)
@@ -136,15 +136,15 @@ retold n s h id i c w mine holds = record {
   small = h.small;
   new = h.new;
   workers = λ j v d e is. ⊎_elim
-      (λ (t : (j ≡ id) × (w ≡ v)). subst (λ (z : ℕ). WorkerFits h.rows h.owner h.dealt z d) (sym t.0) (mine d (ap (λ (x : Knows). x.worker) t.1 ∙ is)))
+      (λ (t : (j ≡ id) × (w ≡ v)). subst (λ (z : ℕ). WorkerFits h.rows h.owner h.dealt z d) (sym t.0) (mine d (ap (λ (x : SeatState). x.worker) t.1 ∙ is)))
       (λ (t : (j ≢ id) × (get_elem? s.views j ≡ some v)). h.workers j v d t.1 is)
       (at_set s.views id j w v e);
   holders = λ j v q e is. ⊎_elim
-      (λ (t : (j ≡ id) × (w ≡ v)). subst (λ (z : ℕ). HolderFits h.rows h.holder h.dealt z q) (sym t.0) (holds q (ap (λ (x : Knows). x.holder) t.1 ∙ is)))
+      (λ (t : (j ≡ id) × (w ≡ v)). subst (λ (z : ℕ). HolderFits h.rows h.holder h.dealt z q) (sym t.0) (holds q (ap (λ (x : SeatState). x.holder) t.1 ∙ is)))
       (λ (t : (j ≢ id) × (get_elem? s.views j ≡ some v)). h.holders j v q t.1 is)
       (at_set s.views id j w v e);
 }
 
 -- a step that changes nothing
-pub still : (n : ℕ) (s : St) (h : Boarded n s) (id i : ℕ) (c : List (ℕ × Unit {0})) (v : Knows) → get_elem? s.views id ≡ some v → Boarded n (stepped s i (get_or s.words i 0) id c v keeps)
+pub still : (n : ℕ) (s : St) (h : Boarded n s) (id i : ℕ) (c : List (ℕ × Unit {0})) (v : SeatState) → get_elem? s.views id ≡ some v → Boarded n (stepped s i (get_or s.words i 0) id c v keeps)
 still n s h id i c v seat = retold n s h id i c v (λ d e. h.workers id v d seat e) (λ q e. h.holders id v q seat e)

@@ -20,9 +20,9 @@ past chunks [] = 0
 past chunks (y ∷ ys) = cond (ltb y chunks) 0 1 + past chunks ys
 
 -- f of each seat, added up
-abbrev pub total : (DrawLedger → ℕ) → List DrawLedger → ℕ
-total f [] = 0
-total f (v ∷ vs) = f v + total f vs
+abbrev pub sum_over : (DrawLedger → ℕ) → List DrawLedger → ℕ
+sum_over f [] = 0
+sum_over f (v ∷ vs) = f v + sum_over f vs
 
 abbrev pub hand : ℕ → ℕ → List ℕ → DrawLedger
 hand c n d = record { chunks = c; seats = n; drawn = d }
@@ -37,9 +37,9 @@ pub record Fits (k : Batch) (v : DrawLedger) : Type 0 where
 pub record Given (k : Batch) (s : State (Unit {0}) DrawLedger) : Type 0 where
   pub counter : ℕ
   pub words : s.words ≡ counter ∷ []
-  pub once : (x : ℕ) → total (λ v. times x v.drawn) s.views ≡ one_if (ltb x counter)
-  pub seats : total (λ v. v.seats) s.views ≡ k.seats
-  pub bound : counter ≤ k.chunks + total (λ v. past k.chunks v.drawn) s.views
+  pub once : (x : ℕ) → sum_over (λ v. times x v.drawn) s.views ≡ one_if (ltb x counter)
+  pub seats : sum_over (λ v. v.seats) s.views ≡ k.seats
+  pub bound : counter ≤ k.chunks + sum_over (λ v. past k.chunks v.drawn) s.views
   pub each : (j : ℕ) (v : DrawLedger) → get_elem? s.views j ≡ some v → Fits k v
   pub small : k.chunks + k.seats < 18446744073709551616
 
@@ -54,12 +54,12 @@ abbrev pub drawing : DrawLedger → ℕ → DrawLedger
 drawing v n = hand v.chunks v.seats (v.drawn ++ n ∷ [])
 
 -- the seat has drawn a number that is not below the number of chunks
-abbrev pub IsDone : DrawLedger → Type 0
-IsDone v = 0 < past v.chunks v.drawn
+abbrev pub HasDrawnAll : DrawLedger → Type 0
+HasDrawnAll v = 0 < past v.chunks v.drawn
 
 -- the seat was done before, or its next number makes it done
 abbrev pub GetsNone : DrawLedger → DrawLedger → Type 0
-GetsNone v w = (IsDone v × (w ≡ v)) ⊎ ((n : ℕ) × (v.chunks ≤ n) × (w ≡ drawing v n))
+GetsNone v w = (HasDrawnAll v × (w ≡ v)) ⊎ ((n : ℕ) × (v.chunks ≤ n) × (w ≡ drawing v n))
 
 -- the seat's next number is k, which is below the number of chunks
 abbrev pub Gets : ℕ → DrawLedger → DrawLedger → Type 0
@@ -85,11 +85,11 @@ Sat = Me (Unit {0}) DrawLedger
 abbrev pub Drew : Step (Unit {0}) → Sat → ℕ → Sat → Type 0
 Drew st m n m' = (n < 18446744073709551616) × (m' ≡ (drawing m.0 n, m.1))
 
-abbrev pub nobody : DrawLedger
-nobody = hand 0 0 []
+abbrev pub empty_draws : DrawLedger
+empty_draws = hand 0 0 []
 
 abbrev pub sat : Step (Unit {0}) → Sat → ℕ → Sat → Type 0
-sat st m n m' = m'.0 ≡ nobody
+sat st m n m' = m'.0 ≡ empty_draws
 
 -- the first seat gives a seat away, before anything was drawn
 abbrev pub cut : DrawLedger → DrawLedger

@@ -1,7 +1,7 @@
 //! A worker's calls: it asks for an arc, collects the reply, or takes the ask back.
 //! Each makes at most one step, and tries it once.
 ghost use Rattle.std.specs.Prelude.{◌≡◌, ◌<◌, ℕ, MatchBool, MatchOption};
-ghost use Rattle.proposals.specs.Ledger.{IsIdle, IsOpen, asking, withdrawn, collecting};
+ghost use Rattle.proposals.specs.Ledger.{HasNoOpenAsk, IsOpen, asking, withdrawn, collecting};
 
 use crate::board::{ASKED, Board};
 use crate::board_id::BoardId;
@@ -13,7 +13,7 @@ impl<B: BoardId> Board<B> {
     /// Asks for an arc. False exactly where the seat has an ask open; then no step is made.
     pub fn ask(&self, seat: &mut WorkerSeat<B>, arc: u32) -> bool
         requires { arc < B.arcs }
-        ensures { MatchBool result (IsIdle seat.old × (seat.new ≡ asking seat.old arc)) ((IsIdle seat.old → ⊥) × (seat.new ≡ seat.old)) }
+        ensures { MatchBool result (HasNoOpenAsk seat.old × (seat.new ≡ asking seat.old arc)) ((HasNoOpenAsk seat.old → ⊥) × (seat.new ≡ seat.old)) }
     {
         match seat.ask {
             Some(_) => return false,

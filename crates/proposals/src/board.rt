@@ -1,19 +1,19 @@
 //! The board: one word for each worker, and the seats that step on them.
 //! It is made without a name, and named by a type; its calls stand in `ask`, `serve` and `settle`.
 ghost use Rattle.std.specs.Prelude.{◌≡◌, ◌<◌, [], length, IfOk, IfErr, replicate};
-ghost use Rattle.proposals.specs.Ledger.{opener, nothing, worker_ledgers};
+ghost use Rattle.proposals.specs.Ledger.{opener, nothing_served, worker_ledgers};
 ghost use Rattle.faults.specs.Refused.{no_memory, IsNoRoom};
 
 use crate::board_id::BoardId;
-use crate::knows::Knows;
+use crate::seat_state::SeatState;
 use crate::seats::{HolderSeat, WorkerSeat};
-use crate::steps::{Asks, DealWorkerSeat};
+use crate::steps::{Asks, SplitWorkerSeat};
 use atomic_table::{Seat, Table};
 use faults::Fault;
 use std::alloc::Global;
 use std::marker::{Model, PhantomData};
 
-type Cells = Table<(), Knows, u64, Asks, Global>;
+type Cells = Table<(), SeatState, u64, Asks, Global>;
 
 /// An asked arc stands in its word above this, and a claimed one above twice this.
 pub(crate) const ASKED: u64 = 1 << 32;
@@ -34,7 +34,7 @@ pub struct Board<B: BoardId> {
 #[derive(Drop)]
 pub struct UnnamedBoard {
     cells: Cells,
-    seat: Seat<(), Knows>,
+    seat: Seat<(), SeatState>,
     workers: u32,
     ghost seated: { seat.table_id ≡ cells.shared.table_id },
     ghost first: { seat.me ≡ (opener workers, []) },
@@ -84,7 +84,7 @@ impl<B: BoardId> Board<B> {
         requires board { unnamed ≡ B.board }
         requires arcs { arcs ≡ B.arcs }
         ensures workers { IfOk result (λ made. made.1.items ≡ worker_ledgers unnamed.words) }
-        ensures holder { IfOk result (λ made. made.2.served ≡ replicate unnamed.words nothing) }
+        ensures holder { IfOk result (λ made. made.2.served ≡ replicate unnamed.words nothing_served) }
         ensures looks { IfOk result (λ made. made.2.looks ≡ []) }
         ensures refused { IfErr result (λ fault. fault ≡ no_memory) }
     {
@@ -97,7 +97,7 @@ impl<B: BoardId> Board<B> {
         let mut seats = Vec::new(alloc);
         let mut cell = 0;
         while cell < workers {
-            let theirs = cells.shared.split_seat::<DealWorkerSeat>(&mut seat);
+            let theirs = cells.shared.split_seat::<SplitWorkerSeat>(&mut seat);
             seats.push(WorkerSeat {
                 cell,
                 ask: None,

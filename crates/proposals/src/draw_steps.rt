@@ -23,18 +23,18 @@ impl Play<(), DrawLedger> for Draw {
 }
 
 /// A seat that stands for none comes in, to gather the others.
-pub(crate) struct SitAtCounter;
+pub(crate) struct JoinCounter;
 
-impl Play<(), DrawLedger> for SitAtCounter {
+impl Play<(), DrawLedger> for JoinCounter {
     ghost use Rattle.proposals.specs.Drawn.{sat};
 
     ghost then = { sat };
 }
 
 /// The first seat gives one seat away.
-pub(crate) struct DealDrawSeat;
+pub(crate) struct SplitDrawSeat;
 
-impl Split<DrawLedger> for DealDrawSeat {
+impl Split<DrawLedger> for SplitDrawSeat {
     ghost use Rattle.proposals.specs.Drawn.{cut, one_seat};
 
     ghost left = { cut };
@@ -42,12 +42,12 @@ impl Split<DrawLedger> for DealDrawSeat {
     ghost right = { one_seat };
 }
 
-pub(crate) struct Gather;
+pub(crate) struct JoinDrawSeats;
 
-impl Join<DrawLedger> for Gather {
-    ghost use Rattle.proposals.specs.Drawn.{gathered, nobody};
+impl Join<DrawLedger> for JoinDrawSeats {
+    ghost use Rattle.proposals.specs.Drawn.{gathered, empty_draws};
 
     ghost both = { gathered };
 
-    ghost spent = { nobody };
+    ghost spent = { empty_draws };
 }

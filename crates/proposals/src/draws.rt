@@ -6,7 +6,7 @@ ghost use Rattle.faults.specs.Refused.{no_memory, no_seat};
 
 use crate::draw_ledger::{Batch, DrawLedger};
 use crate::draw_seats::{CounterId, DrawSeat};
-use crate::draw_steps::{Counts, DealDrawSeat, Draw, Gather, SitAtCounter};
+use crate::draw_steps::{Counts, Draw, JoinCounter, JoinDrawSeats, SplitDrawSeat};
 use atomic_table::{Seat, Table};
 use faults::Fault;
 use std::alloc::Global;
@@ -99,7 +99,7 @@ impl<L: CounterId> Draws<L> {
         let mut dealt = Vec::new(alloc);
         let mut done = 0;
         while done < seats {
-            let theirs = counter.shared.split_seat::<DealDrawSeat>(&mut seat);
+            let theirs = counter.shared.split_seat::<SplitDrawSeat>(&mut seat);
             dealt.push(DrawSeat {
                 chunks,
                 ended: false,
@@ -143,9 +143,11 @@ impl<L: CounterId> Draws<L> {
             seats: _,
             id: _,
         } = self;
-        let mut all = counter.shared.load_new_seat::<SitAtCounter>(0).1;
+        let mut all = counter.shared.load_new_seat::<JoinCounter>(0).1;
         while let Some(seat) = seats.pop() {
-            counter.shared.join_seat::<Gather>(&mut all, seat.seat);
+            counter
+                .shared
+                .join_seat::<JoinDrawSeats>(&mut all, seat.seat);
         }
         let closed = counter.close_with(all);
         let stands_at = closed.word(0);

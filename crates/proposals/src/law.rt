@@ -2,7 +2,7 @@
 //! It stands between any two steps, for each worker, over all that the seats know.
 ghost use Rattle.std.specs.Prelude.{ℕ};
 ghost use Rattle.atomic_table.specs.Table.{State};
-ghost use Rattle.proposals.specs.declared.knows.Knows.{Knows as Known};
+ghost use Rattle.proposals.specs.declared.seat_state.SeatState.{SeatState as Known};
 ghost use Rattle.proposals.specs.Ledger.{Boarded};
 ghost use Rattle.proposals.specs.Law.{LedgerStands};
 

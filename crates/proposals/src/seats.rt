@@ -1,7 +1,7 @@
 //! The seats at a board: one for each worker, and the holder's.
 //! A seat has no lifetime and may move to another thread; `ask` and `serve` have its calls.
 use crate::board_id::BoardId;
-use crate::knows::Knows;
+use crate::seat_state::SeatState;
 use atomic_table::Seat;
 use std::marker::{Model, PhantomData};
 
@@ -10,12 +10,12 @@ use std::marker::{Model, PhantomData};
 pub struct WorkerSeat<B: BoardId> {
     pub(crate) cell: u32,
     pub(crate) ask: Option<u32>,
-    pub(crate) seat: Seat<(), Knows>,
+    pub(crate) seat: Seat<(), SeatState>,
     pub(crate) id: PhantomData<B>,
 }
 
 impl<B: BoardId> Model for WorkerSeat<B> {
-    ghost use Rattle.proposals.specs.declared.knows.WorkerLedger.{WorkerLedger};
+    ghost use Rattle.proposals.specs.declared.seat_state.WorkerLedger.{WorkerLedger};
 
     ghost Value = { WorkerLedger };
 
@@ -31,7 +31,7 @@ impl<B: BoardId> Model for WorkerSeat<B> {
 #[derive(Drop)]
 pub struct HolderSeat<B: BoardId> {
     pub(crate) claimed: Vec<u32>,
-    pub(crate) seat: Seat<(), Knows>,
+    pub(crate) seat: Seat<(), SeatState>,
     pub(crate) id: PhantomData<B>,
 }
 

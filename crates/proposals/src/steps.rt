@@ -1,12 +1,12 @@
 //! The rule of the board, and what each kind of step tells the seat that makes it.
 //! The rule and the steps are defined in `specs/Ledger.antt`; `proofs/` shows that each step keeps the rule.
-use crate::knows::Knows;
+use crate::seat_state::SeatState;
 use atomic_table::{Join, Play, Split, TableRule};
 
 /// The rule of the board: the ledger of each worker stands to its word as the table of `specs/Law.antt` says.
 pub struct Asks;
 
-impl TableRule<(), Knows, u64> for Asks {
+impl TableRule<(), SeatState, u64> for Asks {
     ghost use Rattle.proposals.specs.Ledger.{Boarded, opener};
 
     ghost holds = { Boarded };
@@ -16,7 +16,7 @@ impl TableRule<(), Knows, u64> for Asks {
 
 pub(crate) struct Ask;
 
-impl Play<(), Knows> for Ask {
+impl Play<(), SeatState> for Ask {
     ghost use Rattle.proposals.specs.Ledger.{Asked};
 
     ghost then = { Asked };
@@ -24,7 +24,7 @@ impl Play<(), Knows> for Ask {
 
 pub(crate) struct Withdraw;
 
-impl Play<(), Knows> for Withdraw {
+impl Play<(), SeatState> for Withdraw {
     ghost use Rattle.proposals.specs.Ledger.{Withdrew};
 
     ghost then = { Withdrew };
@@ -32,7 +32,7 @@ impl Play<(), Knows> for Withdraw {
 
 pub(crate) struct Collect;
 
-impl Play<(), Knows> for Collect {
+impl Play<(), SeatState> for Collect {
     ghost use Rattle.proposals.specs.Ledger.{Collected};
 
     ghost then = { Collected };
@@ -41,7 +41,7 @@ impl Play<(), Knows> for Collect {
 /// The holder looks for an ask in a worker's word.
 pub(crate) struct Look;
 
-impl Play<(), Knows> for Look {
+impl Play<(), SeatState> for Look {
     ghost use Rattle.proposals.specs.Ledger.{Looked};
 
     ghost then = { Looked };
@@ -49,7 +49,7 @@ impl Play<(), Knows> for Look {
 
 pub(crate) struct Claim;
 
-impl Play<(), Knows> for Claim {
+impl Play<(), SeatState> for Claim {
     ghost use Rattle.proposals.specs.Ledger.{Claimed};
 
     ghost then = { Claimed };
@@ -57,7 +57,7 @@ impl Play<(), Knows> for Claim {
 
 pub(crate) struct Answer;
 
-impl Play<(), Knows> for Answer {
+impl Play<(), SeatState> for Answer {
     ghost use Rattle.proposals.specs.Ledger.{Answered};
 
     ghost then = { Answered };
@@ -65,7 +65,7 @@ impl Play<(), Knows> for Answer {
 
 pub(crate) struct Unclaim;
 
-impl Play<(), Knows> for Unclaim {
+impl Play<(), SeatState> for Unclaim {
     ghost use Rattle.proposals.specs.Ledger.{Unclaimed};
 
     ghost then = { Unclaimed };
@@ -73,24 +73,24 @@ impl Play<(), Knows> for Unclaim {
 
 pub(crate) struct Agree;
 
-impl Play<(), Knows> for Agree {
+impl Play<(), SeatState> for Agree {
     ghost use Rattle.proposals.specs.Ledger.{Agreed};
 
     ghost then = { Agreed };
 }
 
-pub(crate) struct SitAtBoard;
+pub(crate) struct JoinBoard;
 
-impl Play<(), Knows> for SitAtBoard {
+impl Play<(), SeatState> for JoinBoard {
     ghost use Rattle.proposals.specs.Ledger.{sat};
 
     ghost then = { sat };
 }
 
 /// The holder's seat gives the next worker its seat.
-pub(crate) struct DealWorkerSeat;
+pub(crate) struct SplitWorkerSeat;
 
-impl Split<Knows> for DealWorkerSeat {
+impl Split<SeatState> for SplitWorkerSeat {
     ghost use Rattle.proposals.specs.Ledger.{dealing, dealt_to};
 
     ghost left = { dealing };
@@ -99,17 +99,17 @@ impl Split<Knows> for DealWorkerSeat {
 }
 
 /// A worker's seat takes the holder's in, and gives it back.
-pub(crate) struct Meet;
+pub(crate) struct JoinSeats;
 
-impl Join<Knows> for Meet {
-    ghost use Rattle.proposals.specs.Ledger.{meeting, nobody};
+impl Join<SeatState> for JoinSeats {
+    ghost use Rattle.proposals.specs.Ledger.{meeting, empty_seat};
 
     ghost both = { meeting };
 
-    ghost spent = { nobody };
+    ghost spent = { empty_seat };
 }
 
-impl Split<Knows> for Meet {
+impl Split<SeatState> for JoinSeats {
     ghost use Rattle.proposals.specs.Ledger.{worker_part, holder_part};
 
     ghost left = { worker_part };

@@ -34,7 +34,7 @@ pub trait WitnessedTrial {
 }
 
 /// What a lock begins with, of which no type has the name yet.
-struct Beginning {
+struct Setup {
     tree: NormTree,
     list: UnnamedList,
     unnamed: UnnamedBoard,
@@ -44,7 +44,7 @@ fn try_at<S: LockId, T: WitnessedTrial, R: Wait>(
     rt: &R,
     alloc: Global,
     mine: &Instance,
-    begun: Beginning,
+    begun: Setup,
     trial: &T,
 ) -> Result<Seen, Fault>
     requires opening { begun.tree.tree ≡ opening begun.tree.mine }
@@ -55,7 +55,7 @@ fn try_at<S: LockId, T: WitnessedTrial, R: Wait>(
     requires arcs { S.arcs ≡ 4294967295 }
     requires workers { begun.unnamed.words ≡ S.workers }
 {
-    let Beginning {
+    let Setup {
         tree,
         list,
         unnamed,
@@ -83,7 +83,7 @@ pub fn try_with<T: WitnessedTrial, R: Wait>(
     mine: &Instance,
     trial: &T,
 ) -> Result<Seen, Fault> {
-    let begun = Beginning {
+    let begun = Setup {
         tree: NormTree::start(alloc, mine)?,
         list: UnnamedList::new()?,
         unnamed: UnnamedBoard::new(alloc, WORKERS)?,

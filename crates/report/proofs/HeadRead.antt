@@ -12,7 +12,7 @@ use Rattle.faults.specs.Refused.{at_line}
 use Rattle.minelib_reader.specs.Checks.{◌>>=◌, ok_if}
 use Rattle.minelib_reader.specs.Text.{Row, two_of}
 use Rattle.minelib_reader.specs.Number.{whole_of}
-use Rattle.minelib_reader.specs.Upit.{is_pair}
+use Rattle.minelib_reader.specs.Upit.{are_words}
 use Rattle.minelib_reader.proofs.CheckLemmas.{passed, passing, same_value, value_there, test_holds, both_fields}
 use Rattle.report.specs.HeadLines.{three_of, title_line, field_line, number_line, same_line, SpellsNumber}
 
@@ -26,7 +26,7 @@ three_fields (a ∷ b ∷ []) p e = absurd cc
 three_fields (a ∷ b ∷ c ∷ []) p e = ap (λ (x : Three). x.0 ∷ x.1 ∷ x.2 ∷ []) (same_Some (a, b, c) p e)
 three_fields (a ∷ b ∷ c ∷ d ∷ fs) p e = absurd cc
 
-pub pair_found : (x y : List ℕ) (o : Option (List ℕ × List ℕ)) → is_pair x y o ≡ true → o ≡ Some (x, y)
+pub pair_found : (x y : List ℕ) (o : Option (List ℕ × List ℕ)) → are_words x y o ≡ true → o ≡ Some (x, y)
 pair_found x y None e = absurd cc
 pair_found x y (Some p) e =
     let parts = and_parts (bytes_eq p.0 x) (bytes_eq p.1 y) e in
@@ -59,7 +59,7 @@ module _ (source : Source) (word : List ℕ) where
   pub title_found : (r : Row) (u : Unit {0}) → title_line source word r ≡ Ok u → r.fields ≡ word ∷ codes "1" ∷ []
   unfolding title_line
   title_found r u e = both_fields r.fields (word, codes "1")
-      (pair_found word (codes "1") (two_of r.fields) (test_holds (is_pair word (codes "1") (two_of r.fields)) (at_line source WrongHeader r.line) u e))
+      (pair_found word (codes "1") (two_of r.fields) (test_holds (are_words word (codes "1") (two_of r.fields)) (at_line source WrongHeader r.line) u e))
 
   pub field_found : (field : List ℕ) (r : Row) → field_line source word r ≡ Ok field → r.fields ≡ word ∷ field ∷ []
   unfolding field_line

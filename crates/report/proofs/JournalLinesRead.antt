@@ -18,7 +18,7 @@ use Rattle.pit_model.specs.declared.journal.Verdict.{Verdict}
 use Rattle.pit_model.specs.declared.journal.Verdict.TheVariants.{Applied, Stale, Spent}
 use Rattle.pit_model.specs.JournalText.{most_seat, verdict_number}
 use Rattle.report.specs.HeadLines.{three_of, field_line}
-use Rattle.report.specs.JournalLines.{in_journal, wide_field, budget_field, budget_line, count_line, verdict_of, decision_line}
+use Rattle.report.specs.JournalLines.{in_journal, wide_field, budget_field, budget_line, entry_count_line, verdict_of, decision_line}
 use Rattle.report.specs.JournalGrammar.{SpellsWide, SpellsBudget, SpellsEntry}
 use Rattle.report.proofs.HeadRead.{three_fields, reads_field, field_found}
 
@@ -79,8 +79,8 @@ pub reads_budget : (field : List ℕ) (budget : Option ℕ) (r : Row) → r.fiel
 unfolding budget_line
 reads_budget field budget r is s = rw (reads_field Journal (codes "BUDGET:") field r is) (reads_budget_field r.line field budget s)
 
-pub reads_count : (field : List ℕ) (n : ℕ) (r : Row) → r.fields ≡ codes "ENTRIES:" ∷ field ∷ [] → SpellsWide field n → count_line r ≡ Ok n
-unfolding count_line
+pub reads_count : (field : List ℕ) (n : ℕ) (r : Row) → r.fields ≡ codes "ENTRIES:" ∷ field ∷ [] → SpellsWide field n → entry_count_line r ≡ Ok n
+unfolding entry_count_line
 reads_count field n r is s = rw (reads_field Journal (codes "ENTRIES:") field r is) (reads_wide r.line field n s)
 
 -- what a line of a word and a field tells
@@ -100,8 +100,8 @@ budget_found r budget e =
     let a = passed (field_line Journal (codes "BUDGET:") r) (λ field. budget_field r.line field) budget e in
     record { field = a.value; fields = field_found Journal (codes "BUDGET:") a.value r a.here; is_budget = budget_field_found r.line a.value budget a.behind }
 
-pub count_found : (r : Row) (n : ℕ) → count_line r ≡ Ok n → CountFound r n
-unfolding count_line
+pub count_found : (r : Row) (n : ℕ) → entry_count_line r ≡ Ok n → CountFound r n
+unfolding entry_count_line
 count_found r n e =
     let a = passed (field_line Journal (codes "ENTRIES:") r) (λ field. wide_field r.line field) n e in
     record { field = a.value; fields = field_found Journal (codes "ENTRIES:") a.value r a.here; is_count = wide_found r.line a.value n a.behind }

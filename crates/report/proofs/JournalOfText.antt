@@ -20,7 +20,7 @@ use Rattle.report.specs.declared.due.JournalLine.{JournalLine}
 use Rattle.report.specs.declared.due.JournalLine.TheVariants.{Title, Blocks, Arcs, Budget, Count, Entries}
 use Rattle.report.specs.HeadLines.{three_of, title_line, field_line, number_line, same_line}
 use Rattle.report.specs.LineByLine.{state_behind, line_fault}
-use Rattle.report.specs.JournalLines.{wide_field, budget_field, budget_line, count_line, verdict_of, decision_line, State, state, entry_step, step_at, end_at, step, end, first_state}
+use Rattle.report.specs.JournalLines.{wide_field, budget_field, budget_line, entry_count_line, verdict_of, decision_line, JournalState, journal_state, entry_step, journal_step_at, journal_end_at, journal_step, journal_end, first_journal_state}
 use Rattle.report.specs.JournalFault.{IsFirstJournalFault}
 
 title_of_text : (source : Source) (word : List ℕ) (r : Row) → FailsOfText (title_line source word r)
@@ -64,8 +64,8 @@ budget_of_text r =
     then_of_text (field_line Journal (codes "BUDGET:") r) (λ field. budget_field r.line field) (field_of_text Journal (codes "BUDGET:") r)
     (λ field. budget_field_of_text r.line field)
 
-count_of_text : (r : Row) → FailsOfText (count_line r)
-unfolding count_line
+count_of_text : (r : Row) → FailsOfText (entry_count_line r)
+unfolding entry_count_line
 count_of_text r =
     then_of_text (field_line Journal (codes "ENTRIES:") r) (λ field. wide_field r.line field) (field_of_text Journal (codes "ENTRIES:") r)
     (λ field. wide_of_text r.line field)
@@ -85,19 +85,19 @@ entry_of_text : (graph : Graph) (budget : Option ℕ) (left : ℕ) (entries : Li
 unfolding entry_step
 entry_of_text graph budget zero entries r = tt
 entry_of_text graph budget (suc left) entries r =
-    then_of_text (decision_line (length graph.pairs) r) (λ entry. Ok (state (Entries budget left) (entries ++ entry ∷ []))) (decision_of_text (length graph.pairs) r) (λ entry. tt)
+    then_of_text (decision_line (length graph.pairs) r) (λ entry. Ok (journal_state (Entries budget left) (entries ++ entry ∷ []))) (decision_of_text (length graph.pairs) r) (λ entry. tt)
 
-step_of_text : (graph : Graph) (due : JournalLine) (entries : List Entry) (r : Row) → FailsOfText (step_at graph due entries r)
-unfolding step_at
-step_of_text graph Title entries r = then_of_text (title_line Journal (codes "PITJOURNAL") r) (λ title. Ok (state Blocks entries)) (title_of_text Journal (codes "PITJOURNAL") r) (λ title. tt)
-step_of_text graph Blocks entries r = then_of_text (same_line Journal (codes "BLOCKS:") graph.blocks r) (λ same. Ok (state Arcs entries)) (same_of_text Journal (codes "BLOCKS:") graph.blocks r) (λ same. tt)
-step_of_text graph Arcs entries r = then_of_text (same_line Journal (codes "ARCS:") (length graph.pairs) r) (λ same. Ok (state Budget entries)) (same_of_text Journal (codes "ARCS:") (length graph.pairs) r) (λ same. tt)
-step_of_text graph Budget entries r = then_of_text (budget_line r) (λ budget. Ok (state (Count budget) entries)) (budget_of_text r) (λ budget. tt)
-step_of_text graph (Count budget) entries r = then_of_text (count_line r) (λ count. Ok (state (Entries budget count) entries)) (count_of_text r) (λ count. tt)
+step_of_text : (graph : Graph) (due : JournalLine) (entries : List Entry) (r : Row) → FailsOfText (journal_step_at graph due entries r)
+unfolding journal_step_at
+step_of_text graph Title entries r = then_of_text (title_line Journal (codes "PITJOURNAL") r) (λ title. Ok (journal_state Blocks entries)) (title_of_text Journal (codes "PITJOURNAL") r) (λ title. tt)
+step_of_text graph Blocks entries r = then_of_text (same_line Journal (codes "BLOCKS:") graph.blocks r) (λ same. Ok (journal_state Arcs entries)) (same_of_text Journal (codes "BLOCKS:") graph.blocks r) (λ same. tt)
+step_of_text graph Arcs entries r = then_of_text (same_line Journal (codes "ARCS:") (length graph.pairs) r) (λ same. Ok (journal_state Budget entries)) (same_of_text Journal (codes "ARCS:") (length graph.pairs) r) (λ same. tt)
+step_of_text graph Budget entries r = then_of_text (budget_line r) (λ budget. Ok (journal_state (Count budget) entries)) (budget_of_text r) (λ budget. tt)
+step_of_text graph (Count budget) entries r = then_of_text (entry_count_line r) (λ count. Ok (journal_state (Entries budget count) entries)) (count_of_text r) (λ count. tt)
 step_of_text graph (Entries budget left) entries r = entry_of_text graph budget left entries r
 
-end_of_text : (count : ℕ) (due : JournalLine) (entries : List Entry) → FailsOfText (end_at count due entries)
-unfolding end_at
+end_of_text : (count : ℕ) (due : JournalLine) (entries : List Entry) → FailsOfText (journal_end_at count due entries)
+unfolding journal_end_at
 end_of_text count Title entries = tt
 end_of_text count Blocks entries = tt
 end_of_text count Arcs entries = tt
@@ -106,11 +106,11 @@ end_of_text count (Count budget) entries = tt
 end_of_text count (Entries budget zero) entries = tt
 end_of_text count (Entries budget (suc left)) entries = tt
 
-line_of_text : (graph : Graph) (count : ℕ) (s : State) (o : Option Row) → MaybeOfText (line_fault (step graph) (end count) s o)
-line_of_text graph count s None = maybe_of_text (end count s) (end_of_text count s.due s.entries)
-line_of_text graph count s (Some r) = maybe_of_text (step graph s r) (step_of_text graph s.due s.entries r)
+line_of_text : (graph : Graph) (count : ℕ) (s : JournalState) (o : Option Row) → MaybeOfText (line_fault (journal_step graph) (journal_end count) s o)
+line_of_text graph count s None = maybe_of_text (journal_end count s) (end_of_text count s.due s.entries)
+line_of_text graph count s (Some r) = maybe_of_text (journal_step graph s r) (step_of_text graph s.due s.entries r)
 
 pub journal_fault_of_text : (graph : Graph) (text : List ℕ) (e : Fault) → IsFirstJournalFault graph text e → IsOfText e.refusal
 journal_fault_of_text graph text e is =
     subst MaybeOfText is.here
-    (line_of_text graph (count_of_lines text) (state_behind (step graph) first_state (take is.place (rows_of text))) (slice_get (rows_of text) is.place))
+    (line_of_text graph (count_of_lines text) (state_behind (journal_step graph) first_journal_state (take is.place (rows_of text))) (slice_get (rows_of text) is.place))

@@ -5,7 +5,7 @@ use Rattle.std.proofs.lemmas.List.{append-nil}
 use Rattle.std.specs.Prelude.{Result, Ok, Err}
 use Rattle.faults.specs.declared.fault.Fault.{Fault}
 use Rattle.minelib_reader.specs.Device.{Progress, Begins, Writes}
-use Rattle.report.specs.Puts.{Waiting, Answers, PutCases, Puts}
+use Rattle.report.specs.Puts.{Waiting, AnswersWrite, PutCases, Puts}
 
 -- sent, then waiting: first x with y behind it, then more
 joined : (x y a b c : List ℕ) (z : List ℕ) → x ++ y ≡ a ++ b → z ≡ y ++ c → x ++ z ≡ a ++ (b ++ c)
@@ -84,6 +84,6 @@ end_err p q text false true before between x none fine failed =
 
 -- from an empty buffer to an empty one: the text was written, or a beginning of it
 pub puts_end : (p q : Progress) (o s : Waiting) (text : List ℕ) (result : Result (Unit {0}) Fault) → Puts p o q s text
-    → o.bytes ≡ [] → o.failed ≡ false → s.bytes ≡ [] → Answers s result → Writes p q text result
+    → o.bytes ≡ [] → o.failed ≡ false → s.bytes ≡ [] → AnswersWrite s result → Writes p q text result
 puts_end p q o s text (Ok x) puts none fine sent ok = end_ok p q text o.failed s.failed o.bytes s.bytes puts.cases none fine sent ok
 puts_end p q o s text (Err e) puts none fine sent failed = end_err p q text o.failed s.failed o.bytes s.bytes puts.cases none fine failed.0

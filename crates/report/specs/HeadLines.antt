@@ -10,7 +10,7 @@ use Rattle.faults.specs.Refused.{at_line}
 use Rattle.minelib_reader.specs.Checks.{◌>>=◌, ok_if}
 use Rattle.minelib_reader.specs.Text.{Row, two_of}
 use Rattle.minelib_reader.specs.Number.{whole_of}
-use Rattle.minelib_reader.specs.Upit.{is_pair}
+use Rattle.minelib_reader.specs.Upit.{are_words}
 
 -- the three fields of a line that has three
 abbrev pub three_of : List (List ℕ) → Option (List ℕ × List ℕ × List ℕ)
@@ -19,7 +19,7 @@ three_of fs = None
 
 -- this word, and the form's number 1
 unfoldable pub title_line : Source → List ℕ → Row → Result (Unit {0}) Fault
-title_line source word r = ok_if (is_pair word (codes "1") (two_of r.fields)) (at_line source WrongHeader r.line)
+title_line source word r = ok_if (are_words word (codes "1") (two_of r.fields)) (at_line source WrongHeader r.line)
 
 -- this word, and one field, which is given
 unfoldable pub field_line : Source → List ℕ → Row → Result (List ℕ) Fault

@@ -38,7 +38,7 @@ SpellsEntries m (r ∷ rows) [] = ⊥
 SpellsEntries m (r ∷ rows) (entry ∷ entries) = SpellsEntry m r entry × SpellsEntries m rows entries
 
 -- the lines of a journal of the graph
-pub record SpellsRows (graph : Graph) (rows : List Row) (j : BudgetAndEntries) : Type 0 where
+pub record SpellsJournalRows (graph : Graph) (rows : List Row) (j : BudgetAndEntries) : Type 0 where
   pub title : Row
   pub blocks : Row
   pub arcs : Row
@@ -59,7 +59,7 @@ pub record SpellsRows (graph : Graph) (rows : List Row) (j : BudgetAndEntries) :
 
 -- the text spells this journal of the graph
 abbrev pub SpellsJournal : Graph → List ℕ → BudgetAndEntries → Type 0
-SpellsJournal graph text j = SpellsRows graph (rows_of text) j
+SpellsJournal graph text j = SpellsJournalRows graph (rows_of text) j
 
 -- a budget that has 64 bits, if there is one
 abbrev pub IsBudget : Option ℕ → Type 0

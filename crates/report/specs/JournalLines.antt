@@ -40,8 +40,8 @@ budget_line r = do
   budget_field r.line field
 
 -- how many entries follow
-unfoldable pub count_line : Row → Result ℕ Fault
-count_line r = do
+unfoldable pub entry_count_line : Row → Result ℕ Fault
+entry_count_line r = do
   field ← field_line Journal (codes "ENTRIES:") r
   wide_field r.line field
 
@@ -62,38 +62,38 @@ decision_line m r = do
   Ok (record { seat = seat; arc = arc; verdict = verdict })
 
 -- which line is due, and the entries of the lines so far
-pub record State : Type 0 where
+pub record JournalState : Type 0 where
   pub due : JournalLine
   pub entries : List Entry
 
-abbrev pub state : JournalLine → List Entry → State
-state due entries = record { due = due; entries = entries }
+abbrev pub journal_state : JournalLine → List Entry → JournalState
+journal_state due entries = record { due = due; entries = entries }
 
 -- an entry, while some are left
-unfoldable pub entry_step : Graph → Option ℕ → ℕ → List Entry → Row → Result State Fault
+unfoldable pub entry_step : Graph → Option ℕ → ℕ → List Entry → Row → Result JournalState Fault
 entry_step graph budget zero entries r = Err (in_journal AfterEnd r.line)
 entry_step graph budget (suc left) entries r = do
   entry ← decision_line (length graph.pairs) r
-  Ok (state (Entries budget left) (entries ++ entry ∷ []))
+  Ok (journal_state (Entries budget left) (entries ++ entry ∷ []))
 
 -- what a line gives where it is the one that is due
-unfoldable pub step_at : Graph → JournalLine → List Entry → Row → Result State Fault
-step_at graph Title entries r = do
+unfoldable pub journal_step_at : Graph → JournalLine → List Entry → Row → Result JournalState Fault
+journal_step_at graph Title entries r = do
   title ← title_line Journal (codes "PITJOURNAL") r
-  Ok (state Blocks entries)
-step_at graph Blocks entries r = do
+  Ok (journal_state Blocks entries)
+journal_step_at graph Blocks entries r = do
   same ← same_line Journal (codes "BLOCKS:") graph.blocks r
-  Ok (state Arcs entries)
-step_at graph Arcs entries r = do
+  Ok (journal_state Arcs entries)
+journal_step_at graph Arcs entries r = do
   same ← same_line Journal (codes "ARCS:") (length graph.pairs) r
-  Ok (state Budget entries)
-step_at graph Budget entries r = do
+  Ok (journal_state Budget entries)
+journal_step_at graph Budget entries r = do
   budget ← budget_line r
-  Ok (state (Count budget) entries)
-step_at graph (Count budget) entries r = do
-  count ← count_line r
-  Ok (state (Entries budget count) entries)
-step_at graph (Entries budget left) entries r = entry_step graph budget left entries r
+  Ok (journal_state (Count budget) entries)
+journal_step_at graph (Count budget) entries r = do
+  count ← entry_count_line r
+  Ok (journal_state (Entries budget count) entries)
+journal_step_at graph (Entries budget left) entries r = entry_step graph budget left entries r
 
 -- a journal with its budget, without where it lies in memory
 pub record BudgetAndEntries : Type 0 where
@@ -104,19 +104,19 @@ abbrev pub budget_and_entries : Option ℕ → List Entry → BudgetAndEntries
 budget_and_entries budget entries = record { budget = budget; entries = entries }
 
 -- the text ends here: nothing may be left; count is the number of its lines
-unfoldable pub end_at : ℕ → JournalLine → List Entry → Result BudgetAndEntries Fault
-end_at count (Entries budget zero) entries = Ok (budget_and_entries budget entries)
-end_at count _ entries = Err (in_journal EndsEarly (count + 1))
+unfoldable pub journal_end_at : ℕ → JournalLine → List Entry → Result BudgetAndEntries Fault
+journal_end_at count (Entries budget zero) entries = Ok (budget_and_entries budget entries)
+journal_end_at count _ entries = Err (in_journal EndsEarly (count + 1))
 
-abbrev pub step : Graph → State → Row → Result State Fault
-step graph s r = step_at graph s.due s.entries r
+abbrev pub journal_step : Graph → JournalState → Row → Result JournalState Fault
+journal_step graph s r = journal_step_at graph s.due s.entries r
 
-abbrev pub end : ℕ → State → Result BudgetAndEntries Fault
-end count s = end_at count s.due s.entries
+abbrev pub journal_end : ℕ → JournalState → Result BudgetAndEntries Fault
+journal_end count s = journal_end_at count s.due s.entries
 
-abbrev pub first_state : State
-first_state = state Title []
+abbrev pub first_journal_state : JournalState
+first_journal_state = journal_state Title []
 
 -- the journal of the graph that a text spells, or its first fault
 abbrev pub journal_of : Graph → List ℕ → Result BudgetAndEntries Fault
-journal_of graph text = read_from (step graph) (end (count_of_lines text)) first_state (rows_of text)
+journal_of graph text = read_from (journal_step graph) (journal_end (count_of_lines text)) first_journal_state (rows_of text)

@@ -29,5 +29,5 @@ line_fault step end s None = result_err (end s)
 line_fault step end s (Some r) = result_err (step s r)
 
 -- the first check that is broken in the line number k of these, counted from 0
-abbrev pub fault_behind : {S Y : Type 0} → (S → Row → Result S Fault) → (S → Result Y Fault) → S → List Row → ℕ → Option Fault
-fault_behind step end s rows k = line_fault step end (state_behind step s (take k rows)) (slice_get rows k)
+abbrev pub line_fault_after : {S Y : Type 0} → (S → Row → Result S Fault) → (S → Result Y Fault) → S → List Row → ℕ → Option Fault
+line_fault_after step end s rows k = line_fault step end (state_behind step s (take k rows)) (slice_get rows k)

@@ -31,6 +31,6 @@ pub record Puts (p : Progress) (old : Waiting) (q : Progress) (new : Waiting) (t
   pub cases : PutCases p old.failed old.bytes q new.failed new.bytes text
 
 -- what is answered at the end: refusal WriteFailed where a write failed
-abbrev pub Answers : Waiting → Result (Unit {0}) Fault → Type 0
-Answers out (Ok x) = out.failed ≡ false
-Answers out (Err e) = (out.failed ≡ true) × (e ≡ write_failed)
+abbrev pub AnswersWrite : Waiting → Result (Unit {0}) Fault → Type 0
+AnswersWrite out (Ok x) = out.failed ≡ false
+AnswersWrite out (Err e) = (out.failed ≡ true) × (e ≡ write_failed)

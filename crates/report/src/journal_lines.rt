@@ -3,7 +3,7 @@
 ghost use Rattle.std.specs.Prelude.{◌≡◌};
 ghost use Rattle.minelib_reader.specs.Answer.{Gives};
 ghost use Rattle.minelib_reader.specs.Text.{row, fields_of};
-ghost use Rattle.report.specs.JournalLines.{budget_field, budget_line, count_line, decision_line, in_journal, verdict_of, wide_field};
+ghost use Rattle.report.specs.JournalLines.{budget_field, budget_line, entry_count_line, decision_line, in_journal, verdict_of, wide_field};
 
 use crate::head::{read_field, three_fields};
 use faults::{Fault, Refusal, Source};
@@ -52,9 +52,9 @@ pub fn read_budget(r: Row) -> Result<Option<u64>, Fault>
 }
 
 /// How many entries follow.
-#[tactic(auto, unfolding(crate::specs::JournalLines::count_line))]
+#[tactic(auto, unfolding(crate::specs::JournalLines::entry_count_line))]
 pub fn read_count(r: Row) -> Result<u64, Fault>
-    ensures { Gives (λ n. n) result (count_line (row r.entry.line (fields_of r.entry.text.now))) }
+    ensures { Gives (λ n. n) result (entry_count_line (row r.entry.line (fields_of r.entry.text.now))) }
 {
     let field = read_field(Source::Journal, b"ENTRIES:", r)?;
     read_wide(field, r.line)

@@ -9,7 +9,7 @@ ghost use Rattle.minelib_reader.specs.Answer.{Gives, Answers, AnswersBy, FailsBy
 ghost use Rattle.minelib_reader.specs.Text.{row, fields_of};
 ghost use Rattle.pit_model.specs.Graph.{Graph as AnyGraph};
 ghost use Rattle.pit_model.specs.JournalText.{AreSeatedBelow};
-ghost use Rattle.report.specs.JournalLines.{budget_and_entries, end_at, entry_step, journal_of, state, step_at, BudgetAndEntries};
+ghost use Rattle.report.specs.JournalLines.{budget_and_entries, journal_end_at, entry_step, journal_of, journal_state, journal_step_at, BudgetAndEntries};
 ghost use Rattle.report.specs.JournalFault.{IsFirstJournalFault};
 ghost use Rattle.report.specs.JournalGrammar.{JournalReadsBack, SpellsJournal};
 
@@ -31,7 +31,7 @@ fn take_entry(
     r: Row,
     entries: &mut Vec<Entry>,
 ) -> Result<JournalLine, Fault>
-    ensures ok { IfOk result (λ next. entry_step graph.now budget left entries.old.items (row r.entry.line (fields_of r.entry.text.now)) ≡ Ok (state next entries.new.items)) }
+    ensures ok { IfOk result (λ next. entry_step graph.now budget left entries.old.items (row r.entry.line (fields_of r.entry.text.now)) ≡ Ok (journal_state next entries.new.items)) }
     ensures err { IfErr result (λ e. FailsBy e.refusal e (entry_step graph.now budget left entries.old.items (row r.entry.line (fields_of r.entry.text.now)))) }
 {
     if left == 0 {
@@ -46,15 +46,15 @@ fn take_entry(
 }
 
 /// The line that is due; it answers which one is due next.
-#[tactic(auto, unfolding(crate::specs::JournalLines::step_at))]
+#[tactic(auto, unfolding(crate::specs::JournalLines::journal_step_at))]
 fn take_line(
     graph: &Graph,
     due: JournalLine,
     r: Row,
     entries: &mut Vec<Entry>,
 ) -> Result<JournalLine, Fault>
-    ensures ok { IfOk result (λ next. step_at graph.now due entries.old.items (row r.entry.line (fields_of r.entry.text.now)) ≡ Ok (state next entries.new.items)) }
-    ensures err { IfErr result (λ e. FailsBy e.refusal e (step_at graph.now due entries.old.items (row r.entry.line (fields_of r.entry.text.now)))) }
+    ensures ok { IfOk result (λ next. journal_step_at graph.now due entries.old.items (row r.entry.line (fields_of r.entry.text.now)) ≡ Ok (journal_state next entries.new.items)) }
+    ensures err { IfErr result (λ e. FailsBy e.refusal e (journal_step_at graph.now due entries.old.items (row r.entry.line (fields_of r.entry.text.now)))) }
 {
     match due {
         JournalLine::Title => {
@@ -82,10 +82,10 @@ fn take_line(
 }
 
 /// The budget, where nothing is due any more, in a text of so many lines.
-#[tactic(auto, unfolding(crate::specs::JournalLines::end_at))]
+#[tactic(auto, unfolding(crate::specs::JournalLines::journal_end_at))]
 fn check_end(due: JournalLine, count: u64) -> Result<Option<u64>, Fault>
     requires { count < 2 ^ 63 }
-    ensures { (entries : _) → Gives (λ budget. budget_and_entries budget entries) result (end_at count due entries) }
+    ensures { (entries : _) → Gives (λ budget. budget_and_entries budget entries) result (journal_end_at count due entries) }
 {
     match due {
         JournalLine::Entries { budget, left: 0 } => Ok(budget),

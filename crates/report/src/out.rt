@@ -1,7 +1,7 @@
 //! Pieces of a text go into a buffer of 64 KiB, so that the writer is called once for each 64 KiB and not for each piece.
 //! After a write that failed nothing is written any more; so the text stands where it broke off.
 ghost use Rattle.std.specs.Prelude.{◌≡◌, ◌+◌, ◌≤◌, [], ◌++◌, false, codes, length};
-ghost use Rattle.report.specs.Puts.{Answers, IsReady, Puts};
+ghost use Rattle.report.specs.Puts.{AnswersWrite, IsReady, Puts};
 
 use faults::Fault;
 use minelib_reader::{OutBytes, write_all};
@@ -106,7 +106,7 @@ pub fn finish<W: OutBytes>(writer: &mut W, out: &mut Out) -> Result<(), Fault>
     requires { IsReady (W.progress writer.old) out.old }
     ensures puts { Puts (W.progress writer.old) out.old (W.progress writer.new) out.new [] }
     ensures none { out.new.bytes ≡ [] }
-    ensures answers { Answers out.new result }
+    ensures answers { AnswersWrite out.new result }
 {
     flush(writer, out);
     if out.failed {

@@ -6,7 +6,7 @@ ghost use Rattle.std.specs.List.Sorted.{IsStrictlyIncreasing};
 ghost use Rattle.minelib_reader.specs.Device.{Writes};
 ghost use Rattle.faults.specs.Refused.{write_failed};
 ghost use Rattle.pit_model.specs.Shells.{IsWithin};
-ghost use Rattle.pit_model.specs.ShellText.{block_line, first_factor, has_block, last_pit, shell_line, shells_head, shells_text};
+ghost use Rattle.pit_model.specs.ShellText.{block_factor_line, first_factor, has_block, last_pit, shell_line, shells_head, shells_text};
 ghost use Rattle.report.specs.FirstWith.{IsFirstWith};
 ghost use Rattle.report.specs.Puts.{IsReady, Puts};
 
@@ -102,7 +102,7 @@ fn put_block<W: OutBytes>(writer: &mut W, out: &mut Out, shells: &[Shell], block
     requires ready { IsReady (W.progress writer.old) out.old }
     requires rising { All (λ shell. IsStrictlyIncreasing shell.pit.items) shells.now }
     requires nested { AllPairs IsWithin shells.now }
-    ensures puts { Puts (W.progress writer.old) out.old (W.progress writer.new) out.new (block_line shells.now block) }
+    ensures puts { Puts (W.progress writer.old) out.old (W.progress writer.new) out.new (block_factor_line shells.now block) }
     ensures ready { IsReady (W.progress writer.new) out.new }
 {
     put_number(writer, out, block);
@@ -137,7 +137,7 @@ fn put_blocks<W: OutBytes>(writer: &mut W, out: &mut Out, shells: &[Shell], bloc
     requires ready { IsReady (W.progress writer.old) out.old }
     requires rising { All (λ shell. IsStrictlyIncreasing shell.pit.items) shells.now }
     requires nested { AllPairs IsWithin shells.now }
-    ensures puts { Puts (W.progress writer.old) out.old (W.progress writer.new) out.new (flat_map (block_line shells.now) blocks.now) }
+    ensures puts { Puts (W.progress writer.old) out.old (W.progress writer.new) out.new (flat_map (block_factor_line shells.now) blocks.now) }
     ensures ready { IsReady (W.progress writer.new) out.new }
 {
     for &block in blocks {

@@ -7,32 +7,32 @@ use Rattle.faults.specs.declared.fault.Fault.{Fault}
 use Rattle.pit_model.specs.Fixed.{IsFixedCertificate}
 use Rattle.certificate.specs.CertificateGrammar.{SpellsCertificate}
 use Rattle.certificate.specs.CertificateLines.{PitAndFlow}
-use Rattle.runs.specs.Solve.{Files, FixedMine, HoldsMine, fixed_in}
-use Rattle.merging.specs.Parts.{graph_of}
+use Rattle.runs.specs.Solve.{Files, FixedInstance, HoldsMine, fixed_in}
+use Rattle.merging.specs.Parts.{graph_of_instance}
 use Rattle.runs.specs.Check.{AnswersText}
 use Rattle.runs.specs.Chosen.{Chosen, OfStates, OfWriter, OfWriterIfAny}
 use Rattle.runs.specs.Certified.{IsAnsweredYes, WritesCertificate, PutsCertificate, IsCertified, IsCertificateCut}
 
-answered : (task : FixedMine) (text : List ℕ) (shown : PitAndFlow) → SpellsCertificate (graph_of task.mine) task.lists text shown → IsFixedCertificate task.mine (fixed_in task) shown.pit shown.flow → AnswersText task text true
-answered task text shown spelled certifies = record { shown = shown; spelled = spelled; exact = (λ e. certifies, λ c. refl) }
+answered : (fixed_mine : FixedInstance) (text : List ℕ) (shown : PitAndFlow) → SpellsCertificate (graph_of_instance fixed_mine.mine) fixed_mine.lists text shown → IsFixedCertificate fixed_mine.mine (fixed_in fixed_mine) shown.pit shown.flow → AnswersText fixed_mine text true
+answered fixed_mine text shown spelled certifies = record { shown = shown; spelled = spelled; exact = (λ e. certifies, λ c. refl) }
 
 -- a text that spells a certificate of the mine was written, or a beginning of it
-pub puts : (task : FixedMine) (shown : PitAndFlow) (before after : Progress) (text : List ℕ) (r : Result (Unit {0}) Fault)
-    → SpellsCertificate (graph_of task.mine) task.lists text shown → IsFixedCertificate task.mine (fixed_in task) shown.pit shown.flow → Writes before after text r → IfErr r (λ e. e ≡ write_failed)
-    → PutsCertificate task (record { before = Some before; after = Some after }) r
-puts task shown before after text (Ok x) spelled certifies w refused = inr (text, answered task text shown spelled certifies, w)
-puts task shown before after text (Err e) spelled certifies w refused = ((text, answered task text shown spelled certifies, w), refused)
+pub puts : (fixed_mine : FixedInstance) (shown : PitAndFlow) (before after : Progress) (text : List ℕ) (r : Result (Unit {0}) Fault)
+    → SpellsCertificate (graph_of_instance fixed_mine.mine) fixed_mine.lists text shown → IsFixedCertificate fixed_mine.mine (fixed_in fixed_mine) shown.pit shown.flow → Writes before after text r → IfErr r (λ e. e ≡ write_failed)
+    → PutsCertificate fixed_mine (record { before = Some before; after = Some after }) r
+puts fixed_mine shown before after text (Ok x) spelled certifies w refused = inr (text, answered fixed_mine text shown spelled certifies, w)
+puts fixed_mine shown before after text (Err e) spelled certifies w refused = ((text, answered fixed_mine text shown spelled certifies, w), refused)
 
-answered_yes : (files : Files) (task : FixedMine) (text : List ℕ) → HoldsMine files task → AnswersText task text true → IsAnsweredYes files text
-answered_yes files task text holds answers = record { task = task; given = record { holds = holds; ordered = holds.gave.instance.graph }; yes = answers }
+answered_yes : (files : Files) (fixed_mine : FixedInstance) (text : List ℕ) → HoldsMine files fixed_mine → AnswersText fixed_mine text true → IsAnsweredYes files text
+answered_yes files fixed_mine text holds answers = record { fixed_mine = fixed_mine; given = record { holds = holds; ordered = holds.gave.instance.graph }; yes = answers }
 
-written : (files : Files) (task : FixedMine) → HoldsMine files task → (before after : Progress) → WritesCertificate {E = Fault} task (Ok tt) before after → IsCertified files before after
-written files task holds before after w = record { text = w.0; answered = answered_yes files task w.0 holds w.1; written = w.2.0; no_failure = w.2.1 }
+written : (files : Files) (fixed_mine : FixedInstance) → HoldsMine files fixed_mine → (before after : Progress) → WritesCertificate {E = Fault} fixed_mine (Ok tt) before after → IsCertified files before after
+written files fixed_mine holds before after w = record { text = w.0; answered = answered_yes files fixed_mine w.0 holds w.1; written = w.2.0; no_failure = w.2.1 }
 
-cut : (files : Files) (task : FixedMine) (e : Fault) → HoldsMine files task → (before after : Progress) → WritesCertificate {E = Fault} task (Err e) before after → IsCertificateCut files before after
-cut files task e holds before after w = record {
+cut : (files : Files) (fixed_mine : FixedInstance) (e : Fault) → HoldsMine files fixed_mine → (before after : Progress) → WritesCertificate {E = Fault} fixed_mine (Err e) before after → IsCertificateCut files before after
+cut files fixed_mine e holds before after w = record {
   text = w.0;
-  answered = answered_yes files task w.0 holds w.1;
+  answered = answered_yes files fixed_mine w.0 holds w.1;
   front = w.2.0.0;
   begins = w.2.0.1;
   written = w.2.0.2;
@@ -44,11 +44,11 @@ of_states P Q weaker (Some before) (Some after) holds = weaker before after hold
 of_states P Q weaker (Some before) None holds = absurd holds
 of_states P Q weaker None after holds = absurd holds
 
-pub certified : (files : Files) (task : FixedMine) (c : Chosen) → HoldsMine files task → OfWriterIfAny c (WritesCertificate {E = Fault} task (Ok tt)) → OfWriterIfAny c (IsCertified files)
-certified files task c holds w = ⊎_elim
+pub certified : (files : Files) (fixed_mine : FixedInstance) (c : Chosen) → HoldsMine files fixed_mine → OfWriterIfAny c (WritesCertificate {E = Fault} fixed_mine (Ok tt)) → OfWriterIfAny c (IsCertified files)
+certified files fixed_mine c holds w = ⊎_elim
     (λ none. inl none)
-    (λ wrote. inr (of_states (WritesCertificate {E = Fault} task (Ok tt)) (IsCertified files) (written files task holds) c.before c.after wrote))
+    (λ wrote. inr (of_states (WritesCertificate {E = Fault} fixed_mine (Ok tt)) (IsCertified files) (written files fixed_mine holds) c.before c.after wrote))
     w
 
-pub certificate_cut : (files : Files) (task : FixedMine) (e : Fault) (c : Chosen) → HoldsMine files task → OfWriter c (WritesCertificate {E = Fault} task (Err e)) → OfWriter c (IsCertificateCut files)
-certificate_cut files task e c holds wrote = of_states (WritesCertificate {E = Fault} task (Err e)) (IsCertificateCut files) (cut files task e holds) c.before c.after wrote
+pub certificate_cut : (files : Files) (fixed_mine : FixedInstance) (e : Fault) (c : Chosen) → HoldsMine files fixed_mine → OfWriter c (WritesCertificate {E = Fault} fixed_mine (Err e)) → OfWriter c (IsCertificateCut files)
+certificate_cut files fixed_mine e c holds wrote = of_states (WritesCertificate {E = Fault} fixed_mine (Err e)) (IsCertificateCut files) (cut files fixed_mine e holds) c.before c.after wrote

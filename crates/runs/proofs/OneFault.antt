@@ -25,7 +25,7 @@ use Rattle.minelib_reader.proofs.PrecFaultLemmas as precedence_faults
 use Rattle.minelib_reader.proofs.FixedGrammarLemmas as fixed
 use Rattle.minelib_reader.proofs.FixedFaultLemmas as fixed_faults
 use Rattle.mine_graph.specs.Faults.{RefusesPairs, IsGraphFault}
-use Rattle.mine_graph.proofs.Acyclic.{acyclic_has_no_needy}
+use Rattle.mine_graph.proofs.Acyclic.{acyclic_is_well_founded}
 use Rattle.merging.proofs.Planning.{only_memory}
 use Rattle.pit_model.specs.Graph.{IsAcyclic}
 use Rattle.pit_model.specs.Cycle.{IsCycleList}
@@ -38,7 +38,7 @@ use Rattle.pit_model.proofs.Fixed.{allowed_exists_unless_clash, closure_is_one}
 use Rattle.pit_model.proofs.SamePairs.{fixed_pit_knows_no_order}
 use Rattle.pit_model.proofs.OneCycle.{cycle_is_one, least_once}
 use Rattle.report.specs.FaultText.{fault_text, detail_of, place_text, cycle_block}
-use Rattle.runs.specs.Solve.{Choice, no_reader, one_reader, gone, Files, FixedMine, Gave, GaveFixed, GaveMine, IsPitText, OfChoice, FirstFault, in_model, in_prec, in_fixed, in_pairs, in_blocks, GaveInOrder, GaveTask, HasNoClash, RefusesMine, fixed_in, mine_of}
+use Rattle.runs.specs.Solve.{OptionalReading, no_reader, one_reader, gone, Files, FixedInstance, Gave, GaveFixed, GaveMine, IsPitText, OfChoice, FirstFault, in_model, in_prec, in_fixed, in_pairs, in_blocks, GaveInOrder, GaveFixedMine, HasNoClash, RefusesMine, fixed_in, mine_of}
 use Rattle.runs.specs.Uniqueness.{ChoseAlike, IsUnread, ReadAlike, NeverFaulty, FaultsOnce}
 use Rattle.runs.proofs.Uniqueness.{model_once, one_lists, one_model, one_precedence, mine_in_order}
 
@@ -64,13 +64,13 @@ sound_fixed n text lists fault spelled is =
     let some = is.here in
     cc
 
-no_reader_faulty : (d : Choice) (m : ℕ) (fault : Fault) → ChoseAlike no_reader d → OfChoice d (λ r. (text : List ℕ) × Gave r text × IsFirstFixedFault m text fault) → ⊥
+no_reader_faulty : (d : OptionalReading) (m : ℕ) (fault : Fault) → ChoseAlike no_reader d → OfChoice d (λ r. (text : List ℕ) × Gave r text × IsFirstFixedFault m text fault) → ⊥
 no_reader_faulty no_reader m fault alike faulty = faulty
 no_reader_faulty (one_reader s) m fault alike faulty = alike
 no_reader_faulty gone m fault alike faulty = faulty
 
 -- where a fixed file spells something, it has no fault for whoever reads it
-no_fixed_fault : (c d : Choice) (n m : ℕ) (lists : FixedLists) (fault : Fault) → ChoseAlike c d → n ≡ m → GaveFixed c n lists
+no_fixed_fault : (c d : OptionalReading) (n m : ℕ) (lists : FixedLists) (fault : Fault) → ChoseAlike c d → n ≡ m → GaveFixed c n lists
     → OfChoice d (λ r. (text : List ℕ) × Gave r text × IsFirstFixedFault m text fault) → ⊥
 no_fixed_fault (one_reader r) (one_reader s) n m lists fault alike count given faulty =
     let text = alike given.0 faulty.0 given.1 faulty.1 in
@@ -96,23 +96,23 @@ no_clash direction mine fixed pit block is clash =
 module _ (files other : Files) (same : ReadAlike files other)
     (u : Upit) (ps : List (ℕ × ℕ)) (lists : FixedLists) (one : GaveMine files.model files.prec u ps) (fixed_one : GaveFixed files.fixed u.n lists)
     (direction : Direction) (text_of : List ℕ) (solved : IsPitText direction (mine_of u ps lists) text_of) where
-  pit_has_no_clash : (task : FixedMine) → GaveTask other task → HasNoClash task
-  pit_has_no_clash task h block named =
+  pit_has_no_clash : (fixed_mine : FixedInstance) → GaveFixedMine other fixed_mine → HasNoClash fixed_mine
+  pit_has_no_clash fixed_mine h block named =
       let upit = one_model files.model files.prec other.model other.prec same.model same.prec u h.upit ps h.pairs one h.given in
       let pairs = one_precedence files.model files.prec other.model other.prec same.model same.prec u h.upit ps h.pairs one h.given in
-      let same_lists = one_lists files.fixed other.fixed u.n h.upit.n lists task.lists same.fixed (ap (λ (w : Upit). w.n) upit) fixed_one h.fixed_given in
+      let same_lists = one_lists files.fixed other.fixed u.n h.upit.n lists fixed_mine.lists same.fixed (ap (λ (w : Upit). w.n) upit) fixed_one h.fixed_given in
       let here = subst (λ l. IsPitToward direction (mine_of u ps l).mine (fixed_of l) solved.pit) same_lists solved.is_pit in
-      let there = subst (λ (w : Upit). IsPitToward direction (mine_of w ps task.lists).mine (fixed_of task.lists) solved.pit) upit here in
-      let whole = subst (λ qs. IsPitToward direction (mine_of h.upit qs task.lists).mine (fixed_of task.lists) solved.pit) pairs there in
-      let moved = fixed_pit_knows_no_order direction h.upit.n h.upit.values h.pairs task.mine.pairs (fixed_of task.lists) solved.pit h.same whole in
-      let own = subst (λ n. IsPitToward direction (instance_of n h.upit.values task.mine.pairs) (fixed_of task.lists) solved.pit) (sym h.blocks) moved in
-      no_clash direction task.mine (fixed_of task.lists) solved.pit block
-      (subst (λ vs. IsPitToward direction (instance_of task.mine.blocks vs task.mine.pairs) (fixed_of task.lists) solved.pit) (sym h.values) own) named
+      let there = subst (λ (w : Upit). IsPitToward direction (mine_of w ps fixed_mine.lists).mine (fixed_of fixed_mine.lists) solved.pit) upit here in
+      let whole = subst (λ qs. IsPitToward direction (mine_of h.upit qs fixed_mine.lists).mine (fixed_of fixed_mine.lists) solved.pit) pairs there in
+      let moved = fixed_pit_knows_no_order direction h.upit.n h.upit.values h.pairs fixed_mine.mine.pairs (fixed_of fixed_mine.lists) solved.pit h.same whole in
+      let own = subst (λ n. IsPitToward direction (instance_of n h.upit.values fixed_mine.mine.pairs) (fixed_of fixed_mine.lists) solved.pit) (sym h.blocks) moved in
+      no_clash direction fixed_mine.mine (fixed_of fixed_mine.lists) solved.pit block
+      (subst (λ vs. IsPitToward direction (instance_of fixed_mine.mine.blocks vs fixed_mine.mine.pairs) (fixed_of fixed_mine.lists) solved.pit) (sym h.values) own) named
 
 -- where the readers gave a mine without a cycle and without a clash, no run over the same texts finds a fault in them
 module _ (files other : Files) (same : ReadAlike files other)
     (u : Upit) (ps : List (ℕ × ℕ)) (lists : FixedLists) (one : GaveMine files.model files.prec u ps) (fixed_one : GaveFixed files.fixed u.n lists) (acyclic : IsAcyclic ps)
-    (clash_free : (task : FixedMine) → GaveTask other task → HasNoClash task) where
+    (clash_free : (fixed_mine : FixedInstance) → GaveFixedMine other fixed_mine → HasNoClash fixed_mine) where
   no_fault : (fault : Fault) → FirstFault fault other → fault ≡ no_memory
   no_fault fault (in_model text given is) =
       absurd (sound_model text u fault (subst (λ t. SpellsUpit t u) (same.model one.model_text text one.model_given given) one.model_spelled) is)
@@ -124,8 +124,8 @@ module _ (files other : Files) (same : ReadAlike files other)
       let m = one_model files.model files.prec other.model other.prec same.model same.prec u upit ps pairs one gave in
       absurd (no_fixed_fault files.fixed other.fixed u.n upit.n lists fault same.fixed (ap (λ (w : Upit). w.n) m) fixed_one faulty)
   no_fault fault (in_pairs upit pairs named gave fixed_gave is) =
-      only_memory acyclic_has_no_needy pairs upit.n fault.refusal fault (subst IsAcyclic (one_precedence files.model files.prec other.model other.prec same.model same.prec u upit ps pairs one gave) acyclic) is
-  no_fault fault (in_blocks task block gave named is) = absurd (clash_free task gave block named)
+      only_memory acyclic_is_well_founded pairs upit.n fault.refusal fault (subst IsAcyclic (one_precedence files.model files.prec other.model other.prec same.model same.prec u upit ps pairs one gave) acyclic) is
+  no_fault fault (in_blocks fixed_mine block gave named is) = absurd (clash_free fixed_mine gave block named)
 
   only_passing : (r : Refusal) (fault : Fault) → fault.refusal ≡ r → RefusesMine r fault other → IsUnread r
   only_passing NoMemory fault is h = inl refl
@@ -142,11 +142,11 @@ never_faulty files other direction before after status fault same done h =
     only_passing files other same a.upit a.pairs a.lists a.given a.fixed_given a.acyclic clash_free fault.refusal fault refl h
 
 -- and so where they gave a mine in order
-pub given_is_faultless : (files other : Files) (task : FixedMine) (fault : Fault) → ReadAlike files other → GaveInOrder files task → RefusesMine fault.refusal fault other → IsUnread fault.refusal
-given_is_faultless files other task fault same gave h =
+pub given_is_faultless : (files other : Files) (fixed_mine : FixedInstance) (fault : Fault) → ReadAlike files other → GaveInOrder files fixed_mine → RefusesMine fault.refusal fault other → IsUnread fault.refusal
+given_is_faultless files other fixed_mine fault same gave h =
     let a = gave.holds.gave in
-    let clash_free = λ (there : FixedMine) (given : GaveTask other there). subst HasNoClash (mine_in_order files other same task there a given) gave.holds.no_clash in
-    only_passing files other same a.upit a.pairs task.lists a.given a.fixed_given a.acyclic clash_free fault.refusal fault refl h
+    let clash_free = λ (there : FixedInstance) (given : GaveFixedMine other there). subst HasNoClash (mine_in_order files other same fixed_mine there a given) gave.holds.no_clash in
+    only_passing files other same a.upit a.pairs fixed_mine.lists a.given a.fixed_given a.acyclic clash_free fault.refusal fault refl h
 
 -- the text of a cycle's fault is that of its blocks
 cycle_text : List ℕ → List ℕ
@@ -203,7 +203,7 @@ module _ (files other : Files) (same : ReadAlike files other) (f g : Fault) wher
   same_count : (u v : Upit) (ps qs : List (ℕ × ℕ)) → GaveMine files.model files.prec u ps → GaveMine other.model other.prec v qs → u.n ≡ v.n
   same_count u v ps qs one two = ap (λ (w : Upit). w.n) (one_model files.model files.prec other.model other.prec same.model same.prec u v ps qs one two)
 
-same_fixed_fault : (c d : Choice) (n m : ℕ) (f g : Fault) → ChoseAlike c d → n ≡ m → OfChoice c (λ r. (text : List ℕ) × Gave r text × IsFirstFixedFault n text f)
+same_fixed_fault : (c d : OptionalReading) (n m : ℕ) (f g : Fault) → ChoseAlike c d → n ≡ m → OfChoice c (λ r. (text : List ℕ) × Gave r text × IsFirstFixedFault n text f)
     → OfChoice d (λ r. (text : List ℕ) × Gave r text × IsFirstFixedFault m text g) → fault_text f ≡ fault_text g
 same_fixed_fault (one_reader r) (one_reader s) n m f g alike count a b =
     let moved = subst (λ i. IsFirstFixedFault i b.0 f) count (subst (λ t. IsFirstFixedFault n t f) (alike a.0 b.0 a.1 b.1) a.2) in
@@ -213,7 +213,7 @@ same_fixed_fault gone d n m f g alike count a b = absurd a
 same_fixed_fault (one_reader r) no_reader n m f g alike count a b = absurd b
 same_fixed_fault (one_reader r) gone n m f g alike count a b = absurd b
 
-alike_back : (c d : Choice) → ChoseAlike c d → ChoseAlike d c
+alike_back : (c d : OptionalReading) → ChoseAlike c d → ChoseAlike d c
 alike_back no_reader no_reader alike = tt
 alike_back (one_reader r) (one_reader s) alike = λ text behind x y. sym (alike behind text y x)
 alike_back no_reader (one_reader s) alike = absurd alike
@@ -235,21 +235,21 @@ module _ (files other : Files) (same : ReadAlike files other) (f g : Fault)
   one_fault (in_model text given is) (in_prec behind qs v gave spelled there two) = absurd (model_sound files other same f g text behind v given gave is spelled)
   one_fault (in_model text given is) (in_fixed v qs gave two) = absurd (model_sound files other same f g text gave.model_text v given gave.model_given is gave.model_spelled)
   one_fault (in_model text given is) (in_pairs v qs lists gave fixed_gave two) = absurd (model_sound files other same f g text gave.model_text v given gave.model_given is gave.model_spelled)
-  one_fault (in_model text given is) (in_blocks task block gave named two) =
+  one_fault (in_model text given is) (in_blocks fixed_mine block gave named two) =
       let h = gave.given in absurd (model_sound files other same f g text h.model_text gave.upit given h.model_given is h.model_spelled)
   one_fault (in_prec text ps u given spelled here is) (in_model behind gave two) = absurd (sound_too files other same f g text behind u given gave spelled two)
   one_fault (in_prec text ps u given spelled here is) (in_prec behind qs v gave spelled_too there two) = prec_prec files other same f g text behind ps qs u v given gave spelled spelled_too here there is two
   one_fault (in_prec text ps u given spelled here is) (in_fixed v qs gave two) = absurd (prec_sound files other same f g text ps u v qs given spelled here is gave)
   one_fault (in_prec text ps u given spelled here is) (in_pairs v qs lists gave fixed_gave two) = absurd (prec_sound files other same f g text ps u v qs given spelled here is gave)
-  one_fault (in_prec text ps u given spelled here is) (in_blocks task block gave named two) =
+  one_fault (in_prec text ps u given spelled here is) (in_blocks fixed_mine block gave named two) =
       absurd (prec_sound files other same f g text ps u gave.upit gave.pairs given spelled here is gave.given)
   one_fault (in_fixed u ps one is) (in_model behind gave two) = absurd (sound_too files other same f g one.model_text behind u one.model_given gave one.model_spelled two)
   one_fault (in_fixed u ps one is) (in_prec behind qs v gave spelled there two) = absurd (sound_prec files other same f g behind qs u v ps one gave spelled there two)
   one_fault (in_fixed u ps one is) (in_fixed v qs gave two) = same_fixed_fault files.fixed other.fixed u.n v.n f g same.fixed (same_count files other same f g u v ps qs one gave) is two
   one_fault (in_fixed u ps one is) (in_pairs v qs lists gave fixed_gave two) =
       absurd (no_fixed_fault other.fixed files.fixed v.n u.n lists f (alike_back files.fixed other.fixed same.fixed) (sym (same_count files other same f g u v ps qs one gave)) fixed_gave is)
-  one_fault (in_fixed u ps one is) (in_blocks task block h named two) =
-      absurd (no_fixed_fault other.fixed files.fixed h.upit.n u.n task.lists f (alike_back files.fixed other.fixed same.fixed) (sym (same_count files other same f g u h.upit ps h.pairs one h.given)) h.fixed_given is)
+  one_fault (in_fixed u ps one is) (in_blocks fixed_mine block h named two) =
+      absurd (no_fixed_fault other.fixed files.fixed h.upit.n u.n fixed_mine.lists f (alike_back files.fixed other.fixed same.fixed) (sym (same_count files other same f g u h.upit ps h.pairs one h.given)) h.fixed_given is)
   one_fault (in_pairs u ps lists one fixed_one is) (in_model behind gave two) = absurd (sound_too files other same f g one.model_text behind u one.model_given gave one.model_spelled two)
   one_fault (in_pairs u ps lists one fixed_one is) (in_prec behind qs v gave spelled there two) = absurd (sound_prec files other same f g behind qs u v ps one gave spelled there two)
   one_fault (in_pairs u ps lists one fixed_one is) (in_fixed v qs gave two) =
@@ -258,21 +258,21 @@ module _ (files other : Files) (same : ReadAlike files other) (f g : Fault)
       let m = one_model files.model files.prec other.model other.prec same.model same.prec u v ps qs one gave in
       let p = one_precedence files.model files.prec other.model other.prec same.model same.prec u v ps qs one gave in
       one_cycle qs v.n f g some some_too (subst (λ rs. IsGraphFault rs v.n f) p (subst (λ (w : Upit). IsGraphFault ps w.n f) m is)) two
-  one_fault (in_pairs u ps lists one fixed_one is) (in_blocks task block h named two) =
+  one_fault (in_pairs u ps lists one fixed_one is) (in_blocks fixed_mine block h named two) =
       let p = one_precedence files.model files.prec other.model other.prec same.model same.prec u h.upit ps h.pairs one h.given in
-      absurd (some (only_memory acyclic_has_no_needy ps u.n f.refusal f (subst IsAcyclic (sym p) h.acyclic) is))
-  one_fault (in_blocks task block one named is) (in_model behind gave two) =
+      absurd (some (only_memory acyclic_is_well_founded ps u.n f.refusal f (subst IsAcyclic (sym p) h.acyclic) is))
+  one_fault (in_blocks fixed_mine block one named is) (in_model behind gave two) =
       let h = one.given in absurd (sound_too files other same f g h.model_text behind one.upit h.model_given gave h.model_spelled two)
-  one_fault (in_blocks task block one named is) (in_prec behind qs v gave spelled there two) =
+  one_fault (in_blocks fixed_mine block one named is) (in_prec behind qs v gave spelled there two) =
       absurd (sound_prec files other same f g behind qs one.upit v one.pairs one.given gave spelled there two)
-  one_fault (in_blocks task block h named is) (in_fixed v qs gave two) =
-      absurd (no_fixed_fault files.fixed other.fixed h.upit.n v.n task.lists g same.fixed (same_count files other same f g h.upit v h.pairs qs h.given gave) h.fixed_given two)
-  one_fault (in_blocks task block h named is) (in_pairs v qs others gave fixed_gave two) =
+  one_fault (in_blocks fixed_mine block h named is) (in_fixed v qs gave two) =
+      absurd (no_fixed_fault files.fixed other.fixed h.upit.n v.n fixed_mine.lists g same.fixed (same_count files other same f g h.upit v h.pairs qs h.given gave) h.fixed_given two)
+  one_fault (in_blocks fixed_mine block h named is) (in_pairs v qs others gave fixed_gave two) =
       let p = one_precedence files.model files.prec other.model other.prec same.model same.prec h.upit v h.pairs qs h.given gave in
-      absurd (some_too (only_memory acyclic_has_no_needy qs v.n g.refusal g (subst IsAcyclic p h.acyclic) two))
-  one_fault (in_blocks task block one named is) (in_blocks task_too block_too gave named_too two) =
-      let t = mine_in_order files other same task task_too one gave in
-      let here = subst (λ (x : FixedMine). IsClash x.mine.pairs (fixed_in x) block) t named in
+      absurd (some_too (only_memory acyclic_is_well_founded qs v.n g.refusal g (subst IsAcyclic p h.acyclic) two))
+  one_fault (in_blocks fixed_mine block one named is) (in_blocks task_too block_too gave named_too two) =
+      let t = mine_in_order files other same fixed_mine task_too one gave in
+      let here = subst (λ (x : FixedInstance). IsClash x.mine.pairs (fixed_in x) block) t named in
       ap fault_text (is ∙ ap clash (one_clash task_too.mine.pairs (fixed_in task_too) block block_too here named_too) ∙ sym two)
 
 pub faults_once : (files other : Files) → FaultsOnce files other

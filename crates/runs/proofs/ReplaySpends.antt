@@ -11,7 +11,7 @@ use Rattle.pit_model.specs.Mine.{Instance}
 use Rattle.pit_model.specs.Replay.{IsSpentAt}
 use Rattle.report.specs.JournalLines.{BudgetAndEntries}
 use Rattle.solver.specs.declared.mode.Mode.{Mode}
-use Rattle.runs.specs.Solve.{Files, FixedMine, Reading}
+use Rattle.runs.specs.Solve.{Files, FixedInstance, Reading}
 use Rattle.runs.specs.Journaled.{AtBudget, IsJournaled}
 use Rattle.runs.specs.Replay.{AnswersJournal, settled, differs, unfinished, IsJournalSpent, NotReplayed, no_mine, no_journal, Replays, RefusesReplay}
 use Rattle.runs.specs.Uniqueness.{GaveTaken, IsUnread, ReadAlike, SpendsReplay}
@@ -23,19 +23,19 @@ use Rattle.runs.proofs.ReplayTakes.{faultless}
 itself : (n : ℕ) → (n == n) ≡ true
 itself n = search rules
 
-never_answered : (task : FixedMine) (mine : Instance) (said : BudgetAndEntries) (text : List ℕ) (status : Status) (count : ℕ) → IsSpentAt mine said.budget said.entries count → AnswersJournal task mine said text status → ⊥
-never_answered task mine said text status count s (settled t is_text done) = false≢true (sym (t.none_left s.left.0) ∙ s.left.1)
-never_answered task mine said text status count s (differs k d is_text negative) = no_difference mine said.budget said.entries k s.lawful d
-never_answered task mine said text status count s (unfinished made o is_text negative) =
+never_answered : (fixed_mine : FixedInstance) (mine : Instance) (said : BudgetAndEntries) (text : List ℕ) (status : Status) (count : ℕ) → IsSpentAt mine said.budget said.entries count → AnswersJournal fixed_mine mine said text status → ⊥
+never_answered fixed_mine mine said text status count s (settled t is_text done) = false≢true (sym (t.none_left s.left.0) ∙ s.left.1)
+never_answered fixed_mine mine said text status count s (differs k d is_text negative) = no_difference mine said.budget said.entries k s.lawful d
+never_answered fixed_mine mine said text status count s (unfinished made o is_text negative) =
     let same : made ≡ count = sym o.made ∙ s.made in
     false≢true (sym o.allowed ∙ (λ i. is_used_up (s.allowed i) (same i)) ∙ itself count)
 
 module _ (files other : Files) (journal : Reading) (same : ReadAlike files other) (mode : Mode) (count : ℕ) (before after : Progress)
     (taken : GaveTaken journal before after) (wrote : IsJournaled (AtBudget count) mode files before after) where
-  not_told : (text : List ℕ) (status : Status) → Replays other journal text status → ⊥
-  not_told text status r =
-      never_answered r.task r.rest r.said text status count
-      (taken_so files other journal same (AtBudget count) mode before after r.rest r.said taken wrote (r.task, r.given, r.is_rest) r.journal_given) r.answers
+  not_reported : (text : List ℕ) (status : Status) → Replays other journal text status → ⊥
+  not_reported text status r =
+      never_answered r.fixed_mine r.rest r.said text status count
+      (taken_so files other journal same (AtBudget count) mode before after r.rest r.said taken wrote (r.fixed_mine, r.given, r.is_rest) r.journal_given) r.answers
 
   same_count : (named : ℕ) → IsJournalSpent other journal named → named ≡ count
   same_count named used =
@@ -44,17 +44,17 @@ module _ (files other : Files) (journal : Reading) (same : ReadAlike files other
 
   unread : (fault : Fault) → NotReplayed fault other journal → IsUnread fault.refusal
   unread fault (no_mine refused left) = given_is_faultless files other wrote.given.0 fault same wrote.given.1 refused
-  unread fault (no_journal task given refused) = faultless files other journal same (AtBudget count) mode before after task fault.refusal fault taken wrote given refused
+  unread fault (no_journal fixed_mine given refused) = faultless files other journal same (AtBudget count) mode before after fixed_mine fault.refusal fault taken wrote given refused
 
   refused : (r : Refusal) (fault : Fault) (other_before other_after : Progress) → fault.refusal ≡ r → RefusesReplay r fault other journal other_before other_after → (r ≡ Exhausted count) ⊎ IsUnread r
-  refused WriteFailed fault other_before other_after is h = absurd (not_told h.1.text h.1.status h.1.replays)
+  refused WriteFailed fault other_before other_after is h = absurd (not_reported h.1.text h.1.status h.1.replays)
   refused (Exhausted named) fault other_before other_after is h = inl (ap Exhausted (same_count named h.1))
   refused _ fault other_before other_after is h = inr (subst IsUnread is (unread fault h.0))
 
 pub spends_replay : (files other : Files) (journal : Reading) → SpendsReplay files other journal
 spends_replay files other journal = record {
-  not_told = λ mode count before after other_before other_after other_status same taken wrote told.
-      not_told files other journal same mode count before after taken wrote told.text other_status told.replays;
+  not_reported = λ mode count before after other_before other_after other_status same taken wrote reported.
+      not_reported files other journal same mode count before after taken wrote reported.text other_status reported.replays;
   refused = λ mode count before after other_before other_after fault same taken wrote h.
       refused files other journal same mode count before after taken wrote fault.refusal fault other_before other_after refl h;
 }

@@ -12,7 +12,7 @@ use Rattle.faults.specs.declared.refusal.Refusal.{Refusal}
 use Rattle.faults.specs.declared.refusal.Refusal.TheVariants.{NoMemory, NoSeat, Exhausted, WriteFailed}
 use Rattle.pit_model.specs.declared.shell.Shell.{Shell}
 use Rattle.pit_model.specs.declared.direction.Direction.{Direction}
-use Rattle.pit_model.specs.Direction.{IsPitToward, nothing}
+use Rattle.pit_model.specs.Direction.{IsPitToward, no_blocks_fixed}
 use Rattle.pit_model.specs.Graph.{Graph, AreSamePairs}
 use Rattle.pit_model.specs.Mine.{Instance}
 use Rattle.pit_model.specs.Part.{IsPart}
@@ -25,7 +25,7 @@ use Rattle.solver.specs.declared.mode.Mode.TheVariants.{Single, Parts, Shared}
 use Rattle.shells.specs.Prices.{Prices, deposit_of}
 use Rattle.shells.specs.Grown.{EachEndsWithin, RefusesShells}
 use Rattle.runs.specs.Solve.{Reading}
-use Rattle.runs.specs.Deposit.{deposit_in, rows, GaveDeposit, HoldsDeposit, RefusesDeposit}
+use Rattle.runs.specs.Deposit.{deposit_of_table, rows, GaveDeposit, HoldsDeposit, RefusesDeposit}
 use Rattle.runs.specs.ShellsRun.{GivesShells, HoldsOfDeposit, IsShellsCut, IsShellsDone, RefusesShellsRun}
 use Rattle.runs.specs.declared.status.Status.TheVariants.{Done}
 
@@ -34,8 +34,8 @@ graph_with n pairs = record { blocks = n; pairs = pairs }
 
 -- the same pairs, in another order
 module _ (direction : Direction) (prices : Prices) (n : ℕ) (ps qs : List (ℕ × ℕ)) (same : AreSamePairs ps qs) where
-  pit_moves : (factor : ℕ) (set : ℕ → Bool) → IsPitToward direction (mine_at (deposit_of prices (graph_with n ps)) factor) nothing set → IsPitToward direction (mine_at (deposit_of prices (graph_with n qs)) factor) nothing set
-  pit_moves factor set pit = fixed_pit_knows_no_order direction n (values_at (deposit_of prices (graph_with n ps)) factor (range_with_len 0 n)) ps qs nothing set same pit
+  pit_moves : (factor : ℕ) (set : ℕ → Bool) → IsPitToward direction (mine_at (deposit_of prices (graph_with n ps)) factor) no_blocks_fixed set → IsPitToward direction (mine_at (deposit_of prices (graph_with n qs)) factor) no_blocks_fixed set
+  pit_moves factor set pit = fixed_pit_knows_no_order direction n (values_at (deposit_of prices (graph_with n ps)) factor (range_with_len 0 n)) ps qs no_blocks_fixed set same pit
 
   pub shells_move : (factors : List ℕ) (shells : List Shell) → AreShells direction (deposit_of prices (graph_with n ps)) factors shells → AreShells direction (deposit_of prices (graph_with n qs)) factors shells
   shells_move factors shells are = record {
@@ -85,9 +85,9 @@ module _ (direction : Direction) (prices : Prices) (n : ℕ) (ps qs : List (ℕ 
 -- the deposit that was read is the one that the files spell, with its pairs in order
 module _ (direction : Direction) (blocks prec : Reading) (revenue cost : ℕ) (prices : Prices) (graph : Graph) (holds : HoldsDeposit blocks prec revenue cost prices graph) where
   spelled : Deposit
-  spelled = deposit_in holds.table prices holds.pairs
+  spelled = deposit_of_table holds.table prices holds.pairs
 
-  gave : GaveDeposit blocks prec revenue cost (deposit_in holds.table prices holds.pairs)
+  gave : GaveDeposit blocks prec revenue cost (deposit_of_table holds.table prices holds.pairs)
   gave = record { table = holds.table; pairs = holds.pairs; prices = prices; given = holds.given; acyclic = holds.acyclic; columns = holds.columns; deposit_is = refl }
 
   counted : (P : ℕ → Type 0) → P graph.blocks → P (rows holds.table)
@@ -95,7 +95,7 @@ module _ (direction : Direction) (blocks prec : Reading) (revenue cost : ℕ) (p
 
   gives : (factors : List ℕ) (shells : List Shell) (m : ℕ) → m ≡ graph.blocks → AreShells direction (deposit_of prices graph) factors shells → GivesShells direction blocks prec revenue cost factors (shells_text m shells)
   gives factors shells m count are = record {
-    deposit = deposit_in holds.table prices holds.pairs;
+    deposit = deposit_of_table holds.table prices holds.pairs;
     given = gave;
     solved = record {
       shells = shells;
@@ -117,7 +117,7 @@ module _ (direction : Direction) (blocks prec : Reading) (revenue cost : ℕ) (p
 
   pub shells_within : (mode : Mode) (factors : List ℕ) → EachEndsWithin mode direction (deposit_of prices graph) factors → HoldsOfDeposit blocks prec revenue cost (λ deposit. EachEndsWithin mode direction deposit factors)
   shells_within mode factors each = (
-    deposit_in holds.table prices holds.pairs,
+    deposit_of_table holds.table prices holds.pairs,
     gave,
     within_moves direction prices (rows holds.table) graph.pairs holds.pairs (turned holds.pairs graph.pairs holds.same) mode factors
         (subst (λ n. EachEndsWithin mode direction (deposit_of prices (graph_with n graph.pairs)) factors) holds.count each),
@@ -137,15 +137,15 @@ module _ (direction : Direction) (blocks prec : Reading) (revenue cost : ℕ) (p
       } in
       subst (λ f. RefusesShellsRun mode direction f.refusal f blocks prec revenue cost factors before after) (sym failed) (refl, shells_within mode factors within, cut)
 
-  moved : (mode : Mode) (factors : List ℕ) (r : Refusal) (e : Fault) → RefusesShells mode direction (deposit_of prices graph) factors r e → RefusesShells mode direction (deposit_in holds.table prices holds.pairs) factors r e
+  moved : (mode : Mode) (factors : List ℕ) (r : Refusal) (e : Fault) → RefusesShells mode direction (deposit_of prices graph) factors r e → RefusesShells mode direction (deposit_of_table holds.table prices holds.pairs) factors r e
   moved mode factors r e h =
       refused_moves direction prices (rows holds.table) graph.pairs holds.pairs (turned holds.pairs graph.pairs holds.same) mode factors r e
       (subst (λ n. RefusesShells mode direction (deposit_of prices (graph_with n graph.pairs)) factors r e) holds.count h)
 
   pub shells_refused : (mode : Mode) (factors : List ℕ) (r : Refusal) (e : Fault) (out : Progress) → RefusesShells mode direction (deposit_of prices graph) factors r e → RefusesShellsRun mode direction r e blocks prec revenue cost factors out out
   shells_refused mode factors NoMemory e out h = ((h, holds.given.blocks_given.failures, holds.given.prec_given.failures), refl)
-  shells_refused mode factors NoSeat e out h = ((deposit_in holds.table prices holds.pairs, gave, moved mode factors NoSeat e h), refl)
-  shells_refused mode factors (Exhausted count) e out h = ((deposit_in holds.table prices holds.pairs, gave, moved mode factors (Exhausted count) e h), refl)
+  shells_refused mode factors NoSeat e out h = ((deposit_of_table holds.table prices holds.pairs, gave, moved mode factors NoSeat e h), refl)
+  shells_refused mode factors (Exhausted count) e out h = ((deposit_of_table holds.table prices holds.pairs, gave, moved mode factors (Exhausted count) e h), refl)
   shells_refused mode factors _ e out h = absurd h.2.2
 
 pub deposit_refused : (mode : Mode) (direction : Direction) (r : Refusal) (e : Fault) (blocks prec : Reading) (revenue cost : ℕ) (factors : List ℕ) (out : Progress) → RefusesDeposit r e blocks prec revenue cost → RefusesShellsRun mode direction r e blocks prec revenue cost factors out out

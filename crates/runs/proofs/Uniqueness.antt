@@ -24,7 +24,7 @@ use Rattle.pit_model.specs.Direction.{IsPitToward}
 use Rattle.pit_model.specs.Fixed.{Fixed, FixedLists, IsFixedCertificate}
 use Rattle.pit_model.specs.Uniqueness.{AreOneSet}
 use Rattle.pit_model.proofs.Fixed.{fixed_pit_is_one}
-use Rattle.pit_model.proofs.Turned.{greatest_is_one}
+use Rattle.pit_model.proofs.Dual.{greatest_is_one}
 use Rattle.pit_model.specs.PitText.{pit_text}
 use Rattle.pit_model.specs.Deposit.{Deposit}
 use Rattle.pit_model.proofs.SamePairs.{turned}
@@ -34,13 +34,13 @@ use Rattle.pit_model.proofs.OneOrder.{pairs_have_one_order}
 use Rattle.certificate.specs.CertificateGrammar.{SpellsCertificate}
 use Rattle.certificate.specs.CertificateLines.{PitAndFlow}
 use Rattle.certificate.proofs.TextRead as certificates
-use Rattle.merging.specs.Parts.{graph_of}
+use Rattle.merging.specs.Parts.{graph_of_instance}
 use Rattle.mine_graph.proofs.Sorted.{same_joined}
 use Rattle.shells.specs.Prices.{Prices}
 use Rattle.report.specs.AnswerText.{answer_text}
-use Rattle.runs.specs.Solve.{Choice, no_reader, one_reader, gone, Files, FixedMine, Reading, Gave, GaveFixed, GaveInOrder, GaveMine, GaveTask, IsPitText, fixed_in, mine_of}
+use Rattle.runs.specs.Solve.{OptionalReading, no_reader, one_reader, gone, Files, FixedInstance, Reading, Gave, GaveFixed, GaveInOrder, GaveMine, GaveFixedMine, IsPitText, fixed_in, mine_of}
 use Rattle.runs.specs.Check.{AnswersText, Checks, status_of_answer}
-use Rattle.runs.specs.Deposit.{GaveTable, GaveDeposit, deposit_in, rows}
+use Rattle.runs.specs.Deposit.{GaveTable, GaveDeposit, deposit_of_table, rows}
 use Rattle.runs.specs.ShellsRun.{IsShellsText}
 use Rattle.runs.specs.Uniqueness.{ChoseAlike, GaveAlike, ReadAlike, SolvesOnce, NestsOnce, AnswerIsOne, ChecksOnce, PassesCheck}
 
@@ -85,7 +85,7 @@ lists_once : (n : ℕ) (text : List ℕ) (l k : FixedLists) → SpellsFixed n te
 lists_once n text l k s t = same_value l k (sym (fixed.reads n 0 (rows_of text) l s) ∙ fixed.reads n 0 (rows_of text) k t)
 
 -- the same fixed blocks for as many blocks
-pub one_lists : (c d : Choice) (n m : ℕ) (l k : FixedLists) → ChoseAlike c d → n ≡ m → GaveFixed c n l → GaveFixed d m k → l ≡ k
+pub one_lists : (c d : OptionalReading) (n m : ℕ) (l k : FixedLists) → ChoseAlike c d → n ≡ m → GaveFixed c n l → GaveFixed d m k → l ≡ k
 one_lists no_reader no_reader n m l k alike count one other = one ∙ sym other
 one_lists (one_reader r) (one_reader s) n m l k alike count one other =
     let text = alike one.0 other.0 one.1 other.1 in
@@ -99,11 +99,11 @@ one_lists gone d n m l k alike count one other = absurd alike
 same_mine : (m n : Instance) → m.blocks ≡ n.blocks → m.values ≡ n.values → m.pairs ≡ n.pairs → m ≡ n
 same_mine m n b v p = ap (λ k. instance_of k m.values m.pairs) b ∙ ap (λ vs. instance_of n.blocks vs m.pairs) v ∙ ap (instance_of n.blocks n.values) p
 
-same_task : (m n : FixedMine) → m.mine ≡ n.mine → m.lists ≡ n.lists → m ≡ n
+same_task : (m n : FixedInstance) → m.mine ≡ n.mine → m.lists ≡ n.lists → m ≡ n
 same_task m n mine lists = ap (λ x. record { mine = x; lists = m.lists }) mine ∙ ap (λ l. record { mine = n.mine; lists = l }) lists
 
 -- the mine with its fixed blocks and its pairs in order is one
-pub mine_in_order : (files other : Files) → ReadAlike files other → (m n : FixedMine) → GaveTask files m → GaveTask other n → m ≡ n
+pub mine_in_order : (files other : Files) → ReadAlike files other → (m n : FixedInstance) → GaveFixedMine files m → GaveFixedMine other n → m ≡ n
 mine_in_order files other same m n x y =
     let u = one_model files.model files.prec other.model other.prec same.model same.prec x.upit y.upit x.pairs y.pairs x.given y.given in
     let p = one_precedence files.model files.prec other.model other.prec same.model same.prec x.upit y.upit x.pairs y.pairs x.given y.given in
@@ -119,10 +119,10 @@ one_set : (direction : Direction) (mine : Instance) (fixed : Fixed) (pit other :
 one_set Least mine fixed pit other = fixed_pit_is_one mine fixed pit other
 one_set Greatest mine fixed pit other = greatest_is_one mine fixed pit other
 
-one_text : (direction : Direction) (task : FixedMine) (s t : List ℕ) → IsPitText direction task s → IsPitText direction task t → s ≡ t
-one_text direction task s t a b =
-    let mine = task.mine in
-    let same = one_set direction mine (fixed_in task) a.pit b.pit a.is_pit b.is_pit in
+one_text : (direction : Direction) (fixed_mine : FixedInstance) (s t : List ℕ) → IsPitText direction fixed_mine s → IsPitText direction fixed_mine t → s ≡ t
+one_text direction fixed_mine s t a b =
+    let mine = fixed_mine.mine in
+    let same = one_set direction mine (fixed_in fixed_mine) a.pit b.pit a.is_pit b.is_pit in
     a.is_text ∙ ap (λ xs. pit_text mine.blocks xs (worth mine a.pit)) same.listed ∙ ap (pit_text mine.blocks (members mine.blocks b.pit)) same.worths ∙ sym b.is_text
 
 one_task : (files other : Files) → ReadAlike files other → (u v : Upit) (ps qs : List (ℕ × ℕ)) (l k : FixedLists) → GaveMine files.model files.prec u ps → GaveMine other.model other.prec v qs
@@ -137,8 +137,8 @@ pub solves_once : (files other : Files) → SolvesOnce files other
 solves_once files other direction before after other_before other_after status other_status same done two =
     let a = done.solves in
     let b = two.solves in
-    let task = one_task files other same a.upit b.upit a.pairs b.pairs a.lists b.lists a.given b.given a.fixed_given b.fixed_given in
-    let text = one_text direction (mine_of b.upit b.pairs b.lists) done.text two.text (subst (λ t. IsPitText direction t done.text) task a.solved) b.solved in
+    let fixed_mine = one_task files other same a.upit b.upit a.pairs b.pairs a.lists b.lists a.given b.given a.fixed_given b.fixed_given in
+    let text = one_text direction (mine_of b.upit b.pairs b.lists) done.text two.text (subst (λ t. IsPitText direction t done.text) fixed_mine a.solved) b.solved in
     record { text = two.text; taken = done.written ∙ ap (λ t. before.bytes ++ t) text; taken_too = two.written }
 
 -- ---- `shells`
@@ -166,8 +166,8 @@ module _ (blocks prec other_blocks other_prec : Reading) (same : GaveAlike block
       let revenues = one_column other.table revenue one.prices.revenues other.prices.revenues (subst (λ t. IsColumn t revenue one.prices.revenues) table one.columns.revenues_are) other.columns.revenues_are in
       let costs = one_column other.table cost one.prices.costs other.prices.costs (subst (λ t. IsColumn t cost one.prices.costs) table one.columns.costs_are) other.columns.costs_are in
       let prices : one.prices ≡ other.prices = ap (λ r. prices_of r one.prices.costs) revenues ∙ ap (prices_of other.prices.revenues) costs in
-      one.deposit_is ∙ ap (λ t. deposit_in t one.prices one.pairs) table ∙ ap (λ p. deposit_in other.table p one.pairs) prices
-      ∙ ap (deposit_in other.table other.prices) pairs ∙ sym other.deposit_is
+      one.deposit_is ∙ ap (λ t. deposit_of_table t one.prices one.pairs) table ∙ ap (λ p. deposit_of_table other.table p one.pairs) prices
+      ∙ ap (deposit_of_table other.table other.prices) pairs ∙ sym other.deposit_is
 
 one_shells_text : (direction : Direction) (deposit : Deposit) (factors s t : List ℕ) → IsShellsText direction deposit factors s → IsShellsText direction deposit factors t → s ≡ t
 one_shells_text direction deposit factors s t a b = a.is_text ∙ (shells_are_one direction deposit factors a.shells b.shells a.are b.are).1 ∙ sym b.is_text
@@ -183,19 +183,19 @@ nests_once blocks prec other_blocks other_prec direction revenue cost factors be
 -- ---- `check`
 
 pub answer_is_one : AnswerIsOne
-answer_is_one task text answer other graph a b =
-    let same = certificate_once (graph_of task.mine) task.lists text a.shown b.shown graph.rising a.spelled b.spelled in
+answer_is_one fixed_mine text answer other graph a b =
+    let same = certificate_once (graph_of_instance fixed_mine.mine) fixed_mine.lists text a.shown b.shown graph.rising a.spelled b.spelled in
     same_truth answer other
-    (λ yes. b.exact.1 (subst (λ (c : PitAndFlow). IsFixedCertificate task.mine (fixed_in task) c.pit c.flow) same (a.exact.0 yes)))
-    (λ yes. a.exact.1 (subst (λ (c : PitAndFlow). IsFixedCertificate task.mine (fixed_in task) c.pit c.flow) (sym same) (b.exact.0 yes)))
+    (λ yes. b.exact.1 (subst (λ (c : PitAndFlow). IsFixedCertificate fixed_mine.mine (fixed_in fixed_mine) c.pit c.flow) same (a.exact.0 yes)))
+    (λ yes. a.exact.1 (subst (λ (c : PitAndFlow). IsFixedCertificate fixed_mine.mine (fixed_in fixed_mine) c.pit c.flow) (sym same) (b.exact.0 yes)))
 
 module _ (files other : Files) (same : ReadAlike files other) where
   -- of one text there is one answer
-  text_answers : (m n : FixedMine) (s t : List ℕ) (answer second : Bool) → GaveInOrder files m → GaveInOrder other n → s ≡ t
+  text_answers : (m n : FixedInstance) (s t : List ℕ) (answer second : Bool) → GaveInOrder files m → GaveInOrder other n → s ≡ t
       → AnswersText m s answer → AnswersText n t second → answer ≡ second
   text_answers m n s t answer second one two text a b =
-      let task = mine_in_order files other same m n one.holds.gave two.holds.gave in
-      answer_is_one n t answer second two.ordered (subst (λ x. AnswersText x t answer) task (subst (λ x. AnswersText m x answer) text a)) b
+      let fixed_mine = mine_in_order files other same m n one.holds.gave two.holds.gave in
+      answer_is_one n t answer second two.ordered (subst (λ x. AnswersText x t answer) fixed_mine (subst (λ x. AnswersText m x answer) text a)) b
 
   one_answer : (certificate other_certificate : Reading) (answer second : Bool) → GaveAlike certificate other_certificate
       → Checks files certificate answer → Checks other other_certificate second → answer ≡ second
@@ -203,13 +203,13 @@ module _ (files other : Files) (same : ReadAlike files other) where
       let x = a.answered in
       let y = b.answered in
       let text = same_text x.text y.text x.given y.given in
-      text_answers a.task b.task x.text y.text answer second a.given b.given text x.answers y.answers
+      text_answers a.fixed_mine b.fixed_mine x.text y.text answer second a.given b.given text x.answers y.answers
 
 pub checks_once : (files other : Files) (certificate other_certificate : Reading) → ChecksOnce files other certificate other_certificate
 checks_once files other certificate other_certificate before after other_before other_after status other_status same same_text done two =
     let answer = one_answer files other same certificate other_certificate done.answer two.answer same_text done.checks two.checks in (
       record { text = answer_text two.answer; taken = done.written ∙ ap (λ b. before.bytes ++ answer_text b) answer; taken_too = two.written },
-      done.told ∙ ap status_of_answer answer ∙ sym two.told,
+      done.reported ∙ ap status_of_answer answer ∙ sym two.reported,
     )
 
 pub passes_check : (files other : Files) (certificate : Reading) → PassesCheck files other certificate
@@ -219,5 +219,5 @@ passes_check files other certificate before after other_before other_after statu
     let text : certified.text ≡ y.text =
     append_cancel_left before.bytes certified.text taken.text (sym certified.written ∙ taken.taken) ∙ given_once certificate taken.text y.text taken.given y.given in
     let answer : checked.answer ≡ true =
-    sym (text_answers files other same x.task checked.checks.task certified.text y.text true checked.answer x.given checked.checks.given text x.yes y.answers) in
-    (checked.told ∙ ap status_of_answer answer, checked.written ∙ ap (λ b. other_before.bytes ++ answer_text b) answer)
+    sym (text_answers files other same x.fixed_mine checked.checks.fixed_mine certified.text y.text true checked.answer x.given checked.checks.given text x.yes y.answers) in
+    (checked.reported ∙ ap status_of_answer answer, checked.written ∙ ap (λ b. other_before.bytes ++ answer_text b) answer)

@@ -3,24 +3,24 @@ use Rattle.std.specs.Prelude.{◌≡◌, ℕ, ◌+◌, ◌++◌, true, List, Res
 use Rattle.minelib_reader.specs.Device.{Progress, Begins, Writes}
 use Rattle.faults.specs.Refused.{write_failed}
 use Rattle.faults.specs.declared.fault.Fault.{Fault}
-use Rattle.runs.specs.Solve.{Files, FixedMine, GaveInOrder}
+use Rattle.runs.specs.Solve.{Files, FixedInstance, GaveInOrder}
 use Rattle.runs.specs.Check.{AnswersText}
 use Rattle.runs.specs.Chosen.{Chosen, OfWriter, OfWriterIfAny}
 
 -- the text is a certificate of the mine that the readers gave, and the answer to it is yes
 pub record IsAnsweredYes (files : Files) (text : List ℕ) : Type 0 where
-  pub task : FixedMine
-  pub given : GaveInOrder files task
-  pub yes : AnswersText task text true
+  pub fixed_mine : FixedInstance
+  pub given : GaveInOrder files fixed_mine
+  pub yes : AnswersText fixed_mine text true
 
 -- a text to which the answer is yes was written, or a beginning of it
-abbrev pub WritesCertificate : {E : Type 0} → FixedMine → Result (Unit {0}) E → Progress → Progress → Type 0
-WritesCertificate task result before after = (text : List ℕ) × AnswersText task text true × Writes before after text result
+abbrev pub WritesCertificate : {E : Type 0} → FixedInstance → Result (Unit {0}) E → Progress → Progress → Type 0
+WritesCertificate fixed_mine result before after = (text : List ℕ) × AnswersText fixed_mine text true × Writes before after text result
 
 -- what went of a certificate of the mine to a writer of choice
-abbrev pub PutsCertificate : FixedMine → Chosen → Result (Unit {0}) Fault → Type 0
-PutsCertificate task c (Ok x) = OfWriterIfAny c (WritesCertificate {E = Fault} task (Ok x))
-PutsCertificate task c (Err e) = OfWriter c (WritesCertificate {E = Fault} task (Err e)) × (e ≡ write_failed)
+abbrev pub PutsCertificate : FixedInstance → Chosen → Result (Unit {0}) Fault → Type 0
+PutsCertificate fixed_mine c (Ok x) = OfWriterIfAny c (WritesCertificate {E = Fault} fixed_mine (Ok x))
+PutsCertificate fixed_mine c (Err e) = OfWriter c (WritesCertificate {E = Fault} fixed_mine (Err e)) × (e ≡ write_failed)
 
 -- exactly a certificate of the mine was written
 pub record IsCertified (files : Files) (before after : Progress) : Type 0 where

@@ -29,8 +29,8 @@ pub record GaveTable (blocks prec : Reading) (table : Table) (pairs : List (ℕ 
   pub prec_spelled : SpellsPrec (rows table) prec_text pairs
 
 -- the deposit of a table's blocks, two of its columns and the pairs
-abbrev pub deposit_in : Table → Prices → List (ℕ × ℕ) → Deposit
-deposit_in table prices pairs = deposit_of prices (record { blocks = rows table; pairs = pairs })
+abbrev pub deposit_of_table : Table → Prices → List (ℕ × ℕ) → Deposit
+deposit_of_table table prices pairs = deposit_of prices (record { blocks = rows table; pairs = pairs })
 
 -- the readers gave a deposit without a cycle
 pub record GaveDeposit (blocks prec : Reading) (revenue cost : ℕ) (deposit : Deposit) : Type 0 where
@@ -40,7 +40,7 @@ pub record GaveDeposit (blocks prec : Reading) (revenue cost : ℕ) (deposit : D
   pub given : GaveTable blocks prec table pairs
   pub acyclic : IsAcyclic pairs
   pub columns : AreColumns table revenue cost prices
-  pub deposit_is : deposit ≡ deposit_in table prices pairs
+  pub deposit_is : deposit ≡ deposit_of_table table prices pairs
 
 -- a graph and prices in memory are those of the deposit that the readers gave, with the pairs in order
 pub record HoldsDeposit (blocks prec : Reading) (revenue cost : ℕ) (prices : Prices) (graph : Graph) : Type 0 where

@@ -7,19 +7,19 @@ use Rattle.faults.specs.declared.refusal.Refusal.{Refusal}
 use Rattle.faults.specs.declared.refusal.Refusal.TheVariants.{NoMemory, ReadFailed, WriteFailed, NoSeat, Exhausted}
 use Rattle.faults.specs.declared.source.Source.TheVariants as sources
 use Rattle.pit_model.specs.Mine.{Instance}
-use Rattle.pit_model.specs.Replay.{DiffersAt, IsSettled, IsSpentAt, IsOpenAt}
+use Rattle.pit_model.specs.Replay.{DiffersAt, IsComplete, IsSpentAt, IsOpenAt}
 use Rattle.report.specs.JournalLines.{BudgetAndEntries}
 use Rattle.report.specs.JournalGrammar.{SpellsJournal}
 use Rattle.report.specs.JournalFault.{IsFirstJournalFault}
 use Rattle.report.specs.ReplayText.{difference_text, open_text}
-use Rattle.merging.specs.Parts.{graph_of}
+use Rattle.merging.specs.Parts.{graph_of_instance}
 use Rattle.merging.specs.Replayed.{EndsReplay}
 use Rattle.merging.specs.declared.replayed.Replayed.{Replayed}
 use Rattle.merging.specs.declared.replayed.Replayed.TheVariants as ends
 use Rattle.pit_model.specs.declared.direction.Direction.TheVariants.{Least}
 use Rattle.pit_model.specs.Fixed.{IsRestOf}
 use Rattle.pit_model.specs.Direction.{ListsPit}
-use Rattle.runs.specs.Solve.{Files, FixedMine, GaveInOrder, Reading, Gave, NeverFailed, FailedOnce, RefusesMine, IsPitText, Solves, fixed_in}
+use Rattle.runs.specs.Solve.{Files, FixedInstance, GaveInOrder, Reading, Gave, NeverFailed, FailedOnce, RefusesMine, IsPitText, Solves, fixed_in}
 use Rattle.runs.specs.Journaled.{GaveRest}
 use Rattle.runs.specs.declared.status.Status.{Status}
 use Rattle.runs.specs.declared.status.Status.TheVariants.{Done, No}
@@ -28,7 +28,7 @@ use Rattle.runs.specs.declared.status.Status.TheVariants.{Done, No}
 pub record GaveJournal (rest : Instance) (reading : Reading) (journal : BudgetAndEntries) : Type 0 where
   pub text : List ℕ
   pub given : Gave reading text
-  pub spelled : SpellsJournal (graph_of rest) text journal
+  pub spelled : SpellsJournal (graph_of_instance rest) text journal
 
 -- the reader gave a journal of an instance, and its replay ends so
 pub record IsReplayedOn (rest : Instance) (reading : Reading) (end : Replayed) : Type 0 where
@@ -37,39 +37,39 @@ pub record IsReplayedOn (rest : Instance) (reading : Reading) (end : Replayed) :
   pub ends : EndsReplay rest journal.budget journal.entries end
 
 -- how the replay of a journal of the rest ends; at its end without a merger arc left, the blocks are the pit of the mine
-abbrev pub EndsOnRest : FixedMine → Instance → BudgetAndEntries → Replayed → Type 0
-EndsOnRest task rest journal (ends.Pit pit) = IsSettled rest journal.budget journal.entries × ListsPit Least task.mine (fixed_in task) pit.items
-EndsOnRest task rest journal end = EndsReplay rest journal.budget journal.entries end
+abbrev pub EndsOnRest : FixedInstance → Instance → BudgetAndEntries → Replayed → Type 0
+EndsOnRest fixed_mine rest journal (ends.Pit pit) = IsComplete rest journal.budget journal.entries × ListsPit Least fixed_mine.mine (fixed_in fixed_mine) pit.items
+EndsOnRest fixed_mine rest journal end = EndsReplay rest journal.budget journal.entries end
 
 -- the reader gave a journal of the rest of the mine, and its replay ends so
-pub record IsReplayed (task : FixedMine) (reading : Reading) (end : Replayed) : Type 0 where
+pub record IsReplayed (fixed_mine : FixedInstance) (reading : Reading) (end : Replayed) : Type 0 where
   pub rest : Instance
-  pub is_rest : IsRestOf task.mine (fixed_in task) rest
+  pub is_rest : IsRestOf fixed_mine.mine (fixed_in fixed_mine) rest
   pub journal : BudgetAndEntries
   pub given : GaveJournal rest reading journal
-  pub ends : EndsOnRest task rest journal end
+  pub ends : EndsOnRest fixed_mine rest journal end
 
 -- what is written of the replay of a journal of a mine's rest: the text of the pit, where each verdict is lawful and no merger arc is
 -- left; which entry is the first without its lawful verdict; or after how many mergers one is left that the budget allows
-pub data AnswersJournal (task : FixedMine) (rest : Instance) (journal : BudgetAndEntries) (text : List ℕ) (status : Status) : Type 0 where
-  settled : IsSettled rest journal.budget journal.entries → IsPitText Least task text → status ≡ Done → AnswersJournal task rest journal text status
-  differs : (k : ℕ) → DiffersAt rest journal.budget journal.entries k → text ≡ difference_text k → status ≡ No → AnswersJournal task rest journal text status
-  unfinished : (count : ℕ) → IsOpenAt rest journal.budget journal.entries count → text ≡ open_text count → status ≡ No → AnswersJournal task rest journal text status
+pub data AnswersJournal (fixed_mine : FixedInstance) (rest : Instance) (journal : BudgetAndEntries) (text : List ℕ) (status : Status) : Type 0 where
+  settled : IsComplete rest journal.budget journal.entries → IsPitText Least fixed_mine text → status ≡ Done → AnswersJournal fixed_mine rest journal text status
+  differs : (k : ℕ) → DiffersAt rest journal.budget journal.entries k → text ≡ difference_text k → status ≡ No → AnswersJournal fixed_mine rest journal text status
+  unfinished : (count : ℕ) → IsOpenAt rest journal.budget journal.entries count → text ≡ open_text count → status ≡ No → AnswersJournal fixed_mine rest journal text status
 
 -- the readers gave a mine and a journal of its rest, and this is the answer; where that is the text of a pit, it is the pit of
 -- the mine as the files spell it
 pub record Replays (files : Files) (journal : Reading) (text : List ℕ) (status : Status) : Type 0 where
-  pub task : FixedMine
-  pub given : GaveInOrder files task
+  pub fixed_mine : FixedInstance
+  pub given : GaveInOrder files fixed_mine
   pub rest : Instance
-  pub is_rest : IsRestOf task.mine (fixed_in task) rest
+  pub is_rest : IsRestOf fixed_mine.mine (fixed_in fixed_mine) rest
   pub said : BudgetAndEntries
   pub journal_given : GaveJournal rest journal said
-  pub answers : AnswersJournal task rest said text status
+  pub answers : AnswersJournal fixed_mine rest said text status
   pub solves : status ≡ Done → Solves Least files text
 
 -- exactly the answer was written
-pub record IsToldReplay (files : Files) (journal : Reading) (before after : Progress) (status : Status) : Type 0 where
+pub record ReportsReplay (files : Files) (journal : Reading) (before after : Progress) (status : Status) : Type 0 where
   pub text : List ℕ
   pub replays : Replays files journal text status
   pub written : after.bytes ≡ before.bytes ++ text
@@ -100,17 +100,17 @@ RefusesJournalOn ReadFailed fault rest journal = FailedOnce sources.Journal faul
 RefusesJournalOn WriteFailed fault rest journal = ⊥
 RefusesJournalOn NoSeat fault rest journal = ⊥
 RefusesJournalOn (Exhausted count) fault rest journal = ⊥
-RefusesJournalOn _ fault rest journal = (text : List ℕ) × Gave journal text × IsFirstJournalFault (graph_of rest) text fault
+RefusesJournalOn _ fault rest journal = (text : List ℕ) × Gave journal text × IsFirstJournalFault (graph_of_instance rest) text fault
 
 -- why no journal of a mine's rest was read or replayed
-abbrev pub RefusesJournal : Refusal → Fault → FixedMine → Reading → Type 0
-RefusesJournal NoMemory fault task journal = (fault ≡ no_memory) × NeverFailed journal
-RefusesJournal refusal fault task journal = (rest : Instance) × IsRestOf task.mine (fixed_in task) rest × RefusesJournalOn refusal fault rest journal
+abbrev pub RefusesJournal : Refusal → Fault → FixedInstance → Reading → Type 0
+RefusesJournal NoMemory fault fixed_mine journal = (fault ≡ no_memory) × NeverFailed journal
+RefusesJournal refusal fault fixed_mine journal = (rest : Instance) × IsRestOf fixed_mine.mine (fixed_in fixed_mine) rest × RefusesJournalOn refusal fault rest journal
 
 -- why nothing was replayed: no mine was read, and then nothing of a journal either; or no journal of the mine was
 pub data NotReplayed (fault : Fault) (files : Files) (journal : Reading) : Type 0 where
   no_mine : RefusesMine fault.refusal fault files → journal.after ≡ journal.before → NotReplayed fault files journal
-  no_journal : (task : FixedMine) → GaveInOrder files task → RefusesJournal fault.refusal fault task journal → NotReplayed fault files journal
+  no_journal : (fixed_mine : FixedInstance) → GaveInOrder files fixed_mine → RefusesJournal fault.refusal fault fixed_mine journal → NotReplayed fault files journal
 
 -- why a run ended without an answer: nothing was written, but where a write failed
 abbrev pub RefusesReplay : Refusal → Fault → Files → Reading → Progress → Progress → Type 0
@@ -119,22 +119,22 @@ RefusesReplay (Exhausted count) fault files journal before after = (fault ≡ ex
 RefusesReplay _ fault files journal before after = NotReplayed fault files journal × (after ≡ before)
 
 -- the blocks at the end of a replay, where it gives some, are the pit
-abbrev pub ShowsEnd : FixedMine → Replayed → Type 0
-ShowsEnd task (ends.Pit pit) = ListsPit Least task.mine (fixed_in task) pit.items
-ShowsEnd task _ = Unit {0}
+abbrev pub ShowsEnd : FixedInstance → Replayed → Type 0
+ShowsEnd fixed_mine (ends.Pit pit) = ListsPit Least fixed_mine.mine (fixed_in fixed_mine) pit.items
+ShowsEnd fixed_mine _ = Unit {0}
 
 -- what is written of the end of a replay, and the status
-abbrev pub TellsEnd : FixedMine → Replayed → List ℕ → Status → Type 0
-TellsEnd task (ends.Pit pit) text status = IsPitText Least task text × (status ≡ Done)
-TellsEnd task (ends.Differs k) text status = (text ≡ difference_text k) × (status ≡ No)
-TellsEnd task (ends.Open count) text status = (text ≡ open_text count) × (status ≡ No)
-TellsEnd task (ends.Exhausted count) text status = ⊥
+abbrev pub TellsEnd : FixedInstance → Replayed → List ℕ → Status → Type 0
+TellsEnd fixed_mine (ends.Pit pit) text status = IsPitText Least fixed_mine text × (status ≡ Done)
+TellsEnd fixed_mine (ends.Differs k) text status = (text ≡ difference_text k) × (status ≡ No)
+TellsEnd fixed_mine (ends.Open count) text status = (text ≡ open_text count) × (status ≡ No)
+TellsEnd fixed_mine (ends.Exhausted count) text status = ⊥
 
 -- why the end of a replay was not told: a beginning of its text was written; or a budget is used up, and nothing was
-pub data NotTold (task : FixedMine) (end : Replayed) (before after : Progress) (fault : Fault) : Type 0 where
-  cut : (text : List ℕ) (status : Status) → TellsEnd task end text status → Writes before after text (Err fault) → fault ≡ write_failed → NotTold task end before after fault
-  spent : (count : ℕ) → end ≡ ends.Exhausted count → fault ≡ exhausted count → after ≡ before → NotTold task end before after fault
+pub data FailsToReport (fixed_mine : FixedInstance) (end : Replayed) (before after : Progress) (fault : Fault) : Type 0 where
+  cut : (text : List ℕ) (status : Status) → TellsEnd fixed_mine end text status → Writes before after text (Err fault) → fault ≡ write_failed → FailsToReport fixed_mine end before after fault
+  spent : (count : ℕ) → end ≡ ends.Exhausted count → fault ≡ exhausted count → after ≡ before → FailsToReport fixed_mine end before after fault
 
 -- the text of the end of a replay was written
-abbrev pub IsTold : FixedMine → Replayed → Progress → Progress → Status → Type 0
-IsTold task end before after status = (text : List ℕ) × TellsEnd task end text status × Writes {E = Fault} before after text (Ok tt)
+abbrev pub ReportsEnd : FixedInstance → Replayed → Progress → Progress → Status → Type 0
+ReportsEnd fixed_mine end before after status = (text : List ℕ) × TellsEnd fixed_mine end text status × Writes {E = Fault} before after text (Ok tt)

@@ -25,7 +25,7 @@ use Rattle.pit_model.specs.Fixed.{Fixed, FixedLists, IsClash, fixed_of}
 use Rattle.pit_model.specs.Direction.{IsPitToward}
 use Rattle.pit_model.specs.PitText.{pit_text}
 use Rattle.runs.specs.declared.mine.MineFiles.{MineFiles}
-use Rattle.runs.specs.declared.mine.Task.{Task}
+use Rattle.runs.specs.declared.mine.FixedMine.{FixedMine}
 use Rattle.runs.specs.declared.status.Status.{Status}
 use Rattle.runs.specs.declared.status.Status.TheVariants.{Done}
 
@@ -50,21 +50,21 @@ abbrev pub FailedOnce : Source → Fault → Reading → Type 0
 FailedOnce source fault r = (r.after.failures ≡ r.before.failures + 1) × (fault ≡ at_line source ReadFailed 0)
 
 -- what a reader of choice gave, where it is there; none that was there may go in a run
-pub data Choice : Type 1 where
-  no_reader : Choice
-  one_reader : Reading → Choice
-  gone : Choice
+pub data OptionalReading : Type 1 where
+  no_reader : OptionalReading
+  one_reader : Reading → OptionalReading
+  gone : OptionalReading
 
-abbrev pub choice : {F : Type 0} → (F → Progress) → (F → Type 0) → Option F → Option F → Choice
-choice progress is_at_end None None = no_reader
-choice progress is_at_end (Some before) (Some after) = one_reader (reading (progress before) (progress after) (is_at_end after))
-choice progress is_at_end before after = gone
+abbrev pub optional_reading : {F : Type 0} → (F → Progress) → (F → Type 0) → Option F → Option F → OptionalReading
+optional_reading progress is_at_end None None = no_reader
+optional_reading progress is_at_end (Some before) (Some after) = one_reader (reading (progress before) (progress after) (is_at_end after))
+optional_reading progress is_at_end before after = gone
 
-abbrev pub OfChoice : Choice → (Reading → Type 0) → Type 0
+abbrev pub OfChoice : OptionalReading → (Reading → Type 0) → Type 0
 OfChoice (one_reader r) Holds = Holds r
 OfChoice c Holds = ⊥
 
-abbrev pub OfChoiceIfAny : Choice → (Reading → Type 0) → Type 0
+abbrev pub OfChoiceIfAny : OptionalReading → (Reading → Type 0) → Type 0
 OfChoiceIfAny no_reader Holds = Unit {0}
 OfChoiceIfAny c Holds = OfChoice c Holds
 
@@ -72,7 +72,7 @@ OfChoiceIfAny c Holds = OfChoice c Holds
 pub record Files : Type 1 where
   pub model : Reading
   pub prec : Reading
-  pub fixed : Choice
+  pub fixed : OptionalReading
 
 abbrev pub files_of :
     {M P F : Type 0} → (M → Progress) → (M → Type 0) → (P → Progress) → (P → Type 0) → (F → Progress) → (F → Type 0)
@@ -80,7 +80,7 @@ abbrev pub files_of :
 files_of model model_ends prec prec_ends fixed fixed_ends before after = record {
   model = reading (model before.model) (model after.model) (model_ends after.model);
   prec = reading (prec before.prec) (prec after.prec) (prec_ends after.prec);
-  fixed = choice fixed fixed_ends before.fixed after.fixed;
+  fixed = optional_reading fixed fixed_ends before.fixed after.fixed;
 }
 
 -- the readers of a mine, in their order
@@ -102,17 +102,17 @@ pub record MayRead {M P F : Type 0} (model : M → Progress) (prec : P → Progr
   pub may_read_fixed : MayReadIfAny fixed files.fixed
 
 -- a mine with fixed blocks
-pub record FixedMine : Type 0 where
+pub record FixedInstance : Type 0 where
   pub mine : Instance
   pub lists : FixedLists
 
 -- what a value in memory stands for
-abbrev pub task_of : Task → FixedMine
-task_of task = record { mine = task.mine; lists = task.fixed.lists }
+abbrev pub fixed_instance_of : FixedMine → FixedInstance
+fixed_instance_of fixed_mine = record { mine = fixed_mine.mine; lists = fixed_mine.fixed.lists }
 
 -- the blocks forced in and barred
-abbrev pub fixed_in : FixedMine → Fixed
-fixed_in task = fixed_of task.lists
+abbrev pub fixed_in : FixedInstance → Fixed
+fixed_in fixed_mine = fixed_of fixed_mine.lists
 
 -- the readers gave two texts, which spell a model and pairs for its blocks
 pub record GaveMine (model prec : Reading) (upit : Upit) (pairs : List (ℕ × ℕ)) : Type 0 where
@@ -124,49 +124,49 @@ pub record GaveMine (model prec : Reading) (upit : Upit) (pairs : List (ℕ × �
   pub prec_spelled : SpellsPrec upit.n prec_text pairs
 
 -- the reader of choice gave a text that spells these fixed blocks of n; where there is none, nothing is fixed
-abbrev pub GaveFixed : Choice → ℕ → FixedLists → Type 0
+abbrev pub GaveFixed : OptionalReading → ℕ → FixedLists → Type 0
 GaveFixed no_reader n lists = lists ≡ no_lists
 GaveFixed c n lists = OfChoice c (λ r. (text : List ℕ) × Gave r text × SpellsFixed n text lists)
 
-abbrev pub mine_of : Upit → List (ℕ × ℕ) → FixedLists → FixedMine
+abbrev pub mine_of : Upit → List (ℕ × ℕ) → FixedLists → FixedInstance
 mine_of upit pairs lists = record { mine = instance_of upit.n upit.values pairs; lists = lists }
 
 -- the readers gave texts that spell this mine, with its pairs in the order of (block, needed block); its fixed blocks may clash
-pub record GaveTask (files : Files) (task : FixedMine) : Type 0 where
+pub record GaveFixedMine (files : Files) (fixed_mine : FixedInstance) : Type 0 where
   pub upit : Upit
   pub pairs : List (ℕ × ℕ)
   pub given : GaveMine files.model files.prec upit pairs
-  pub fixed_given : GaveFixed files.fixed upit.n task.lists
-  pub blocks : task.mine.blocks ≡ upit.n
-  pub values : task.mine.values ≡ upit.values
-  pub same : AreSamePairs pairs task.mine.pairs
+  pub fixed_given : GaveFixed files.fixed upit.n fixed_mine.lists
+  pub blocks : fixed_mine.mine.blocks ≡ upit.n
+  pub values : fixed_mine.mine.values ≡ upit.values
+  pub same : AreSamePairs pairs fixed_mine.mine.pairs
   pub acyclic : IsAcyclic pairs
-  pub instance : IsInstance task.mine
+  pub instance : IsInstance fixed_mine.mine
 
 -- no barred block of the mine must be dug
-abbrev pub HasNoClash : FixedMine → Type 0
-HasNoClash task = (block : ℕ) → IsClash task.mine.pairs (fixed_in task) block → ⊥
+abbrev pub HasNoClash : FixedInstance → Type 0
+HasNoClash fixed_mine = (block : ℕ) → IsClash fixed_mine.mine.pairs (fixed_in fixed_mine) block → ⊥
 
 -- and in that mine no barred block must be dug
-pub record HoldsMine (files : Files) (task : FixedMine) : Type 0 where
-  pub gave : GaveTask files task
-  pub no_clash : HasNoClash task
+pub record HoldsMine (files : Files) (fixed_mine : FixedInstance) : Type 0 where
+  pub gave : GaveFixedMine files fixed_mine
+  pub no_clash : HasNoClash fixed_mine
 
 -- and by the order of its pairs its arcs are numbered
-pub record GaveInOrder (files : Files) (task : FixedMine) : Type 0 where
-  pub holds : HoldsMine files task
-  pub ordered : IsGraph task.mine.blocks task.mine.pairs
+pub record GaveInOrder (files : Files) (fixed_mine : FixedInstance) : Type 0 where
+  pub holds : HoldsMine files fixed_mine
+  pub ordered : IsGraph fixed_mine.mine.blocks fixed_mine.mine.pairs
 
 -- a text is the text of the pit of a mine: toward `Least`, of the smallest closed set of greatest worth that holds each block
 -- forced in and none that is barred
-pub record IsPitText (direction : Direction) (task : FixedMine) (text : List ℕ) : Type 0 where
+pub record IsPitText (direction : Direction) (fixed_mine : FixedInstance) (text : List ℕ) : Type 0 where
   pub pit : ℕ → Bool
-  pub is_pit : IsPitToward direction task.mine (fixed_in task) pit
-  pub is_text : text ≡ pit_text task.mine.blocks (members task.mine.blocks pit) (worth task.mine pit)
+  pub is_pit : IsPitToward direction fixed_mine.mine (fixed_in fixed_mine) pit
+  pub is_text : text ≡ pit_text fixed_mine.mine.blocks (members fixed_mine.mine.blocks pit) (worth fixed_mine.mine pit)
 
 -- the text of a mine's pit was written, or a beginning of it
-abbrev pub WritesPit : {E : Type 0} → Direction → FixedMine → Progress → Progress → Result (Unit {0}) E → Type 0
-WritesPit direction task before after result = (text : List ℕ) × IsPitText direction task text × Writes before after text result
+abbrev pub WritesPit : {E : Type 0} → Direction → FixedInstance → Progress → Progress → Result (Unit {0}) E → Type 0
+WritesPit direction fixed_mine before after result = (text : List ℕ) × IsPitText direction fixed_mine text × Writes before after text result
 
 -- the readers gave a mine without a cycle, and this is the text of its pit
 pub record Solves (direction : Direction) (files : Files) (text : List ℕ) : Type 0 where
@@ -205,7 +205,7 @@ pub data FirstFault (fault : Fault) (files : Files) : Type 0 where
       → OfChoice files.fixed (λ r. (text : List ℕ) × Gave r text × IsFirstFixedFault upit.n text fault) → FirstFault fault files
   in_pairs : (upit : Upit) (pairs : List (ℕ × ℕ)) (lists : FixedLists) → GaveMine files.model files.prec upit pairs → GaveFixed files.fixed upit.n lists
       → IsGraphFault pairs upit.n fault → FirstFault fault files
-  in_blocks : (task : FixedMine) (block : ℕ) → GaveTask files task → IsClash task.mine.pairs (fixed_in task) block → fault ≡ clash block → FirstFault fault files
+  in_blocks : (fixed_mine : FixedInstance) (block : ℕ) → GaveFixedMine files fixed_mine → IsClash fixed_mine.mine.pairs (fixed_in fixed_mine) block → fault ≡ clash block → FirstFault fault files
 
 -- why no mine was read
 abbrev pub RefusesMine : Refusal → Fault → Files → Type 0
@@ -218,7 +218,7 @@ RefusesMine (Exhausted count) fault files = ⊥
 RefusesMine _ fault files = FirstFault fault files
 
 -- why no fixed blocks were read
-abbrev pub RefusesFixedText : Refusal → Fault → ℕ → Choice → Type 0
+abbrev pub RefusesFixedText : Refusal → Fault → ℕ → OptionalReading → Type 0
 RefusesFixedText NoMemory fault n c = (fault ≡ no_memory) × OfChoice c NeverFailed
 RefusesFixedText ReadFailed fault n c = OfChoice c (FailedOnce sources.Fixed fault)
 RefusesFixedText WriteFailed fault n c = ⊥

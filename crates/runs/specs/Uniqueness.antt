@@ -10,13 +10,13 @@ use Rattle.pit_model.specs.declared.direction.Direction.{Direction}
 use Rattle.pit_model.specs.declared.direction.Direction.TheVariants.{Least}
 use Rattle.report.specs.AnswerText.{answer_text}
 use Rattle.report.specs.FaultText.{fault_text}
-use Rattle.runs.specs.Solve.{Choice, no_reader, one_reader, Files, FixedMine, GaveInOrder, Reading, Gave, IsDone, FirstFault, RefusesMine}
+use Rattle.runs.specs.Solve.{OptionalReading, no_reader, one_reader, Files, FixedInstance, GaveInOrder, Reading, Gave, IsDone, FirstFault, RefusesMine}
 use Rattle.runs.specs.ShellsRun.{IsShellsDone}
 use Rattle.runs.specs.Certified.{IsCertified}
 use Rattle.runs.specs.Check.{AnswersText, IsChecked}
 use Rattle.runs.specs.Journaled.{AtAnyEnd, AtBudget, IsJournaled}
-use Rattle.runs.specs.Replay.{IsToldReplay, RefusesJournal, RefusesReplay}
-use Rattle.pit_model.specs.Replay.{IsSettled}
+use Rattle.runs.specs.Replay.{ReportsReplay, RefusesJournal, RefusesReplay}
+use Rattle.pit_model.specs.Replay.{IsComplete}
 use Rattle.solver.specs.declared.mode.Mode.{Mode}
 use Rattle.runs.specs.declared.status.Status.{Status}
 use Rattle.runs.specs.declared.status.Status.TheVariants.{Done}
@@ -26,7 +26,7 @@ abbrev pub GaveAlike : (reading other : Reading) → Type 0
 GaveAlike reading other = (text behind : List ℕ) → Gave reading text → Gave other behind → text ≡ behind
 
 -- and neither did two readers of choice; one is there where the other is
-abbrev pub ChoseAlike : (c other : Choice) → Type 0
+abbrev pub ChoseAlike : (c other : OptionalReading) → Type 0
 ChoseAlike no_reader no_reader = Unit {0}
 ChoseAlike (one_reader r) (one_reader s) = GaveAlike r s
 ChoseAlike c other = ⊥
@@ -87,8 +87,8 @@ NestsOnce blocks prec other_blocks other_prec =
 -- the law: of one text and one mine there is one answer: yes and no exclude each other
 abbrev pub AnswerIsOne : Type 0
 AnswerIsOne =
-    (task : FixedMine) (text : List ℕ) (answer other : Bool) → IsGraph task.mine.blocks task.mine.pairs
-    → AnswersText task text answer → AnswersText task text other → answer ≡ other
+    (fixed_mine : FixedInstance) (text : List ℕ) (answer other : Bool) → IsGraph fixed_mine.mine.blocks fixed_mine.mine.pairs
+    → AnswersText fixed_mine text answer → AnswersText fixed_mine text other → answer ≡ other
 
 -- two runs of `check` over the same texts, both done, wrote the same answer, and ended with the same status
 abbrev pub ChecksOnce : (files other : Files) (certificate other_certificate : Reading) → Type 0
@@ -114,17 +114,17 @@ abbrev pub PassesReplay : (files other : Files) (journal : Reading) → Type 0
 PassesReplay files other journal =
     (mode : Mode) (before after pit_before pit_after other_before other_after : Progress) (status other_status : Status)
     → ReadAlike files other → GaveTaken journal before after
-    → IsJournaled IsSettled mode files before after → IsDone Least files pit_before pit_after status
-    → IsToldReplay other journal other_before other_after other_status
+    → IsJournaled IsComplete mode files before after → IsDone Least files pit_before pit_after status
+    → ReportsReplay other journal other_before other_after other_status
     → TookSame pit_before pit_after other_before other_after × (other_status ≡ status)
 
 -- where a run of `solve` used up its budget, `replay` over the same texts and its journal answers nothing: it is refused by that
 -- budget with the same count of mergers, for want of memory, or by a failed read
 pub record SpendsReplay (files other : Files) (journal : Reading) : Type 0 where
-  pub not_told :
+  pub not_reported :
       (mode : Mode) (count : ℕ) (before after other_before other_after : Progress) (other_status : Status)
       → ReadAlike files other → GaveTaken journal before after
-      → IsJournaled (AtBudget count) mode files before after → IsToldReplay other journal other_before other_after other_status → ⊥
+      → IsJournaled (AtBudget count) mode files before after → ReportsReplay other journal other_before other_after other_status → ⊥
   pub refused :
       (mode : Mode) (count : ℕ) (before after other_before other_after : Progress) (fault : Fault)
       → ReadAlike files other → GaveTaken journal before after
@@ -135,13 +135,13 @@ pub record SpendsReplay (files other : Files) (journal : Reading) : Type 0 where
 -- refused for want of memory, or by a failed read or write, alone
 pub record TakesReplay (files other : Files) (journal : Reading) : Type 0 where
   pub no_fault :
-      (mode : Mode) (before after : Progress) (task : FixedMine) (fault : Fault)
+      (mode : Mode) (before after : Progress) (fixed_mine : FixedInstance) (fault : Fault)
       → ReadAlike files other → GaveTaken journal before after
-      → IsJournaled AtAnyEnd mode files before after → GaveInOrder other task → RefusesJournal fault.refusal fault task journal
+      → IsJournaled AtAnyEnd mode files before after → GaveInOrder other fixed_mine → RefusesJournal fault.refusal fault fixed_mine journal
       → IsUnread fault.refusal
   pub done :
       (mode : Mode) (before after pit_before pit_after other_before other_after : Progress) (status : Status) (fault : Fault)
       → ReadAlike files other → GaveTaken journal before after
-      → IsJournaled IsSettled mode files before after → IsDone Least files pit_before pit_after status
+      → IsJournaled IsComplete mode files before after → IsDone Least files pit_before pit_after status
       → RefusesReplay fault.refusal fault other journal other_before other_after
       → IsUnread fault.refusal ⊎ (fault.refusal ≡ WriteFailed)

@@ -5,9 +5,9 @@ ghost use Rattle.pit_model.specs.Fixed.{graph_of_mine};
 ghost use Rattle.std.specs.Io.KnownBytes.{Keeps};
 ghost use Rattle.runs.specs.Kept.{KeepsTexts};
 ghost use Rattle.runs.specs.Check.{status_of_answer, IsAnswered, IsChecked, RefusesCertificate, RefusesCheck};
-ghost use Rattle.runs.specs.Solve.{files_of, mine_files, reading, task_of, MayRead};
+ghost use Rattle.runs.specs.Solve.{files_of, mine_files, reading, fixed_instance_of, MayRead};
 
-use crate::mine::{Task, read_mine};
+use crate::mine::{FixedMine, read_mine};
 use crate::status::Status;
 use certificate::{check, read};
 use faults::Fault;
@@ -24,16 +24,25 @@ fn status_of(answer: bool) -> Status
 
 /// Whether the certificate that a reader gives meets the conditions for the mine.
 #[tactic(auto, using(crate::proofs::Keeping::still_kept, crate::proofs::Keeping::still_kept_if_any))]
-fn answer_of<C: InBytes>(alloc: Global, task: &Task, certificate: &mut C) -> Result<bool, Fault>
+fn answer_of<C: InBytes>(
+    alloc: Global,
+    fixed_mine: &FixedMine,
+    certificate: &mut C,
+) -> Result<bool, Fault>
     requires countable { (C.progress certificate.old).failures < 2 ^ 63 }
-    requires fixed { IsFixedOf (graph_of_mine task.now.mine) task.now.fixed }
-    ensures answered { IfOk result (IsAnswered (task_of task.now) (reading (C.progress certificate.old) (C.progress certificate.new) (C.IsAtEnd certificate.new))) }
-    ensures refused { IfErr result (λ e. RefusesCertificate e.refusal e (task_of task.now) (reading (C.progress certificate.old) (C.progress certificate.new) (C.IsAtEnd certificate.new))) }
+    requires fixed { IsFixedOf (graph_of_mine fixed_mine.now.mine) fixed_mine.now.fixed }
+    ensures answered { IfOk result (IsAnswered (fixed_instance_of fixed_mine.now) (reading (C.progress certificate.old) (C.progress certificate.new) (C.IsAtEnd certificate.new))) }
+    ensures refused { IfErr result (λ e. RefusesCertificate e.refusal e (fixed_instance_of fixed_mine.now) (reading (C.progress certificate.old) (C.progress certificate.new) (C.IsAtEnd certificate.new))) }
     ensures kept { Keeps (C.known_text certificate.old) (C.known_text certificate.new) }
 {
-    task.mine.law();
-    let shown = read(alloc, certificate, task.mine.graph(), &task.fixed)?;
-    check(alloc, &task.mine, &task.fixed, &shown)
+    fixed_mine.mine.law();
+    let shown = read(
+        alloc,
+        certificate,
+        fixed_mine.mine.graph(),
+        &fixed_mine.fixed,
+    )?;
+    check(alloc, &fixed_mine.mine, &fixed_mine.fixed, &shown)
 }
 
 /// Reads a model, then a precedence file, then the file of fixed blocks, where there is one, then a certificate, and writes
@@ -65,9 +74,9 @@ pub fn run_check<M: InBytes, P: InBytes, F: InBytes, C: InBytes, W: OutBytes>(
     ensures files_kept { KeepsTexts M.known_text P.known_text F.known_text (mine_files model.old prec.old fixed.old) (mine_files model.new prec.new fixed.new) }
     ensures certificate_kept { Keeps (C.known_text certificate.old) (C.known_text certificate.new) }
 {
-    let task = read_mine(alloc, model, prec, fixed)?;
-    task.mine.law();
-    let answer = answer_of(alloc, &task, certificate)?;
+    let fixed_mine = read_mine(alloc, model, prec, fixed)?;
+    fixed_mine.mine.law();
+    let answer = answer_of(alloc, &fixed_mine, certificate)?;
     write_answer(out, answer)?;
     Ok(status_of(answer))
 }

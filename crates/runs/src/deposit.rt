@@ -50,7 +50,7 @@ pub fn read_deposit<B: InBytes, P: InBytes>(
     let graph = Graph::of_rows(alloc, n, needs)?;
     let counters = blocks.counters();
     counters.enter(Phase::Solving);
-    let columns = Columns::watched(alloc, &table, revenue, cost, counters)?;
+    let columns = Columns::with_counters(alloc, &table, revenue, cost, counters)?;
     let shared = Arc::new(alloc, graph)?;
     Ok(Deposit {
         columns,

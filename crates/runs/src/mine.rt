@@ -4,7 +4,7 @@ ghost use Rattle.pit_model.specs.Fixed.{AreFixable, graph_of_mine};
 ghost use Rattle.mine_graph.specs.FixedBlocks.{IsFixedOf, lists_of};
 ghost use Rattle.minelib_reader.specs.Fixed.{fixed_lists};
 ghost use Rattle.runs.specs.Kept.{KeepsIfAny, KeepsTexts};
-ghost use Rattle.runs.specs.Solve.{choice, files_of, mine_files, task_of, GaveFixed, HoldsMine, MayRead, MayReadIfAny, RefusesFixedText, RefusesMine};
+ghost use Rattle.runs.specs.Solve.{optional_reading, files_of, mine_files, fixed_instance_of, GaveFixed, HoldsMine, MayRead, MayReadIfAny, RefusesFixedText, RefusesMine};
 
 use counters::Phase;
 use faults::Fault;
@@ -23,7 +23,7 @@ pub struct MineFiles<M, P, F> {
 
 /// A mine with its fixed blocks.
 #[derive(Drop)]
-pub struct Task {
+pub struct FixedMine {
     pub mine: Instance,
     pub fixed: Fixed,
 }
@@ -37,8 +37,8 @@ fn read_lists<F: InBytes>(
 ) -> Result<(Vec<u32>, Vec<u32>), Fault>
     requires { MayReadIfAny F.progress fixed.old }
     ensures fixable { IfOk result (λ v. AreFixable n (fixed_lists v.0.items v.1.items)) }
-    ensures given { IfOk result (λ v. GaveFixed (choice F.progress F.IsAtEnd fixed.old fixed.new) n (fixed_lists v.0.items v.1.items)) }
-    ensures refused { IfErr result (λ e. RefusesFixedText e.refusal e n (choice F.progress F.IsAtEnd fixed.old fixed.new)) }
+    ensures given { IfOk result (λ v. GaveFixed (optional_reading F.progress F.IsAtEnd fixed.old fixed.new) n (fixed_lists v.0.items v.1.items)) }
+    ensures refused { IfErr result (λ e. RefusesFixedText e.refusal e n (optional_reading F.progress F.IsAtEnd fixed.old fixed.new)) }
     ensures kept { KeepsIfAny F.known_text fixed.old fixed.new }
 {
     match fixed {
@@ -55,9 +55,9 @@ pub fn read_mine<M: InBytes, P: InBytes, F: InBytes>(
     model: &mut M,
     prec: &mut P,
     fixed: &mut Option<F>,
-) -> Result<Task, Fault>
+) -> Result<FixedMine, Fault>
     requires { MayRead M.progress P.progress F.progress (mine_files model.old prec.old fixed.old) }
-    ensures mine { IfOk result (λ t. HoldsMine (files_of M.progress M.IsAtEnd P.progress P.IsAtEnd F.progress F.IsAtEnd (mine_files model.old prec.old fixed.old) (mine_files model.new prec.new fixed.new)) (task_of t)) }
+    ensures mine { IfOk result (λ t. HoldsMine (files_of M.progress M.IsAtEnd P.progress P.IsAtEnd F.progress F.IsAtEnd (mine_files model.old prec.old fixed.old) (mine_files model.new prec.new fixed.new)) (fixed_instance_of t)) }
     ensures fixed { IfOk result (λ t. IsFixedOf (graph_of_mine t.mine) t.fixed) }
     ensures refused { IfErr result (λ e. RefusesMine e.refusal e (files_of M.progress M.IsAtEnd P.progress P.IsAtEnd F.progress F.IsAtEnd (mine_files model.old prec.old fixed.old) (mine_files model.new prec.new fixed.new))) }
     ensures kept { KeepsTexts M.known_text P.known_text F.known_text (mine_files model.old prec.old fixed.old) (mine_files model.new prec.new fixed.new) }
@@ -69,8 +69,8 @@ pub fn read_mine<M: InBytes, P: InBytes, F: InBytes>(
     let (forced, barred) = read_lists(alloc, fixed, model.n)?;
     let graph = Graph::of_rows(alloc, model.n, needs)?;
     counters.enter(Phase::Solving);
-    let mine = Instance::watched(Arc::new(alloc, graph)?, model.values, counters);
+    let mine = Instance::with_counters(Arc::new(alloc, graph)?, model.values, counters);
     mine.law();
     let fixed = Fixed::new(alloc, mine.graph(), forced, barred)?;
-    Ok(Task { mine, fixed })
+    Ok(FixedMine { mine, fixed })
 }

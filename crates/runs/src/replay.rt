@@ -8,13 +8,13 @@ ghost use Rattle.pit_model.specs.Fixed.{fixed_of, graph_of_mine};
 ghost use Rattle.pit_model.specs.Mine.{members};
 ghost use Rattle.std.specs.Io.KnownBytes.{Keeps};
 ghost use Rattle.runs.specs.Kept.{KeepsTexts};
-ghost use Rattle.runs.specs.Replay.{IsReplayed, IsReplayedOn, IsTold, IsToldReplay, NotTold, RefusesJournal, RefusesJournalOn, RefusesReplay, ShowsEnd};
-ghost use Rattle.runs.specs.Solve.{files_of, mine_files, reading, task_of, MayRead, WritesPit};
+ghost use Rattle.runs.specs.Replay.{IsReplayed, IsReplayedOn, ReportsEnd, ReportsReplay, FailsToReport, RefusesJournal, RefusesJournalOn, RefusesReplay, ShowsEnd};
+ghost use Rattle.runs.specs.Solve.{files_of, mine_files, reading, fixed_instance_of, MayRead, WritesPit};
 
-use crate::mine::{Task, read_mine};
+use crate::mine::{FixedMine, read_mine};
 use crate::status::Status;
 use faults::Fault;
-use merging::{Replayed, Rest, join_pit, replay};
+use merging::{ReducedMine, Replayed, join_pit, replay};
 use mine_graph::Instance;
 use minelib_reader::{InBytes, OutBytes};
 use report::{read_journal, write_difference, write_open, write_pit};
@@ -35,21 +35,25 @@ fn replay_on<J: InBytes>(alloc: Global, rest: &Instance, journal: &mut J) -> Res
 
 /// How the replay of the journal ends that a reader gives of the rest of a mine; a pit by the numbers of the whole.
 #[tactic(auto, using(crate::proofs::Keeping::still_kept, crate::proofs::Keeping::still_kept_if_any))]
-fn replay_of<J: InBytes>(alloc: Global, task: &Task, journal: &mut J) -> Result<Replayed, Fault>
+fn replay_of<J: InBytes>(
+    alloc: Global,
+    fixed_mine: &FixedMine,
+    journal: &mut J,
+) -> Result<Replayed, Fault>
     requires countable { (J.progress journal.old).failures < 2 ^ 63 }
-    requires fixed { IsFixedOf (graph_of_mine task.now.mine) task.now.fixed }
-    ensures replayed { IfOk result (IsReplayed (task_of task.now) (reading (J.progress journal.old) (J.progress journal.new) (J.IsAtEnd journal.new))) }
-    ensures refused { IfErr result (λ e. RefusesJournal e.refusal e (task_of task.now) (reading (J.progress journal.old) (J.progress journal.new) (J.IsAtEnd journal.new))) }
+    requires fixed { IsFixedOf (graph_of_mine fixed_mine.now.mine) fixed_mine.now.fixed }
+    ensures replayed { IfOk result (IsReplayed (fixed_instance_of fixed_mine.now) (reading (J.progress journal.old) (J.progress journal.new) (J.IsAtEnd journal.new))) }
+    ensures refused { IfErr result (λ e. RefusesJournal e.refusal e (fixed_instance_of fixed_mine.now) (reading (J.progress journal.old) (J.progress journal.new) (J.IsAtEnd journal.new))) }
     ensures kept { Keeps (J.known_text journal.old) (J.known_text journal.new) }
 {
-    if task.fixed.is_empty() {
-        return replay_on(alloc, &task.mine, journal);
+    if fixed_mine.fixed.is_empty() {
+        return replay_on(alloc, &fixed_mine.mine, journal);
     }
-    let rest = Rest::of(alloc, &task.mine, &task.fixed)?;
+    let rest = ReducedMine::of(alloc, &fixed_mine.mine, &fixed_mine.fixed)?;
     match replay_on(alloc, &rest.mine, journal)? {
         Replayed::Pit(found) => {
-            let n = task.mine.graph().n();
-            let pit = join_pit(alloc, n, &task.fixed, &rest.blocks, &found)?;
+            let n = fixed_mine.mine.graph().n();
+            let pit = join_pit(alloc, n, &fixed_mine.fixed, &rest.blocks, &found)?;
             Ok(Replayed::Pit(pit))
         }
         end => Ok(end),
@@ -57,27 +61,31 @@ fn replay_of<J: InBytes>(alloc: Global, task: &Task, journal: &mut J) -> Result<
 }
 
 /// Writes the text of a pit, whichever it is.
-fn put_pit<W: OutBytes>(out: &mut W, task: &Task, pit: &[u32]) -> Result<(), Fault>
+fn put_pit<W: OutBytes>(out: &mut W, fixed_mine: &FixedMine, pit: &[u32]) -> Result<(), Fault>
     requires countable { (W.progress out.old).failures < 2 ^ 63 }
-    requires listed { (set : ℕ → Bool) × (pit.now ≡ members task.now.mine.blocks set) }
-    ensures written { (direction : AnyDirection) → ListsPit direction task.now.mine (fixed_of task.now.fixed.lists) pit.now → WritesPit direction (task_of task.now) (W.progress out.old) (W.progress out.new) result }
+    requires listed { (set : ℕ → Bool) × (pit.now ≡ members fixed_mine.now.mine.blocks set) }
+    ensures written { (direction : AnyDirection) → ListsPit direction fixed_mine.now.mine (fixed_of fixed_mine.now.fixed.lists) pit.now → WritesPit direction (fixed_instance_of fixed_mine.now) (W.progress out.old) (W.progress out.new) result }
     ensures refused { IfErr result (λ e. e ≡ write_failed) }
 {
-    task.mine.law();
-    let worth = task.mine.worth(pit);
-    write_pit(out, task.mine.graph().n(), pit, worth)
+    fixed_mine.mine.law();
+    let worth = fixed_mine.mine.worth(pit);
+    write_pit(out, fixed_mine.mine.graph().n(), pit, worth)
 }
 
 /// Writes the answer to a replay. A budget that is used up is a fault, and nothing is written.
-fn put_end<W: OutBytes>(out: &mut W, task: &Task, end: &Replayed) -> Result<Status, Fault>
+fn put_end<W: OutBytes>(
+    out: &mut W,
+    fixed_mine: &FixedMine,
+    end: &Replayed,
+) -> Result<Status, Fault>
     requires countable { (W.progress out.old).failures < 2 ^ 63 }
-    requires shown { ShowsEnd (task_of task.now) end.now }
-    ensures told { IfOk result (IsTold (task_of task.now) end.now (W.progress out.old) (W.progress out.new)) }
-    ensures refused { IfErr result (NotTold (task_of task.now) end.now (W.progress out.old) (W.progress out.new)) }
+    requires shown { ShowsEnd (fixed_instance_of fixed_mine.now) end.now }
+    ensures reported { IfOk result (ReportsEnd (fixed_instance_of fixed_mine.now) end.now (W.progress out.old) (W.progress out.new)) }
+    ensures refused { IfErr result (FailsToReport (fixed_instance_of fixed_mine.now) end.now (W.progress out.old) (W.progress out.new)) }
 {
     match end {
         Replayed::Pit(pit) => {
-            put_pit(out, task, pit)?;
+            put_pit(out, fixed_mine, pit)?;
             Ok(Status::Done)
         }
         Replayed::Differs(entry) => {
@@ -112,7 +120,7 @@ pub fn run_replay<M: InBytes, P: InBytes, F: InBytes, J: InBytes, W: OutBytes>(
     requires read { MayRead M.progress P.progress F.progress (mine_files model.old prec.old fixed.old) }
     requires journal_countable { (J.progress journal.old).failures < 2 ^ 63 }
     requires out_countable { (W.progress out.old).failures < 2 ^ 63 }
-    ensures told { IfOk result (IsToldReplay
+    ensures reported { IfOk result (ReportsReplay
         (files_of M.progress M.IsAtEnd P.progress P.IsAtEnd F.progress F.IsAtEnd (mine_files model.old prec.old fixed.old) (mine_files model.new prec.new fixed.new))
         (reading (J.progress journal.old) (J.progress journal.new) (J.IsAtEnd journal.new))
         (W.progress out.old) (W.progress out.new)) }
@@ -123,8 +131,8 @@ pub fn run_replay<M: InBytes, P: InBytes, F: InBytes, J: InBytes, W: OutBytes>(
     ensures files_kept { KeepsTexts M.known_text P.known_text F.known_text (mine_files model.old prec.old fixed.old) (mine_files model.new prec.new fixed.new) }
     ensures journal_kept { Keeps (J.known_text journal.old) (J.known_text journal.new) }
 {
-    let task = read_mine(alloc, model, prec, fixed)?;
-    task.mine.law();
-    let end = replay_of(alloc, &task, journal)?;
-    put_end(out, &task, &end)
+    let fixed_mine = read_mine(alloc, model, prec, fixed)?;
+    fixed_mine.mine.law();
+    let end = replay_of(alloc, &fixed_mine, journal)?;
+    put_end(out, &fixed_mine, &end)
 }

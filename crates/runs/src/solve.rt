@@ -5,18 +5,18 @@ ghost use Rattle.certificate.specs.Certificate.{IsFixedCertificateOf};
 ghost use Rattle.mine_graph.specs.FixedBlocks.{IsFixedOf};
 ghost use Rattle.pit_model.specs.declared.direction.Direction.TheVariants.{Least};
 ghost use Rattle.pit_model.specs.Fixed.{fixed_of, graph_of_mine};
-ghost use Rattle.pit_model.specs.Replay.{IsSettled};
+ghost use Rattle.pit_model.specs.Replay.{IsComplete};
 ghost use Rattle.runs.specs.Kept.{KeepsTexts};
 ghost use Rattle.runs.specs.Certified.{IsCertified, PutsCertificate};
 ghost use Rattle.runs.specs.Chosen.{chosen, progress_of, IsCountable, OfWriterIfAny, Stays};
 ghost use Rattle.runs.specs.Journaled.{EndOf, IsJournaled, MayJournal, MayPutEntries, PutsEntries, PutsJournal, RefusesEntries};
-ghost use Rattle.runs.specs.Run.{asked_for, EndsJournaled, HoldsOfSearched, MayWrite, RefusesOutcome, RefusesPit, RefusesRun};
-ghost use Rattle.runs.specs.Solve.{files_of, mine_files, task_of, IsDone, MayRead};
+ghost use Rattle.runs.specs.Run.{settings_of, EndsJournaled, HoldsOfSearched, MayWrite, RefusesOutcome, RefusesPit, RefusesRun};
+ghost use Rattle.runs.specs.Solve.{files_of, mine_files, fixed_instance_of, IsDone, MayRead};
 ghost use Rattle.solver.specs.Modes.{EndsWithin};
 ghost use Rattle.solver.specs.Searched.{EndsFixed, IsFound, OfSearched};
 
-use crate::asked::Asked;
-use crate::mine::{Task, read_mine};
+use crate::mine::{FixedMine, read_mine};
+use crate::settings::SolveSettings;
 use crate::status::Status;
 use certificate::{Certificate, write};
 use counters::Phase;
@@ -33,62 +33,67 @@ use std::thread::Threads;
 /// Writes a certificate of the mine to its writer, where there is one.
 fn put_certificate<C: OutBytes>(
     out: &mut Option<C>,
-    task: &Task,
+    fixed_mine: &FixedMine,
     certificate: &Certificate,
 ) -> Result<(), Fault>
     requires countable { IsCountable (progress_of C.progress out.old) }
-    requires fixed { IsFixedOf (graph_of_mine task.now.mine) task.now.fixed }
-    requires shown { IsFixedCertificateOf task.now.mine (fixed_of task.now.fixed.lists) certificate.now }
-    ensures puts { PutsCertificate (task_of task.now) (chosen C.progress out.old out.new) result }
+    requires fixed { IsFixedOf (graph_of_mine fixed_mine.now.mine) fixed_mine.now.fixed }
+    requires shown { IsFixedCertificateOf fixed_mine.now.mine (fixed_of fixed_mine.now.fixed.lists) certificate.now }
+    ensures puts { PutsCertificate (fixed_instance_of fixed_mine.now) (chosen C.progress out.old out.new) result }
     ensures stays { Stays out.old out.new }
 {
-    task.mine.law();
+    fixed_mine.mine.law();
     match out {
         None => Ok(()),
-        Some(writer) => write(writer, task.mine.graph(), &task.fixed, certificate),
+        Some(writer) => write(
+            writer,
+            fixed_mine.mine.graph(),
+            &fixed_mine.fixed,
+            certificate,
+        ),
     }
 }
 
 /// Writes the entries of a journal of the rest of the mine. Its graph is made once more where blocks are fixed.
 fn put_entries<J: OutBytes>(
     writer: &mut J,
-    task: &Task,
+    fixed_mine: &FixedMine,
     budget: Option<u64>,
     entries: &[Entry],
 ) -> Result<(), Fault>
     requires countable { (J.progress writer.old).failures < 2 ^ 63 }
-    requires fixed { IsFixedOf (graph_of_mine task.now.mine) task.now.fixed }
-    requires may { MayPutEntries (task_of task.now) entries.now }
-    ensures written { IfOk result (λ x. PutsEntries (task_of task.now) budget entries.now (J.progress writer.old) (J.progress writer.new) (Ok x)) }
-    ensures refused { IfErr result (λ e. RefusesEntries (task_of task.now) budget entries.now e.refusal e (J.progress writer.old) (J.progress writer.new)) }
+    requires fixed { IsFixedOf (graph_of_mine fixed_mine.now.mine) fixed_mine.now.fixed }
+    requires may { MayPutEntries (fixed_instance_of fixed_mine.now) entries.now }
+    ensures written { IfOk result (λ x. PutsEntries (fixed_instance_of fixed_mine.now) budget entries.now (J.progress writer.old) (J.progress writer.new) (Ok x)) }
+    ensures refused { IfErr result (λ e. RefusesEntries (fixed_instance_of fixed_mine.now) budget entries.now e.refusal e (J.progress writer.old) (J.progress writer.new)) }
 {
-    task.mine.law();
-    if task.fixed.is_empty() {
-        return write_journal(writer, task.mine.graph(), budget, entries);
+    fixed_mine.mine.law();
+    if fixed_mine.fixed.is_empty() {
+        return write_journal(writer, fixed_mine.mine.graph(), budget, entries);
     }
-    let rest = task.fixed.rest(task.mine.graph())?;
+    let rest = fixed_mine.fixed.rest(fixed_mine.mine.graph())?;
     write_journal(writer, &rest.graph, budget, entries)
 }
 
 /// Writes the journal of what was decided to its writer, where there is one.
 fn put_journal<J: OutBytes>(
     out: &mut Option<J>,
-    task: &Task,
+    fixed_mine: &FixedMine,
     mode: &Mode,
     solved: &(Outcome, Vec<Entry>),
 ) -> Result<(), Fault>
     requires countable { IsCountable (progress_of J.progress out.old) }
     requires may { MayJournal mode.now (progress_of J.progress out.old) }
-    requires fixed { IsFixedOf (graph_of_mine task.now.mine) task.now.fixed }
-    requires ended { EndsFixed mode.now task.now.mine (fixed_of task.now.fixed.lists) solved.now.0 solved.now.1.items }
-    ensures put { IfOk result (λ x. PutsJournal (EndOf solved.now.0) mode.now (task_of task.now) (chosen J.progress out.old out.new) (Ok x)) }
-    ensures refused { IfErr result (λ e. RefusesOutcome mode.now (task_of task.now) e.refusal e (chosen J.progress out.old out.new)) }
+    requires fixed { IsFixedOf (graph_of_mine fixed_mine.now.mine) fixed_mine.now.fixed }
+    requires ended { EndsFixed mode.now fixed_mine.now.mine (fixed_of fixed_mine.now.fixed.lists) solved.now.0 solved.now.1.items }
+    ensures put { IfOk result (λ x. PutsJournal (EndOf solved.now.0) mode.now (fixed_instance_of fixed_mine.now) (chosen J.progress out.old out.new) (Ok x)) }
+    ensures refused { IfErr result (λ e. RefusesOutcome mode.now (fixed_instance_of fixed_mine.now) e.refusal e (chosen J.progress out.old out.new)) }
     ensures stays { Stays out.old out.new }
 {
     match out {
         None => Ok(()),
         Some(writer) => match *mode {
-            Mode::Shared { budget, .. } => put_entries(writer, task, budget, &solved.1),
+            Mode::Shared { budget, .. } => put_entries(writer, fixed_mine, budget, &solved.1),
             Mode::Single { .. } | Mode::Parts => unreachable!(),
         },
     }
@@ -98,18 +103,18 @@ fn put_journal<J: OutBytes>(
 /// budget is used up.
 fn solve_journaled<J: OutBytes, R: Threads + Wait + Sync>(
     search: &Search<'_, R, OpenGate>,
-    task: &Task,
+    fixed_mine: &FixedMine,
     journal: &mut Option<J>,
 ) -> Result<Outcome, Fault>
     requires countable { IsCountable (progress_of J.progress journal.old) }
     requires may { MayJournal search.now.mode (progress_of J.progress journal.old) }
-    requires fixed { IsFixedOf (graph_of_mine task.now.mine) task.now.fixed }
-    ensures ended { IfOk result (EndsJournaled search.now.mode (task_of task.now) (chosen J.progress journal.old journal.new)) }
-    ensures refused { IfErr result (λ e. RefusesOutcome search.now.mode (task_of task.now) e.refusal e (chosen J.progress journal.old journal.new)) }
+    requires fixed { IsFixedOf (graph_of_mine fixed_mine.now.mine) fixed_mine.now.fixed }
+    ensures ended { IfOk result (EndsJournaled search.now.mode (fixed_instance_of fixed_mine.now) (chosen J.progress journal.old journal.new)) }
+    ensures refused { IfErr result (λ e. RefusesOutcome search.now.mode (fixed_instance_of fixed_mine.now) e.refusal e (chosen J.progress journal.old journal.new)) }
     ensures stays { Stays journal.old journal.new }
 {
-    let solved = search.recorded(&task.mine, &task.fixed)?;
-    put_journal(journal, task, &search.mode, &solved)?;
+    let solved = search.solve_with_journal(&fixed_mine.mine, &fixed_mine.fixed)?;
+    put_journal(journal, fixed_mine, &search.mode, &solved)?;
     Ok(solved.0)
 }
 
@@ -117,28 +122,28 @@ fn solve_journaled<J: OutBytes, R: Threads + Wait + Sync>(
 /// in this order.
 fn recorded_pit<J: OutBytes, C: OutBytes, R: Threads + Wait + Sync>(
     search: &Search<'_, R, OpenGate>,
-    task: &Task,
+    fixed_mine: &FixedMine,
     journal: &mut Option<J>,
     certificate: &mut Option<C>,
 ) -> Result<FoundPit, Fault>
     requires journal_countable { IsCountable (progress_of J.progress journal.old) }
     requires may { MayJournal search.now.mode (progress_of J.progress journal.old) }
     requires countable { IsCountable (progress_of C.progress certificate.old) }
-    requires fixed { IsFixedOf (graph_of_mine task.now.mine) task.now.fixed }
-    ensures found { IfOk result (IsFound Least task.now.mine (fixed_of task.now.fixed.lists)) }
-    ensures journaled { IfOk result (λ _. PutsJournal IsSettled search.now.mode (task_of task.now) (chosen J.progress journal.old journal.new) (Ok tt)) }
-    ensures certified { IfOk result (λ _. PutsCertificate (task_of task.now) (chosen C.progress certificate.old certificate.new) (Ok tt)) }
-    ensures within { IfOk result (λ _. OfSearched Least task.now.mine (fixed_of task.now.fixed.lists) (EndsWithin search.now.mode)) }
-    ensures refused { IfErr result (λ e. RefusesPit search.now.mode Least (task_of task.now) e.refusal e (chosen J.progress journal.old journal.new) (chosen C.progress certificate.old certificate.new)) }
+    requires fixed { IsFixedOf (graph_of_mine fixed_mine.now.mine) fixed_mine.now.fixed }
+    ensures found { IfOk result (IsFound Least fixed_mine.now.mine (fixed_of fixed_mine.now.fixed.lists)) }
+    ensures journaled { IfOk result (λ _. PutsJournal IsComplete search.now.mode (fixed_instance_of fixed_mine.now) (chosen J.progress journal.old journal.new) (Ok tt)) }
+    ensures certified { IfOk result (λ _. PutsCertificate (fixed_instance_of fixed_mine.now) (chosen C.progress certificate.old certificate.new) (Ok tt)) }
+    ensures within { IfOk result (λ _. OfSearched Least fixed_mine.now.mine (fixed_of fixed_mine.now.fixed.lists) (EndsWithin search.now.mode)) }
+    ensures refused { IfErr result (λ e. RefusesPit search.now.mode Least (fixed_instance_of fixed_mine.now) e.refusal e (chosen J.progress journal.old journal.new) (chosen C.progress certificate.old certificate.new)) }
     ensures journal_stays { Stays journal.old journal.new }
     ensures certificate_stays { Stays certificate.old certificate.new }
 {
-    match solve_journaled(search, task, journal)? {
+    match solve_journaled(search, fixed_mine, journal)? {
         Outcome::Exhausted(count) => Err(Fault::exhausted(count)),
         Outcome::Pit(shown) => {
-            put_certificate(certificate, task, &shown)?;
-            task.mine.law();
-            let worth = task.mine.worth(&shown.pit);
+            put_certificate(certificate, fixed_mine, &shown)?;
+            fixed_mine.mine.law();
+            let worth = fixed_mine.mine.worth(&shown.pit);
             Ok(FoundPit {
                 blocks: shown.pit,
                 worth,
@@ -152,33 +157,33 @@ fn recorded_pit<J: OutBytes, C: OutBytes, R: Threads + Wait + Sync>(
 fn solve_mine<J: OutBytes, C: OutBytes, R: Threads + Wait + Sync>(
     rt: &R,
     alloc: Global,
-    task: Task,
-    asked: &Asked,
+    fixed_mine: FixedMine,
+    settings: &SolveSettings,
     journal: &mut Option<J>,
     certificate: &mut Option<C>,
 ) -> Result<FoundPit, Fault>
-    requires may { MayWrite J.progress C.progress asked.now journal.old certificate.old }
-    requires fixed { IsFixedOf (graph_of_mine task.mine) task.fixed }
-    ensures found { IfOk result (IsFound asked.now.pit task.mine (fixed_of task.fixed.lists)) }
-    ensures journaled { IfOk result (λ _. PutsJournal IsSettled asked.now.mode (task_of task) (chosen J.progress journal.old journal.new) (Ok tt)) }
-    ensures certified { IfOk result (λ _. PutsCertificate (task_of task) (chosen C.progress certificate.old certificate.new) (Ok tt)) }
-    ensures within { IfOk result (λ _. OfSearched asked.now.pit task.mine (fixed_of task.fixed.lists) (EndsWithin asked.now.mode)) }
-    ensures refused { IfErr result (λ e. RefusesPit asked.now.mode asked.now.pit (task_of task) e.refusal e (chosen J.progress journal.old journal.new) (chosen C.progress certificate.old certificate.new)) }
+    requires may { MayWrite J.progress C.progress settings.now journal.old certificate.old }
+    requires fixed { IsFixedOf (graph_of_mine fixed_mine.mine) fixed_mine.fixed }
+    ensures found { IfOk result (IsFound settings.now.pit fixed_mine.mine (fixed_of fixed_mine.fixed.lists)) }
+    ensures journaled { IfOk result (λ _. PutsJournal IsComplete settings.now.mode (fixed_instance_of fixed_mine) (chosen J.progress journal.old journal.new) (Ok tt)) }
+    ensures certified { IfOk result (λ _. PutsCertificate (fixed_instance_of fixed_mine) (chosen C.progress certificate.old certificate.new) (Ok tt)) }
+    ensures within { IfOk result (λ _. OfSearched settings.now.pit fixed_mine.mine (fixed_of fixed_mine.fixed.lists) (EndsWithin settings.now.mode)) }
+    ensures refused { IfErr result (λ e. RefusesPit settings.now.mode settings.now.pit (fixed_instance_of fixed_mine) e.refusal e (chosen J.progress journal.old journal.new) (chosen C.progress certificate.old certificate.new)) }
     ensures journal_stays { Stays journal.old journal.new }
     ensures certificate_stays { Stays certificate.old certificate.new }
 {
     let search = Search {
         rt,
         alloc,
-        mode: asked.mode,
-        direction: asked.pit,
+        mode: settings.mode,
+        direction: settings.pit,
         gate: &OpenGate,
     };
     if journal.is_none() && certificate.is_none() {
-        let Task { mine, fixed } = task;
+        let FixedMine { mine, fixed } = fixed_mine;
         return search.pit(mine, &fixed);
     }
-    recorded_pit(&search, &task, journal, certificate)
+    recorded_pit(&search, &fixed_mine, journal, certificate)
 }
 
 /// Reads a model, then a precedence file, then the file of fixed blocks, where there is one, and writes the text of the pit,
@@ -213,19 +218,19 @@ pub fn run_solve<
     pit: Direction,
 ) -> Result<Status, Fault>
     requires read { MayRead M.progress P.progress F.progress (mine_files model.old prec.old fixed.old) }
-    requires write { MayWrite J.progress C.progress (asked_for mode pit) journal.old certificate.old }
+    requires write { MayWrite J.progress C.progress (settings_of mode pit) journal.old certificate.old }
     requires out_countable { (W.progress out.old).failures < 2 ^ 63 }
     ensures done { IfOk result (IsDone pit
         (files_of M.progress M.IsAtEnd P.progress P.IsAtEnd F.progress F.IsAtEnd (mine_files model.old prec.old fixed.old) (mine_files model.new prec.new fixed.new))
         (W.progress out.old) (W.progress out.new)) }
-    ensures journaled { IfOk result (λ _. OfWriterIfAny (chosen J.progress journal.old journal.new) (IsJournaled IsSettled mode
+    ensures journaled { IfOk result (λ _. OfWriterIfAny (chosen J.progress journal.old journal.new) (IsJournaled IsComplete mode
         (files_of M.progress M.IsAtEnd P.progress P.IsAtEnd F.progress F.IsAtEnd (mine_files model.old prec.old fixed.old) (mine_files model.new prec.new fixed.new)))) }
     ensures certified { IfOk result (λ _. OfWriterIfAny (chosen C.progress certificate.old certificate.new) (IsCertified
         (files_of M.progress M.IsAtEnd P.progress P.IsAtEnd F.progress F.IsAtEnd (mine_files model.old prec.old fixed.old) (mine_files model.new prec.new fixed.new)))) }
     ensures within { IfOk result (λ _. HoldsOfSearched pit
         (files_of M.progress M.IsAtEnd P.progress P.IsAtEnd F.progress F.IsAtEnd (mine_files model.old prec.old fixed.old) (mine_files model.new prec.new fixed.new))
         (EndsWithin mode)) }
-    ensures refused { IfErr result (λ e. RefusesRun (asked_for mode pit) e.refusal e
+    ensures refused { IfErr result (λ e. RefusesRun (settings_of mode pit) e.refusal e
         (files_of M.progress M.IsAtEnd P.progress P.IsAtEnd F.progress F.IsAtEnd (mine_files model.old prec.old fixed.old) (mine_files model.new prec.new fixed.new))
         (chosen J.progress journal.old journal.new)
         (chosen C.progress certificate.old certificate.new)
@@ -234,10 +239,10 @@ pub fn run_solve<
     ensures journal_stays { Stays journal.old journal.new }
     ensures certificate_stays { Stays certificate.old certificate.new }
 {
-    let task = read_mine(alloc, model, prec, fixed)?;
-    let n = task.mine.graph().n();
-    let asked = Asked { mode, pit };
-    let pit = solve_mine(rt, alloc, task, &asked, journal, certificate)?;
+    let fixed_mine = read_mine(alloc, model, prec, fixed)?;
+    let n = fixed_mine.mine.graph().n();
+    let settings = SolveSettings { mode, pit };
+    let pit = solve_mine(rt, alloc, fixed_mine, &settings, journal, certificate)?;
     model.counters().enter(Phase::Writing);
     write_pit(out, n, &pit.blocks, pit.worth)?;
     Ok(Status::Done)

@@ -15,7 +15,7 @@ use Rattle.minelib_reader.specs.Number.{cut_at}
 use Rattle.minelib_reader.proofs.TextLemmas.{whole}
 use Rattle.minelib_reader.proofs.LineLemmas.{cut_none_by, cut_some_by}
 use Rattle.pit_model.specs.Shells.{AreFactors}
-use Rattle.shells.specs.FactorList.{at_item, fault_behind, is_above, is_comma, item_fault, items_behind, number_before, number_fault, IsFirstItemFault}
+use Rattle.shells.specs.FactorList.{at_item, item_fault_after, is_above, is_comma, item_fault, items_behind, number_before, number_fault, IsFirstItemFault}
 
 pub items_end : (text : List ℕ) → cut_at 44 text ≡ None → slice_split is_comma text ≡ text ∷ []
 unfolding cut_at
@@ -37,8 +37,8 @@ none_by false false false f g h e = absurd (none-some h (sym e))
 none_by false false true f g h e = (refl, refl, refl)
 
 -- what a number without fault is
-passes : (k : ℕ) (before : Option ℕ) (x : ℕ) → fault_behind k before (Some x) ≡ None → (k < 1000) × (x ≤ 100000) × (is_above before x ≡ true)
-unfolding fault_behind
+passes : (k : ℕ) (before : Option ℕ) (x : ℕ) → item_fault_after k before (Some x) ≡ None → (k < 1000) × (x ≤ 100000) × (is_above before x ≡ true)
+unfolding item_fault_after
 passes k before x none =
     let h = none_by (leb 1000 k) (ltb 100000 x) (is_above before x) _ _ _ none in
     let few = leb-false 1000 k h.0 in
@@ -55,7 +55,7 @@ number_at list k l = get_or-map (λ factor. Some factor) list k 0 None l
 pub no_fault_are_factors : (list : List ℕ) → ((k : ℕ) → k < length list → item_fault (numbers list) k ≡ None) → AreFactors list
 no_fault_are_factors list none =
     let at : (k : ℕ) → k < length list → (k < 1000) × (get_or list k 0 ≤ 100000) × (is_above (number_before (numbers list) k) (get_or list k 0) ≡ true) =
-    λ k l. passes k (number_before (numbers list) k) (get_or list k 0) (ap (fault_behind k (number_before (numbers list) k)) (sym (number_at list k l)) ∙ none k l) in
+    λ k l. passes k (number_before (numbers list) k) (get_or list k 0) (ap (item_fault_after k (number_before (numbers list) k)) (sym (number_at list k l)) ∙ none k l) in
     record {
       rising = λ k l.
           let next : k + 1 ≡ suc k = omega arith in
@@ -86,8 +86,8 @@ pub before_next : (ns : List (Option ℕ)) (k : ℕ) → number_before ns (k + 1
 before_next ns k = let e : k + 1 ≡ suc k = omega arith in ap (number_before ns) e
 
 -- the checks of an item depend on the number before it and its own
-pub fault_here : (ns : List (Option ℕ)) (k : ℕ) (before number : Option ℕ) → before ≡ number_before ns k → number ≡ get_or ns k None → item_fault ns k ≡ fault_behind k before number
-fault_here ns k before number e f = sym (ap (λ o. fault_behind k o number) e ∙ ap (fault_behind k (number_before ns k)) f)
+pub fault_here : (ns : List (Option ℕ)) (k : ℕ) (before number : Option ℕ) → before ≡ number_before ns k → number ≡ get_or ns k None → item_fault ns k ≡ item_fault_after k before number
+fault_here ns k before number e f = sym (ap (λ o. item_fault_after k o number) e ∙ ap (item_fault_after k (number_before ns k)) f)
 
 -- the item at hand, and those behind it
 pub item_here : (ns : List (Option ℕ)) (list : List ℕ) (rest behind : Option (List ℕ)) (left item : List ℕ) → ns ≡ numbers list ++ map whole_of (items_behind rest) → rest ≡ Some left
@@ -118,9 +118,9 @@ number_so ns item before (Some x) =
     so_by ns (ltb 100000 x) (Some (at_item OverLimit item)) (cond (is_above before x) None (Some (at_item FactorsNotRising item))) (λ h. h)
     (so_by ns (is_above before x) None (Some (at_item FactorsNotRising item)) tt (λ h. h))
 
-behind_so : (ns : List (Option ℕ)) (k : ℕ) (before number : Option ℕ) → FailsSo ns (fault_behind k before number)
-unfolding fault_behind
+behind_so : (ns : List (Option ℕ)) (k : ℕ) (before number : Option ℕ) → FailsSo ns (item_fault_after k before number)
+unfolding item_fault_after
 behind_so ns k before number = so_by ns (leb 1000 k) (Some (at_item OverLimit (suc k))) (number_fault (suc k) before number) (λ h. h) (number_so ns (suc k) before number)
 
-pub item_refused : (ns : List (Option ℕ)) (k : ℕ) (before number : Option ℕ) (e : Fault) → fault_behind k before number ≡ Some e → IsFirstItemFault ns e → FailsAt e.refusal e (IsFirstItemFault ns)
+pub item_refused : (ns : List (Option ℕ)) (k : ℕ) (before number : Option ℕ) (e : Fault) → item_fault_after k before number ≡ Some e → IsFirstItemFault ns e → FailsAt e.refusal e (IsFirstItemFault ns)
 item_refused ns k before number e is = subst (FailsSo ns) is (behind_so ns k before number)

@@ -9,7 +9,7 @@ use Rattle.std.proofs.lemmas.List.FromFn.{get_or-range_with_len, length-range_wi
 use Rattle.pit_model.specs.Sum.{total, when}
 use Rattle.pit_model.specs.Graph.{Graph, first_of, second_of, IsGraph}
 use Rattle.pit_model.specs.declared.direction.Direction.{Direction}
-use Rattle.pit_model.specs.Direction.{IsPitToward, ListsPit, nothing}
+use Rattle.pit_model.specs.Direction.{IsPitToward, ListsPit, no_blocks_fixed}
 use Rattle.pit_model.specs.Mine.{Instance, members, value, worth}
 use Rattle.pit_model.specs.Part.{IsPart}
 use Rattle.minelib_reader.specs.Number.{IsBounded}
@@ -134,7 +134,7 @@ joins_none deposit marks blocks found part outside none =
 pub grows : (direction : Direction) (prices : Prices) (graph part next : Graph) (factors : List ℕ) (k : ℕ) (old new : List Bool) (blocks others found : List ℕ)
     → IsPriced (deposit_of prices graph) → AreFactors factors → k < length factors
     → IsGrown direction (deposit_of prices graph) factors k old blocks part
-    → (shown : ListsPit direction (rest_at prices (factor_of factors k) blocks part) nothing found)
+    → (shown : ListsPit direction (rest_at prices (factor_of factors k) blocks part) no_blocks_fixed found)
     → ((test : ℕ → Bool) → found ≡ members (length blocks) test → IsJoined (marked old) blocks test (marked new))
     → length new ≡ graph.blocks → IsOutside (deposit_of prices graph) (marked new) others next
     → IsGrown direction (deposit_of prices graph) factors (suc k) new others next
@@ -163,7 +163,7 @@ is_shell direction prices graph next factors k marks others shell grown factor p
     record {
       set = marked marks;
       listed = listed;
-      is_pit = subst (λ f. IsPitToward direction (mine_at deposit f) nothing (marked marks)) (sym factor) grown.before;
+      is_pit = subst (λ f. IsPitToward direction (mine_at deposit f) no_blocks_fixed (marked marks)) (sym factor) grown.before;
       worth_is = worth_is ∙ ap (λ f. worth (mine_at deposit f) (marked marks)) (sym factor);
     }
 
@@ -209,7 +209,7 @@ same_instance i prices factor blocks part same_n same_v same_p =
     let with_p : List (ℕ × ℕ) → Instance = λ ps. record { blocks = part.blocks; values = map (price_of prices factor) blocks; pairs = ps } in
     ap with_n same_n ∙ ap with_v same_v ∙ ap with_p same_p
 
-pub found_below : (direction : Direction) (prices : Prices) (factor : ℕ) (blocks found : List ℕ) (part : Graph) → part.blocks ≡ length blocks → ListsPit direction (rest_at prices factor blocks part) nothing found → (j : ℕ) → j < length found → get_or found j 0 < length blocks
+pub found_below : (direction : Direction) (prices : Prices) (factor : ℕ) (blocks found : List ℕ) (part : Graph) → part.blocks ≡ length blocks → ListsPit direction (rest_at prices factor blocks part) no_blocks_fixed found → (j : ℕ) → j < length found → get_or found j 0 < length blocks
 found_below direction prices factor blocks found part count shown j l =
     let each = members_each part.blocks shown.set j (subst (λ (xs : List ℕ). j < length xs) shown.listed l) in
     let at : get_or found j 0 ≡ get_or (members part.blocks shown.set) j 0 = ap (λ (xs : List ℕ). get_or xs j 0) shown.listed in
@@ -229,6 +229,6 @@ marked_few n marks pit is size =
 
 -- a refusal of the search on the rest is one of the shells
 pub search_refuses : (mode : Mode) (direction : Direction) (deposit : Deposit) (factors : List ℕ) (k : ℕ) (rest : Instance) (r : Refusal) (e : Fault) → k < length factors → IsRest direction deposit factors k rest
-    → RefusesSearch mode direction rest nothing r e → RefusesShells mode direction deposit factors r e
+    → RefusesSearch mode direction rest no_blocks_fixed r e → RefusesShells mode direction deposit factors r e
 search_refuses mode direction deposit factors k rest NoMemory e l is h = h
 search_refuses mode direction deposit factors k rest _ e l is h = (k, l, (rest, is, h))

@@ -7,4 +7,4 @@ pub mod Lifting
 pub mod Amounts
 pub mod Ends
 pub mod Outer
-pub mod Risen
+pub mod Parametric

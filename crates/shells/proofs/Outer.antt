@@ -9,7 +9,7 @@ use Rattle.pit_model.specs.Mine.{members}
 use Rattle.pit_model.specs.Part.{IsPart}
 use Rattle.pit_model.specs.Deposit.{IsPriced, mine_at}
 use Rattle.pit_model.specs.declared.direction.Direction.{Direction}
-use Rattle.pit_model.specs.Direction.{ListsPit, nothing}
+use Rattle.pit_model.specs.Direction.{ListsPit, no_blocks_fixed}
 use Rattle.pit_model.specs.Shells.{AreFactors, AreShells, IsShell}
 use Rattle.pit_model.specs.declared.shell.Shell.{Shell}
 use Rattle.pit_model.proofs.Members.{members_each}
@@ -25,7 +25,7 @@ twice_not true = refl
 twice_not false = refl
 
 pub is_outermost : (direction : Direction) (prices inner : Prices) (graph part other : Graph) (factor : ℕ) (marks ms : List Bool) (found blocks : List ℕ)
-    → AreInRange graph.pairs graph.blocks → ListsPit direction (mine_at (deposit_of prices graph) factor) nothing found
+    → AreInRange graph.pairs graph.blocks → ListsPit direction (mine_at (deposit_of prices graph) factor) no_blocks_fixed found
     → ((set : ℕ → Bool) → found ≡ members graph.blocks set → (u : ℕ) → u < graph.blocks → marked marks u ≡ set u)
     → ms ≡ map not marks → length marks ≡ graph.blocks → IsPart graph (λ u. not (get_or ms u false)) blocks part → other ≡ part
     → inner.revenues ≡ amounts_of prices.revenues blocks → inner.costs ≡ amounts_of prices.costs blocks

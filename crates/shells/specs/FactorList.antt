@@ -19,8 +19,8 @@ items_behind None = []
 items_behind (Some rest) = slice_split is_comma rest
 
 -- the items of a text, each with its number where it is a whole one
-abbrev pub numbers_of : List ℕ → List (Option ℕ)
-numbers_of text = map whole_of (slice_split is_comma text)
+abbrev pub item_numbers : List ℕ → List (Option ℕ)
+item_numbers text = map whole_of (slice_split is_comma text)
 
 -- the most that a factor may be, in per mille, and the most factors of a list
 abbrev pub most_factor : ℕ
@@ -45,8 +45,8 @@ number_fault item before (Some x) =
     else (if is_above before x then None else Some (at_item FactorsNotRising item))
 
 -- what is wrong with the item behind k others: too many, whatever it holds, or its number
-unfoldable pub fault_behind : ℕ → Option ℕ → Option ℕ → Option Fault
-fault_behind k before number = if nat_le most_factors k then Some (at_item OverLimit (suc k)) else number_fault (suc k) before number
+unfoldable pub item_fault_after : ℕ → Option ℕ → Option ℕ → Option Fault
+item_fault_after k before number = if nat_le most_factors k then Some (at_item OverLimit (suc k)) else number_fault (suc k) before number
 
 abbrev pub number_before : List (Option ℕ) → ℕ → Option ℕ
 number_before numbers zero = None
@@ -54,7 +54,7 @@ number_before numbers (suc k) = get_or numbers k None
 
 -- of the item with index k of a list
 abbrev pub item_fault : List (Option ℕ) → ℕ → Option Fault
-item_fault numbers k = fault_behind k (number_before numbers k) (get_or numbers k None)
+item_fault numbers k = item_fault_after k (number_before numbers k) (get_or numbers k None)
 
 -- the fault of the first item that breaks a check
 pub record IsFirstItemFault (numbers : List (Option ℕ)) (fault : Fault) : Type 0 where
@@ -63,4 +63,4 @@ pub record IsFirstItemFault (numbers : List (Option ℕ)) (fault : Fault) : Type
 
 -- the text spells these factors
 abbrev pub SpellsFactors : List ℕ → List ℕ → Type 0
-SpellsFactors text factors = numbers_of text ≡ map (λ factor. Some factor) factors
+SpellsFactors text factors = item_numbers text ≡ map (λ factor. Some factor) factors

@@ -5,7 +5,7 @@ use Rattle.faults.specs.declared.refusal.Refusal.{Refusal}
 use Rattle.faults.specs.declared.refusal.Refusal.TheVariants.{NoMemory}
 use Rattle.faults.specs.Refused.{no_memory}
 use Rattle.pit_model.specs.declared.direction.Direction.{Direction}
-use Rattle.pit_model.specs.Direction.{nothing}
+use Rattle.pit_model.specs.Direction.{no_blocks_fixed}
 use Rattle.pit_model.specs.Graph.{Graph}
 use Rattle.pit_model.specs.Mine.{Instance}
 use Rattle.pit_model.specs.Deposit.{Deposit, mine_on}
@@ -35,7 +35,7 @@ rest_at prices factor blocks part = mine_on (deposit_of prices part) factor bloc
 abbrev pub RestEndsWithin : Mode → Direction → Deposit → List ℕ → ℕ → Type 0
 RestEndsWithin (Single None) direction deposit factors k = Unit {0}
 RestEndsWithin Parts direction deposit factors k = Unit {0}
-RestEndsWithin mode direction deposit factors k = (rest : Instance) × IsRest direction deposit factors k rest × OfSearched direction rest nothing (EndsWithin mode)
+RestEndsWithin mode direction deposit factors k = (rest : Instance) × IsRest direction deposit factors k rest × OfSearched direction rest no_blocks_fixed (EndsWithin mode)
 
 -- nor that of any factor
 abbrev pub EachEndsWithin : Mode → Direction → Deposit → List ℕ → Type 0
@@ -45,7 +45,7 @@ EachEndsWithin mode direction deposit factors = (k : ℕ) → k < length factors
 abbrev pub RefusesShells : Mode → Direction → Deposit → List ℕ → Refusal → Fault → Type 0
 RefusesShells mode direction deposit factors NoMemory fault = fault ≡ no_memory
 RefusesShells mode direction deposit factors refusal fault =
-    (k : ℕ) × (k < length factors) × ((rest : Instance) × IsRest direction deposit factors k rest × RefusesSearch mode direction rest nothing refusal fault)
+    (k : ℕ) × (k < length factors) × ((rest : Instance) × IsRest direction deposit factors k rest × RefusesSearch mode direction rest no_blocks_fixed refusal fault)
 
 -- no budget ends a solve in this mode, and it is refused for want of memory alone
 abbrev pub IsFree : Mode → Type 0

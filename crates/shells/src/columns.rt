@@ -62,7 +62,7 @@ impl Columns {
         ensures columns { IfOk result (AreColumns table.now revenue cost) }
         ensures refused { IfErr result (RefusesColumns table.now revenue cost) }
     {
-        Columns::watched(alloc, table, revenue, cost, Counters::none())
+        Columns::with_counters(alloc, table, revenue, cost, Counters::none())
     }
 
     /// These revenues and costs.
@@ -79,7 +79,7 @@ impl Columns {
     }
 
     /// The same as `of` gives, over whose instances these counters count.
-    pub fn watched(
+    pub fn with_counters(
         alloc: Global,
         table: &BlockTable,
         revenue: u32,

@@ -2,7 +2,7 @@
 ghost use Rattle.std.specs.Prelude.{◌≡◌, ◌<◌, ℕ, map, length, Some, IfOk, IfErr, IfSome, IfNone};
 ghost use Rattle.minelib_reader.specs.Answer.{FailsAt};
 ghost use Rattle.pit_model.specs.Shells.{AreFactors, factor_of};
-ghost use Rattle.shells.specs.FactorList.{numbers_of, IsFirstItemFault, SpellsFactors};
+ghost use Rattle.shells.specs.FactorList.{item_numbers, IsFirstItemFault, SpellsFactors};
 
 use crate::items::{check_item, next_item};
 use faults::Fault;
@@ -60,7 +60,7 @@ impl Factors {
     /// and for want of memory (1). The empty text has one item, which is not a whole number.
     pub fn read(alloc: Global, text: &str) -> Result<Factors, Fault>
         ensures spelled { IfOk result (SpellsFactors text.now) }
-        ensures refused { IfErr result (λ e. FailsAt e.refusal e (IsFirstItemFault (numbers_of text.now))) }
+        ensures refused { IfErr result (λ e. FailsAt e.refusal e (IsFirstItemFault (item_numbers text.now))) }
     {
         let list = read_items(alloc, text.as_bytes())?;
         Ok(Factors { list })
@@ -93,7 +93,7 @@ impl Factors {
 fn read_items(alloc: Global, text: &[u8]) -> Result<Vec<u32>, Fault>
     ensures spelled { IfOk result (λ v. SpellsFactors text.now v.items) }
     ensures lawful { IfOk result (λ v. AreFactors v.items) }
-    ensures refused { IfErr result (λ e. FailsAt e.refusal e (IsFirstItemFault (numbers_of text.now))) }
+    ensures refused { IfErr result (λ e. FailsAt e.refusal e (IsFirstItemFault (item_numbers text.now))) }
 {
     let mut list = Vec::new(alloc);
     let mut before = None;

@@ -62,7 +62,7 @@ pub fn rest_instance(
     columns.law();
     let values = columns.values(alloc, &growing.blocks, factor)?;
     let graph = Arc::try_clone(&growing.graph)?;
-    let rest = Instance::watched(graph, values, columns.counters().share());
+    let rest = Instance::with_counters(graph, values, columns.counters().share());
     Ok(rest)
 }
 
@@ -134,7 +134,7 @@ pub fn next_shell<G: Gate + Sync, R: Threads + Wait + Sync>(
     graph.law();
     let factor = factors.get(k);
     let rest = rest_instance(alloc, columns, growing, factor)?;
-    let found = search.unfixed_pit(rest)?;
+    let found = search.pit_without_fixed_blocks(rest)?;
     join(alloc, graph, growing, &found.blocks)?;
     let pit = marked_numbers(alloc, &growing.marks)?;
     let worth = columns.worth(&pit, factor);

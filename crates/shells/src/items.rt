@@ -2,7 +2,7 @@
 ghost use Rattle.std.specs.Prelude.{◌≡◌, ◌<◌, ◌^◌, ◌∷◌, length, Some, None, IfOk, IfErr, IfSome};
 ghost use Rattle.std.specs.List.{slice_split};
 ghost use Rattle.std.specs.Option.{option_map};
-ghost use Rattle.shells.specs.FactorList.{at_item, fault_behind, is_comma, items_behind};
+ghost use Rattle.shells.specs.FactorList.{at_item, item_fault_after, is_comma, items_behind};
 
 use faults::{Fault, Refusal, Source};
 use minelib_reader::cut;
@@ -22,11 +22,11 @@ fn at_item(refusal: Refusal, item: usize) -> Fault
 
 /// The factor of the item behind so many others, given the factor before it and its own number, None where it is no whole
 /// one; or else what is wrong with it.
-#[tactic(auto, unfolding(crate::specs::FactorList::fault_behind))]
+#[tactic(auto, unfolding(crate::specs::FactorList::item_fault_after))]
 pub fn check_item(count: usize, before: Option<u32>, number: Option<u64>) -> Result<u32, Fault>
     requires { count < 2 ^ 63 }
-    ensures passes { IfOk result (λ factor. (number ≡ Some factor) × (fault_behind count before number ≡ None)) }
-    ensures fails { IfErr result (λ fault. fault_behind count before number ≡ Some fault) }
+    ensures passes { IfOk result (λ factor. (number ≡ Some factor) × (item_fault_after count before number ≡ None)) }
+    ensures fails { IfErr result (λ fault. item_fault_after count before number ≡ Some fault) }
 {
     if count >= MOST_FACTORS {
         return Err(at_item(Refusal::OverLimit, count + 1));

@@ -9,9 +9,9 @@ ghost use Rattle.shells.specs.Planned.{deposit_in, HasRows};
 use crate::columns::Columns;
 use crate::factors::Factors;
 use crate::growing::{next_shell, start};
-use crate::outermost::{is_free, lifted, outermost_shell};
+use crate::outermost::{is_free, lift_shells, outermost_shell};
+use crate::parametric_shells::parametric_shells;
 use crate::plan::ShellPlan;
-use crate::rising::rising_shells;
 use faults::Fault;
 use mine_graph::Graph;
 use pit_model::{Direction, Shell, ShellList};
@@ -58,7 +58,7 @@ fn inner_shells<G: Gate + Sync, R: Threads + Wait + Sync>(
     ensures refused { IfErr result (λ e. e ≡ no_memory) }
 {
     match (search.mode, search.direction) {
-        (Mode::Single { budget: None }, Direction::Least) => rising_shells(search.alloc, plan),
+        (Mode::Single { budget: None }, Direction::Least) => parametric_shells(search.alloc, plan),
         _ => each_shell(search, plan),
     }
 }
@@ -76,7 +76,7 @@ fn shells_within<G: Gate + Sync, R: Threads + Wait + Sync>(
 {
     let outer = outermost_shell(search, plan, plan.last_factor())?;
     let inner = inner_shells(search, &outer.plan(plan.factors))?;
-    lifted(search.alloc, plan, &outer, &inner)
+    lift_shells(search.alloc, plan, &outer, &inner)
 }
 
 /// The shell of each factor, in their order, by the way that the mode allows.
@@ -97,7 +97,7 @@ fn all_shells<G: Gate + Sync, R: Threads + Wait + Sync>(
 
 /// The shells of a mine with these revenues and costs toward a direction: for each factor its least or its greatest pit, with
 /// the pit's worth in the factor's own values, in billionths. Each lies within all later ones. A factor is solved on what the
-/// shell before leaves, for the greatest pit on that rest turned round; a budget of mergers counts anew for each. The gate is
+/// shell before leaves, for the greatest pit on the dual of that rest; a budget of mergers counts anew for each. The gate is
 /// told of the steps of workers.
 ///
 /// Refused for want of memory (1), where the budget is used up with a merger arc left on some factor's rest (20), and where

@@ -3,7 +3,7 @@
 ghost use Rattle.std.specs.Prelude.{◌≡◌, ◌<◌, ◌≤◌, ℕ, not, map, length, get_or, IsTrue, IfOk, IfErr};
 ghost use Rattle.faults.specs.Refused.{no_memory};
 ghost use Rattle.pit_model.specs.Deposit.{mine_at};
-ghost use Rattle.pit_model.specs.Direction.{ListsPit, nothing};
+ghost use Rattle.pit_model.specs.Direction.{ListsPit, no_blocks_fixed};
 ghost use Rattle.pit_model.specs.declared.direction.Direction.{Direction as AnyDirection};
 ghost use Rattle.pit_model.specs.declared.direction.Direction.TheVariants.{Least};
 ghost use Rattle.solver.specs.Searched.{IsFound};
@@ -19,11 +19,11 @@ use crate::columns::Columns;
 use crate::factors::Factors;
 use crate::growing::mark;
 use crate::plan::ShellPlan;
-use crate::whole::{marks_of, mine_at};
+use crate::whole::{mark_blocks, mine_at};
 use faults::Fault;
 use mine_graph::{Fixed, Graph, Instance, marked_numbers};
 use pit_model::{Direction, Shell};
-use solver::{FoundPit, Gate, Mode, Search, find_pit_alone};
+use solver::{FoundPit, Gate, Mode, Search, solve_pit_sequential};
 use std::alloc::{AllocError, Global};
 use std::sync::{Arc, Wait};
 use std::thread::Threads;
@@ -72,15 +72,15 @@ impl Outermost {
     /// The pit that was found of a plan's mine at a factor, as a deposit of its own. Refused for want of memory alone.
     fn of(alloc: Global, plan: &ShellPlan<'_>, factor: u32, pit: &[u32]) -> Result<Outermost, Fault>
         requires rows { HasRows plan.now }
-        requires pit { (direction : AnyDirection) × ListsPit direction (mine_at (deposit_in plan.now) factor) nothing pit.now }
-        ensures is { IfOk result (λ o. (direction : AnyDirection) → ListsPit direction (mine_at (deposit_in plan.now) factor) nothing pit.now
+        requires pit { (direction : AnyDirection) × ListsPit direction (mine_at (deposit_in plan.now) factor) no_blocks_fixed pit.now }
+        ensures is { IfOk result (λ o. (direction : AnyDirection) → ListsPit direction (mine_at (deposit_in plan.now) factor) no_blocks_fixed pit.now
             → IsOutermost direction plan.now.columns.now plan.now.graph.now.value factor o.blocks.items o.columns o.graph.value) }
         ensures refused { IfErr result (λ e. e ≡ no_memory) }
     {
         let ShellPlan { columns, graph, .. } = *plan;
         columns.law();
         graph.law();
-        let marks = marks_of(alloc, graph.n(), pit)?;
+        let marks = mark_blocks(alloc, graph.n(), pit)?;
         let outside = opposite(alloc, &marks)?;
         let part = graph.without(&outside)?;
         part.graph.law();
@@ -107,20 +107,24 @@ pub fn outermost_shell<G: Gate + Sync, R: Threads + Wait + Sync>(
     ensures refused { IfErr result (λ e. e ≡ no_memory) }
 {
     let mine = mine_at(search.alloc, plan.columns, plan.graph, factor)?;
-    let found = search.unfixed_pit(mine)?;
+    let found = search.pit_without_fixed_blocks(mine)?;
     Outermost::of(search.alloc, plan, factor, &found.blocks)
 }
 
 /// The least pit of a mine of which no block is fixed, by one thread. Refused for want of memory alone.
 fn least_pit(alloc: Global, mine: Instance) -> Result<FoundPit, Fault>
-    ensures found { IfOk result (IsFound Least mine nothing) }
+    ensures found { IfOk result (IsFound Least mine no_blocks_fixed) }
     ensures refused { IfErr result (λ e. e ≡ no_memory) }
 {
-    find_pit_alone(alloc, mine, &Fixed::none(), Direction::Least)
+    solve_pit_sequential(alloc, mine, &Fixed::none(), Direction::Least)
 }
 
 /// The least pit at a factor by one thread, as a deposit of its own. Refused for want of memory alone.
-pub fn outermost_alone(alloc: Global, plan: &ShellPlan<'_>, factor: u32) -> Result<Outermost, Fault>
+pub fn outermost_sequential(
+    alloc: Global,
+    plan: &ShellPlan<'_>,
+    factor: u32,
+) -> Result<Outermost, Fault>
     requires rows { HasRows plan.now }
     requires factor { factor ≤ 100000 }
     ensures is { IfOk result (λ o. IsOutermost Least plan.now.columns.now plan.now.graph.now.value factor o.blocks.items o.columns o.graph.value) }
@@ -132,7 +136,7 @@ pub fn outermost_alone(alloc: Global, plan: &ShellPlan<'_>, factor: u32) -> Resu
 }
 
 /// A shell by the numbers that its blocks have in a list.
-fn lift(alloc: Global, n: u32, blocks: &[u32], shell: &Shell) -> Result<Shell, AllocError>
+fn lift_shell(alloc: Global, n: u32, blocks: &[u32], shell: &Shell) -> Result<Shell, AllocError>
     requires few { n ≤ most_blocks }
     requires blocks { (i : ℕ) → i < length blocks.now → get_or blocks.now i 0 < n }
     requires pit { IsPlacedIn blocks.now shell.now }
@@ -149,7 +153,7 @@ fn lift(alloc: Global, n: u32, blocks: &[u32], shell: &Shell) -> Result<Shell, A
 }
 
 /// Shells by the numbers that their blocks have in a list.
-fn lift_all(
+fn lift_each(
     alloc: Global,
     n: u32,
     blocks: &[u32],
@@ -162,13 +166,13 @@ fn lift_all(
 {
     let mut lifted = Vec::new(alloc);
     for i in 0..shells.len() {
-        lifted.push(lift(alloc, n, blocks, &shells[i])?)?;
+        lifted.push(lift_shell(alloc, n, blocks, &shells[i])?)?;
     }
     Ok(lifted)
 }
 
 /// The shells of a plan, by those among the blocks of its outermost one. Refused for want of memory alone.
-pub fn lifted(
+pub fn lift_shells(
     alloc: Global,
     plan: &ShellPlan<'_>,
     outer: &Outermost,
@@ -184,5 +188,5 @@ pub fn lifted(
     plan.columns.law();
     plan.graph.law();
     outer.graph.law();
-    Ok(lift_all(alloc, plan.graph.n(), &outer.blocks, inner)?)
+    Ok(lift_each(alloc, plan.graph.n(), &outer.blocks, inner)?)
 }

@@ -28,11 +28,11 @@ pub fn mine_at(
     columns.law();
     let blocks = all_numbers(alloc, graph.n())?;
     let values = columns.values(alloc, &blocks, factor)?;
-    Ok(Instance::watched(Arc::try_clone(graph)?, values, columns.counters().share()))
+    Ok(Instance::with_counters(Arc::try_clone(graph)?, values, columns.counters().share()))
 }
 
 /// A mark for each block of a rising list.
-pub fn marks_of(alloc: Global, blocks: u32, pit: &[u32]) -> Result<Vec<bool>, AllocError>
+pub fn mark_blocks(alloc: Global, blocks: u32, pit: &[u32]) -> Result<Vec<bool>, AllocError>
     requires { All (λ u. u < blocks) pit.now }
     ensures size { IfOk result (λ v. length v.items ≡ blocks) }
     ensures marks { IfOk result (λ v. (set : ℕ → Bool) → pit.now ≡ members blocks set → (u : ℕ) → u < blocks → marked v.items u ≡ set u) }

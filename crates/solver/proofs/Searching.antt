@@ -11,24 +11,24 @@ use Rattle.pit_model.specs.declared.direction.Direction.{Direction}
 use Rattle.pit_model.specs.declared.direction.Direction.TheVariants.{Least, Greatest}
 use Rattle.pit_model.specs.declared.journal.Entry.{Entry}
 use Rattle.pit_model.specs.Mine.{Instance, members}
-use Rattle.pit_model.specs.Direction.{IsSearched, IsTurned, ListsPit, nothing, IsPitToward}
+use Rattle.pit_model.specs.Direction.{IsSearched, IsDual, ListsPit, no_blocks_fixed, IsPitToward}
 use Rattle.pit_model.specs.Fixed.{Fixed, FixedLists, IsNothingFixed, IsRestOf, all_open, some_fixed, fixed_of, graph_of_mine, is_among}
 use Rattle.pit_model.proofs.Fixed.{none_fixes_nothing}
 use Rattle.pit_model.proofs.Members.{members_below, members_each, members_few}
 use Rattle.pit_model.proofs.OpenCertificates.{none_fixed_certifies}
-use Rattle.pit_model.proofs.Turned.{complement_is_greatest, nothing_fixed, rest_gives_pit_toward}
-use Rattle.mine_graph.specs.FixedBlocks.{FixedBlocks, IsFixedOf, dug_in, left_in, no_lists}
+use Rattle.pit_model.proofs.Dual.{complement_is_greatest, nothing_fixed, rest_gives_pit_toward}
+use Rattle.mine_graph.specs.FixedBlocks.{FixedBlocks, IsFixedOf, forced_closure, barred_closure, no_lists}
 use Rattle.certificate.specs.declared.pit_with_flow.Certificate.{Certificate}
 use Rattle.certificate.specs.Certificate.{IsCertificateOf, IsFixedCertificateOf}
 use Rattle.certificate.specs.Check.{ShowsPit}
-use Rattle.merging.specs.Rest.{IsRestIn, ListsJoined}
-use Rattle.merging.specs.declared.rest.Rest.{Rest}
+use Rattle.merging.specs.Reduced.{IsRestIn, ListsJoined}
+use Rattle.merging.specs.declared.reduced_mine.ReducedMine.{ReducedMine}
 use Rattle.merging.specs.declared.outcome.Outcome.{Outcome}
 use Rattle.merging.specs.declared.outcome.Outcome.TheVariants as outcomes
 use Rattle.solver.specs.declared.mode.Mode.{Mode}
 use Rattle.solver.specs.declared.mode.Mode.TheVariants.{Single, Parts, Shared}
 use Rattle.solver.specs.Modes.{EndsIn, RefusesSolve}
-use Rattle.solver.specs.Searched.{EndsFixed, IsLifted, IsOpenPart, IsSearchOf, IsShown, RefusesSearch}
+use Rattle.solver.specs.Searched.{EndsFixed, IsLiftedOutcome, IsOpenPart, IsSearchOf, IsShown, RefusesSearch}
 use Rattle.solver.specs.declared.searched.Searched.{Searched}
 
 -- ---- the rest
@@ -47,10 +47,10 @@ named_block (x ∷ xs) barred some = (x, or_left _ _ (first_among x xs))
 named_block [] (y ∷ ys) some = (y, or_right (is_among [] y) _ (first_among y ys))
 named_block [] [] some = absurd (some refl)
 
-pub is_rest_of : (mine : Instance) (fixed : FixedBlocks) (rest : Rest) → (fixed.lists ≡ no_lists → ⊥) → IsRestIn mine fixed rest → IsRestOf mine (fixed_of fixed.lists) rest.mine
+pub is_rest_of : (mine : Instance) (fixed : FixedBlocks) (rest : ReducedMine) → (fixed.lists ≡ no_lists → ⊥) → IsRestIn mine fixed rest → IsRestOf mine (fixed_of fixed.lists) rest.mine
 is_rest_of mine fixed rest some is =
     let named = named_block fixed.lists.forced fixed.lists.barred some in
-    some_fixed named.0 named.1 (dug_in fixed) (left_in fixed) rest.blocks.items (graph_of_mine rest.mine) is.is_rest is.mine_is
+    some_fixed named.0 named.1 (forced_closure fixed) (barred_closure fixed) rest.blocks.items (graph_of_mine rest.mine) is.is_rest is.mine_is
 
 -- ---- outcomes
 pub shown_of : (mode : Mode) (mine : Instance) (outcome : Outcome) (journal : List Entry) → EndsIn mode mine outcome journal → IsShown mine outcome
@@ -63,18 +63,18 @@ shown_of mode mine (outcomes.Exhausted count) journal ended = tt
 plain_certificate : (mine : Instance) (fixed : FixedBlocks) (c : Certificate) → IsFixedOf (graph_of_mine mine) fixed → fixed.lists ≡ no_lists → IsCertificateOf mine c → IsFixedCertificateOf mine (fixed_of fixed.lists) c
 plain_certificate mine fixed c of none is = record {
   certifies = record {
-    dug = dug_in fixed;
-    left = left_in fixed;
+    dug = forced_closure fixed;
+    left = barred_closure fixed;
     settled = of.settled;
     set = is.certifies.set;
     listed = is.certifies.listed;
     counted = is.certifies.counted;
-    certifies = (none_fixed_certifies mine (fixed_of fixed.lists) (dug_in fixed) (left_in fixed) is.certifies.set (λ k. get_or c.flow.items k (pos 0)) (none_named fixed.lists none) of.settled).1 is.certifies.certifies;
+    certifies = (none_fixed_certifies mine (fixed_of fixed.lists) (forced_closure fixed) (barred_closure fixed) is.certifies.set (λ k. get_or c.flow.items k (pos 0)) (none_named fixed.lists none) of.settled).1 is.certifies.certifies;
   };
   candidate = is.candidate;
 }
 
-lifts_itself : (mine : Instance) (fixed : FixedBlocks) (outcome : Outcome) → IsFixedOf (graph_of_mine mine) fixed → fixed.lists ≡ no_lists → IsShown mine outcome → IsLifted mine (fixed_of fixed.lists) outcome outcome
+lifts_itself : (mine : Instance) (fixed : FixedBlocks) (outcome : Outcome) → IsFixedOf (graph_of_mine mine) fixed → fixed.lists ≡ no_lists → IsShown mine outcome → IsLiftedOutcome mine (fixed_of fixed.lists) outcome outcome
 lifts_itself mine fixed (outcomes.Pit c) of none is = plain_certificate mine fixed c of none is
 lifts_itself mine fixed (outcomes.Exhausted count) of none is = refl
 
@@ -84,23 +84,23 @@ ends_plain mode mine fixed outcome journal of none ended =
     (mine, none_is_rest mine fixed.lists none, (outcome, ended, lifts_itself mine fixed outcome of none (shown_of mode mine outcome journal ended)))
 
 -- ---- pits
-pub plain_pit : (direction : Direction) (mine : Instance) (lists : FixedLists) (pit : List ℕ) → lists ≡ no_lists → ListsPit direction mine nothing pit → ListsPit direction mine (fixed_of lists) pit
+pub plain_pit : (direction : Direction) (mine : Instance) (lists : FixedLists) (pit : List ℕ) → lists ≡ no_lists → ListsPit direction mine no_blocks_fixed pit → ListsPit direction mine (fixed_of lists) pit
 plain_pit direction mine lists pit none shown = subst (λ (l : FixedLists). ListsPit direction mine (fixed_of l) pit) (sym none) shown
 
-pub joined_pit : (direction : Direction) (mine : Instance) (fixed : FixedBlocks) (rest : Rest) (found pit : List ℕ) → IsRestIn mine fixed rest → ListsPit direction rest.mine nothing found
+pub joined_pit : (direction : Direction) (mine : Instance) (fixed : FixedBlocks) (rest : ReducedMine) (found pit : List ℕ) → IsRestIn mine fixed rest → ListsPit direction rest.mine no_blocks_fixed found
     → ((set : ℕ → Bool) → found ≡ members (length rest.blocks.items) set → ListsJoined mine.blocks fixed rest.blocks.items set pit) → ListsPit direction mine (fixed_of fixed.lists) pit
 joined_pit direction mine fixed rest found pit is shown joined =
     let list = joined shown.set (shown.listed ∙ ap (λ n. members n shown.set) is.is_rest.is_part.count) in
-    let here = subst (λ (m : Instance). IsPitToward direction m nothing shown.set) is.mine_is shown.is_pit in
+    let here = subst (λ (m : Instance). IsPitToward direction m no_blocks_fixed shown.set) is.mine_is shown.is_pit in
     record {
       set = list.after;
       listed = list.listed;
-      is_pit = rest_gives_pit_toward direction mine (fixed_of fixed.lists) (dug_in fixed) (left_in fixed) rest.blocks.items (graph_of_mine rest.mine) shown.set list.after is.is_rest here list.joined;
+      is_pit = rest_gives_pit_toward direction mine (fixed_of fixed.lists) (forced_closure fixed) (barred_closure fixed) rest.blocks.items (graph_of_mine rest.mine) shown.set list.after is.is_rest here list.joined;
     }
 
--- the blocks outside the pit of the mine turned round
-pub turned_pit : (mine other : Instance) (found list : List ℕ) → IsTurned mine other → ShowsPit other found
-    → ((set : ℕ → Bool) → found ≡ members mine.blocks set → list ≡ members mine.blocks (λ u. not (set u))) → ListsPit Greatest mine nothing list
+-- the blocks outside the pit of the dual instance
+pub turned_pit : (mine other : Instance) (found list : List ℕ) → IsDual mine other → ShowsPit other found
+    → ((set : ℕ → Bool) → found ≡ members mine.blocks set → list ≡ members mine.blocks (λ u. not (set u))) → ListsPit Greatest mine no_blocks_fixed list
 turned_pit mine other found list is shown outside = record {
   set = λ u. not (shown.set u);
   listed = outside shown.set (shown.listed ∙ ap (λ n. members n shown.set) is.reversed.same_blocks);
@@ -108,8 +108,8 @@ turned_pit mine other found list is shown outside = record {
 }
 
 -- with nothing fixed the pit of a mine is its least pit, and the mine itself is searched
-pub least_pit : (mine : Instance) (pit : List ℕ) → ShowsPit mine pit → ListsPit Least mine nothing pit
-least_pit mine pit shown = record { set = shown.set; listed = shown.listed; is_pit = (none_fixes_nothing mine nothing shown.set nothing_fixed).1 shown.is_pit }
+pub least_pit : (mine : Instance) (pit : List ℕ) → ShowsPit mine pit → ListsPit Least mine no_blocks_fixed pit
+least_pit mine pit shown = record { set = shown.set; listed = shown.listed; is_pit = (none_fixes_nothing mine no_blocks_fixed shown.set nothing_fixed).1 shown.is_pit }
 
 -- ---- what is searched
 pub rest_is : (mine : Instance) (fixed : FixedBlocks) (blocks : Option (Vec ℕ)) (rest : Instance) → IsOpenPart mine fixed blocks rest → IsRestOf mine (fixed_of fixed.lists) rest
@@ -139,7 +139,7 @@ pub listed_below : (n : ℕ) (pit : List ℕ) (set : ℕ → Bool) → pit ≡ m
 listed_below n pit set listed = subst (λ xs. All (λ u. u < n) xs) (sym listed) (members_below n set)
 
 -- what was found of the rest lies in it
-pub found_inside : (mine : Instance) (fixed : FixedBlocks) (rest : Rest) (found : List ℕ) (set : ℕ → Bool) → IsRestIn mine fixed rest → found ≡ members rest.mine.blocks set
+pub found_inside : (mine : Instance) (fixed : FixedBlocks) (rest : ReducedMine) (found : List ℕ) (set : ℕ → Bool) → IsRestIn mine fixed rest → found ≡ members rest.mine.blocks set
     → (i : ℕ) → i < length found → get_or found i 0 < length rest.blocks.items
 found_inside mine fixed rest found set is listed =
     inside_listed (length rest.blocks.items) found set (listed ∙ ap (λ n. members n set) is.is_rest.is_part.count)

@@ -11,10 +11,10 @@ use Rattle.pit_model.specs.declared.journal.Entry.{Entry}
 use Rattle.pit_model.specs.Mine.{Instance, members, worth}
 use Rattle.pit_model.specs.Fixed.{Fixed, graph_of_mine}
 use Rattle.pit_model.specs.Limits.{IsInstance}
-use Rattle.pit_model.specs.Direction.{IsSearched, IsTurned, ListsPit, nothing}
+use Rattle.pit_model.specs.Direction.{IsSearched, IsDual, ListsPit, no_blocks_fixed}
 use Rattle.pit_model.specs.Graph.{IsGraph}
 use Rattle.mine_graph.specs.FixedBlocks.{FixedBlocks, IsFixedOf, no_lists}
-use Rattle.merging.specs.Rest.{IsRestIn}
+use Rattle.merging.specs.Reduced.{IsRestIn}
 use Rattle.certificate.specs.Certificate.{IsCertificateOf, IsFixedCertificateOf}
 use Rattle.merging.specs.declared.outcome.Outcome.{Outcome}
 use Rattle.merging.specs.declared.outcome.Outcome.TheVariants as outcomes
@@ -35,15 +35,15 @@ IsShown mine (outcomes.Pit certificate) = IsCertificateOf mine certificate
 IsShown mine (outcomes.Exhausted count) = Unit {0}
 
 -- an outcome of the rest by the numbers of the whole: with a certificate of the whole; a used-up budget is the same
-abbrev pub IsLifted : Instance → Fixed → Outcome → Outcome → Type 0
-IsLifted mine fixed (outcomes.Pit found) (outcomes.Pit certificate) = IsFixedCertificateOf mine fixed certificate
-IsLifted mine fixed (outcomes.Exhausted count) (outcomes.Exhausted other) = other ≡ count
-IsLifted mine fixed found outcome = ⊥
+abbrev pub IsLiftedOutcome : Instance → Fixed → Outcome → Outcome → Type 0
+IsLiftedOutcome mine fixed (outcomes.Pit found) (outcomes.Pit certificate) = IsFixedCertificateOf mine fixed certificate
+IsLiftedOutcome mine fixed (outcomes.Exhausted count) (outcomes.Exhausted other) = other ≡ count
+IsLiftedOutcome mine fixed found outcome = ⊥
 
 -- how a solve of a mine with fixed blocks ends: as that of the rest does, with its journal
 abbrev pub EndsFixed : Mode → Instance → Fixed → Outcome → List Entry → Type 0
 EndsFixed mode mine fixed outcome journal =
-    OfSearched Least mine fixed (λ rest. (found : Outcome) × EndsIn mode rest found journal × IsLifted mine fixed found outcome)
+    OfSearched Least mine fixed (λ rest. (found : Outcome) × EndsIn mode rest found journal × IsLiftedOutcome mine fixed found outcome)
 
 -- the pit toward a direction, with its worth
 pub record IsFound (direction : Direction) (mine : Instance) (fixed : Fixed) (found : FoundPit) : Type 0 where
@@ -69,7 +69,7 @@ IsOpenPart mine fixed (Some blocks) rest = (fixed.lists ≡ no_lists → ⊥) ×
 -- the instance that is searched for the pit of a rest
 abbrev pub IsToward : Direction → Instance → Instance → Type 0
 IsToward Least rest searched = searched ≡ rest
-IsToward Greatest rest searched = IsTurned rest searched × IsGraph searched.blocks searched.pairs
+IsToward Greatest rest searched = IsDual rest searched × IsGraph searched.blocks searched.pairs
 
 -- the values of a mine: these, or those of an instance that has the same
 abbrev pub own_values : Option (List ℤ) → Instance → List ℤ
@@ -93,7 +93,7 @@ pub record ListsRestPit (n : ℕ) (fixed : FixedBlocks) (blocks : Option (Vec �
   pub rest : Instance
   pub open_part : IsOpenPart mine fixed blocks rest
   pub direction : Direction
-  pub listed : ListsPit direction rest nothing pit
+  pub listed : ListsPit direction rest no_blocks_fixed pit
 
 -- an instance in memory is searched for the pit of some mine with these fixed blocks
 pub record IsSearch (fixed : FixedBlocks) (searched : Searched) : Type 0 where

@@ -16,7 +16,7 @@ use std::alloc::Global;
 use std::sync::Wait;
 use std::thread::Threads;
 
-/// How the mode's solve for the least pit ended, as `Search::recorded` says.
+/// How the mode's solve for the least pit ended, as `Search::solve_with_journal` says.
 pub fn solve_fixed<G: Gate + Sync, R: Threads + Wait + Sync>(
     rt: &R,
     alloc: Global,
@@ -36,7 +36,7 @@ pub fn solve_fixed<G: Gate + Sync, R: Threads + Wait + Sync>(
         direction: Direction::Least,
         gate,
     };
-    search.recorded(instance, fixed)
+    search.solve_with_journal(instance, fixed)
 }
 
 /// How a solve for a pit alone ended.
@@ -49,7 +49,7 @@ pub enum PitOutcome {
 }
 
 /// The greatest pit of a mine with fixed blocks: of the closed sets that hold each block forced in and none that is barred, the
-/// largest of greatest worth. A budget counts the mergers of the instance turned round. The graph is shared with the caller.
+/// largest of greatest worth. A budget counts the mergers of the dual instance. The graph is shared with the caller.
 ///
 /// Refused for want of memory (1), and in mode shared where a worker could not be started (22).
 pub fn solve_greatest<G: Gate + Sync, R: Threads + Wait + Sync>(

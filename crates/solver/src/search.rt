@@ -1,19 +1,19 @@
 //! A search for the pit of a mine: what its steps share, and what it answers.
 ghost use Rattle.std.specs.Prelude.{◌≡◌, IfOk, IfErr};
 ghost use Rattle.faults.specs.Refused.{no_memory};
-ghost use Rattle.pit_model.specs.Direction.{nothing};
+ghost use Rattle.pit_model.specs.Direction.{no_blocks_fixed};
 ghost use Rattle.pit_model.specs.Fixed.{fixed_of, graph_of_mine};
 ghost use Rattle.mine_graph.specs.FixedBlocks.{IsFixedOf};
-ghost use Rattle.merging.specs.Rest.{IsRestIn};
+ghost use Rattle.merging.specs.Reduced.{IsRestIn};
 ghost use Rattle.certificate.specs.Check.{ShowsPit};
 ghost use Rattle.solver.specs.Modes.{EndsIn, EndsWithin, LacksRoom, RefusesSolve};
-ghost use Rattle.solver.specs.Searched.{EndsFixed, IsFound, IsLifted, IsShown, OfSearched, RefusesSearch};
+ghost use Rattle.solver.specs.Searched.{EndsFixed, IsFound, IsLiftedOutcome, IsShown, OfSearched, RefusesSearch};
 
 use crate::mode::Mode;
 use crate::searched::Searched;
 use crew::{Entry, Gate, solve_shared};
 use faults::Fault;
-use merging::{Outcome, Rest, pit_by_parts, pit_of, solve_parts, solve_single};
+use merging::{Outcome, ReducedMine, pit_by_parts, solve_parts, solve_pit, solve_single};
 use mine_graph::{Fixed, Instance};
 use pit_model::Direction;
 use std::alloc::Global;
@@ -44,13 +44,13 @@ fn lift(
     alloc: Global,
     instance: &Instance,
     fixed: &Fixed,
-    rest: &Rest,
+    rest: &ReducedMine,
     found: &Outcome,
 ) -> Result<Outcome, Fault>
     requires fixed { IsFixedOf (graph_of_mine instance.now) fixed.now }
     requires rest { IsRestIn instance.now fixed.now rest.now }
     requires found { IsShown rest.now.mine found.now }
-    ensures lifted { IfOk result (IsLifted instance.now (fixed_of fixed.now.lists) found.now) }
+    ensures lifted { IfOk result (IsLiftedOutcome instance.now (fixed_of fixed.now.lists) found.now) }
     ensures refused { IfErr result (λ e. e ≡ no_memory) }
 {
     match found {
@@ -85,7 +85,7 @@ impl<R: Threads + Wait + Sync, G: Gate + Sync> Search<'_, R, G> {
     }
 
     /// The least pit of an instance by a solve that makes its certificate. Refused as `least` is.
-    fn certified(&self, instance: &Instance) -> Result<Vec<u32>, Fault>
+    fn solve_with_certificate(&self, instance: &Instance) -> Result<Vec<u32>, Fault>
         ensures shown { IfOk result (λ pit. ShowsPit instance.now pit.items) }
         ensures within { IfOk result (λ _. EndsWithin self.now.mode instance.now) }
         ensures refused { IfErr result (λ e. RefusesSolve self.now.mode instance.now e.refusal e) }
@@ -100,15 +100,15 @@ impl<R: Threads + Wait + Sync, G: Gate + Sync> Search<'_, R, G> {
 
     /// The least pit of an instance. By one thread without a budget, and by parts, no certificate is made. Refused for want of
     /// room, and where the budget is used up with a merger arc left (20).
-    fn least(&self, instance: &Instance) -> Result<Vec<u32>, Fault>
+    fn minimal_pit(&self, instance: &Instance) -> Result<Vec<u32>, Fault>
         ensures shown { IfOk result (λ pit. ShowsPit instance.now pit.items) }
         ensures within { IfOk result (λ _. EndsWithin self.now.mode instance.now) }
         ensures refused { IfErr result (λ e. RefusesSolve self.now.mode instance.now e.refusal e) }
     {
         match self.mode {
-            Mode::Single { budget: None } => pit_of(self.alloc, instance),
+            Mode::Single { budget: None } => solve_pit(self.alloc, instance),
             Mode::Parts => pit_by_parts(self.rt, self.alloc, instance),
-            _ => self.certified(instance),
+            _ => self.solve_with_certificate(instance),
         }
     }
 
@@ -117,7 +117,7 @@ impl<R: Threads + Wait + Sync, G: Gate + Sync> Search<'_, R, G> {
     /// that is searched has been made of it, so no two graphs are held while one is solved.
     ///
     /// Refused for want of memory (1), in mode shared where a worker could not be started (22), and where the budget is used up
-    /// with a merger arc left (20); for the greatest pit it counts the mergers of the instance turned round.
+    /// with a merger arc left (20); for the greatest pit it counts the mergers of the dual instance.
     pub fn pit(&self, mine: Instance, fixed: &Fixed) -> Result<FoundPit, Fault>
         requires { IsFixedOf (graph_of_mine mine) fixed.now }
         ensures found { IfOk result (IsFound self.now.direction mine (fixed_of fixed.now.lists)) }
@@ -126,15 +126,15 @@ impl<R: Threads + Wait + Sync, G: Gate + Sync> Search<'_, R, G> {
     {
         mine.law();
         let searched = Searched::of(self.alloc, mine, fixed, self.direction)?;
-        let found = self.least(&searched.instance)?;
+        let found = self.minimal_pit(&searched.instance)?;
         searched.pit(self.alloc, fixed, found)
     }
 
     /// The pit of a mine of which no block is fixed. Refused as `pit` is.
-    pub fn unfixed_pit(&self, mine: Instance) -> Result<FoundPit, Fault>
-        ensures found { IfOk result (IsFound self.now.direction mine nothing) }
-        ensures within { IfOk result (λ _. OfSearched self.now.direction mine nothing (EndsWithin self.now.mode)) }
-        ensures refused { IfErr result (λ e. RefusesSearch self.now.mode self.now.direction mine nothing e.refusal e) }
+    pub fn pit_without_fixed_blocks(&self, mine: Instance) -> Result<FoundPit, Fault>
+        ensures found { IfOk result (IsFound self.now.direction mine no_blocks_fixed) }
+        ensures within { IfOk result (λ _. OfSearched self.now.direction mine no_blocks_fixed (EndsWithin self.now.mode)) }
+        ensures refused { IfErr result (λ e. RefusesSearch self.now.mode self.now.direction mine no_blocks_fixed e.refusal e) }
     {
         self.pit(mine, &Fixed::none())
     }
@@ -143,7 +143,7 @@ impl<R: Threads + Wait + Sync, G: Gate + Sync> Search<'_, R, G> {
     /// mine; and in mode shared the journal of the rest, by the rest's own numbers. Where nothing is fixed, no graph is copied.
     ///
     /// Refused for want of memory (1), and in mode shared where a worker could not be started (22).
-    pub fn recorded(
+    pub fn solve_with_journal(
         &self,
         instance: &Instance,
         fixed: &Fixed,
@@ -155,7 +155,7 @@ impl<R: Threads + Wait + Sync, G: Gate + Sync> Search<'_, R, G> {
         if fixed.is_empty() {
             return self.solve(instance);
         }
-        let rest = Rest::of(self.alloc, instance, fixed)?;
+        let rest = ReducedMine::of(self.alloc, instance, fixed)?;
         let (found, entries) = self.solve(&rest.mine)?;
         let outcome = lift(self.alloc, instance, fixed, &rest, &found)?;
         Ok((outcome, entries))

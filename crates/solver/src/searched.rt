@@ -1,19 +1,19 @@
 //! The instance whose least pit is searched for the pit of a mine: the rest outside the fixed blocks, and for the greatest pit that
-//! rest turned round; and the way back from its pit to that of the mine.
+//! rest's dual; and the lift of its pit to that of the mine.
 ghost use Rattle.std.specs.Prelude.{◌≡◌, IfOk, IfErr};
 ghost use Rattle.faults.specs.Refused.{no_memory};
 ghost use Rattle.pit_model.specs.declared.direction.Direction.{Direction as AnyDirection};
-ghost use Rattle.pit_model.specs.Direction.{ListsPit, nothing};
+ghost use Rattle.pit_model.specs.Direction.{ListsPit, no_blocks_fixed};
 ghost use Rattle.pit_model.specs.Fixed.{fixed_of, graph_of_mine};
 ghost use Rattle.pit_model.specs.Mine.{Instance as AnyInstance};
 ghost use Rattle.certificate.specs.Check.{ShowsPit};
 ghost use Rattle.mine_graph.specs.FixedBlocks.{IsFixedOf};
 ghost use Rattle.solver.specs.Searched.{IsFound, IsOpenPart, IsSearch, IsSearchOf, IsToward, ListsRestPit, own_values};
 
+use crate::dual::{dual, outside};
 use crate::search::FoundPit;
-use crate::turned::{outside, turned};
 use faults::Fault;
-use merging::{Rest, join_pit};
+use merging::{ReducedMine, join_pit};
 use mine_graph::{Fixed, Instance, Values};
 use pit_model::Direction;
 use std::alloc::Global;
@@ -41,7 +41,7 @@ fn open_part(alloc: Global, mine: Instance, fixed: &Fixed) -> Result<OpenPart, F
             rest: mine,
         });
     }
-    let Rest { blocks, mine: rest } = Rest::of(alloc, &mine, fixed)?;
+    let ReducedMine { blocks, mine: rest } = ReducedMine::of(alloc, &mine, fixed)?;
     Ok(OpenPart {
         blocks: Some(blocks),
         values: Some(mine.into_values()),
@@ -49,7 +49,7 @@ fn open_part(alloc: Global, mine: Instance, fixed: &Fixed) -> Result<OpenPart, F
     })
 }
 
-/// The instance that is searched for the pit of a rest toward a direction: itself, or turned round; and the values of the mine, where
+/// The instance that is searched for the pit of a rest toward a direction: itself, or its dual; and the values of the mine, where
 /// the instance has others. The rest's graph is given up where it is turned. Refused for want of memory alone.
 fn toward(
     alloc: Global,
@@ -64,7 +64,7 @@ fn toward(
     match direction {
         Direction::Least => Ok((rest, values)),
         Direction::Greatest => {
-            let other = turned(alloc, &rest)?;
+            let other = dual(alloc, &rest)?;
             other.law();
             match values {
                 Some(values) => Ok((other, Some(values))),
@@ -82,7 +82,7 @@ fn pit_toward(
     found: Vec<u32>,
 ) -> Result<Vec<u32>, Fault>
     requires { ShowsPit instance.now found.items }
-    ensures shown { IfOk result (λ pit. (rest : AnyInstance) → IsToward direction rest instance.now → ListsPit direction rest nothing pit.items) }
+    ensures shown { IfOk result (λ pit. (rest : AnyInstance) → IsToward direction rest instance.now → ListsPit direction rest no_blocks_fixed pit.items) }
     ensures refused { IfErr result (λ e. e ≡ no_memory) }
 {
     match direction {
@@ -102,7 +102,7 @@ fn whole_pit(
 ) -> Result<Vec<u32>, Fault>
     requires { ListsRestPit n fixed.now blocks pit.items }
     ensures shown { IfOk result (λ list. (direction : AnyDirection) (mine rest : AnyInstance) → n ≡ mine.blocks → IsOpenPart mine fixed.now blocks rest
-        → ListsPit direction rest nothing pit.items → ListsPit direction mine (fixed_of fixed.now.lists) list.items) }
+        → ListsPit direction rest no_blocks_fixed pit.items → ListsPit direction mine (fixed_of fixed.now.lists) list.items) }
     ensures refused { IfErr result (λ e. e ≡ no_memory) }
 {
     match blocks {
@@ -112,7 +112,7 @@ fn whole_pit(
 }
 
 /// The values of the mine: these, or those of the instance that has the same.
-fn values_of(values: Option<Values>, instance: Instance) -> Values
+fn mine_values(values: Option<Values>, instance: Instance) -> Values
     ensures { result ≡ own_values values instance }
 {
     match values {
@@ -180,7 +180,7 @@ impl Searched {
         } = self;
         let pit = pit_toward(alloc, direction, &instance, found)?;
         let blocks = whole_pit(alloc, n, fixed, blocks, pit)?;
-        let worth = values_of(values, instance).worth(&blocks);
+        let worth = mine_values(values, instance).worth(&blocks);
         Ok(FoundPit { blocks, worth })
     }
 }

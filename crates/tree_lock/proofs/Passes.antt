@@ -3,15 +3,15 @@
 use Rattle.std.proofs.Common.{◌≡◌, ℕ, zero, suc, add-one, ◌+◌, ◌-◌, ◌<◌, ◌≤◌, true, List, [], ◌∷◌, ◌++◌, length, append_assoc, append-nil, sym, refl, ap, ◌∙◌, subst, arith, length-append}
 use Rattle.std.specs.List.{range_with_len}
 use Rattle.pit_model.specs.declared.journal.Entry.{Entry}
-use Rattle.tree_lock.specs.Kept.{entry_of}
-use Rattle.tree_lock.specs.Held.{Held, with_look}
+use Rattle.tree_lock.specs.PublishedJournal.{entry_of}
+use Rattle.tree_lock.specs.HolderState.{HolderState, with_look}
 use Rattle.tree_lock.specs.Served.{LooksAtFirst, AreRisingSeats, Serves, ServesOne}
 
 abbrev pub AreUpTo : ℕ → List Entry → Type 0
 AreUpTo w [] = Unit {0}
 AreUpTo w (e ∷ es) = (e.seat ≤ w) × AreUpTo w es
 
-pub record HasCome (w n : ℕ) (h k : Held) : Type 0 where
+pub record HasCome (w n : ℕ) (h k : HolderState) : Type 0 where
   pub served : Serves h k n
   pub upto : AreUpTo w served.more
   pub looked : LooksAtFirst w h k
@@ -33,14 +33,14 @@ range_more a zero b e = let same : a ≡ b = omega arith in ap (λ (x : ℕ). x 
 range_more a (suc n) b e = ap (λ (l : List ℕ). a ∷ l) (range_more (a + 1) n b (omega arith))
 
 -- a look at the word of the next worker
-looks_on : (w : ℕ) (h k : Held) → LooksAtFirst w h k → k.looks ++ ((w + 1) - 1) ∷ [] ≡ h.looks ++ range_with_len 0 (w + 1)
+looks_on : (w : ℕ) (h k : HolderState) → LooksAtFirst w h k → k.looks ++ ((w + 1) - 1) ∷ [] ≡ h.looks ++ range_with_len 0 (w + 1)
 looks_on w h k s =
     let cell : (w + 1) - 1 ≡ w = omega arith in
     ap (λ (l : List ℕ). l ++ ((w + 1) - 1) ∷ []) s
     ∙ (append_assoc h.looks (range_with_len 0 w) (((w + 1) - 1) ∷ [])
     ∙ ap (λ (l : List ℕ). h.looks ++ l) (ap (λ (x : ℕ). range_with_len 0 w ++ x ∷ []) cell ∙ sym (ap (range_with_len 0) (add-one w) ∙ range_more 0 w w (omega arith))))
 
-pub begins : (h : Held) → HasCome 0 0 h h
+pub begins : (h : HolderState) → HasCome 0 0 h h
 begins h = record {
   served = record { more = []; journal = sym (append-nil h.journal); counted = refl; rising = tt; mine = refl; budget = refl };
   upto = tt;
@@ -48,14 +48,14 @@ begins h = record {
 }
 
 -- a look that nothing came of
-pub skips : (w n : ℕ) (h k k' : Held) → HasCome w n h k → k' ≡ with_look k ((w + 1) - 1) → HasCome (w + 1) n h k'
+pub skips : (w n : ℕ) (h k k' : HolderState) → HasCome w n h k → k' ≡ with_look k ((w + 1) - 1) → HasCome (w + 1) n h k'
 skips w n h k k' s e = let f = s.served in subst (HasCome (w + 1) n h) (sym e) record {
   served = record { more = f.more; journal = f.journal; counted = f.counted; rising = f.rising; mine = f.mine; budget = f.budget };
   upto = further w (w + 1) f.more (omega arith) s.upto;
   looked = looks_on w h k s.looked;
 }
 
-pub adds : (w n : ℕ) (h k k' : Held) → HasCome w n h k → ServesOne (w + 1) k k' true → HasCome (w + 1) (n + 1) h k'
+pub adds : (w n : ℕ) (h k k' : HolderState) → HasCome w n h k → ServesOne (w + 1) k k' true → HasCome (w + 1) (n + 1) h k'
 adds w n h k k' s d =
     let e : Entry = entry_of (w + 1) d.0 d.1 in
     let f = s.served in
@@ -76,5 +76,5 @@ few : (v w : ℕ) (es : List Entry) → v ≤ w → AreRisingSeats v es → AreU
 few v w [] le r u = omega arith
 few v w (x ∷ xs) le r u = let h = few x.seat w xs u.0 r.1 u.1 in let a = r.0 in omega arith
 
-pub count_within : (w n : ℕ) (h k : Held) → HasCome w n h k → n ≤ w
+pub count_within : (w n : ℕ) (h k : HolderState) → HasCome w n h k → n ≤ w
 count_within w n h k s = let f = s.served in let b = few 0 w f.more (omega arith) f.rising s.upto in let c = f.counted in omega arith

@@ -7,15 +7,15 @@ use Rattle.std.proofs.lemmas.Bool.{cases_eq}
 use Rattle.std.proofs.lemmas.List.{set-get_or}
 use Rattle.std.proofs.lemmas.List.Elements.{All-push}
 use Rattle.proposals.specs.declared.verdict.Reply.{Reply}
-use Rattle.proposals.specs.declared.knows.Served.{Served}
-use Rattle.proposals.specs.Ledger.{HolderView, reply, served, nothing, answered_to, claimed_from, claiming, answering, unclaiming}
+use Rattle.proposals.specs.declared.seat_state.Served.{Served}
+use Rattle.proposals.specs.Ledger.{HolderView, reply, served, nothing_served, answered_to, claimed_from, claiming, answering, unclaiming}
 use Rattle.pit_model.specs.declared.journal.Verdict.{Verdict}
 use Rattle.pit_model.specs.declared.journal.Entry.{Entry}
 use Rattle.pit_model.specs.Mine.{Instance, arcs}
 use Rattle.pit_model.specs.Version.{arcs_after}
 use Rattle.pit_model.proofs.Versions.{version_tree-after}
-use Rattle.tree_lock.specs.Kept.{Kept, entry_of, Keeps}
-use Rattle.tree_lock.specs.Held.{held_by, seats_after, with_look, Decides, DecidesFor}
+use Rattle.tree_lock.specs.PublishedJournal.{JournalContents, entry_of, DecidesIn}
+use Rattle.tree_lock.specs.HolderState.{holder_state, seats_after, with_look, Decides, DecidesFor}
 use Rattle.tree_lock.specs.Served.{replies_under, IsUnderSeat, IsServed}
 
 replies-snoc : (s : ℕ) (es : List Entry) (e : Entry) → replies_under s (es ++ e ∷ []) ≡ cond (eqb s e.seat) (replies_under s es ++ reply e.arc e.verdict ∷ []) (replies_under s es)
@@ -48,11 +48,11 @@ driven mine journal workers asked seat a v is below = record {
   seated = All-push (IsUnderSeat mine workers asked) journal (entry_of 0 a v) is.seated (omega arith, (λ e. below), λ l. absurd (omega arith));
 }
 
-at_same : (ss : List Served) (i : ℕ) (x : Served) → i < length ss → get_or (set ss i x) i nothing ≡ x
-at_same ss i x lt = get_or-set_same ss i x nothing lt
+at_same : (ss : List Served) (i : ℕ) (x : Served) → i < length ss → get_or (set ss i x) i nothing_served ≡ x
+at_same ss i x lt = get_or-set_same ss i x nothing_served lt
 
-at_other : (ss : List Served) (i j : ℕ) (x : Served) → j ≢ i → get_or (set ss i x) j nothing ≡ get_or ss j nothing
-at_other ss i j x ne = get_or-set_other ss i j x nothing ne
+at_other : (ss : List Served) (i j : ℕ) (x : Served) → j ≢ i → get_or (set ss i x) j nothing_served ≡ get_or ss j nothing_served
+at_other ss i j x ne = get_or-set_other ss i j x nothing_served ne
 
 -- the entry of a worker is the reply to it
 answered : (mine : Instance) (journal : List Entry) (workers asked : ℕ) (ss : List Served) (i a : ℕ) (v : Verdict) → IsServed mine journal workers asked ss → i < length ss → a < asked
@@ -96,19 +96,19 @@ given_back : (ss : List Served) (i a : ℕ) → i < length ss → claimed_from s
 given_back ss i a lt free =
     set_set ss i claim (served (answered_to (claiming ss i a) i) None)
     ∙ (ap (λ (x : Served). set ss i (served x.answered None)) (at_same ss i claim lt)
-    ∙ (ap (λ (o : Option ℕ). set ss i (served (answered_to ss i) o)) (sym free) ∙ set-get_or ss i nothing))
+    ∙ (ap (λ (o : Option ℕ). set ss i (served (answered_to ss i) o)) (sym free) ∙ set-get_or ss i nothing_served))
   where
     claim : Served
     claim = served (answered_to ss i) (Some a)
 
--- what a book decided, the holder decided
+-- what the published journal decided, the holder decided
 pub decided :
-    (mine : Instance) (k k' : Kept) (seat seat' : HolderView) (s a : ℕ) (v : Verdict) → Keeps mine s a k k' v → seat'.served ≡ seats_after seat.served (entry_of s a v) → seat'.looks ≡ seat.looks
-    → DecidesFor s a (held_by mine k seat) (held_by mine k' seat') v
+    (mine : Instance) (k k' : JournalContents) (seat seat' : HolderView) (s a : ℕ) (v : Verdict) → DecidesIn mine s a k k' v → seat'.served ≡ seats_after seat.served (entry_of s a v) → seat'.looks ≡ seat.looks
+    → DecidesFor s a (holder_state mine k seat) (holder_state mine k' seat') v
 decided mine k k' seat seat' s a v keeps seats looks =
     let entry : Entry = entry_of s a v in (
       keeps.0,
-      (λ i. held_by mine (keeps.1 i) (record { served = seats i; looks = looks i })) ∙ (λ i. record {
+      (λ i. holder_state mine (keeps.1 i) (record { served = seats i; looks = looks i })) ∙ (λ i. record {
         mine = mine;
         tree = version_tree-after mine k.published entry i;
         journal = k.journal ++ entry ∷ [];
@@ -121,15 +121,15 @@ decided mine k k' seat seat' s a v keeps seats looks =
 
 -- the holder after a decision of the driver
 pub after_apply :
-    (mine : Instance) (k k' : Kept) (workers asked : ℕ) (ss : List Served) (a : ℕ) (r : Result Verdict Fault) → IfOk r (Keeps mine 0 a k k')
+    (mine : Instance) (k k' : JournalContents) (workers asked : ℕ) (ss : List Served) (a : ℕ) (r : Result Verdict Fault) → IfOk r (DecidesIn mine 0 a k k')
     → IfErr r (λ e. (e ≡ no_memory) × (k' ≡ k)) → IsServed mine k.journal workers asked ss → a < arcs mine
     → IsServed mine k'.journal workers asked ss × (k'.budget ≡ k.budget)
 after_apply mine k k' workers asked ss a (Ok v) ok err is below =
-    (subst (λ (x : Kept). IsServed mine x.journal workers asked ss) (sym ok.1) (driven mine k.journal workers asked ss a v is below), ap (λ (x : Kept). x.budget) ok.1)
+    (subst (λ (x : JournalContents). IsServed mine x.journal workers asked ss) (sym ok.1) (driven mine k.journal workers asked ss a v is below), ap (λ (x : JournalContents). x.budget) ok.1)
 after_apply mine k k' workers asked ss a (Err e) ok err is below =
-    (subst (λ (x : Kept). IsServed mine x.journal workers asked ss) (sym err.1) is, ap (λ (x : Kept). x.budget) err.1)
+    (subst (λ (x : JournalContents). IsServed mine x.journal workers asked ss) (sym err.1) is, ap (λ (x : JournalContents). x.budget) err.1)
 
-pub applied : (mine : Instance) (k k' : Kept) (seat : HolderView) (a : ℕ) (r : Result Verdict Fault) → IfOk r (Keeps mine 0 a k k') → IfOk r (Decides a (held_by mine k seat) (held_by mine k' seat))
+pub applied : (mine : Instance) (k k' : JournalContents) (seat : HolderView) (a : ℕ) (r : Result Verdict Fault) → IfOk r (DecidesIn mine 0 a k k') → IfOk r (Decides a (holder_state mine k seat) (holder_state mine k' seat))
 applied mine k k' seat a (Ok v) ok = decided mine k k' seat seat 0 a v ok refl refl
 applied mine k k' seat a (Err e) ok = tt
 
@@ -147,14 +147,14 @@ seats_answered ss xs ys w a v low high claim answer =
 
 -- the holder after an ask was decided and answered
 pub after_answer :
-    (mine : Instance) (k k' : Kept) (workers asked : ℕ) (ss ys : List Served) (w a : ℕ) (v : Verdict) → IsServed mine k.journal workers asked ss → 0 < w → w ≤ length ss → a < asked
-    → Keeps mine w a k k' v → ys ≡ seats_after ss (entry_of w a v) → IsServed mine k'.journal workers asked ys × (k'.budget ≡ k.budget)
+    (mine : Instance) (k k' : JournalContents) (workers asked : ℕ) (ss ys : List Served) (w a : ℕ) (v : Verdict) → IsServed mine k.journal workers asked ss → 0 < w → w ≤ length ss → a < asked
+    → DecidesIn mine w a k k' v → ys ≡ seats_after ss (entry_of w a v) → IsServed mine k'.journal workers asked ys × (k'.budget ≡ k.budget)
 after_answer mine k k' workers asked ss ys w a v is low high known keeps seats =
     let lt : w - 1 < length ss = omega arith in
     let back : (w - 1) + 1 ≡ w = omega arith in
     let now : ys ≡ answering ss (w - 1) (reply a v) = seats ∙ ap (λ (b : Bool). cond b ss (answering ss (w - 1) (reply a v))) (ne_eqb w 0 (λ e. omega arith)) in
-    let journal : k'.journal ≡ k.journal ++ entry_of ((w - 1) + 1) a v ∷ [] = ap (λ (x : Kept). x.journal) keeps.1 ∙ ap (λ n. k.journal ++ entry_of n a v ∷ []) (sym back) in
-    (subst (λ (p : List Entry × List Served). IsServed mine p.0 workers asked p.1) (λ i. (sym journal i, sym now i)) (answered mine k.journal workers asked ss (w - 1) a v is lt known), ap (λ (x : Kept). x.budget) keeps.1)
+    let journal : k'.journal ≡ k.journal ++ entry_of ((w - 1) + 1) a v ∷ [] = ap (λ (x : JournalContents). x.journal) keeps.1 ∙ ap (λ n. k.journal ++ entry_of n a v ∷ []) (sym back) in
+    (subst (λ (p : List Entry × List Served). IsServed mine p.0 workers asked p.1) (λ i. (sym journal i, sym now i)) (answered mine k.journal workers asked ss (w - 1) a v is lt known), ap (λ (x : JournalContents). x.budget) keeps.1)
 
 -- the seat after an ask was claimed and given back
 pub seats_returned : (ss xs ys : List Served) (w a : ℕ) → 0 < w → w ≤ length ss → claimed_from ss (w - 1) ≡ None → xs ≡ claiming ss (w - 1) a → ys ≡ unclaiming xs (w - 1) → ys ≡ ss
@@ -163,5 +163,5 @@ seats_returned ss xs ys w a low high free claim back =
     back ∙ (ap (λ l. unclaiming l (w - 1)) claim ∙ given_back ss (w - 1) a lt free)
 
 -- after a look that changed nothing else
-pub looked : (mine : Instance) (k k' : Kept) (seat seat' : HolderView) (cell : ℕ) → k' ≡ k → seat'.served ≡ seat.served → seat'.looks ≡ seat.looks ++ cell ∷ [] → held_by mine k' seat' ≡ with_look (held_by mine k seat) cell
-looked mine k k' seat seat' cell kept seats looks = λ i. held_by mine (kept i) (record { served = seats i; looks = looks i })
+pub looked : (mine : Instance) (k k' : JournalContents) (seat seat' : HolderView) (cell : ℕ) → k' ≡ k → seat'.served ≡ seat.served → seat'.looks ≡ seat.looks ++ cell ∷ [] → holder_state mine k' seat' ≡ with_look (holder_state mine k seat) cell
+looked mine k k' seat seat' cell kept seats looks = λ i. holder_state mine (kept i) (record { served = seats i; looks = looks i })

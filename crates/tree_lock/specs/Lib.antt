@@ -1,3 +1,3 @@
-pub mod Kept
-pub mod Held
+pub mod PublishedJournal
+pub mod HolderState
 pub mod Served

@@ -2,12 +2,12 @@
 use Rattle.std.specs.Prelude.{◌≡◌, ℕ, ◌+◌, ◌-◌, ◌<◌, ◌≤◌, ◌==◌, Bool, true, false, if◌then◌else◌, List, [], ◌∷◌, ◌++◌, length, None}
 use Rattle.std.specs.List.{All, range_with_len}
 use Rattle.proposals.specs.declared.verdict.Reply.{Reply}
-use Rattle.proposals.specs.declared.knows.WorkerLedger.{WorkerLedger}
-use Rattle.proposals.specs.declared.knows.Served.{Served}
+use Rattle.proposals.specs.declared.seat_state.WorkerLedger.{WorkerLedger}
+use Rattle.proposals.specs.declared.seat_state.Served.{Served}
 use Rattle.proposals.specs.Ledger.{reply, served, answered_to, claimed_from, Meets}
 use Rattle.pit_model.specs.declared.journal.Entry.{Entry}
 use Rattle.pit_model.specs.Mine.{Instance, arcs}
-use Rattle.tree_lock.specs.Held.{Held, with_look, DecidesFor}
+use Rattle.tree_lock.specs.HolderState.{HolderState, with_look, DecidesFor}
 
 -- the entries under a seat, as replies
 abbrev pub replies_under : ℕ → List Entry → List Reply
@@ -36,12 +36,12 @@ pub record IsServed (mine : Instance) (journal : List Entry) (workers asked : �
   pub seated : AreUnderSeats mine workers asked journal
 
 -- the word of the worker was looked at, once; then one ask of it was decided, or none
-abbrev pub ServesOne : ℕ → Held → Held → Bool → Type 0
+abbrev pub ServesOne : ℕ → HolderState → HolderState → Bool → Type 0
 ServesOne worker old new true = (arc : ℕ) × (verdict : _) × DecidesFor worker arc (with_look old (worker - 1)) new verdict
 ServesOne worker old new false = new ≡ with_look old (worker - 1)
 
 -- the words of the first so many workers were looked at, in order, each once
-abbrev pub LooksAtFirst : ℕ → Held → Held → Type 0
+abbrev pub LooksAtFirst : ℕ → HolderState → HolderState → Type 0
 LooksAtFirst workers old new = new.looks ≡ old.looks ++ range_with_len 0 workers
 
 -- under seats that rise, all above this one
@@ -50,7 +50,7 @@ AreRisingSeats seat [] = Unit {0}
 AreRisingSeats seat (entry ∷ others) = (seat < entry.seat) × AreRisingSeats entry.seat others
 
 -- a pass over the board: so many more entries, under the seats of workers, rising, each one's at most once
-pub record Serves (old new : Held) (count : ℕ) : Type 0 where
+pub record Serves (old new : HolderState) (count : ℕ) : Type 0 where
   pub more : List Entry
   pub journal : new.journal ≡ old.journal ++ more
   pub counted : length more ≡ count

@@ -1,4 +1,4 @@
-//! The holder of the lock: a book of the instance and the budget that the lock's id names, and the seat that answers its board.
+//! The holder of the lock: a published journal of the instance and the budget that the lock's id names, and the seat that answers its board.
 //! `serve` has the pass over the board (flat combining: Hendler, Incze, Shavit and Tzafrir 2010); `shared` puts the holder
 //! under a mutex.
 ghost use Rattle.std.specs.Prelude.{◌≡◌, ℕ, ◌+◌, ◌<◌, suc, true, [], None, IfOk, IfErr, pos, ◌+ℤ◌, ◌*ℤ◌, ◌≤ℤ◌};
@@ -11,11 +11,11 @@ ghost use Rattle.pit_model.specs.Limits.{IsInstance};
 ghost use Rattle.pit_model.specs.Journal.{applied_count, IsLawful, Affords, replay};
 ghost use Rattle.pit_model.specs.Version.{applied_arcs, IsVersion};
 ghost use Rattle.proposals.specs.Ledger.{answered_to, claimed_from};
-ghost use Rattle.tree_lock.specs.Held.{Decides, opened};
+ghost use Rattle.tree_lock.specs.HolderState.{Decides, opened};
 ghost use Rattle.tree_lock.specs.Served.{replies_under, AreUnderSeats, IsFresh, MeetsJournal};
 
-use crate::book::Book;
 use crate::lock_id::LockId;
+use crate::published_journal::PublishedJournal;
 use faults::Fault;
 use norm_tree::NormTree;
 use pit_model::{Entry, Verdict};
@@ -32,20 +32,20 @@ const DRIVER: u32 = 0;
 /// claimed from it, and the cells of the workers whose words it looked at, in order. Tree and budget are those of the lock's id. It
 /// is not `Drop`, since its end waits for readers that have not left: end it by `into_parts`.
 pub struct Holder<S: LockId> {
-    pub(crate) book: Book<S>,
+    pub(crate) published_journal: PublishedJournal<S>,
     pub(crate) seat: HolderSeat<S>,
 }
 
 impl<S: LockId> Model for Holder<S> {
     ghost use Rattle.std.specs.Prelude.{◌≡◌};
-    ghost use Rattle.tree_lock.specs.Held.{Held, held_by};
+    ghost use Rattle.tree_lock.specs.HolderState.{HolderState, holder_state};
     ghost use Rattle.tree_lock.specs.Served.{IsServed};
 
-    ghost Value = { Held };
+    ghost Value = { HolderState };
 
-    ghost view = { λ h. held_by S.mine h.book h.seat };
+    ghost view = { λ h. holder_state S.mine h.published_journal h.seat };
 
-    ghost invariant = { λ h. IsServed S.mine h.book.journal S.workers S.arcs h.seat.served × (h.book.budget ≡ S.budget) };
+    ghost invariant = { λ h. IsServed S.mine h.published_journal.journal S.workers S.arcs h.seat.served × (h.published_journal.budget ≡ S.budget) };
 }
 
 impl<S: LockId> Holder<S> {
@@ -62,7 +62,7 @@ impl<S: LockId> Holder<S> {
         ensures { result ≡ opened S.mine budget seat }
     {
         Holder {
-            book: Book::new(alloc, publisher, budget),
+            published_journal: PublishedJournal::new(alloc, publisher, budget),
             seat,
         }
     }
@@ -88,8 +88,8 @@ impl<S: LockId> Holder<S> {
         ensures version { IsVersion self.now.mine self.now.tree self.now.published }
     {
         let _ = &self.seat;
-        self.book.law();
-        self.book.tree().law();
+        self.published_journal.law();
+        self.published_journal.tree().law();
     }
 
     /// The tree as it stands, which is the published one.
@@ -97,21 +97,21 @@ impl<S: LockId> Holder<S> {
         ensures { result.now ≡ record { mine = self.now.mine; tree = self.now.tree } }
     {
         let _ = &self.seat;
-        self.book.tree()
+        self.published_journal.tree()
     }
 
     /// The decisions so far, in order.
     pub fn journal(&self) -> &[Entry]
         ensures { result.now ≡ self.now.journal }
     {
-        self.book.journal()
+        self.published_journal.journal()
     }
 
     /// How many mergers may be made; None where nothing limits them.
     pub fn budget(&self) -> Option<u64>
         ensures { result ≡ self.now.budget }
     {
-        self.book.budget()
+        self.published_journal.budget()
     }
 
     /// The tree and the journal, for good. It waits for readers that have not left; from then on a look gives its seat back.
@@ -119,8 +119,11 @@ impl<S: LockId> Holder<S> {
         ensures tree { result.0 ≡ record { mine = self.mine; tree = self.tree } }
         ensures journal { result.1.items ≡ self.journal }
     {
-        let Holder { book, seat: _ } = self;
-        book.into_parts(rt)
+        let Holder {
+            published_journal,
+            seat: _,
+        } = self;
+        published_journal.into_parts(rt)
     }
 
     /// Decides one proposal of the driver, with an entry under seat 0: a merger arc is merged and published, unless the budget
@@ -132,7 +135,7 @@ impl<S: LockId> Holder<S> {
         ensures refused { IfErr result (λ e. (e ≡ no_memory) × (self.new ≡ self.old)) }
     {
         let _ = &self.seat;
-        self.book.decide(rt, DRIVER, arc)
+        self.published_journal.decide(rt, DRIVER, arc)
     }
 
     /// Tells a seat to look from of all mergers that were made: all that it saw or was told of before was a prefix of these.
@@ -143,8 +146,8 @@ impl<S: LockId> Holder<S> {
         ensures before { IsPrefix seat.old (applied_arcs self.old.journal) }
         ensures all { result ≡ true }
     {
-        self.book.law();
-        self.book.tell(seat)
+        self.published_journal.law();
+        self.published_journal.tell(seat)
     }
 
     /// Lets a worker's seat meet the holder's. What each knows stays as it was, and the entries under the worker's seat and
@@ -153,7 +156,7 @@ impl<S: LockId> Holder<S> {
         ensures same { (worker.new ≡ worker.old) × (self.new ≡ self.old) }
         ensures meets { MeetsJournal worker.old self.old.journal }
     {
-        let _ = &self.book;
+        let _ = &self.published_journal;
         board.settle(worker, &mut self.seat);
     }
 }

@@ -2,9 +2,9 @@
 //! published version without the lock.
 #![tactic(auto)]
 
-mod book;
 mod holder;
 mod lock_id;
+mod published_journal;
 mod serve;
 mod shared;
 

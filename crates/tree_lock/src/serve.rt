@@ -2,7 +2,7 @@
 //! and answered (flat combining: Hendler, Incze, Shavit and Tzafrir 2010).
 ghost use Rattle.std.specs.Prelude.{◌≡◌, ℕ, ◌-◌, ◌<◌, ◌≤◌, IfOk, IfErr};
 ghost use Rattle.faults.specs.Refused.{no_memory};
-ghost use Rattle.tree_lock.specs.Held.{with_look};
+ghost use Rattle.tree_lock.specs.HolderState.{with_look};
 ghost use Rattle.tree_lock.specs.Served.{LooksAtFirst, Serves, ServesOne};
 
 use crate::holder::Holder;
@@ -21,7 +21,7 @@ impl<S: LockId> Holder<S> {
         let Some(arc) = board.claim_ask(&mut self.seat, worker) else {
             return Ok(false);
         };
-        match self.book.decide(rt, worker, arc) {
+        match self.published_journal.decide(rt, worker, arc) {
             Ok(verdict) => {
                 board.answer(&mut self.seat, worker, verdict);
                 Ok(true)

@@ -47,7 +47,7 @@ impl<S: LockId> SharedTree<S> {
 
     /// Puts a holder that a thread had for itself under a lock. It takes no memory.
     pub fn of_holder(holder: Holder<S>) -> SharedTree<S> {
-        let look_seats = holder.book.look_seats().ok();
+        let look_seats = holder.published_journal.look_seats().ok();
         SharedTree {
             lock: Mutex::new(holder),
             look_seats,

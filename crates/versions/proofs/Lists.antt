@@ -2,7 +2,7 @@
 use Rattle.std.proofs.Common.{◌≡◌, ℕ, ◌+◌, ◌*◌, ◌≤◌, ◌<◌, List, [], ◌∷◌, ◌++◌, map, length, refl, ap, sym, ◌∙◌, subst, arith, length-append, append_assoc}
 use mathlib.Core.List.{IsPrefix}
 use Rattle.versions.specs.declared.link.ArcLink.{ArcLink}
-use Rattle.versions.specs.ArcList.{arcs_of, last_of, last_after, word_of}
+use Rattle.versions.specs.ArcList.{arcs_of, last_of, last_after, word_of_links}
 
 shorter : {A : Type 0} (xs ys r s : List A) → xs ++ r ≡ ys ++ s → length xs ≤ length ys → IsPrefix xs ys
 shorter [] ys r s e le = (ys, refl)
@@ -46,7 +46,7 @@ grown (x ∷ xs) ys n p h k =
 
 -- what the word tells: the number of links and the last arc
 pub decoded :
-    (links : List ArcLink) (n arc : ℕ) → word_of links ≡ (n + 2) * 67108864 + arc → (last_of links).arc < 67108864 → arc < 67108864
+    (links : List ArcLink) (n arc : ℕ) → word_of_links links ≡ (n + 2) * 67108864 + arc → (last_of links).arc < 67108864 → arc < 67108864
     → (length links ≡ n + 2) × ((last_of links).arc ≡ arc)
 decoded [] n arc h small fits = absurd (omega (arith, h))
 decoded (x ∷ xs) n arc h small fits = (omega (arith, h, small, fits), omega (arith, h, small, fits))

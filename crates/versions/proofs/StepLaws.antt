@@ -6,7 +6,7 @@ use mathlib.Core.List.{IsPrefix}
 use prog.Atomic.{either}
 use Rattle.logbook.specs.Pages.{Cell, cell, keeps, gives, adds, no_nib, Nib, may_write, step, Moves}
 use Rattle.versions.specs.declared.link.ArcLink.{ArcLink}
-use Rattle.versions.specs.ArcList.{link, last_after, last_of, word_of, IsHome, AreUsedAfter, AreUsed, IsList, Begins, Widens, Writes}
+use Rattle.versions.specs.ArcList.{link, last_after, last_of, word_of_links, IsHome, AreUsedAfter, AreUsed, IsList, OpensList, Widens, AddsLink}
 use Rattle.versions.proofs.Lists.{last_after-snoc}
 use Rattle.versions.proofs.Cells.{home_set, home_more, home_new, word_set, word_more, word_else, some_set, some_more, used_where, used-snoc, ends_here}
 
@@ -25,7 +25,7 @@ abbrev stepped : List Cell → ℕ → List Cell
 stepped cells n = slice_set cells 0 (n, true)
 
 -- the word is written as it was
-same : (cells : List Cell) (links : List ArcLink) (n : ℕ) → IsList cells links → n ≡ word_of links → IsList (stepped cells n) (links ++ [])
+same : (cells : List Cell) (links : List ArcLink) (n : ℕ) → IsList cells links → n ≡ word_of_links links → IsList (stepped cells n) (links ++ [])
 same cells links n kept is = subst (IsList (stepped cells n)) (sym (append-nil links)) record {
   word = word_set cells n kept.some ∙ ap (λ (m : ℕ). (m, true)) is;
   some = some_set cells 0 (n, true) kept.some;
@@ -53,13 +53,13 @@ pub widens :
 widens seen blank cells links kept begins away =
     let found : ℕ = (cell cells 0).0 in
     let left : ℕ = either (found == 0) 0 found in
-    let is : left ≡ word_of links = zeros found (found == 0) refl ∙ ap (λ (c : Cell). c.0) kept.word in
+    let is : left ≡ word_of_links links = zeros found (found == 0) refl ∙ ap (λ (c : Cell). c.0) kept.word in
     (kept.some, ap (λ (c : Cell). c.1) kept.word, (adds, [], None, tt, wider (stepped cells left) (links ++ []) (same cells links left kept is), inl (refl, refl), refl))
 
 -- the opening link
 pub begins :
     (blank : ArcLink)
-    → Moves IsList shown moved 0 ([], (no_nib, None)) (λ n. either (n == 0) 67108864 n) (Begins (step 0 0 67108864 blank) ([], (no_nib, None)))
+    → Moves IsList shown moved 0 ([], (no_nib, None)) (λ n. either (n == 0) 67108864 n) (OpensList (step 0 0 67108864 blank) ([], (no_nib, None)))
 begins blank cells [] kept pre away =
     let is : (cell cells 0).0 ≡ 0 = ap (λ (c : Cell). c.0) kept.word in
     let first : List ArcLink = link 0 (length cells) ∷ [] in
@@ -75,10 +75,10 @@ begins blank cells (x ∷ xs) kept pre away =
     let links : List ArcLink = x ∷ xs in
     let found : ℕ = (cell cells 0).0 in
     let left : ℕ = either (found == 0) 67108864 found in
-    let was : found ≡ word_of links = ap (λ (c : Cell). c.0) kept.word in
+    let was : found ≡ word_of_links links = ap (λ (c : Cell). c.0) kept.word in
     let large : 0 < found = omega (arith, was) in
     let test : (found == 0) ≡ false = grind (arith, nat_tests, large) in
-    let is : left ≡ word_of links = ap (λ (b : Bool). either b 67108864 found) test ∙ was in
+    let is : left ≡ word_of_links links = ap (λ (b : Bool). either b 67108864 found) test ∙ was in
     (kept.some, ap (λ (c : Cell). c.1) kept.word, (keeps, [], None, tt, same cells links left kept is, inl (refl, refl), λ z. absurd (omega (arith, z, large))))
 
 -- who has the pen of the last link's cell has seen the whole list
@@ -90,7 +90,7 @@ whole cells (x ∷ xs) links kept pre some away =
     let used : AreUsedAfter cells x (xs ++ pre.0) = subst (AreUsed cells) (sym pre.1) kept.used in
     sym (append-nil (x ∷ xs)) ∙ (ap (λ r. (x ∷ xs) ++ r) (sym (ends_here cells x xs pre.0 used away)) ∙ pre.1)
 
-word_of-snoc : (x : ArcLink) (xs : List ArcLink) (arc next : ℕ) → word_of ((x ∷ xs) ++ link arc next ∷ []) ≡ (length (x ∷ xs) + 1) * 67108864 + arc
+word_of-snoc : (x : ArcLink) (xs : List ArcLink) (arc next : ℕ) → word_of_links ((x ∷ xs) ++ link arc next ∷ []) ≡ (length (x ∷ xs) + 1) * 67108864 + arc
 word_of-snoc x xs arc next =
     let count : length (xs ++ link arc next ∷ []) ≡ length xs + 1 = length-append xs (link arc next ∷ []) in
     ap (λ (l : ArcLink). length ((x ∷ xs) ++ link arc next ∷ []) * 67108864 + l.arc) (last_after-snoc x xs (link arc next)) ∙ omega (arith, count)
@@ -114,7 +114,7 @@ written cells x xs pen arc next n kept fits within away key is =
 pub writes :
     (seen : List ArcLink) (pen : Nib) (arc next old new : ℕ) → 0 < length seen → pen.right ≡ may_write → pen.key ≡ (last_of seen).next → arc < 67108864
     → old ≡ length seen * 67108864 + (last_of seen).arc → new ≡ (length seen + 1) * 67108864 + arc
-    → Moves IsList shown moved 0 (seen, (pen, None)) (λ n. either (n == old) new n) (Writes (step 0 old new (link arc next)) (seen, (pen, None)))
+    → Moves IsList shown moved 0 (seen, (pen, None)) (λ n. either (n == old) new n) (AddsLink (step 0 old new (link arc next)) (seen, (pen, None)))
 writes [] pen arc next old new some right key fits was is cells links kept pre away = absurd (omega (arith, some))
 writes (x ∷ xs) pen arc next old new some right key fits was is cells links kept pre away =
     let seen : List ArcLink = x ∷ xs in

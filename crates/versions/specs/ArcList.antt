@@ -23,9 +23,9 @@ arcs_of [] = []
 arcs_of (x ∷ xs) = map (λ y. y.arc) xs
 
 -- the word: how many links there are, and the last arc
-abbrev pub word_of : List ArcLink → ℕ
-word_of [] = 0
-word_of (x ∷ xs) = length (x ∷ xs) * 67108864 + (last_after x xs).arc
+abbrev pub word_of_links : List ArcLink → ℕ
+word_of_links [] = 0
+word_of_links (x ∷ xs) = length (x ∷ xs) * 67108864 + (last_after x xs).arc
 
 abbrev pub IsHome : List Cell → ℕ → Type 0
 IsHome cells k = (cell cells k).1 ≡ true
@@ -41,30 +41,30 @@ AreUsed cells (x ∷ xs) = AreUsedAfter cells x xs
 
 -- the rule
 pub record IsList (cells : List Cell) (links : List ArcLink) : Type 0 where
-  pub word : cell cells 0 ≡ (word_of links, true)
+  pub word : cell cells 0 ≡ (word_of_links links, true)
   pub some : 0 < length cells
   pub small : (last_of links).arc < 67108864
   pub used : AreUsed cells links
 
 -- the word of a book
-abbrev pub head_of : Book → Named
-head_of book = record { tracked = true; key = 0; book = book }
+abbrev pub list_head : Book → Named
+list_head book = record { tracked = true; key = 0; book = book }
 
 -- the word is that of the list which is then seen
 abbrev pub Looks : Step ArcLink → View ArcLink ℕ → ℕ → View ArcLink ℕ → Type 0
-Looks step before found after = (found ≡ word_of after.0) × ((last_of after.0).arc < 67108864)
+Looks step before found after = (found ≡ word_of_links after.0) × ((last_of after.0).arc < 67108864)
 
 -- an empty list has its opening link, and the pen is of the cell that this names
-abbrev pub Begins : Step ArcLink → View ArcLink ℕ → ℕ → View ArcLink ℕ → Type 0
-Begins step before found after = found ≡ 0 → (after.0 ≡ link 0 after.1.0.key ∷ []) × (after.1.0 ≡ nib may_make after.1.0.key 0)
+abbrev pub OpensList : Step ArcLink → View ArcLink ℕ → ℕ → View ArcLink ℕ → Type 0
+OpensList step before found after = found ≡ 0 → (after.0 ≡ link 0 after.1.0.key ∷ []) × (after.1.0 ≡ nib may_make after.1.0.key 0)
 
 -- a new cell, with its pen
 abbrev pub Widens : Step ArcLink → View ArcLink ℕ → ℕ → View ArcLink ℕ → Type 0
 Widens step before found after = after.1.0 ≡ nib may_make after.1.0.key 0
 
 -- the list is what was seen, with one more link
-abbrev pub Writes : Step ArcLink → View ArcLink ℕ → ℕ → View ArcLink ℕ → Type 0
-Writes step before found after = after.0 ≡ before.0 ++ step.ask ∷ []
+abbrev pub AddsLink : Step ArcLink → View ArcLink ℕ → ℕ → View ArcLink ℕ → Type 0
+AddsLink step before found after = after.0 ≡ before.0 ++ step.ask ∷ []
 
 -- the pen stays, and its cell was away when the list was what is then seen
 abbrev pub Confirms : Step ArcLink → View ArcLink ℕ → ℕ → View ArcLink ℕ → Type 0

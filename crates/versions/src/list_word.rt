@@ -1,6 +1,6 @@
 //! The word of the list, which all threads share: how long the list is, and its last arc.
 ghost use Rattle.std.specs.Prelude.{◌≡◌};
-ghost use Rattle.versions.specs.ArcList.{head_of};
+ghost use Rattle.versions.specs.ArcList.{list_head};
 
 use crate::link::ArcLink;
 use crate::list_id::ListId;
@@ -19,5 +19,5 @@ pub(crate) const MOST: u64 = 1 << 36;
 pub struct ListWord<V: ListId> {
     pub(crate) word: Word<ArcLink, u64, ListRule>,
     pub(crate) id: PhantomData<V>,
-    ghost head_is: { word ≡ head_of V.book },
+    ghost head_is: { word ≡ list_head V.book },
 }

@@ -4,7 +4,7 @@ ghost use Rattle.std.specs.Prelude.{◌≡◌, ◌<◌, ◌^◌, [], ◌∷◌, 
 ghost use mathlib.Core.List.{IsPrefix};
 ghost use Rattle.logbook.specs.Pages.{nib, may_write};
 ghost use Rattle.faults.specs.Refused.{no_memory, no_seat};
-ghost use Rattle.versions.specs.ArcList.{link, head_of};
+ghost use Rattle.versions.specs.ArcList.{link, list_head};
 
 use crate::link::ArcLink;
 use crate::list_id::ListId;
@@ -28,7 +28,7 @@ pub struct UnnamedList {
 impl Model for UnnamedList {
     ghost use Rattle.std.specs.Prelude.{◌≡◌, [], ◌∷◌};
     ghost use Rattle.logbook.specs.Pages.{Book, book_coded, nib, may_write};
-    ghost use Rattle.versions.specs.ArcList.{link, head_of};
+    ghost use Rattle.versions.specs.ArcList.{link, list_head};
 
     ghost Value = { Book };
 
@@ -36,7 +36,7 @@ impl Model for UnnamedList {
 
     ghost view = { λ l. l.seen.book };
 
-    ghost invariant = { λ l. (l.seen.log ≡ link 0 l.pen.nib.key ∷ []) × (l.word ≡ head_of l.seen.book) × (l.pen.book ≡ l.seen.book) × (l.pen.nib ≡ nib may_write l.pen.nib.key 0) };
+    ghost invariant = { λ l. (l.seen.log ≡ link 0 l.pen.nib.key ∷ []) × (l.word ≡ list_head l.seen.book) × (l.pen.book ≡ l.seen.book) × (l.pen.nib ≡ nib may_write l.pen.nib.key 0) };
 }
 
 impl UnnamedList {

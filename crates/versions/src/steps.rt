@@ -53,9 +53,9 @@ impl Plain<ArcLink, ArcLink, u64> for Look {
 pub struct Begin;
 
 impl Play<ArcLink, u64> for Begin {
-    ghost use Rattle.versions.specs.ArcList.{Begins};
+    ghost use Rattle.versions.specs.ArcList.{OpensList};
 
-    ghost then = { Begins };
+    ghost then = { OpensList };
 }
 
 /// A new cell.
@@ -86,9 +86,9 @@ pub struct NextLink {
 pub struct Write;
 
 impl Play<ArcLink, u64> for Write {
-    ghost use Rattle.versions.specs.ArcList.{Writes};
+    ghost use Rattle.versions.specs.ArcList.{AddsLink};
 
-    ghost then = { Writes };
+    ghost then = { AddsLink };
 }
 
 impl Plain<NextLink, ArcLink, u64> for Write {

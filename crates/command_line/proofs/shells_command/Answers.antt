@@ -1,6 +1,6 @@
 -- Its files, its columns and factors, how to solve, and what is told.
 use Rattle.std.proofs.Common.{codes, ◌∷◌, [], ◌++◌, rules}
-use Rattle.command_line.specs.Options.{asked_options, blocks_options, column_options, needed, watch_options, HasOptions}
+use Rattle.command_line.specs.Options.{settings_options, blocks_options, column_options, needed, watch_options, HasOptions}
 use Rattle.command_line.proofs.Adding.{adds, has_more}
 use Rattle.command_line.proofs.shells_command.Goals as goal
 
@@ -11,5 +11,5 @@ returns c =
     let columns = c.in_ok-with_columns.ensures (codes "shells") blocks_options blocks in
     let factors = adds (needed (codes "factors")) c.in_ok-with_columns.field-0 c.in_ok-shells.shells c.factors_list.result c.factors_list.ensures c.in_ok-shells.ensures
     (codes "shells") (blocks_options ++ column_options) columns in
-    let asked = c.in_ok-with_asked.ensures (codes "shells") (blocks_options ++ column_options ++ needed (codes "factors") ∷ []) factors in
-    has_more (codes "shells") (blocks_options ++ column_options ++ needed (codes "factors") ∷ asked_options) watch_options c.in_ok-with_asked.field-0 c.with_watch.result asked c.with_watch.ensures
+    let asked = c.in_ok-with_settings.ensures (codes "shells") (blocks_options ++ column_options ++ needed (codes "factors") ∷ []) factors in
+    has_more (codes "shells") (blocks_options ++ column_options ++ needed (codes "factors") ∷ settings_options) watch_options c.in_ok-with_settings.field-0 c.with_watch.result asked c.with_watch.ensures

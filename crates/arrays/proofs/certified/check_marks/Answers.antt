@@ -13,15 +13,15 @@ check-requires-clause-fixed c = c.none.ensures.of_any (graph_of_mine c.in_ok-min
 
 pub check-requires-clause-candidate : goal.check-requires-clause-candidate
 check-requires-clause-candidate c =
-    let spelled = c.in_ok-mine.ensures.spelled in
+    let encoded = c.in_ok-mine.ensures.encoded in
     let marks = c.args.marks.now in
     let pit = c.in_ok-pit.pit.items in
-    let size : length marks ≡ c.in_ok-mine.mine.blocks = c.if-marks-values.false ∙ sym spelled.blocks in
+    let size : length marks ≡ c.in_ok-mine.mine.blocks = c.if-marks-values.false ∙ sym encoded.blocks in
     let sized : length c.args.flow.items ≡ length c.args.rows.now.seconds.now = search rules in
     record {
       below = subst (λ n. All (λ u. u < n) pit) size (listed_below (length marks) pit (λ u. get_or marks u 0 == 1) c.in_ok-pit.ensures);
       rising = blocks_rise (length marks) (λ u. get_or marks u 0 == 1) pit c.in_ok-pit.ensures;
-      counted = sized ∙ sym spelled.pairs_are.count;
+      counted = sized ∙ sym encoded.pairs_are.count;
       amounts = subst AreAmounts c.deref.ensures.value c.in_default-first_unfit.ensures.none;
     }
 
@@ -29,12 +29,12 @@ pub returns-in-Ok-clause-exact : goal.returns-in-Ok-clause-exact
 returns-in-Ok-clause-exact c =
     let rows = c.args.rows.now in
     let mine = c.in_ok-mine.mine in
-    let spelled = c.in_ok-mine.ensures.spelled in
+    let encoded = c.in_ok-mine.ensures.encoded in
     let marks = c.args.marks.now in
-    let size : length marks ≡ mine.blocks = c.if-marks-values.false ∙ sym spelled.blocks in
+    let size : length marks ≡ mine.blocks = c.if-marks-values.false ∙ sym encoded.blocks in
     let nothing : IsNothingFixed (fixed_of c.none.result.lists) =
     subst (λ (lists : FixedLists). IsNothingFixed (fixed_of lists)) (sym c.none.ensures.lists) (record { none_forced = λ u. refl; none_barred = λ u. refl }) in
     let exact = c.in-Ok.ensures.none_fixed nothing in (
-      λ yes. certify_marks c.args.values.now rows.starts.now rows.seconds.now marks c.args.flow.items mine c.in_ok-pit.pit.items spelled c.in_ok-pit.ensures size c.in_default.ensures.none (exact.0 yes),
-      λ are. exact.1 (marks_certify c.args.values.now rows.starts.now rows.seconds.now marks c.args.flow.items mine c.in_ok-pit.pit.items spelled c.in_ok-pit.ensures size c.in_default.ensures.none are),
+      λ yes. certify_marks c.args.values.now rows.starts.now rows.seconds.now marks c.args.flow.items mine c.in_ok-pit.pit.items encoded c.in_ok-pit.ensures size c.in_default.ensures.none (exact.0 yes),
+      λ are. exact.1 (marks_certify c.args.values.now rows.starts.now rows.seconds.now marks c.args.flow.items mine c.in_ok-pit.pit.items encoded c.in_ok-pit.ensures size c.in_default.ensures.none are),
     )

@@ -17,18 +17,18 @@ worth-requires-clause-few c =
 pub returns-clause-marked : goal.returns-clause-marked
 returns-clause-marked c =
     let mine = c.in_ok-mine.mine in
-    let spelled = c.in_ok-mine.ensures.spelled in
+    let encoded = c.in_ok-mine.ensures.encoded in
     let shown = c.in_ok-certificate.ensures.certifies.certifies in
-    let size : length c.args.marks.now ≡ mine.blocks = c.if-marks-values.false ∙ sym spelled.blocks in
+    let size : length c.args.marks.now ≡ mine.blocks = c.if-marks-values.false ∙ sym encoded.blocks in
     let listed = c.deref.ensures.value ∙ shown.listed ∙ ap (λ n. members n shown.set) (sym size) in
     let fits : SFits w128 c.worth.result = search rules in
     record {
       certified = record {
         mine = mine;
-        spelled = spelled;
+        encoded = encoded;
         set = shown.set;
         marks_are = subst (λ n. AreMarks n shown.set c.write_marks.new.marks) size (c.write_marks.ensures shown.set listed);
-        count = shown.counted ∙ spelled.pairs_are.count;
+        count = shown.counted ∙ encoded.pairs_are.count;
         certifies = shown.certifies;
       };
       is_pit = certificate_gives_pit mine shown.set (λ k. get_or c.in_ok-certificate.certificate.flow.items k (pos 0)) c.law.ensures.graph.in_range shown.certifies;

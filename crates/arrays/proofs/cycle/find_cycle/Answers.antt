@@ -17,7 +17,7 @@ returns-in-Cycle-clause-some c =
       omega arith,
       record {
         pairs = named.0;
-        spelled = named.1;
+        encoded = named.1;
         cycle = cycle;
         is_cycle = is;
         counted = sym sized;

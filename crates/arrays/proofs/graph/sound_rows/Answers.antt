@@ -4,8 +4,8 @@ use Rattle.pit_model.specs.Graph.{first_of, AreInRange}
 use Rattle.need_rows.specs.Lent.{pairs_in}
 use Rattle.need_rows.proofs.Spelled.{length-pairs_of, second_at}
 use Rattle.arrays.specs.Named.{IsRepeated}
-use Rattle.arrays.specs.Spelled.{IsInRow, SpellPairs}
-use Rattle.arrays.proofs.Spelling.{begun, rows_in_range, spell}
+use Rattle.arrays.specs.Encoded.{IsInRow, EncodesPairs}
+use Rattle.arrays.proofs.Encoding.{begun, rows_in_range, spell}
 use Rattle.arrays.proofs.graph.sound_rows.Goals as goal
 
 pub returns-in-Some-2-clause-refused : goal.returns-in-Some-2-clause-refused
@@ -16,7 +16,7 @@ returns-in-Some-2-clause-refused c =
     let place : ℕ = c.in-Some-2.place in
     let is = subst (λ o. IfSome o (IsRepeated pairs)) c.in-Some-2.is c.in_ok-place.ensures.some in
     let long = length-pairs_of starts seconds in
-    let spelled = spell c.args.blocks starts seconds c.requires.rows in
+    let encoded = spell c.args.blocks starts seconds c.requires.rows in
     let before : ℕ = is.0 in
     let sooner = is.1 in
     let inside = is.2 in
@@ -24,18 +24,18 @@ returns-in-Some-2-clause-refused c =
       block = first_of pairs place;
       before = before;
       sooner = sooner;
-      here = spelled.block place (omega arith);
-      there = subst (λ u. IsInRow starts u before) (ap (λ (q : ℕ × ℕ). q.0) is.3) (spelled.block before (omega arith));
+      here = encoded.block place (omega arith);
+      there = subst (λ u. IsInRow starts u before) (ap (λ (q : ℕ × ℕ). q.0) is.3) (encoded.block before (omega arith));
       same = sym (second_at starts seconds before (omega arith)) ∙ ap (λ (q : ℕ × ℕ). q.1) is.3 ∙ second_at starts seconds place (omega arith);
     }
 
 pub of_rows-requires : goal.of_rows-requires
 of_rows-requires c = begun c.args.blocks c.args.rows.starts.now c.args.rows.seconds.now c.requires.rows
 
-pub returns-clause-spelled : goal.returns-clause-spelled
-returns-clause-spelled c =
+pub returns-clause-encoded : goal.returns-clause-encoded
+returns-clause-encoded c =
     let rows = c.args.rows in
-    subst (SpellPairs rows.starts.now rows.seconds.now) (sym c.in_ok-of_rows.ensures.pairs) (spell c.args.blocks rows.starts.now rows.seconds.now c.requires.rows)
+    subst (EncodesPairs rows.starts.now rows.seconds.now) (sym c.in_ok-of_rows.ensures.pairs) (spell c.args.blocks rows.starts.now rows.seconds.now c.requires.rows)
 
 pub returns-clause-in_range : goal.returns-clause-in_range
 returns-clause-in_range c =

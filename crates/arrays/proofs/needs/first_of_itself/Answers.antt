@@ -1,7 +1,7 @@
 -- Each row ends within the places.
 use Rattle.std.proofs.Common.{◌+◌, arith, length, subst, sym}
-use Rattle.arrays.specs.Spelled.{IsInRow}
-use Rattle.arrays.proofs.Spelling.{ends_within}
+use Rattle.arrays.specs.Encoded.{IsInRow}
+use Rattle.arrays.proofs.Encoding.{ends_within}
 use Rattle.arrays.proofs.needs.first_of_itself.Goals as goal
 
 pub own_place-requires-clause-inside : goal.own_place-requires-clause-inside

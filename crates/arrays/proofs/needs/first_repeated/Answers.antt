@@ -4,7 +4,7 @@ use Rattle.pit_model.specs.Graph.{AreInRange}
 use Rattle.need_rows.specs.Lent.{pairs_in}
 use Rattle.need_rows.specs.Rows.{AreStarts}
 use Rattle.need_rows.proofs.Spelled.{length-pairs_of}
-use Rattle.arrays.proofs.Spelling.{rows_in_range, starts_are}
+use Rattle.arrays.proofs.Encoding.{rows_in_range, starts_are}
 use Rattle.arrays.proofs.needs.first_repeated.Goals as goal
 
 pub repeated_place-requires-clause-in_range : goal.repeated_place-requires-clause-in_range

@@ -1,17 +1,17 @@
 -- The pairs of rows that rise stand in the order of the graph's.
 use Rattle.std.proofs.Common.{◌+◌, arith, length}
 use Rattle.arrays.proofs.Certifying.{in_order}
-use Rattle.arrays.proofs.Spelling.{ends_within}
+use Rattle.arrays.proofs.Encoding.{ends_within}
 use Rattle.arrays.proofs.ordered.ordered_mine_of.Goals as goal
 
 pub rows_rise-requires : goal.rows_rise-requires
 rows_rise-requires c v h =
     let rows = c.args.rows.now in
-    let are = c.in_ok-mine.ensures.spelled.spelled.rows in
+    let are = c.in_ok-mine.ensures.encoded.encoded.rows in
     let size = are.count in
     ends_within c.in_ok-mine.mine.blocks (length rows.seconds.now) rows.starts.now are (v + 1) (omega arith)
 
-pub returns-clause-spelled : goal.returns-clause-spelled
-returns-clause-spelled c =
+pub returns-clause-encoded : goal.returns-clause-encoded
+returns-clause-encoded c =
     let rows = c.args.rows.now in
-    in_order c.args.values.now rows.starts.now rows.seconds.now c.in_ok-mine.mine c.law.ensures.graph (c.rows_rise.ensures.0 c.if-not-rows_rise.false) c.in_ok-mine.ensures.spelled
+    in_order c.args.values.now rows.starts.now rows.seconds.now c.in_ok-mine.mine c.law.ensures.graph (c.rows_rise.ensures.0 c.if-not-rows_rise.false) c.in_ok-mine.ensures.encoded

@@ -15,7 +15,7 @@ pub write_marks-requires : goal.write_marks-requires
 write_marks-requires c =
     let mine = c.in_ok-mine.mine in
     let shown = c.in_ok-found.ensures.found.listed in
-    let size : length c.args.marks.now ≡ mine.blocks = c.if-marks-values.false ∙ sym c.in_ok-mine.ensures.spelled.spelled.blocks in
+    let size : length c.args.marks.now ≡ mine.blocks = c.if-marks-values.false ∙ sym c.in_ok-mine.ensures.encoded.encoded.blocks in
     let below = subst (λ n. All (λ u. u < n) c.in_ok-found.found.blocks.items) (sym size) (listed_below mine.blocks c.in_ok-found.found.blocks.items shown.set shown.listed) in
     subst (λ (xs : List ℕ). All (λ u. u < length c.args.marks.now) xs) (sym c.deref.ensures.value) below
 
@@ -25,15 +25,15 @@ returns-clause-marked c =
     let fits : SFits w128 c.in_ok-found.found.worth = search rules in
     let found = c.in_ok-found.ensures.found in
     let shown = found.listed in
-    let spelled = c.in_ok-mine.ensures.spelled in
-    let size : length c.args.marks.now ≡ mine.blocks = c.if-marks-values.false ∙ sym spelled.spelled.blocks in
+    let encoded = c.in_ok-mine.ensures.encoded in
+    let size : length c.args.marks.now ≡ mine.blocks = c.if-marks-values.false ∙ sym encoded.encoded.blocks in
     let listed = c.deref.ensures.value ∙ shown.listed ∙ ap (λ n. members n shown.set) (sym size) in
     record {
-      mine = instance_of mine.blocks mine.values spelled.pairs;
-      spelled = spelled.spelled;
+      mine = instance_of mine.blocks mine.values encoded.pairs;
+      encoded = encoded.encoded;
       set = shown.set;
       marks_are = subst (λ n. AreMarks n shown.set c.write_marks.new.marks) size (c.write_marks.ensures shown.set listed);
-      is_pit = fixed_pit_knows_no_order (toward c.args.greatest) mine.blocks mine.values mine.pairs spelled.pairs (fixed_by c.args.arrays.now.numbers.now) shown.set
-          (turned spelled.pairs mine.pairs spelled.same) shown.is_pit;
+      is_pit = fixed_pit_knows_no_order (toward c.args.greatest) mine.blocks mine.values mine.pairs encoded.pairs (fixed_by c.args.arrays.now.numbers.now) shown.set
+          (turned encoded.pairs mine.pairs encoded.same) shown.is_pit;
       worth_is = to_z-of_z w128 c.in_ok-found.found.worth fits ∙ found.worth_is shown.set shown.listed;
     }

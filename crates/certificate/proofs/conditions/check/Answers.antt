@@ -6,7 +6,7 @@ use Rattle.pit_model.specs.Graph.{Graph}
 use Rattle.pit_model.specs.Mine.{arcs, members}
 use Rattle.pit_model.specs.Fixed.{IsFixedCertificate, fixed_of}
 use Rattle.pit_model.proofs.Simple.{instance_is_simple}
-use Rattle.mine_graph.specs.FixedBlocks.{dug_in, left_in}
+use Rattle.mine_graph.specs.FixedBlocks.{forced_closure, barred_closure}
 use Rattle.certificate.specs.Check.{has, open_in, AreExcesses, AreReached, BlocksAllow, PairsAllow}
 use Rattle.certificate.proofs.Checked.{certified, meets, none_fixed_is, pairs_take, shows_fixed}
 use Rattle.certificate.proofs.conditions.check.Goals as goal
@@ -62,5 +62,5 @@ pub returns-clause-none_fixed : goal.returns-clause-none_fixed
 returns-clause-none_fixed c none =
     let is = returns-clause-exact c in
     let fixed = c.args.fixed.now in
-    let same = none_fixed_is c.args.mine.now (fixed_of fixed.lists) (dug_in fixed) (left_in fixed) c.args.certificate.now.pit.items c.args.certificate.now.flow.items c.requires.fixed.settled none in
+    let same = none_fixed_is c.args.mine.now (fixed_of fixed.lists) (forced_closure fixed) (barred_closure fixed) c.args.certificate.now.pit.items c.args.certificate.now.flow.items c.requires.fixed.settled none in
     (λ e. same.0 (is.0 e), λ k. is.1 (same.1 k))

@@ -10,6 +10,6 @@ loop-u-preserved c =
     let test : ℕ → Bool = λ x. int_lt (pos 0) (get_or c.args.excesses.now x (pos 0)) in
     let was = c.loop-u.invariant in
     elim c.if-excesses-u-gt0.branch [
-      | then-excesses-u-gt0 w ↦ rw w.flood-is (visited_more c.args.inside.now test (λ x. x) 0 c.loop-u.u (omega arith) c.args.flood.now c.loop-u.flood was w.visit.new.flood (search rules) (search rules))
-      | else-excesses-u-gt0 w ↦ rw w.flood-is (visited_skip c.args.inside.now test (λ x. x) 0 c.loop-u.u (omega arith) c.args.flood.now c.loop-u.flood was (search rules))
+      | then-excesses-u-gt0 w ↦ rw w.search-is (visited_more c.args.inside.now test (λ x. x) 0 c.loop-u.u (omega arith) c.args.search.now c.loop-u.search was w.visit.new.search (search rules) (search rules))
+      | else-excesses-u-gt0 w ↦ rw w.search-is (visited_skip c.args.inside.now test (λ x. x) 0 c.loop-u.u (omega arith) c.args.search.now c.loop-u.search was (search rules))
     ]

@@ -10,13 +10,13 @@ use Rattle.file_runs.proofs.check.check_files.Goals as goal
 pub returns-in_err-mine : goal.returns-in_err-mine
 returns-in_err-mine g c =
     let p = err_from_is_err_and c.from_residual.result c.from_residual.ensures.1 in
-    rw (p.1, p.2) (no_mine c.in_err-mine.field-0.0 c.in_err-mine.ensures.lacked (record { unwritten = refl; told = refl }))
+    rw (p.1, p.2) (no_mine c.in_err-mine.field-0.0 c.in_err-mine.ensures.lacked (record { unwritten = refl; reported = refl }))
 
 pub returns-in_err-certificate : goal.returns-in_err-certificate
 returns-in_err-certificate g c =
     let p = err_from_is_err_and c.from_residual-in_err-certificate.result c.from_residual-in_err-certificate.ensures.1 in
     rw (p.1, p.2) (no_last c.in_err-certificate.field-0.0 _ c.open_mine.new.files c.in_ok-mine.ensures.opened c.in_err-certificate.ensures.lacked.0 c.in_err-certificate.ensures.lacked.1
-    (record { unwritten = refl; told = refl }))
+    (record { unwritten = refl; reported = refl }))
 
 pub returns : goal.returns
 returns g c =

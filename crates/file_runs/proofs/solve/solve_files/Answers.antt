@@ -9,18 +9,18 @@ use Rattle.file_runs.proofs.Writing.{may_write}
 use Rattle.file_runs.proofs.solve.solve_files.Goals as goal
 
 pub returns-in-Err : goal.returns-in-Err
-returns-in-Err g c = unopened c.in-Err.fault c.in-Err.ensures.lacked (record { unwritten = refl; told = refl })
+returns-in-Err g c = unopened c.in-Err.fault c.in-Err.ensures.lacked (record { unwritten = refl; reported = refl })
 
 pub returns-in-Err-make_outputs : goal.returns-in-Err-make_outputs
 returns-in-Err-make_outputs g c =
     unmade c.in-Err-make_outputs.fault _ c.open_mine.new.files c.in-Ok.ensures.opened
-    c.in-Err-make_outputs.ensures.unmade c.in-Err-make_outputs.ensures.spared (record { unwritten = refl; told = refl })
+    c.in-Err-make_outputs.ensures.unmade c.in-Err-make_outputs.ensures.spared (record { unwritten = refl; reported = refl })
 
 pub run_solve-outcome-requires-clause-write : goal.run_solve-outcome-requires-clause-write
 run_solve-outcome-requires-clause-write g c κs within =
     let made = c.in-Ok-make_outputs in
     let options = c.args.options.now in
-    may_write options.asked (option_copied options.journal) (option_copied options.certificate) _ _ _ _
+    may_write options.settings (option_copied options.journal) (option_copied options.certificate) _ _ _ _
     c.writer_of-journal.ensures.unwritten (c.writer_of-journal.ensures.named ∙ made.ensures.journal_named)
     c.writer_of-certificate.ensures.unwritten (c.writer_of-certificate.ensures.named ∙ made.ensures.certificate_named)
 

@@ -17,4 +17,4 @@ of_rows-requires-clause-apart c =
 pub returns-in_err-links-clause-refused : goal.returns-in_err-links-clause-refused
 returns-in_err-links-clause-refused c =
     let p = err_from_is_err_and c.from_residual-in_err-links.result c.from_residual-in_err-links.ensures.1 in
-    rw (p.1, p.2) (only_memory c.acyclic_has_no_needy.ensures c.in_ok-needs.needs.pairs c.n.result c.in_err-links.field-0.0.refusal c.in_err-links.field-0.0 (named_acyclic c.args.graph.now.blocks c.args.graph.now.pairs c.args.arcs.now c.in_ok-needs.needs.pairs c.law.ensures.graph c.in_ok-needs.ensures.count c.in_ok-needs.ensures.each c.requires.below) c.in_err-links.ensures.refused)
+    rw (p.1, p.2) (only_memory c.acyclic_is_well_founded.ensures c.in_ok-needs.needs.pairs c.n.result c.in_err-links.field-0.0.refusal c.in_err-links.field-0.0 (named_acyclic c.args.graph.now.blocks c.args.graph.now.pairs c.args.arcs.now c.in_ok-needs.needs.pairs c.law.ensures.graph c.in_ok-needs.ensures.count c.in_ok-needs.ensures.each c.requires.below) c.in_err-links.ensures.refused)

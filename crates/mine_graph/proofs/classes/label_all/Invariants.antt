@@ -1,7 +1,7 @@
 -- The blocks of the places before the next have the label, and all others what they had.
 use Rattle.std.proofs.Common.{◌≡◌, ℕ, ◌<◌, length, get_or}
 use Rattle.mine_graph.specs.Classes.{label_of}
-use Rattle.mine_graph.specs.Flood.{IsAt}
+use Rattle.mine_graph.specs.BreadthFirst.{IsAt}
 use Rattle.mine_graph.proofs.classes.label_all.Given as goal
 
 abbrev pub invariant-loop-i : goal.invariant-loop-i

@@ -5,5 +5,5 @@ use Rattle.mine_graph.proofs.classes.label_classes.Given as goal
 abbrev pub invariant-loop-root : goal.invariant-loop-root
 invariant-loop-root l = record {
   classes : AreClasses l.graph l.labels l.count l.root;
-  have : HaveClasses l.graph.pairs l.flood l.labels l.count;
+  have : HaveClasses l.graph.pairs l.search l.labels l.count;
 }

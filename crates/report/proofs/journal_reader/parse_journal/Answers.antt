@@ -4,7 +4,7 @@ use Rattle.minelib_reader.specs.Answer.{Gives}
 use Rattle.minelib_reader.specs.Text.{rows_of, count_of_lines}
 use Rattle.minelib_reader.proofs.AnswerLemmas.{value_told, fault_told}
 use Rattle.pit_model.specs.JournalText.{AreSeatedBelow}
-use Rattle.report.specs.JournalLines.{journal_of, first_state, budget_and_entries, step, end}
+use Rattle.report.specs.JournalLines.{journal_of, first_journal_state, budget_and_entries, journal_step, journal_end}
 use Rattle.report.specs.JournalFault.{IsFirstJournalFault}
 use Rattle.report.specs.JournalGrammar.{SpellsJournal}
 use Rattle.report.proofs.JournalRead.{reads}
@@ -30,7 +30,7 @@ returns-clause-first_fault c =
     let g = c.args.graph.now in
     let text = c.args.text.now in
     fault_told (λ j. budget_and_entries j.budget j.entries.items) c.parse_lines.result (journal_of g text) (IsFirstJournalFault g text)
-    (fails_first (step g) (end (count_of_lines text)) first_state (rows_of text)) c.parse_lines.ensures.exact
+    (fails_first (journal_step g) (journal_end (count_of_lines text)) first_journal_state (rows_of text)) c.parse_lines.ensures.exact
 
 pub returns-clause-seated : goal.returns-clause-seated
 returns-clause-seated c =

@@ -5,7 +5,7 @@ use Rattle.minelib_reader.specs.Text.{row, fields_of}
 use Rattle.minelib_reader.proofs.AnswerLemmas.{fails_map}
 use Rattle.pit_model.specs.declared.journal.Entry.{Entry}
 use Rattle.report.specs.declared.due.JournalLine.TheVariants.{Entries}
-use Rattle.report.specs.JournalLines.{decision_line, entry_step, state}
+use Rattle.report.specs.JournalLines.{decision_line, entry_step, journal_state}
 use Rattle.report.proofs.JournalRead.{no_entry, next_entry, next_entry_fails}
 use Rattle.report.proofs.journal_reader.take_entry.Goals as goal
 
@@ -28,4 +28,4 @@ returns-clause-ok c =
     let r = row c.args.r.line (fields_of c.args.r.text.now) in
     let more : c.args.left ≡ suc (c.args.left - 1) = omega (arith, c.if-left-eq0.false) in
     next_entry c.args.graph.now c.args.budget r c.args.left (c.args.left - 1) c.arcs.result c.in_ok-entry.entry c.args.entries.now.items more c.arcs.ensures c.in_ok-entry.ensures.gives
-    ∙ ap (λ (es : List Entry). Ok (state (Entries c.args.budget (c.args.left - 1)) es)) (sym c.in_ok-push.ensures.items)
+    ∙ ap (λ (es : List Entry). Ok (journal_state (Entries c.args.budget (c.args.left - 1)) es)) (sym c.in_ok-push.ensures.items)

@@ -7,8 +7,8 @@ use Rattle.pit_model.specs.Graph.{Graph}
 use Rattle.certificate.specs.CertificateFault.{IsFirstCertificateFault}
 use Rattle.certificate.specs.CertificateGrammar.{SpellsCertificate}
 use Rattle.certificate.specs.CertificateLines.{pit_and_flow}
-use Rattle.runs.specs.Solve.{reading, task_of}
-use Rattle.merging.specs.Parts.{graph_of}
+use Rattle.runs.specs.Solve.{reading, fixed_instance_of}
+use Rattle.merging.specs.Parts.{graph_of_instance}
 use Rattle.merging.proofs.SolvedPart.{graph_is}
 use Rattle.runs.proofs.Checking.{reading_refused, is_answered}
 use Rattle.runs.proofs.check.answer_of.Goals as goal
@@ -20,19 +20,19 @@ returns-in_err-shown-clause-refused g c =
     let before = g.C.InBytes.progress c.args.certificate.now in
     let after = g.C.InBytes.progress c.read.new.reader in
     let ended = g.C.InBytes.IsAtEnd c.read.new.reader in
-    let same : c.deref.result.now ≡ graph_of c.args.task.now.mine = graph_is c.deref.result.now c.args.task.now.mine
+    let same : c.deref.result.now ≡ graph_of_instance c.args.fixed_mine.now.mine = graph_is c.deref.result.now c.args.fixed_mine.now.mine
     (ap (λ (h : Graph). h.blocks) c.deref.ensures ∙ c.graph.ensures.blocks) (ap (λ (h : Graph). h.pairs) c.deref.ensures ∙ c.graph.ensures.pairs) in
-    let refused = subst (λ (h : Graph). Refuses e.refusal sources.Certificate e before after (ReadsText before after ended (λ text. IsFirstCertificateFault h c.args.task.now.fixed.lists text e))) same c.in_err-shown.ensures.answers in
-    rw (p.1, p.2) (reading_refused e.refusal e (task_of c.args.task.now) (reading before after ended) refused)
+    let refused = subst (λ (h : Graph). Refuses e.refusal sources.Certificate e before after (ReadsText before after ended (λ text. IsFirstCertificateFault h c.args.fixed_mine.now.fixed.lists text e))) same c.in_err-shown.ensures.answers in
+    rw (p.1, p.2) (reading_refused e.refusal e (fixed_instance_of c.args.fixed_mine.now) (reading before after ended) refused)
 
 pub returns-clause-answered : goal.returns-clause-answered
 returns-clause-answered g c =
     let before = g.C.InBytes.progress c.args.certificate.now in
     let after = g.C.InBytes.progress c.read.new.reader in
     let ended = g.C.InBytes.IsAtEnd c.read.new.reader in
-    let same : c.deref.result.now ≡ graph_of c.args.task.now.mine = graph_is c.deref.result.now c.args.task.now.mine
+    let same : c.deref.result.now ≡ graph_of_instance c.args.fixed_mine.now.mine = graph_is c.deref.result.now c.args.fixed_mine.now.mine
     (ap (λ (h : Graph). h.blocks) c.deref.ensures ∙ c.graph.ensures.blocks) (ap (λ (h : Graph). h.pairs) c.deref.ensures ∙ c.graph.ensures.pairs) in
     let read = c.in_ok-shown.ensures.answers in
     let shown = pit_and_flow c.in_ok-shown.shown.pit.items c.in_ok-shown.shown.flow.items in
-    is_answered (task_of c.args.task.now) (reading before after ended) c.check.result read.0 shown read.1
-    (subst (λ (h : Graph). SpellsCertificate h c.args.task.now.fixed.lists read.0 shown) same read.2) c.check.ensures.exact
+    is_answered (fixed_instance_of c.args.fixed_mine.now) (reading before after ended) c.check.result read.0 shown read.1
+    (subst (λ (h : Graph). SpellsCertificate h c.args.fixed_mine.now.fixed.lists read.0 shown) same read.2) c.check.ensures.exact

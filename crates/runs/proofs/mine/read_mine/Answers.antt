@@ -8,8 +8,8 @@ use Rattle.pit_model.specs.Graph.{Graph, AreSamePairs}
 use Rattle.pit_model.specs.Fixed.{graph_of_mine}
 use Rattle.mine_graph.specs.FixedBlocks.{IsFixedOf, RefusesFixed}
 use Rattle.merging.proofs.SolvedPart.{graph_is}
-use Rattle.runs.specs.Solve.{FixedMine, GaveFixed, GaveTask, files_of, mine_files, task_of}
-use Rattle.runs.specs.declared.mine.Task.{Task}
+use Rattle.runs.specs.Solve.{FixedInstance, GaveFixed, GaveFixedMine, files_of, mine_files, fixed_instance_of}
+use Rattle.runs.specs.declared.mine.FixedMine.{FixedMine}
 use Rattle.runs.proofs.Refusing.{model_refused, prec_refused, fixed_refused, pairs_refused, blocks_refused, has_no_clash, memory_refused, still}
 use Rattle.runs.proofs.mine.read_mine.Goals as goal
 
@@ -67,45 +67,45 @@ returns-in_err-fixed-clause-refused g c =
     let files = files_of g.M.InBytes.progress g.M.InBytes.IsAtEnd g.P.InBytes.progress g.P.InBytes.IsAtEnd g.F.InBytes.progress g.F.InBytes.IsAtEnd (mine_files c.args.model.now c.args.prec.now c.args.fixed.now) (mine_files c.read_upit.new.reader c.read_prec_rows.new.reader c.read_lists.new.fixed) in
     let m = c.in_ok-model.ensures.answers in
     let q = c.in_ok-needs.ensures.answers in
-    let mine = c.watched-mine.result in
+    let mine = c.with_counters-mine.result in
     let pairs = c.in_ok-needs.needs.pairs in
     let lists = fixed_lists c.in_ok-forced.forced.items c.in_ok-forced.barred.items in
-    let task : FixedMine = record { mine = mine; lists = lists } in
+    let fixed_mine : FixedInstance = record { mine = mine; lists = lists } in
     let held : arc_value c.in_ok-new.field-0 ≡ c.in_ok-graph.graph = c.in_ok-new.ensures.ok in
     let whole : c.deref.result.now ≡ graph_of_mine mine = c.deref.ensures ∙ graph_is (arc_value c.graph.result.now) mine c.graph.ensures.blocks c.graph.ensures.pairs in
-    let gave : GaveTask files task = record {
+    let gave : GaveFixedMine files fixed_mine = record {
       upit = upit c.in_ok-model.model.n c.in_ok-model.model.values.items;
       pairs = pairs;
       given = record { model_text = m.0; prec_text = q.0; model_given = m.1; prec_given = q.1; model_spelled = m.2; prec_spelled = q.2 };
       fixed_given = c.in_ok-forced.ensures.given;
-      blocks = c.watched-mine.ensures.blocks ∙ ap (λ (h : Graph). h.blocks) held ∙ c.in_ok-graph.ensures.blocks;
-      values = c.watched-mine.ensures.values;
-      same = subst (λ (qs : List (ℕ × ℕ)). AreSamePairs pairs qs) (sym (c.watched-mine.ensures.pairs ∙ ap (λ (h : Graph). h.pairs) held)) c.in_ok-graph.ensures.same;
+      blocks = c.with_counters-mine.ensures.blocks ∙ ap (λ (h : Graph). h.blocks) held ∙ c.in_ok-graph.ensures.blocks;
+      values = c.with_counters-mine.ensures.values;
+      same = subst (λ (qs : List (ℕ × ℕ)). AreSamePairs pairs qs) (sym (c.with_counters-mine.ensures.pairs ∙ ap (λ (h : Graph). h.pairs) held)) c.in_ok-graph.ensures.same;
       acyclic = c.in_ok-graph.ensures.acyclic;
       instance = c.law.ensures;
     } in
     let refused = subst (λ (h : Graph). RefusesFixed h lists e.refusal e) whole c.in_err-fixed.ensures.refused in
-    rw (p.1, p.2) (blocks_refused e.refusal e files task gave refused)
+    rw (p.1, p.2) (blocks_refused e.refusal e files fixed_mine gave refused)
 
 pub returns-clause-mine : goal.returns-clause-mine
 returns-clause-mine g c =
     let files = files_of g.M.InBytes.progress g.M.InBytes.IsAtEnd g.P.InBytes.progress g.P.InBytes.IsAtEnd g.F.InBytes.progress g.F.InBytes.IsAtEnd (mine_files c.args.model.now c.args.prec.now c.args.fixed.now) (mine_files c.read_upit.new.reader c.read_prec_rows.new.reader c.read_lists.new.fixed) in
     let m = c.in_ok-model.ensures.answers in
     let q = c.in_ok-needs.ensures.answers in
-    let mine = c.watched-mine.result in
+    let mine = c.with_counters-mine.result in
     let fixed = c.in_ok-fixed.fixed in
-    let task : Task = record { mine = mine; fixed = fixed } in
+    let fixed_mine : FixedMine = record { mine = mine; fixed = fixed } in
     let held : arc_value c.in_ok-new.field-0 ≡ c.in_ok-graph.graph = c.in_ok-new.ensures.ok in
     let whole : c.deref.result.now ≡ graph_of_mine mine = c.deref.ensures ∙ graph_is (arc_value c.graph.result.now) mine c.graph.ensures.blocks c.graph.ensures.pairs in
-    let gave : GaveTask files (task_of task) = record {
+    let gave : GaveFixedMine files (fixed_instance_of fixed_mine) = record {
       upit = upit c.in_ok-model.model.n c.in_ok-model.model.values.items;
       pairs = c.in_ok-needs.needs.pairs;
       given = record { model_text = m.0; prec_text = q.0; model_given = m.1; prec_given = q.1; model_spelled = m.2; prec_spelled = q.2 };
       fixed_given = subst (GaveFixed files.fixed c.in_ok-model.model.n) (sym c.in_ok-fixed.ensures.lists) c.in_ok-forced.ensures.given;
-      blocks = c.watched-mine.ensures.blocks ∙ ap (λ (h : Graph). h.blocks) held ∙ c.in_ok-graph.ensures.blocks;
-      values = c.watched-mine.ensures.values;
-      same = subst (λ (qs : List (ℕ × ℕ)). AreSamePairs c.in_ok-needs.needs.pairs qs) (sym (c.watched-mine.ensures.pairs ∙ ap (λ (h : Graph). h.pairs) held)) c.in_ok-graph.ensures.same;
+      blocks = c.with_counters-mine.ensures.blocks ∙ ap (λ (h : Graph). h.blocks) held ∙ c.in_ok-graph.ensures.blocks;
+      values = c.with_counters-mine.ensures.values;
+      same = subst (λ (qs : List (ℕ × ℕ)). AreSamePairs c.in_ok-needs.needs.pairs qs) (sym (c.with_counters-mine.ensures.pairs ∙ ap (λ (h : Graph). h.pairs) held)) c.in_ok-graph.ensures.same;
       acyclic = c.in_ok-graph.ensures.acyclic;
       instance = c.law.ensures;
     } in
-    record { gave = gave; no_clash = has_no_clash task (subst (λ (h : Graph). IsFixedOf h fixed) whole c.in_ok-fixed.ensures.of_graph) }
+    record { gave = gave; no_clash = has_no_clash fixed_mine (subst (λ (h : Graph). IsFixedOf h fixed) whole c.in_ok-fixed.ensures.of_graph) }

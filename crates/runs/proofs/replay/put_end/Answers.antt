@@ -2,7 +2,7 @@
 use Rattle.std.proofs.Common.{ℕ, List, refl, subst, sym}
 use Rattle.std.proofs.lemmas.Result.{err_from_is_err_and}
 use Rattle.runs.specs.Replay.{ShowsEnd, cut, spent}
-use Rattle.runs.specs.Solve.{fixed_in, task_of}
+use Rattle.runs.specs.Solve.{fixed_in, fixed_instance_of}
 use Rattle.pit_model.specs.Direction.{ListsPit}
 use Rattle.pit_model.specs.declared.direction.Direction.TheVariants.{Least}
 use Rattle.runs.specs.declared.status.Status.TheVariants.{Done, No}
@@ -12,9 +12,9 @@ pub returns-in_err-put_pit-in-Pit-clause-refused :
     goal.returns-in_err-put_pit-in-Pit-clause-refused
 returns-in_err-put_pit-in-Pit-clause-refused g c =
     let p = err_from_is_err_and c.from_residual.result c.from_residual.ensures.1 in
-    let task = task_of c.args.task.now in
-    let shown : ListsPit Least task.mine (fixed_in task) c.deref.result.now =
-    subst (λ (xs : List ℕ). ListsPit Least task.mine (fixed_in task) xs) (sym c.deref.ensures.value) (subst (ShowsEnd task) c.in-Pit.is c.requires.shown) in
+    let fixed_mine = fixed_instance_of c.args.fixed_mine.now in
+    let shown : ListsPit Least fixed_mine.mine (fixed_in fixed_mine) c.deref.result.now =
+    subst (λ (xs : List ℕ). ListsPit Least fixed_mine.mine (fixed_in fixed_mine) xs) (sym c.deref.ensures.value) (subst (ShowsEnd fixed_mine) c.in-Pit.is c.requires.shown) in
     let w = c.in_err-put_pit-in-Pit.ensures.written Least shown in
     rw (p.1, p.2, c.in-Pit.is) (cut w.0 Done (w.1, refl) w.2 c.in_err-put_pit-in-Pit.ensures.refused)
 

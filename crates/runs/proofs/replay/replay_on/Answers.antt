@@ -9,7 +9,7 @@ use Rattle.report.specs.JournalFault.{IsFirstJournalFault}
 use Rattle.report.specs.JournalGrammar.{SpellsJournal}
 use Rattle.report.specs.JournalLines.{budget_and_entries}
 use Rattle.runs.specs.Solve.{reading}
-use Rattle.merging.specs.Parts.{graph_of}
+use Rattle.merging.specs.Parts.{graph_of_instance}
 use Rattle.merging.specs.Replayed.{EndsReplay}
 use Rattle.merging.proofs.SolvedPart.{graph_is}
 use Rattle.runs.proofs.Replaying.{reading_refused, is_replayed}
@@ -22,7 +22,7 @@ returns-in_err-said-clause-refused g c =
     let before = g.J.InBytes.progress c.args.journal.now in
     let after = g.J.InBytes.progress c.read_journal.new.reader in
     let ended = g.J.InBytes.IsAtEnd c.read_journal.new.reader in
-    let same : c.deref.result.now ≡ graph_of c.args.rest.now = graph_is c.deref.result.now c.args.rest.now
+    let same : c.deref.result.now ≡ graph_of_instance c.args.rest.now = graph_is c.deref.result.now c.args.rest.now
     (ap (λ (h : Graph). h.blocks) c.deref.ensures ∙ c.graph.ensures.blocks) (ap (λ (h : Graph). h.pairs) c.deref.ensures ∙ c.graph.ensures.pairs) in
     let refused = subst (λ (h : Graph). Refuses e.refusal sources.Journal e before after (ReadsText before after ended (λ text. IsFirstJournalFault h text e))) same c.in_err-said.ensures.answers in
     rw (p.1, p.2) (reading_refused e.refusal e c.args.rest.now (reading before after ended) refl refused)
@@ -32,7 +32,7 @@ returns-clause-replayed g c =
     let before = g.J.InBytes.progress c.args.journal.now in
     let after = g.J.InBytes.progress c.read_journal.new.reader in
     let ended = g.J.InBytes.IsAtEnd c.read_journal.new.reader in
-    let same : c.deref.result.now ≡ graph_of c.args.rest.now = graph_is c.deref.result.now c.args.rest.now
+    let same : c.deref.result.now ≡ graph_of_instance c.args.rest.now = graph_is c.deref.result.now c.args.rest.now
     (ap (λ (h : Graph). h.blocks) c.deref.ensures ∙ c.graph.ensures.blocks) (ap (λ (h : Graph). h.pairs) c.deref.ensures ∙ c.graph.ensures.pairs) in
     let read = c.in_ok-said.ensures.answers in
     let said = budget_and_entries c.in_ok-said.said.budget c.in_ok-said.said.entries.items in

@@ -7,23 +7,23 @@ use Rattle.pit_model.proofs.Simple.{instance_is_simple}
 use Rattle.certificate.proofs.Checked.{shows_fixed}
 use Rattle.solver.proofs.Searching.{listed_few}
 use Rattle.runs.specs.Run.{EndsSolve}
-use Rattle.runs.specs.Solve.{fixed_in, task_of}
+use Rattle.runs.specs.Solve.{fixed_in, fixed_instance_of}
 use Rattle.runs.proofs.solve.recorded_pit.Goals as goal
 
 pub worth-worth-requires-clause-few : goal.worth-worth-requires-clause-few
 worth-worth-requires-clause-few g c =
-    let task = task_of c.args.task.now in
-    let ended = subst (EndsSolve c.args.search.now.mode task) c.in-Pit.is c.in_ok-count.ensures.ended.0 in
-    let shown = shows_fixed task.mine (fixed_in task) c.in-Pit.shown.pit.items c.in-Pit.shown.flow.items (instance_is_simple task.mine c.law.ensures).in_range ended.0.certifies in
-    subst (λ (xs : List ℕ). length xs ≤ task.mine.blocks) (sym c.deref.ensures.value) (listed_few task.mine.blocks c.in-Pit.shown.pit.items shown.set shown.listed)
+    let fixed_mine = fixed_instance_of c.args.fixed_mine.now in
+    let ended = subst (EndsSolve c.args.search.now.mode fixed_mine) c.in-Pit.is c.in_ok-count.ensures.ended.0 in
+    let shown = shows_fixed fixed_mine.mine (fixed_in fixed_mine) c.in-Pit.shown.pit.items c.in-Pit.shown.flow.items (instance_is_simple fixed_mine.mine c.law.ensures).in_range ended.0.certifies in
+    subst (λ (xs : List ℕ). length xs ≤ fixed_mine.mine.blocks) (sym c.deref.ensures.value) (listed_few fixed_mine.mine.blocks c.in-Pit.shown.pit.items shown.set shown.listed)
 
 pub returns-in_ok-put_certificate-in-Pit-clause-found :
     goal.returns-in_ok-put_certificate-in-Pit-clause-found
 returns-in_ok-put_certificate-in-Pit-clause-found g c =
-    let task = task_of c.args.task.now in
-    let ended = subst (EndsSolve c.args.search.now.mode task) c.in-Pit.is c.in_ok-count.ensures.ended.0 in
+    let fixed_mine = fixed_instance_of c.args.fixed_mine.now in
+    let ended = subst (EndsSolve c.args.search.now.mode fixed_mine) c.in-Pit.is c.in_ok-count.ensures.ended.0 in
     let fits : SFits w128 c.worth-worth.result = search rules in
     record {
-      listed = shows_fixed task.mine (fixed_in task) c.in-Pit.shown.pit.items c.in-Pit.shown.flow.items (instance_is_simple task.mine c.law.ensures).in_range ended.0.certifies;
+      listed = shows_fixed fixed_mine.mine (fixed_in fixed_mine) c.in-Pit.shown.pit.items c.in-Pit.shown.flow.items (instance_is_simple fixed_mine.mine c.law.ensures).in_range ended.0.certifies;
       worth_is = λ set is. to_z-of_z w128 c.worth-worth.result fits ∙ c.worth-worth.ensures.set set (c.deref.ensures.value ∙ is);
     }

@@ -6,24 +6,24 @@ use Rattle.std.proofs.lemmas.Result.{err_from_is_err_and}
 use mir.Val.{SFits}
 use Rattle.pit_model.specs.Graph.{Graph}
 use Rattle.pit_model.specs.PitText.{pit_text}
-use Rattle.pit_model.specs.Replay.{IsSettled}
+use Rattle.pit_model.specs.Replay.{IsComplete}
 use Rattle.runs.specs.Chosen.{chosen}
-use Rattle.runs.specs.Run.{asked_for, in_pit}
-use Rattle.runs.specs.Solve.{files_of, mine_files, task_of}
+use Rattle.runs.specs.Run.{settings_of, in_pit}
+use Rattle.runs.specs.Solve.{files_of, mine_files, fixed_instance_of}
 use Rattle.runs.proofs.Certifying.{certified}
 use Rattle.runs.proofs.Journaling.{journaled}
 use Rattle.runs.proofs.Refusing.{read_refused, pit_refused, write_refused}
 use Rattle.runs.proofs.Solving.{done, cut_short, found_text}
 use Rattle.runs.proofs.solve.run_solve.Goals as goal
 
-pub returns-in_err-task-clause-refused : goal.returns-in_err-task-clause-refused
-returns-in_err-task-clause-refused g c =
+pub returns-in_err-fixed_mine-clause-refused : goal.returns-in_err-fixed_mine-clause-refused
+returns-in_err-fixed_mine-clause-refused g c =
     let p = err_from_is_err_and c.from_residual.result c.from_residual.ensures.1 in
-    let e = c.in_err-task.field-0.0 in
+    let e = c.in_err-fixed_mine.field-0.0 in
     let files = files_of g.M.InBytes.progress g.M.InBytes.IsAtEnd g.P.InBytes.progress g.P.InBytes.IsAtEnd g.F.InBytes.progress g.F.InBytes.IsAtEnd (mine_files c.args.model.now c.args.prec.now c.args.fixed.now) (mine_files c.read_mine.new.model c.read_mine.new.prec c.read_mine.new.fixed) in
     let journal = chosen g.J.OutBytes.progress c.args.journal.now c.args.journal.now in
     let certificate = chosen g.C.OutBytes.progress c.args.certificate.now c.args.certificate.now in
-    rw (p.1, p.2) (read_refused (asked_for c.args.mode c.args.pit) e.refusal e files journal certificate (g.W.OutBytes.progress c.args.out.now) refl refl c.in_err-task.ensures.refused)
+    rw (p.1, p.2) (read_refused (settings_of c.args.mode c.args.pit) e.refusal e files journal certificate (g.W.OutBytes.progress c.args.out.now) refl refl c.in_err-fixed_mine.ensures.refused)
 
 pub returns-in_err-pit-clause-refused : goal.returns-in_err-pit-clause-refused
 returns-in_err-pit-clause-refused g c =
@@ -33,43 +33,43 @@ returns-in_err-pit-clause-refused g c =
     let journal = chosen g.J.OutBytes.progress c.args.journal.now c.solve_mine.new.journal in
     let certificate = chosen g.C.OutBytes.progress c.args.certificate.now c.solve_mine.new.certificate in
     rw (p.1, p.2)
-    (pit_refused (asked_for c.args.mode c.args.pit) e.refusal e files (task_of c.in_ok-task.task) journal certificate (g.W.OutBytes.progress c.args.out.now) c.in_ok-task.ensures.mine c.in_err-pit.ensures.refused)
+    (pit_refused (settings_of c.args.mode c.args.pit) e.refusal e files (fixed_instance_of c.in_ok-fixed_mine.fixed_mine) journal certificate (g.W.OutBytes.progress c.args.out.now) c.in_ok-fixed_mine.ensures.mine c.in_err-pit.ensures.refused)
 
 pub returns-in_err-write_pit-clause-refused : goal.returns-in_err-write_pit-clause-refused
 returns-in_err-write_pit-clause-refused g c =
     let p = err_from_is_err_and c.from_residual-in_err-write_pit.result c.from_residual-in_err-write_pit.ensures.1 in
     let e = c.in_err-write_pit.field-0.0 in
-    let asked = asked_for c.args.mode c.args.pit in
+    let settings = settings_of c.args.mode c.args.pit in
     let files = files_of g.M.InBytes.progress g.M.InBytes.IsAtEnd g.P.InBytes.progress g.P.InBytes.IsAtEnd g.F.InBytes.progress g.F.InBytes.IsAtEnd (mine_files c.args.model.now c.args.prec.now c.args.fixed.now) (mine_files c.read_mine.new.model c.read_mine.new.prec c.read_mine.new.fixed) in
     let journal = chosen g.J.OutBytes.progress c.args.journal.now c.solve_mine.new.journal in
     let certificate = chosen g.C.OutBytes.progress c.args.certificate.now c.solve_mine.new.certificate in
     let old = g.W.OutBytes.progress c.args.out.now in
     let new = g.W.OutBytes.progress c.write_pit.new.writer in
-    let task = task_of c.in_ok-task.task in
+    let fixed_mine = fixed_instance_of c.in_ok-fixed_mine.fixed_mine in
     let found = c.in_ok-pit.pit in
-    let holds = c.in_ok-task.ensures.mine in
-    let count : c.n-n.result ≡ task.mine.blocks = c.n-n.ensures ∙ ap (λ (g : Graph). g.blocks) c.deref.ensures ∙ c.graph.ensures.blocks in
+    let holds = c.in_ok-fixed_mine.ensures.mine in
+    let count : c.n-n.result ≡ fixed_mine.mine.blocks = c.n-n.ensures ∙ ap (λ (g : Graph). g.blocks) c.deref.ensures ∙ c.graph.ensures.blocks in
     let fits : SFits w128 found.worth = search rules in
-    rw (p.1, p.2) (write_refused asked e files journal certificate old new c.in_err-write_pit.ensures.refused
-    (in_pit (record { within = (task, holds, c.in_ok-pit.ensures.within); journaled = journaled IsSettled asked.mode files task journal holds c.in_ok-pit.ensures.journaled })
-    (certified files task certificate holds c.in_ok-pit.ensures.certified)
-    (cut_short asked.pit files task old new e holds (pit_text c.n-n.result c.deref-2.result.now found.worth)
-    (found_text asked.pit task found c.deref-2.result.now c.n-n.result count c.deref-2.ensures.value c.in_ok-pit.ensures.found) (simp to_z-of_z at c.in_err-write_pit.ensures.text))))
+    rw (p.1, p.2) (write_refused settings e files journal certificate old new c.in_err-write_pit.ensures.refused
+    (in_pit (record { within = (fixed_mine, holds, c.in_ok-pit.ensures.within); journaled = journaled IsComplete settings.mode files fixed_mine journal holds c.in_ok-pit.ensures.journaled })
+    (certified files fixed_mine certificate holds c.in_ok-pit.ensures.certified)
+    (cut_short settings.pit files fixed_mine old new e holds (pit_text c.n-n.result c.deref-2.result.now found.worth)
+    (found_text settings.pit fixed_mine found c.deref-2.result.now c.n-n.result count c.deref-2.ensures.value c.in_ok-pit.ensures.found) (simp to_z-of_z at c.in_err-write_pit.ensures.text))))
 
 pub returns-clause-done : goal.returns-clause-done
 returns-clause-done g c =
-    let asked = asked_for c.args.mode c.args.pit in
+    let settings = settings_of c.args.mode c.args.pit in
     let files = files_of g.M.InBytes.progress g.M.InBytes.IsAtEnd g.P.InBytes.progress g.P.InBytes.IsAtEnd g.F.InBytes.progress g.F.InBytes.IsAtEnd (mine_files c.args.model.now c.args.prec.now c.args.fixed.now) (mine_files c.read_mine.new.model c.read_mine.new.prec c.read_mine.new.fixed) in
-    let task = task_of c.in_ok-task.task in
+    let fixed_mine = fixed_instance_of c.in_ok-fixed_mine.fixed_mine in
     let found = c.in_ok-pit.pit in
-    let count : c.n-n.result ≡ task.mine.blocks = c.n-n.ensures ∙ ap (λ (g : Graph). g.blocks) c.deref.ensures ∙ c.graph.ensures.blocks in
+    let count : c.n-n.result ≡ fixed_mine.mine.blocks = c.n-n.ensures ∙ ap (λ (g : Graph). g.blocks) c.deref.ensures ∙ c.graph.ensures.blocks in
     let fits : SFits w128 found.worth = search rules in
-    (done asked.pit files task (g.W.OutBytes.progress c.args.out.now) (g.W.OutBytes.progress c.write_pit.new.writer) c.in_ok-task.ensures.mine (pit_text c.n-n.result c.deref-2.result.now found.worth)
-    (found_text asked.pit task found c.deref-2.result.now c.n-n.result count c.deref-2.ensures.value c.in_ok-pit.ensures.found) (simp to_z-of_z at c.in_ok-write_pit.ensures.text))
+    (done settings.pit files fixed_mine (g.W.OutBytes.progress c.args.out.now) (g.W.OutBytes.progress c.write_pit.new.writer) c.in_ok-fixed_mine.ensures.mine (pit_text c.n-n.result c.deref-2.result.now found.worth)
+    (found_text settings.pit fixed_mine found c.deref-2.result.now c.n-n.result count c.deref-2.ensures.value c.in_ok-pit.ensures.found) (simp to_z-of_z at c.in_ok-write_pit.ensures.text))
 
 pub returns-clause-journaled : goal.returns-clause-journaled
 returns-clause-journaled g c =
-    let task = c.in_ok-task.task in
+    let fixed_mine = c.in_ok-fixed_mine.fixed_mine in
     let files = files_of g.M.InBytes.progress g.M.InBytes.IsAtEnd g.P.InBytes.progress g.P.InBytes.IsAtEnd g.F.InBytes.progress g.F.InBytes.IsAtEnd (mine_files c.args.model.now c.args.prec.now c.args.fixed.now) (mine_files c.read_mine.new.model c.read_mine.new.prec c.read_mine.new.fixed) in
     let journal = chosen g.J.OutBytes.progress c.args.journal.now c.solve_mine.new.journal in
-    journaled IsSettled c.args.mode files (task_of task) journal c.in_ok-task.ensures.mine c.in_ok-pit.ensures.journaled
+    journaled IsComplete c.args.mode files (fixed_instance_of fixed_mine) journal c.in_ok-fixed_mine.ensures.mine c.in_ok-pit.ensures.journaled

@@ -2,15 +2,15 @@
 use Rattle.std.proofs.Common.{◌≡◌, ◌<◌, ◌++◌, ℕ, suc, map, length, None}
 use Rattle.std.specs.Option.{option_map, option_map_or}
 use Rattle.minelib_reader.specs.Number.{whole_of}
-use Rattle.shells.specs.FactorList.{item_fault, items_behind, number_before, numbers_of}
+use Rattle.shells.specs.FactorList.{item_fault, items_behind, number_before, item_numbers}
 use Rattle.shells.proofs.ItemChecks.{numbers}
 use Rattle.shells.proofs.factors.read_items.Given as goal
 
 abbrev pub invariant-loop-rest : goal.invariant-loop-rest
 invariant-loop-rest l = record {
-  items : numbers_of l.text ≡ numbers l.list.items ++ map whole_of (items_behind (option_map (λ r. r.now) l.rest));
-  before : l.before ≡ number_before (numbers_of l.text) (length l.list.items);
-  none : (j : ℕ) → j < length l.list.items → item_fault (numbers_of l.text) j ≡ None;
+  items : item_numbers l.text ≡ numbers l.list.items ++ map whole_of (items_behind (option_map (λ r. r.now) l.rest));
+  before : l.before ≡ number_before (item_numbers l.text) (length l.list.items);
+  none : (j : ℕ) → j < length l.list.items → item_fault (item_numbers l.text) j ≡ None;
 }
 
 abbrev pub decreases-loop-rest : goal.decreases-loop-rest

@@ -7,7 +7,7 @@ use mir.Val.{SFits}
 use Rattle.pit_model.specs.Sum.{total}
 use Rattle.std.proofs.lemmas.Result.{err_from_is_err_and}
 use Rattle.pit_model.specs.Mine.{Instance, members}
-use Rattle.pit_model.specs.Direction.{ListsPit, nothing}
+use Rattle.pit_model.specs.Direction.{ListsPit, no_blocks_fixed}
 use Rattle.solver.specs.Modes.{EndsWithin}
 use Rattle.solver.specs.Searched.{OfSearched, RefusesSearch}
 use Rattle.pit_model.specs.Graph.{Graph}
@@ -38,7 +38,7 @@ returns-in_err-found-clause-refused g c =
     let growing = c.args.growing.now in
     let is : c.in_ok-rest.rest ≡ rest_at columns (factor_of factors c.args.k) growing.blocks.items growing.graph.value =
     c.in_ok-rest.ensures.is ∙ ap (λ f. rest_at columns f growing.blocks.items growing.graph.value) c.get-factor.ensures in
-    let refused = subst (λ (rest : Instance). RefusesSearch mode direction rest nothing e.refusal e) is c.in_err-found.ensures.refused in
+    let refused = subst (λ (rest : Instance). RefusesSearch mode direction rest no_blocks_fixed e.refusal e) is c.in_err-found.ensures.refused in
     rw (p.1, p.2) (search_refuses mode direction (deposit_of columns graph) factors c.args.k
     (rest_at columns (factor_of factors c.args.k) growing.blocks.items growing.graph.value) e.refusal e c.requires.known
     (is_rest direction columns graph growing.graph.value factors c.args.k growing.marks.items growing.blocks.items c.requires.grown) refused)
@@ -48,7 +48,7 @@ join-requires-clause-below g c =
     let growing = c.args.growing.now in
     let columns = c.args.plan.now.columns.now in
     let direction = c.args.search.now.direction in
-    let found = subst (λ (rest : Instance). ListsPit direction rest nothing c.in_ok-found.found.blocks.items) c.in_ok-rest.ensures.is c.in_ok-found.ensures.found.listed in
+    let found = subst (λ (rest : Instance). ListsPit direction rest no_blocks_fixed c.in_ok-found.found.blocks.items) c.in_ok-rest.ensures.is c.in_ok-found.ensures.found.listed in
     subst (λ (xs : List ℕ). (j : ℕ) → j < length xs → get_or xs j 0 < length growing.blocks.items) (sym c.deref-3.ensures.value)
     (found_below direction columns c.get-factor.result growing.blocks.items c.in_ok-found.found.blocks.items growing.graph.value c.requires.grown.outside.is_part.count found)
 
@@ -82,7 +82,7 @@ returns-clause-grown g c =
     let next = c.join.new.growing in
     let is : c.in_ok-rest.rest ≡ rest_at columns (factor_of factors c.args.k) growing.blocks.items growing.graph.value =
     c.in_ok-rest.ensures.is ∙ ap (λ f. rest_at columns f growing.blocks.items growing.graph.value) c.get-factor.ensures in
-    let found = subst (λ (rest : Instance). ListsPit direction rest nothing c.in_ok-found.found.blocks.items) is c.in_ok-found.ensures.found.listed in
+    let found = subst (λ (rest : Instance). ListsPit direction rest no_blocks_fixed c.in_ok-found.found.blocks.items) is c.in_ok-found.ensures.found.listed in
     let joined = subst (λ (xs : List ℕ). (test : ℕ → Bool) → xs ≡ members (length growing.blocks.items) test → IsJoined (marked growing.marks.items) growing.blocks.items test (marked next.marks.items)) c.deref-3.ensures.value c.in_ok-join.ensures.joined in
     let size : length next.marks.items ≡ graph.blocks = c.in_ok-join.ensures.size ∙ ap (λ (h : Graph). h.blocks) c.deref-2.ensures in
     let outside = subst (λ (h : Graph). IsOutside (deposit_of columns h) (marked next.marks.items) next.blocks.items next.graph.value) c.deref-2.ensures (c.in_ok-join.ensures.outside columns) in
@@ -117,4 +117,4 @@ returns-clause-within g c =
     c.in_ok-rest.ensures.is ∙ ap (λ f. rest_at columns f growing.blocks.items growing.graph.value) c.get-factor.ensures in
     rest_ends mode direction (deposit_of columns graph) factors c.args.k (rest_at columns (factor_of factors c.args.k) growing.blocks.items growing.graph.value)
     (is_rest direction columns graph growing.graph.value factors c.args.k growing.marks.items growing.blocks.items c.requires.grown)
-    (subst (λ (rest : Instance). OfSearched direction rest nothing (EndsWithin mode)) is c.in_ok-found.ensures.within)
+    (subst (λ (rest : Instance). OfSearched direction rest no_blocks_fixed (EndsWithin mode)) is c.in_ok-found.ensures.within)

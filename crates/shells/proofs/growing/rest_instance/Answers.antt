@@ -5,15 +5,15 @@ use Rattle.shells.specs.Prices.{price_of}
 use Rattle.shells.proofs.Joining.{same_instance, values_small}
 use Rattle.shells.proofs.growing.rest_instance.Goals as goal
 
-pub watched-rest-requires-clause-low : goal.watched-rest-requires-clause-low
-watched-rest-requires-clause-low c u l =
+pub with_counters-rest-requires-clause-low : goal.with_counters-rest-requires-clause-low
+with_counters-rest-requires-clause-low c u l =
     let blocks = c.args.growing.now.blocks.items in
     let values : c.in_ok-values.values.items ≡ map (price_of c.args.columns.now c.args.factor) blocks = c.in_ok-values.ensures ∙ ap (map (price_of c.args.columns.now c.args.factor)) c.deref.ensures.value in
     let inside : u < length blocks = search rules in
     (values_small c.args.columns.now c.args.factor u blocks c.in_ok-values.values.items c.law.ensures c.requires.factor c.requires.rows values inside).0
 
-pub watched-rest-requires-clause-high : goal.watched-rest-requires-clause-high
-watched-rest-requires-clause-high c u l =
+pub with_counters-rest-requires-clause-high : goal.with_counters-rest-requires-clause-high
+with_counters-rest-requires-clause-high c u l =
     let blocks = c.args.growing.now.blocks.items in
     let values : c.in_ok-values.values.items ≡ map (price_of c.args.columns.now c.args.factor) blocks = c.in_ok-values.ensures ∙ ap (map (price_of c.args.columns.now c.args.factor)) c.deref.ensures.value in
     let inside : u < length blocks = search rules in
@@ -25,5 +25,5 @@ returns-clause-is c =
     let blocks = c.args.growing.now.blocks.items in
     let part = c.args.growing.now.graph.value in
     let values : c.in_ok-values.values.items ≡ map (price_of columns c.args.factor) blocks = c.in_ok-values.ensures ∙ ap (map (price_of columns c.args.factor)) c.deref.ensures.value in
-    same_instance c.watched-rest.result columns c.args.factor blocks part
-    (c.watched-rest.ensures.blocks ∙ ap (λ (h : Graph). h.blocks) c.in_ok-graph.ensures) (c.watched-rest.ensures.values ∙ values) (c.watched-rest.ensures.pairs ∙ ap (λ (h : Graph). h.pairs) c.in_ok-graph.ensures)
+    same_instance c.with_counters-rest.result columns c.args.factor blocks part
+    (c.with_counters-rest.ensures.blocks ∙ ap (λ (h : Graph). h.blocks) c.in_ok-graph.ensures) (c.with_counters-rest.ensures.values ∙ values) (c.with_counters-rest.ensures.pairs ∙ ap (λ (h : Graph). h.pairs) c.in_ok-graph.ensures)

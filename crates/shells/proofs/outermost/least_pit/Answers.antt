@@ -2,5 +2,5 @@
 use Rattle.pit_model.specs.Fixed.{graph_of_mine}
 use Rattle.shells.proofs.outermost.least_pit.Goals as goal
 
-pub find_pit_alone-requires : goal.find_pit_alone-requires
-find_pit_alone-requires c = c.none.ensures.of_any (graph_of_mine c.args.mine)
+pub solve_pit_sequential-requires : goal.solve_pit_sequential-requires
+solve_pit_sequential-requires c = c.none.ensures.of_any (graph_of_mine c.args.mine)

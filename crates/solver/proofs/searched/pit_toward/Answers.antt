@@ -1,4 +1,4 @@
--- The blocks outside the pit of the rest turned round are its greatest pit.
+-- The blocks outside the pit of the rest's dual are its greatest pit.
 use Rattle.std.proofs.Common.{◌≡◌, ℕ, ◌<◌, Bool, not, List, ap, sym, subst, ◌∙◌, length, get_or}
 use Rattle.pit_model.specs.declared.direction.Direction.TheVariants.{Greatest}
 use Rattle.pit_model.specs.Graph.{Graph}

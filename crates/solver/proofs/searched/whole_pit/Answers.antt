@@ -2,11 +2,11 @@
 use Rattle.std.proofs.Common.{◌≡◌, ℕ, ◌<◌, Bool, List, ap, sym, subst, ◌∙◌, length, get_or}
 use Rattle.std.proofs.lemmas.Result.{IfOk-weaker}
 use Rattle.pit_model.specs.declared.direction.Direction.{Direction}
-use Rattle.pit_model.specs.Direction.{ListsPit, nothing}
+use Rattle.pit_model.specs.Direction.{ListsPit, no_blocks_fixed}
 use Rattle.pit_model.specs.Fixed.{fixed_of}
 use Rattle.pit_model.specs.Mine.{Instance, members}
 use Rattle.merging.proofs.Resting.{none_both}
-use Rattle.merging.specs.Rest.{ListsJoined}
+use Rattle.merging.specs.Reduced.{ListsJoined}
 use Rattle.solver.specs.Searched.{IsOpenPart}
 use Rattle.solver.proofs.Searching.{found_inside, joined_pit}
 use Rattle.solver.proofs.searched.whole_pit.Goals as goal
@@ -32,7 +32,7 @@ returns-in-Some-clause-shown c =
     let pit = c.args.pit.items in
     IfOk-weaker c.join_pit.result
     (λ list. (set : ℕ → Bool) → c.deref-in-Some.result.now ≡ members (length c.deref.result.now) set → ListsJoined c.args.n fixed c.deref.result.now set list.items)
-    (λ list. (direction : Direction) (mine rest : Instance) → c.args.n ≡ mine.blocks → IsOpenPart mine fixed c.args.blocks rest → ListsPit direction rest nothing pit → ListsPit direction mine (fixed_of fixed.lists) list.items)
+    (λ list. (direction : Direction) (mine rest : Instance) → c.args.n ≡ mine.blocks → IsOpenPart mine fixed c.args.blocks rest → ListsPit direction rest no_blocks_fixed pit → ListsPit direction mine (fixed_of fixed.lists) list.items)
     (λ list joined direction mine rest counted open_part shown.
     let here = subst (λ o. IsOpenPart mine fixed o rest) c.in-Some.is open_part in
     joined_pit direction mine fixed (record { blocks = blocks; mine = rest }) pit list.items here.1 shown

@@ -1,7 +1,7 @@
 -- The two floods are the closures, and no barred block is marked as dug.
 use Rattle.std.proofs.Common.{subst, sym, ap, ◌∙◌}
 use Rattle.std.specs.Prelude.{IsTrue}
-use Rattle.pit_model.specs.Fixed.{IsClosure, is_among, turned}
+use Rattle.pit_model.specs.Fixed.{IsClosure, is_among, transposed}
 use Rattle.mine_graph.specs.FixedBlocks.{mark_of}
 use Rattle.mine_graph.proofs.fixed.Fixed.new.Goals as goal
 
@@ -13,7 +13,7 @@ returns-clause-of_graph c =
       fixable = c.requires;
       settled = record {
         dug_is = subst (λ xs. IsClosure pairs (is_among xs) (mark_of dug)) c.deref.ensures.value c.in_ok-dug.ensures;
-        left_is = subst (λ xs. IsClosure (turned pairs) (is_among xs) (mark_of c.in_ok-left.left.items)) c.deref-4.ensures.value c.in_ok-left.ensures;
+        left_is = subst (λ xs. IsClosure (transposed pairs) (is_among xs) (mark_of c.in_ok-left.left.items)) c.deref-4.ensures.value c.in_ok-left.ensures;
       };
       clash_free = λ u h. ap (λ m. mark_of m u) (sym c.deref-3.ensures.value) ∙ c.in_default.ensures.none u (subst (λ xs. IsTrue (is_among xs u)) (sym c.deref-2.ensures.value) h);
     }

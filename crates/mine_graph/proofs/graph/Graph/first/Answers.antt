@@ -1,4 +1,4 @@
--- The block of a pair lies between those of the landmarks round it.
+-- The block of a pair lies between those of the samples around it.
 use Rattle.std.proofs.Common.{◌≡◌, ℕ, ◌+◌, ◌/◌, ◌<◌, ◌≤◌, List, length, get_or, ap, subst, sym, arith, refl, ◌∙◌, ⊎_elim}
 use Rattle.std.proofs.lemmas.Bool.{cases_lt}
 use Rattle.std.proofs.lemmas.List.{get_or_default}
@@ -20,7 +20,7 @@ pub returns : goal.returns
 returns c =
     let starts = c.self.inside.starts.items in
     let needs = c.self.inside.needs.items in
-    let landmarks = c.self.inside.landmarks.items in
+    let row_samples = c.self.inside.row_samples.items in
     let pairs = pairs_of starts needs in
     let k = c.args.k in
     let view : pairs_of starts needs ≡ c.args.self.now.pairs = ap (λ (g : Graph). g.pairs) c.self.view_is in
@@ -30,20 +30,20 @@ returns c =
     let rising = c.self.invariant.graph.rising in
     let own = (c.self.invariant.graph.in_range k inside).0 in
     let there = c.self.invariant.rows.found (first_of pairs k) k own inside refl in
-    let below = mark_below pairs landmarks marked rising k inside in
+    let below = mark_below pairs row_samples marked rising k inside in
     let least : c.index-least.result.now ≤ first_of pairs k =
-    (let is = c.index-least.ensures ∙ get_or_default landmarks (k / 64) c.index-least.result.now 0 below in let low = mark_least pairs landmarks marked rising k inside in omega arith) in
+    (let is = c.index-least.ensures ∙ get_or_default row_samples (k / 64) c.index-least.result.now 0 below in let low = mark_least pairs row_samples marked rising k inside in omega arith) in
     let same = c.deref.ensures.value in
     let long = ap (λ (q : List ℕ). length q) same in
-    let most : first_of pairs k ≤ c.next_landmark-most.result = ⊎_elim
-    (λ (more : k / 64 + 1 < length landmarks).
-    let is = c.next_landmark-most.ensures.before (omega arith) ∙ ap (λ (q : List ℕ). get_or q (k / 64 + 1) 0) same in
-    let high = mark_most pairs landmarks marked rising k inside more in
-    let z : first_of pairs k ≤ c.next_landmark-most.result = omega arith in z)
-    (λ (last : length landmarks ≤ k / 64 + 1).
-    let is = c.next_landmark-most.ensures.behind (omega arith) in
-    let z : first_of pairs k ≤ c.next_landmark-most.result = omega arith in z)
-    (cases_lt (k / 64 + 1) (length landmarks)) in
+    let most : first_of pairs k ≤ c.next_row_sample-most.result = ⊎_elim
+    (λ (more : k / 64 + 1 < length row_samples).
+    let is = c.next_row_sample-most.ensures.before (omega arith) ∙ ap (λ (q : List ℕ). get_or q (k / 64 + 1) 0) same in
+    let high = mark_most pairs row_samples marked rising k inside more in
+    let z : first_of pairs k ≤ c.next_row_sample-most.result = omega arith in z)
+    (λ (last : length row_samples ≤ k / 64 + 1).
+    let is = c.next_row_sample-most.ensures.behind (omega arith) in
+    let z : first_of pairs k ≤ c.next_row_sample-most.result = omega arith in z)
+    (cases_lt (k / 64 + 1) (length row_samples)) in
     let at = c.deref-2.ensures.value in
     c.row_between.ensures (first_of pairs k) least most
     (subst (λ (s : List ℕ). get_or s (first_of pairs k) 0 ≤ k) (sym at) there.0)

@@ -8,8 +8,8 @@ use Rattle.need_rows.proofs.Spelled.{length-pairs_of, of_lent}
 use Rattle.mine_graph.proofs.Made.{acyclic-back, fault-back}
 use Rattle.mine_graph.proofs.graph.Graph.of_rows.Goals as goal
 
-pub in_order-requires-clause-few : goal.in_order-requires-clause-few
-in_order-requires-clause-few c = omega (arith, c.into_rows-starts.ensures.count, c.requires.few_pairs)
+pub sort_rows-requires-clause-few : goal.sort_rows-requires-clause-few
+sort_rows-requires-clause-few c = omega (arith, c.into_rows-starts.ensures.count, c.requires.few_pairs)
 
 pub returns-in_err-check_acyclic-clause-refused : goal.returns-in_err-check_acyclic-clause-refused
 returns-in_err-check_acyclic-clause-refused c =

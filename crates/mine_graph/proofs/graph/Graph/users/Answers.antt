@@ -1,4 +1,4 @@
--- The way back, read for one block.
+-- The transposed rows, read for one block.
 use Rattle.std.proofs.Common.{◌≡◌, ℕ, ◌+◌, ◌-◌, ◌<◌, List, take, drop, get_or, arith, ap, subst, sym, ◌∙◌, ⊎_elim}
 use Rattle.std.proofs.lemmas.List.{get_or_default}
 use Rattle.pit_model.specs.Graph.{Graph, first_of, second_of}
@@ -12,7 +12,7 @@ returns c =
     let pairs = pairs_of c.self.inside.starts.items c.self.inside.needs.items in
     let view : pairs_of c.self.inside.starts.items c.self.inside.needs.items ≡ c.args.self.now.pairs = ap (λ (g : Graph). g.pairs) c.self.view_is in
     let blocks : c.self.inside.blocks ≡ c.args.self.now.blocks = ap (λ (g : Graph). g.blocks) c.self.view_is in
-    let back = c.self.invariant.way_back in
+    let back = c.self.invariant.transpose in
     let size = back.begin.size in
     let below : c.args.p < c.self.inside.blocks = omega (arith, c.requires) in
     let begin : ℕ = c.index.result.now in

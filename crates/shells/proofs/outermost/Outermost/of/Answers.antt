@@ -12,8 +12,8 @@ use Rattle.shells.specs.Outermost.{amounts_of}
 use Rattle.shells.proofs.Outer.{is_outermost}
 use Rattle.shells.proofs.outermost.Outermost.of.Goals as goal
 
-pub marks_of-requires : goal.marks_of-requires
-marks_of-requires c =
+pub mark_blocks-requires : goal.mark_blocks-requires
+mark_blocks-requires c =
     let graph = c.args.plan.now.graph.now.value in
     let shown = c.requires.pit.1 in
     let count : c.n.result ≡ graph.blocks = search rules in

@@ -29,7 +29,7 @@ worth-worth-requires-clause-below c =
     let blocks = c.in_ok-blocks.blocks.items in
     let faced = subst (λ d. IsToward d of.rest c.args.self.instance) (sym of.toward_is) of.faced in
     let shown = c.in_ok-blocks.ensures.shown c.args.self.direction mine of.rest of.counted of.open_part (c.in_ok-pit.ensures.shown of.rest faced) in
-    let size : length c.values_of.result ≡ mine.blocks = ap (λ (vs : List ℤ). length vs) (c.values_of.ensures ∙ of.values_are) ∙ c.requires.search.instance.limits.value_count in
+    let size : length c.mine_values.result ≡ mine.blocks = ap (λ (vs : List ℤ). length vs) (c.mine_values.ensures ∙ of.values_are) ∙ c.requires.search.instance.limits.value_count in
     subst (λ n. All (λ u. u < n) c.deref.result.now) (sym size)
     (subst (λ (xs : List ℕ). All (λ u. u < mine.blocks) xs) (sym c.deref.ensures.value) (listed_below mine.blocks blocks shown.set shown.listed))
 
@@ -41,5 +41,5 @@ returns-clause-found c direction mine of =
     rw (sym of.toward_is) (record {
       listed = shown;
       worth_is = λ set is. to_z-of_z w128 c.worth-worth.result fits ∙ c.worth-worth.ensures.set mine.blocks set (c.deref.ensures.value ∙ is)
-          ∙ ap (λ (vs : List ℤ). total mine.blocks (λ u. when (set u) (get_or vs u (pos 0)))) (c.values_of.ensures ∙ of.values_are);
+          ∙ ap (λ (vs : List ℤ). total mine.blocks (λ u. when (set u) (get_or vs u (pos 0)))) (c.mine_values.ensures ∙ of.values_are);
     })

@@ -1,0 +1,99 @@
+//! The parametric method (Hochbaum 2008): one tree for a mine whose values only increase from solve to solve. Each solve starts
+//! from the tree and the labels of the solve before.
+ghost use Rattle.std.specs.Prelude.{◌≡◌, ◌<◌, ◌^◌, pos, ◌+ℤ◌, ◌≤ℤ◌, IfOk, IfErr};
+ghost use Rattle.faults.specs.Refused.{no_memory};
+ghost use Rattle.pit_model.specs.Mine.{value};
+ghost use Rattle.mine_graph.specs.Raised.{raised_at};
+ghost use Rattle.norm_tree.specs.Over.{most_rise};
+ghost use Rattle.certificate.specs.Check.{ShowsPit};
+
+use crate::closing::merge_remaining;
+use crate::lowest_label::{LowestLabel, take_turns};
+use faults::Fault;
+use mine_graph::Instance;
+use norm_tree::{BareTree, NormTree};
+use std::alloc::Global;
+use std::marker::Model;
+
+/// A mine with the tree of its last solve. To a contract it is the mine.
+#[derive(Drop)]
+pub struct ParametricSolver {
+    tree: BareTree,
+    order: LowestLabel,
+    /// The strong blocks of the solve before, which stay strong as values grow: a guess at those of the next.
+    strong: Vec<bool>,
+}
+
+impl Model for ParametricSolver {
+    ghost use Rattle.std.specs.Prelude.{◌≡◌, length};
+    ghost use Rattle.pit_model.specs.Mine.{Instance};
+
+    ghost Value = { Instance };
+
+    ghost view = { λ r. r.tree.mine };
+
+    ghost invariant = { λ r. (r.order ≡ r.tree.mine.blocks) × (length r.strong.items ≡ r.tree.mine.blocks) };
+}
+
+impl ParametricSolver {
+    /// A mine, in memory of its own, that is not solved yet. Refused for want of memory alone.
+    pub fn new(alloc: Global, instance: &Instance) -> Result<ParametricSolver, Fault>
+        ensures mine { IfOk result (λ r. r ≡ instance.now) }
+        ensures refused { IfErr result (λ e. e ≡ no_memory) }
+    {
+        let strong = vec![in alloc; false; instance.graph().n() as usize]?;
+        let tree = BareTree::start(alloc, instance)?;
+        let order = LowestLabel::new(alloc, &tree)?;
+        Ok(ParametricSolver {
+            tree,
+            order,
+            strong,
+        })
+    }
+
+    /// The mine as it is now.
+    pub fn instance(&self) -> &Instance
+        ensures { result.now ≡ self.now }
+    {
+        self.tree.instance()
+    }
+
+    /// Increases the value of a block, within the limit of a value. It allocates nothing.
+    pub fn increase_value(&mut self, block: u32, amount: i128)
+        requires below { block < self.old.blocks }
+        requires least { pos 0 ≤ℤ amount }
+        requires most { amount ≤ℤ pos most_rise }
+        requires limit { (value self.old block +ℤ amount) ≤ℤ pos (10 ^ 23) }
+        ensures { self.new ≡ raised_at self.old block amount }
+    {
+        self.tree.increase_value(block, amount);
+    }
+
+    /// The same mine, solved, and its pit, rising. Refused for want of memory alone.
+    ///
+    /// The pit stays in that of each later solve, since values only grow: so the order is done with its blocks.
+    pub fn solved(self) -> Result<(ParametricSolver, Vec<u32>), Fault>
+        ensures mine { IfOk result (λ r. r.0 ≡ self) }
+        ensures shown { IfOk result (λ r. ShowsPit self r.1.items) }
+        ensures refused { IfErr result (λ e. e ≡ no_memory) }
+    {
+        let ParametricSolver {
+            mut tree,
+            mut order,
+            strong,
+        } = self;
+        order.wait_anew(&tree);
+        take_turns(&mut order, &mut tree);
+        let solved = merge_remaining(NormTree::from_guess(tree, strong)?)?;
+        solved.law();
+        let pit = solved.pit()?;
+        order.finish(&pit);
+        let (tree, strong) = solved.into_bare();
+        let mine = ParametricSolver {
+            tree,
+            order,
+            strong,
+        };
+        Ok((mine, pit))
+    }
+}
