@@ -46,9 +46,11 @@ install:
 	for file in $(DOCUMENTS); do install -D -m 644 $$file $(DOC)/$$file || exit; done
 	test ! -e $(PROGRAM).version || install -D -m 644 $(PROGRAM).version $(DOC)/version
 	install -D -m 644 -t $(DESTDIR)$(PREFIX)/share/man/man1 man/pitshell.1 man/pitplan.1
-	install -D -m 644 completions/pitshell.bash $(DESTDIR)$(PREFIX)/share/bash-completion/completions/pitshell
-	install -D -m 644 completions/_pitshell $(DESTDIR)$(PREFIX)/share/zsh/site-functions/_pitshell
-	install -D -m 644 completions/pitshell.fish $(DESTDIR)$(PREFIX)/share/fish/vendor_completions.d/pitshell.fish
+	for name in pitshell pitplan; do \
+	  install -D -m 644 completions/$$name.bash $(DESTDIR)$(PREFIX)/share/bash-completion/completions/$$name || exit; \
+	  install -D -m 644 completions/_$$name $(DESTDIR)$(PREFIX)/share/zsh/site-functions/_$$name || exit; \
+	  install -D -m 644 completions/$$name.fish $(DESTDIR)$(PREFIX)/share/fish/vendor_completions.d/$$name.fish || exit; \
+	done
 	cd python && find pitplan minelib pitshell -type f ! -name "*.pyc" -exec install -D -m 644 {} $(LAYER)/{} ";"
 	install -D -m 755 -t $(LAYER)/pitplan/checkers tools/check_certificate.py tools/replay_journal.py
 	test ! -e build/libpitshell.so || install -D -m 644 -t $(DESTDIR)$(PREFIX)/lib build/libpitshell.so build/libpitshell.a

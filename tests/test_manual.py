@@ -105,10 +105,11 @@ def test_install_puts_all_in_place(tmp_path: pathlib.Path) -> None:
         "share/doc/pitshell/LICENSE": TOP / "LICENSE",
         "share/man/man1/pitshell.1": MANUAL,
         "share/man/man1/pitplan.1": TOP / "man" / "pitplan.1",
-        "share/bash-completion/completions/pitshell": COMPLETIONS / "pitshell.bash",
-        "share/zsh/site-functions/_pitshell": COMPLETIONS / "_pitshell",
-        "share/fish/vendor_completions.d/pitshell.fish": COMPLETIONS / "pitshell.fish",
     }
+    for name in ("pitshell", "pitplan"):
+        places[f"share/bash-completion/completions/{name}"] = COMPLETIONS / f"{name}.bash"
+        places[f"share/zsh/site-functions/_{name}"] = COMPLETIONS / f"_{name}"
+        places[f"share/fish/vendor_completions.d/{name}.fish"] = COMPLETIONS / f"{name}.fish"
     told = PROGRAM.with_suffix(".version")
     places |= {"share/doc/pitshell/version": told} if told.exists() else {}
     if (TOP / "build" / "libpitshell.so").exists():

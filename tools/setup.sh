@@ -10,10 +10,10 @@ set -eu
 packages="
 python3-numpy         core     arrays, everywhere
 python3-pandas        core     tables, everywhere
-python3-scipy         core     surfaces between points, hulls of walls, schedules (HiGHS), the second look at a plan
-python3-matplotlib    core     pictures
+python3-scipy         core     surfaces between points, hulls of walls, schedules (HiGHS), verification
+python3-matplotlib    core     figures
 python3-openpyxl      core     the workbook of pitplan schedule
-python3-jinja2        core     the report's page and the 3D page
+python3-jinja2        core     the report and the 3D page
 python3-vtk9          tests    pitplan export --to vti, and probability.vti of scenarios
 python3-ezdxf         tests    pitplan export --to dxf; heights and areas of drawings
 python3-gdal          tests    pitplan export --to gpkg; heights and areas of maps and rasters
@@ -23,6 +23,8 @@ coinor-cbc            tests    the same: that solver
 python3-dask          tests    pitplan scenarios --on local, or on a cluster
 python3-distributed   tests    the same
 parallel              tests    the test of pitplan scenarios --on parallel
+fish                  tests    the test of pitplan's completions
+zsh                   tests    the same
 python3-pytest        tests    make test
 python3-pytest-xdist  tests    make test-plan, as many processes as processors
 python3-hypothesis    tests    the same: properties

@@ -1,0 +1,109 @@
+# Completion of pitplan for bash, written by `pitplan completion bash`.
+_pitplan_words() {
+    mapfile -t COMPREPLY < <(compgen -W "$1" -- "${COMP_WORDS[COMP_CWORD]}")
+}
+
+_pitplan_paths() {
+    local word=${COMP_WORDS[COMP_CWORD]}
+    compopt -o filenames 2> /dev/null
+    case $1 in
+    file) mapfile -t COMPREPLY < <(compgen -f -- "$word") ;;
+    folder) mapfile -t COMPREPLY < <(compgen -d -- "$word") ;;
+    project) mapfile -t COMPREPLY < <(compgen -f -X '!*.toml' -- "$word"; compgen -d -- "$word") ;;
+    esac
+}
+
+_pitplan() {
+    local command=${COMP_WORDS[1]} before=${COMP_WORDS[COMP_CWORD - 1]} options="" valued="" given=0 k
+    COMPREPLY=()
+    if [ "$COMP_CWORD" -eq 1 ]; then
+        _pitplan_words "init check completion prepare shells pit pushbacks schedule sensitivity scenarios gather scenario report view export audit verify convert --version -h --help"
+        return
+    fi
+    case "$command $before" in
+    "init --out" | "view --out" | "export --out")
+        _pitplan_paths file && return
+        ;;
+    "check --set" | "prepare --set" | "shells --set" | "pit --set" | "pit --revenue-factor" | "pit --rf" | "pushbacks --set" | "schedule --set" | "sensitivity --set" | "sensitivity --on" | "sensitivity --workers" | "scenarios --set" | "scenarios --on" | "scenarios --workers" | "scenarios --revenue-factor" | "scenarios --rf" | "gather --revenue-factor" | "gather --rf" | "export --revenue-factor" | "export --rf" | "audit --revenue-factor" | "audit --rf")
+        return
+        ;;
+    "prepare --out" | "shells --out" | "pit --out" | "pushbacks --out" | "schedule --out" | "sensitivity --out" | "scenarios --out" | "report --sensitivity" | "audit --out" | "convert --out")
+        _pitplan_paths folder && return
+        ;;
+    "shells --solver" | "pit --solver" | "pushbacks --solver" | "schedule --solver" | "sensitivity --solver" | "scenarios --solver")
+        _pitplan_words "library program" && return
+        ;;
+    "schedule --by")
+        _pitplan_words "pushback block" && return
+        ;;
+    "scenarios --by")
+        _pitplan_words "pit block" && return
+        ;;
+    "export --to")
+        _pitplan_words "table csv xlsx vti vtu dxf stl obj gpkg str lines" && return
+        ;;
+    "export --of")
+        _pitplan_words "revenue_factor pushback year" && return
+        ;;
+    "export --surface")
+        _pitplan_words "pit ground" && return
+        ;;
+    esac
+    case $command in
+    init) options="--out -h --help" valued="--out" ;;
+    check) options="--set --quiet -h --help" valued="--set" ;;
+    completion) options="-h --help" valued="" ;;
+    prepare) options="--set --out --quiet -h --help" valued="--set --out" ;;
+    shells) options="--set --out --quiet --no-verify --json --no-figures --solver -h --help" valued="--set --out --solver" ;;
+    pit) options="--set --out --quiet --no-verify --json --solver --revenue-factor --rf -h --help" valued="--set --out --solver --revenue-factor --rf" ;;
+    pushbacks) options="--set --out --quiet --no-verify --json --no-figures --solver -h --help" valued="--set --out --solver" ;;
+    schedule) options="--set --out --quiet --no-verify --json --no-figures --solver --by -h --help" valued="--set --out --solver --by" ;;
+    sensitivity) options="--set --out --quiet --no-verify --json --no-figures --solver --on --workers -h --help" valued="--set --out --solver --on --workers" ;;
+    scenarios) options="--set --out --quiet --no-verify --no-figures --solver --by --on --workers --revenue-factor --rf --partial -h --help" valued="--set --out --solver --by --on --workers --revenue-factor --rf" ;;
+    gather) options="--quiet --no-verify --no-figures --revenue-factor --rf --partial -h --help" valued="--revenue-factor --rf" ;;
+    scenario) options="--quiet -h --help" valued="" ;;
+    report) options="--quiet --sensitivity -h --help" valued="--sensitivity" ;;
+    view) options="--out --quiet -h --help" valued="--out" ;;
+    export) options="--out --quiet --to --revenue-factor --rf --of --surface --smooth -h --help" valued="--out --to --revenue-factor --rf --of --surface" ;;
+    audit) options="--out --quiet --revenue-factor --rf -h --help" valued="--out --revenue-factor --rf" ;;
+    verify) options="-h --help" valued="" ;;
+    convert) options="-h --help --out" valued="--out" ;;
+    esac
+    # Arguments before this one: words that are neither options nor their values, which bash divides at = and :.
+    for ((k = 2; k < COMP_CWORD; k++)); do
+        case ${COMP_WORDS[k]} in
+        = | :) k=$((k + 1)) ;;
+        -*) [[ " $valued " != *" ${COMP_WORDS[k]} "* ]] || k=$((k + 1)) ;;
+        *) given=$((given + 1)) ;;
+        esac
+    done
+    case "${COMP_WORDS[COMP_CWORD]}" in
+    -*) ;;
+    *)
+        case "$command $given" in
+        "init "0) _pitplan_paths file && return ;;
+        "check "0) _pitplan_paths project && return ;;
+        "completion "0) _pitplan_words "bash zsh fish" && return ;;
+        "prepare "0) _pitplan_paths project && return ;;
+        "shells "0) _pitplan_paths project && return ;;
+        "pit "0) _pitplan_paths project && return ;;
+        "pushbacks "0) _pitplan_paths project && return ;;
+        "schedule "0) _pitplan_paths project && return ;;
+        "sensitivity "0) _pitplan_paths project && return ;;
+        "scenarios "0) _pitplan_paths project && return ;;
+        "gather "0) _pitplan_paths folder && return ;;
+        "scenario "0) _pitplan_paths folder && return ;;
+        "scenario "1) return ;;
+        "report "0) _pitplan_paths folder && return ;;
+        "view "0) _pitplan_paths folder && return ;;
+        "export "0) _pitplan_paths folder && return ;;
+        "audit "0) _pitplan_paths folder && return ;;
+        "verify "0) _pitplan_paths folder && return ;;
+        "convert "0) _pitplan_words "minelib" && return ;;
+        "convert "*) _pitplan_paths file && return ;;
+        esac
+        ;;
+    esac
+    _pitplan_words "$options"
+}
+complete -F _pitplan pitplan
