@@ -14,7 +14,8 @@ from .text import MinelibError
 
 def add_arguments(parser: argparse.ArgumentParser) -> None:
     parser.add_argument("files", nargs="+", type=Path, metavar="FILE", help=f"files of one mine: {', '.join(FORMATS)}")
-    parser.add_argument("--out", type=Path, required=True, help="the folder for mine.upit, mine.prec, mine.blocks")
+    text = "the folder for mine.upit, mine.prec, mine.blocks"
+    parser.add_argument("--out", type=Path, required=True, metavar="FOLDER", help=text)
 
 
 def main(arguments: Optional[Sequence[str]] = None, name: str = "minelib") -> int:

@@ -2,11 +2,16 @@
 
     import pitplan
 
-    plan = pitplan.prepare("project.toml")      # plan.blocks: one row per block, with costs and revenue
-    solution = pitplan.solve(plan)              # the nested shells; solution.worth: exact values, by revenue factor
-    pitplan.blocks(plan, solution)              # plan.blocks with the least revenue factor of each block
-    pitplan.shells(plan, solution)              # one row per revenue factor: tonnes, grades, cash flow, NPV
-    pitplan.years(plan, solution)               # one row per revenue factor, case and year: the annual cash flow
+    plan = pitplan.Plan.from_project("project.toml")    # plan.blocks: one row per block; plan.notes: what was rounded and clipped
+    shells = plan.shells()                              # shells.table: one row per revenue factor; shells.blocks, shells.years
+    parts = shells.pushbacks(count=2)                   # parts.table: one row per pushback
+    schedule = parts.schedule(mining_capacity=2e6)      # schedule.methods, schedule.table, schedule.years
+    schedule.write("out")                               # tables, figures, report and record, verified
+
+A block model may come from pandas: `BlockModel.from_frame(frame, id="block")`. `Plan.from_model` takes it with the sections of a
+project.toml as arguments, `economics={..}, metals=[..], slopes={..}, shells={..}`.
+
+Only `write` writes files. Each result holds the plan that it was made from. Warnings are `InputWarning` and `ResultWarning`.
 
 Functions write what the subcommands write, by default into the output folder of the project. `check` writes nothing.
 
@@ -15,6 +20,7 @@ Functions write what the subcommands write, by default into the output folder of
     pitplan.view("out")                                    # the path of view.html
     pitplan.write_report("out")                            # the path of report.html
     pitplan.write_export("out", "csv")                     # the path of pit.csv; or table, xlsx, vti, vtu, dxf, stl ..
+    pitplan.write_export("out", "dxf", 0.80, out="a.dxf")  # the pit of one revenue factor, into a file of any name
     pitplan.audit("out", 0.80)                             # the path of a folder that proves one shell
     rules = pitplan.verify("out")                          # one Rule per check: what holds, what differs
     pits = pitplan.write_pit("project.toml", 1.00)         # one row with the constraints and one without
@@ -31,10 +37,10 @@ sensitivity. `gather(folder)` gathers scenarios that other machines have solved.
 Functions `plot_...` draw on your own axes, return them, and leave the backend of matplotlib unchanged. Import their module first, as
 `import pitplan.figures.pit_by_pit`. They take:
 
-- `pit_by_pit`: a table of shells
-- `annual.plot_years`: a table of years
-- `plans_sections`: its `scene_of(plan, solution)`
-- `pushbacks`: its `scene_of(pitplan.pushbacks.nested.divide(plan))`
+- `pit_by_pit`: `shells.table`
+- `annual.plot_years`: `shells.years`
+- `plans_sections`: its `scene_of(shells.plan, shells.solution)`
+- `pushbacks`: its `scene_of(pushbacks.found)`
 - `scenarios`: `found.likely(1.0)` or `found.table`
 - `sensitivity`: a table of cases
 
@@ -51,14 +57,15 @@ from typing import TYPE_CHECKING, Any
 
 if TYPE_CHECKING:
     from pitplan.config.project import Project, load
-    from pitplan.pits.shell_tables import blocks, shells, years
     from pitplan.results.pit_states import Shape
-    from pitplan.solver.problem import solve
     from pitplan.solver.program import Solution
     from pitplan.studies.dask_pool import Where
     from pitplan.studies.scenarios.request import Request
     from pitplan.studies.scenarios.result import ScenarioResult
 
+    from .api.block_model import BlockModel
+    from .api.plan import Plan
+    from .api.results import BlockSchedule, Pushbacks, PushbackSchedule, Shells
     from .commands.audit import audit
     from .commands.check import check
     from .commands.export import write_export
@@ -72,8 +79,7 @@ if TYPE_CHECKING:
     from .commands.verify import verify
     from .commands.view import view
     from .commands.writing import Writing
-    from .errors import BudgetUsedUp, MissingPackage, PlanError, ProgramError
-    from .plan import Plan, prepare
+    from .errors import BudgetUsedUp, InputWarning, MissingPackage, PlanError, PlanWarning, ProgramError, ResultWarning
     from .verification.rules import Rule
 else:
 
@@ -93,6 +99,9 @@ __version__ = "0.1.0"
 
 # The public names by their modules, which are imported on first use: `import pitplan` alone takes neither pandas nor matplotlib.
 MODULES = {
+    "api.block_model": ("BlockModel",),
+    "api.plan": ("Plan",),
+    "api.results": ("BlockSchedule", "Pushbacks", "PushbackSchedule", "Shells"),
     "commands.audit": ("audit",),
     "commands.check": ("check",),
     "commands.export": ("write_export",),
@@ -107,11 +116,11 @@ MODULES = {
     "commands.view": ("view",),
     "commands.writing": ("Writing",),
     "config.project": ("Project", "load"),
-    "errors": ("BudgetUsedUp", "MissingPackage", "PlanError", "ProgramError"),
-    "pits.shell_tables": ("blocks", "shells", "years"),
-    "plan": ("Plan", "prepare"),
+    "errors": (
+        *("BudgetUsedUp", "InputWarning", "MissingPackage", "PlanError", "PlanWarning", "ProgramError"),
+        "ResultWarning",
+    ),
     "results.pit_states": ("Shape",),
-    "solver.problem": ("solve",),
     "solver.program": ("Solution",),
     "studies.dask_pool": ("Where",),
     "studies.scenarios.request": ("Request",),
@@ -121,27 +130,31 @@ MODULES = {
 PLACES = {name: module for module, names in MODULES.items() for name in names}
 
 __all__ = [
+    "BlockModel",
+    "BlockSchedule",
     "BudgetUsedUp",
+    "InputWarning",
     "MissingPackage",
     "Plan",
     "PlanError",
+    "PlanWarning",
     "ProgramError",
     "Project",
+    "PushbackSchedule",
+    "Pushbacks",
     "Request",
+    "ResultWarning",
     "Rule",
     "ScenarioResult",
     "Shape",
+    "Shells",
     "Solution",
     "Where",
     "Writing",
     "audit",
-    "blocks",
     "check",
     "gather",
     "load",
-    "prepare",
-    "shells",
-    "solve",
     "verify",
     "view",
     "write_block_schedule",
@@ -153,7 +166,6 @@ __all__ = [
     "write_schedule",
     "write_sensitivity",
     "write_shells",
-    "years",
 ]
 
 

@@ -1,8 +1,9 @@
-"""Blocks that must be dug and blocks that may not be, as planners know them: by columns of the table, by the as-mined surface, and
-by areas on the map. Cells without rock are never among them, except those that are mined out.
+"""Must-mine and excluded blocks: by columns of the table, the as-mined surface, and areas on the map.
 
-All that a block needs which must be dug is dug with it, and all that needs a block which may not be dug is left with it. What is
-neither is the rest, and the best pit that keeps to the fixed blocks is the rest's own pit with what must be dug."""
+Cells without tonnes are neither, except mined-out ones. All predecessors of a must-mine block are mined with it, and all successors of an
+excluded block are sterilised with it. The remaining blocks are the reduced mine: its optimal pit together with the forced blocks is the
+optimal pit within the constraints.
+"""
 
 from __future__ import annotations
 
@@ -30,10 +31,16 @@ from .errors import PlanError
 
 @dataclass(frozen=True)
 class FixedBlocks:
-    """Numbers of cells, rising, and what a planner should know of them.
+    """Must-mine and excluded blocks.
 
-    forced  blocks that must be dug, with all that they need
-    barred  blocks that may not be dug, nor what needs them
+    Attributes
+    ----------
+    forced : int array
+        Cells of must-mine blocks, rising.
+    barred : int array
+        Cells of excluded blocks, rising.
+    notes : tuple of str
+        Notes for the planner.
     """
 
     forced: NDArray[Any]
@@ -46,22 +53,22 @@ NOTHING = FixedBlocks(np.zeros(0, dtype=np.int64), np.zeros(0, dtype=np.int64))
 
 @dataclass(frozen=True)
 class Settled:
-    """What is dug and what is left in every pit that keeps to the fixed blocks: a truth for each cell."""
+    """Boolean masks over the cells: forced into every shell, and sterilised, by the constraints and their slope cones."""
 
     dug: NDArray[Any]
     left: NDArray[Any]
 
     @property
     def rest(self) -> NDArray[Any]:
-        """The cells of which a pit is still to be found."""
+        """The mask of the cells that the constraints leave open."""
         rest: NDArray[Any] = ~(self.dug | self.left)
         return rest
 
 
 def nodes_of_rest(values: Values, settled: Settled) -> tuple[NDArray[Any], NDArray[Any]]:
-    """Revenue and cost of every node of the rest, in millionths; 0 if the constraints settle what becomes of the node.
+    """Returns revenue and cost of each node of the reduced mine, in millionths; 0 if the constraints settle the node.
 
-    A forced block may still be processed or not, so its processing node belongs to the rest.
+    A must-mine block may be processed or not, so its processing node belongs to the reduced mine.
     """
     is_open = np.concatenate([settled.rest, ~settled.left[values.processed]])
     revenue, cost = values.nodes()
@@ -69,24 +76,29 @@ def nodes_of_rest(values: Values, settled: Settled) -> tuple[NDArray[Any], NDArr
 
 
 def settled(fixed: FixedBlocks, grid: Grid, walls: Walls) -> Settled:
-    """What follows from the fixed blocks by the needs."""
+    """Returns the blocks that the constraints force in or sterilise through the precedences."""
     dug = used_blocks(grid, walls, marks(grid, fixed.forced))
     return Settled(dug, users_of(grid, walls, marks(grid, fixed.barred)))
 
 
 def marks(grid: Grid, cells: NDArray[Any]) -> NDArray[Any]:
-    """A truth for each cell: whether it is one of these."""
+    """Returns a boolean mask of these cells."""
     found = np.zeros(grid.count, dtype=bool)
     found[cells] = True
     return found
 
 
 def of_table(frame: pd.DataFrame, grid: Grid, project: Project, source: str = "table") -> FixedBlocks:
-    """What `[constraints]` says of the rows of a checked table; nothing where there is no such section.
+    """Returns the blocks that `[constraints]` names in a checked table; none without this section.
 
-    Raises PlanError where a file is not usable, and where a block would be both; MissingPackage where what reads a file is not there.
+    Raises
+    ------
+    PlanError
+        If a file is not usable, or a block is both must-mine and excluded.
+    MissingPackage
+        If the package that reads a file is not installed.
     """
-    rules = project.fixed
+    rules = project.constraints
     if rules is None:
         return NOTHING
     rock = frame[project.table.tonnes].to_numpy() > 0
@@ -105,12 +117,14 @@ def of_table(frame: pd.DataFrame, grid: Grid, project: Project, source: str = "t
 
 
 def marked(frame: pd.DataFrame, column: Optional[str]) -> NDArray[Any]:
-    """Which rows have a number above 0 in a column."""
+    """Returns a boolean mask of the rows with a number above 0 in a column."""
     return np.zeros(len(frame), dtype=bool) if column is None else np.asarray(frame[column].to_numpy() > 0)
 
 
 def in_area(grid: Grid, area: Area) -> tuple[NDArray[Any], list[str]]:
-    """Which rows have their centre in the barred side of an area, and notes. Raises PlanError where the file is not usable, or bars all."""
+    """Returns a boolean mask of the rows whose centroid lies on the excluded side of an area, and notes. Raises PlanError if the file is not
+    usable, or all rows are excluded.
+    """
     file, areas = area.polygon.path, readers.areas(area.polygon)
     x, y, _ = grid.centres(np.arange(grid.per_level))
     count = np.zeros(grid.per_level, dtype=np.int64)
@@ -131,9 +145,9 @@ def in_area(grid: Grid, area: Area) -> tuple[NDArray[Any], list[str]]:
 
 
 def within(x: NDArray[Any], y: NDArray[Any], corners: NDArray[Any]) -> NDArray[Any]:
-    """Which points lie in a ring: those from which a ray to the east crosses its sides an odd number of times.
+    """Returns which points lie in a ring: a ray to the east crosses its sides an odd number of times.
 
-    By code of its own, since every planner would have to have shapely for these lines alone.
+    It is written here so that pitplan does not require shapely for these lines only.
     """
     odd = np.zeros(len(x), dtype=bool)
     for (ax, ay), (bx, by) in zip(corners, np.roll(corners, -1, axis=0)):
@@ -144,14 +158,14 @@ def within(x: NDArray[Any], y: NDArray[Any], corners: NDArray[Any]) -> NDArray[A
 
 
 def numbers(fixed: FixedBlocks, nodes: int) -> NDArray[Any]:
-    """For each node 1 where it must be dug, 2 where it may not be, and else 0; uint8, shape (nodes,)."""
+    """Returns for each node 1 (must-mine), 2 (excluded) or 0 (neither); uint8, shape (nodes,)."""
     found = np.zeros(nodes, dtype=np.uint8)
     found[fixed.forced], found[fixed.barred] = 1, 2
     return found
 
 
 def write(path: Path, fixed: FixedBlocks) -> None:
-    """The program's file of fixed blocks: `in id` and `out id`, ids rising."""
+    """Writes the program's file of fixed blocks: lines `in id` and `out id` by rising id."""
     ids = np.concatenate([fixed.forced, fixed.barred])
     words = np.array([b"in"] * len(fixed.forced) + [b"out"] * len(fixed.barred), dtype="S3")
     order = np.argsort(ids, kind="stable")

@@ -1,9 +1,9 @@
-"""Leaves out of a model that is too large for the program what no shell can reach: whole levels, rows and columns at its floor and sides.
+"""Crops a model that is too large for the solver: removes whole levels, rows and columns at floor and sides that no shell can reach.
 
-A block can be part of a shell only where it pays for its processing at the greatest factor, or must be dug, or where such a block needs it,
-directly or through others: the same rule by which needs are left out (`trim`). What is left is the box round all of these up to the top, with a
-level, a row and a column of the model more at each side, so that a shell at a side of the box is at a side of the model. The box goes down at
-least to the highest block of each of its columns, and to no level in which it would end in a gap: so what is air or not known stays so.
+A block can be in a shell only if it pays for its processing at the largest revenue factor, is must-mine, or is a direct or indirect
+predecessor of such a block. The model is cropped to the box of these blocks up to the top, plus one level, row and column of the model on
+each side, so that a shell at a side of the box is at a side of the model. The box extends down to the highest block of each of its columns
+and ends in no gap, so air and missing blocks stay as they are.
 """
 
 from __future__ import annotations
@@ -26,7 +26,7 @@ from pitplan.slopes.domains import Walls
 
 @dataclass(frozen=True)
 class Model:
-    """A table's rows on their grid, the region of each cell, and how many of the rows are the table's own; others stand behind them."""
+    """The rows of a table on their grid, the slope domain of each cell, and how many rows are the table's own; filled ones follow these."""
 
     frame: pd.DataFrame
     grid: Grid
@@ -37,7 +37,7 @@ class Model:
 
 @dataclass(frozen=True)
 class Box:
-    """From which level from the top, row from the south and column from the west on, and up to which, that one not with it."""
+    """Half-open ranges of levels from the top, rows from the south and columns from the west."""
 
     levels: slice
     rows: slice
@@ -49,9 +49,9 @@ class Box:
 
 
 def is_too_large(model: Model, project: Project) -> bool:
-    """Whether blocks and nodes for processing may be more than the program takes."""
+    """Returns whether blocks and processing nodes may exceed the limit of the solver."""
     nodes = model.grid.count + (
-        np.count_nonzero(with_metal(model.frame, project)) if project.money.cutoff == PER_REVENUE_FACTOR else 0
+        np.count_nonzero(with_metal(model.frame, project)) if project.economics.cutoff == PER_REVENUE_FACTOR else 0
     )
     return nodes > grids.MOST_BLOCKS
 
@@ -64,7 +64,7 @@ def with_metal(frame: pd.DataFrame, project: Project) -> np.ndarray:
 
 
 def left(model: Model, walls: Walls, project: Project) -> tuple[Model, str]:
-    """What shells can reach, and a note of what was left out. Raises PlanError where no shell can reach anything, or that is too large."""
+    """Returns the cropped model and a note. Raises PlanError if no shell can reach any block, or the cropped model is too large."""
     grid = model.grid
     wanted = np.zeros(grid.count, dtype=bool)
     wanted[grid.rows[can_pay(model, project)]] = True
@@ -85,7 +85,7 @@ def left(model: Model, walls: Walls, project: Project) -> tuple[Model, str]:
 
 
 def can_pay(model: Model, project: Project) -> np.ndarray:
-    """The rows that pay for their processing at the greatest factor, exactly."""
+    """Returns the rows that pay for their processing at the largest revenue factor, exactly."""
     some = np.flatnonzero(with_metal(model.frame, project))
     grid = replace(model.grid, rows=model.grid.rows[some])
     gains = block_values.greatest_gains(model.frame.iloc[some].reset_index(drop=True), grid, project, model.source)
@@ -93,7 +93,7 @@ def can_pay(model: Model, project: Project) -> np.ndarray:
 
 
 def box_of(used: np.ndarray, grid: Grid) -> Box:
-    """The box round the used cells, one wider than these, and down to where each column of it ends in rock."""
+    """Returns the box of the used cells, one cell wider, and down to where each of its columns ends in rock."""
     cube = grid.cube(used)
     levels, rows, columns = (wider(cube.any(axis=tuple({0, 1, 2} - {axis})), grid.shape[axis]) for axis in range(3))
     filled = np.zeros(grid.count, dtype=bool)
@@ -106,13 +106,13 @@ def box_of(used: np.ndarray, grid: Grid) -> Box:
 
 
 def wider(some: np.ndarray, count: int) -> slice:
-    """From the first to the last true one, and one more to each side."""
+    """Returns the range from the first to the last true element, one wider at each end."""
     first, last = np.flatnonzero(some)[[0, -1]]
     return slice(max(0, int(first) - 1), min(count, int(last) + 2))
 
 
 def cropped(model: Model, box: Box, inside: np.ndarray) -> Model:
-    """The part of a model that lies in a box; `inside` has the cells of the box."""
+    """Returns the part of a model within a box; `inside` has the cells of the box."""
     grid, ids = model.grid, np.full(model.grid.count, -1, dtype=np.int32)
     ids[inside.ravel()] = np.arange(inside.size)
     kept = np.flatnonzero(ids[grid.rows] >= 0)
@@ -126,7 +126,7 @@ def cropped(model: Model, box: Box, inside: np.ndarray) -> Model:
 
 
 def named_anew(model: Model, project: Project) -> Model:
-    """The same with the ids of blocks that stand for cells without rows by their cells' numbers in the box."""
+    """Returns the same model with the ids of filled blocks numbered by their cells in the box."""
     if project.table.id is None:
         return model
     ids = [
@@ -137,7 +137,7 @@ def named_anew(model: Model, project: Project) -> Model:
 
 
 def note_of(model: Model, box: Box) -> str:
-    """How many blocks were left out, and where the box lies."""
+    """Returns a note with the number of removed blocks and the extent of the box."""
     grid, parts = model.grid, []
     kept = np.ones(len(grid.rows), dtype=bool)
     for place, part in zip(grid.indices(grid.rows), box.parts[::-1]):

@@ -38,3 +38,19 @@ class ProgramError(PlanError):
 
 class BudgetUsedUp(ProgramError):
     """The program's budget of mergers is used up (its status 3)."""
+
+
+# How a note begins that warns.
+WARNING = "WARNING: "
+
+
+class PlanWarning(UserWarning):
+    """Something that a planner should check before using the results."""
+
+
+class InputWarning(PlanWarning):
+    """The block model, a survey file, prices or units look wrong."""
+
+
+class ResultWarning(PlanWarning):
+    """A result is limited: a shell reaches the edge of the model, a search was interrupted, or a width changed a pushback a lot."""

@@ -5,8 +5,7 @@ from __future__ import annotations
 import json
 import sys
 from dataclasses import dataclass, field, replace
-from pathlib import Path
-from typing import Any, Optional, Union
+from typing import Any, Optional
 
 import numpy as np
 import pandas as pd
@@ -15,7 +14,7 @@ from numpy.typing import NDArray
 from pitplan.blockmodel import depletion, missing_blocks, plausibility, reader
 from pitplan.blockmodel.grid import Grid
 from pitplan.config.economics import PER_REVENUE_FACTOR
-from pitplan.config.project import Project, load, validated
+from pitplan.config.project import Project
 from pitplan.config.shells import IN_WORDS
 from pitplan.core.keyed_arrays import hash_of_all
 from pitplan.core.progress import Progress, silent
@@ -51,9 +50,9 @@ OWN_COLUMNS = (
 )
 
 
-@dataclass(repr=False)
+@dataclass(repr=False, eq=False)
 class Plan:
-    """A project prepared for the solver; see `prepare`.
+    """A project prepared for the solver; see `prepared`.
 
     Attributes
     ----------
@@ -108,7 +107,7 @@ class Plan:
         return (
             f"Plan of {self.project.title}\n"
             f"  {len(self.table):,} blocks of {x} x {y} x {z} m on a grid of {columns} x {rows} x {levels}, from {self.source}\n"
-            f"  {len(self.values.ore):,} with {metals}, {len(self.project.schedule.revenue_factors)} revenue factors, "
+            f"  {len(self.values.ore):,} with {metals}, {len(self.project.shells.revenue_factors)} revenue factors, "
             f"{len(self.notes)} notes (plan.notes)"
         )
 
@@ -124,7 +123,7 @@ class Plan:
         record = {
             "grid": grid.as_json(),
             "walls": [it.as_json() for it in walls.patterns],
-            "revenue_factors": list(self.project.schedule.revenue_factors),
+            "revenue_factors": list(self.project.shells.revenue_factors),
         }
         return hash_of_all(json.dumps(record, default=repr), arrays)
 
@@ -140,7 +139,7 @@ class Plan:
         frame.insert(0, "id", ids)
         for name in ("mining", "revenue", "processing"):
             frame[name if name == "revenue" else f"{name}_cost"] = getattr(self.values, name)[ids] / MILLION
-        for way in self.values.ways if self.project.processes else ():
+        for way in self.values.by_process if self.project.processes else ():
             frame[f"revenue_{way.name}"] = way.revenue[ids] / MILLION
             frame[f"processing_cost_{way.name}"] = way.cost[ids] / MILLION
         if hauled := self.values.hauled:
@@ -188,15 +187,15 @@ class Plan:
             "money": {
                 "cutoff": self.values.cutoff,
                 "mining_cost_reference": self.reference,
-                "decimals": project.money.decimals,
+                "decimals": project.economics.decimals,
                 "processing_nodes": len(self.values.processed),
                 "rounded": {name: rounding.as_json() for name, rounding in self.values.roundings.items()},
             },
             "walls": [pattern.as_json() for pattern in self.walls.patterns],
             "needs": self.record_of_needs(pairs),
             "fixed": {"forced": len(self.fixed.forced), "barred": len(self.fixed.barred)},
-            "revenue_factors": list(project.schedule.revenue_factors),
-            "base_price_added": project.schedule.base_price_added,
+            "revenue_factors": list(project.shells.revenue_factors),
+            "base_price_added": project.shells.base_price_added,
             "summary": self.summary,
             "notes": [*self.notes, *self.notes_of_needs(pairs)],
             "codes": codes_of(project),
@@ -217,7 +216,7 @@ class Plan:
 
     def notes_of_needs(self, pairs: Pairs) -> list[str]:
         """Precedences that are written, that leave the model, and that no shell can use."""
-        left, last = self.grid.count - int(self.used.sum()), self.project.schedule.revenue_factors[-1]
+        left, last = self.grid.count - int(self.used.sum()), self.project.shells.revenue_factors[-1]
         notes = [f"{pairs.written:,} slope precedences for {self.grid.count - left:,} blocks"]
         if pairs.clipped:
             notes.append(
@@ -238,35 +237,27 @@ class Plan:
             "clipped_at_the_sides": pairs.clipped,
             "blocks_whose_needs_are_written": used,
             "blocks_whose_needs_are_trimmed": self.grid.count - used,
-            "trimmed_for_revenue_factors_up_to": self.project.schedule.revenue_factors[-1],
+            "trimmed_for_revenue_factors_up_to": self.project.shells.revenue_factors[-1],
         }
 
 
-def prepare(
-    project: Union[str, Path, Project], table: Optional[pd.DataFrame] = None, progress: Progress = silent
-) -> Plan:
-    """Reads a project and its block model, and prepares the mine: grid, block values and slope precedences.
+def prepared(project: Project, table: Optional[pd.DataFrame] = None, progress: Progress = silent) -> Plan:
+    """Reads the block model of a checked project, and prepares the mine: grid, block values and slope precedences.
 
     Parameters
     ----------
-    project : str, Path or Project
-        A project.toml or its path. A project that was changed in Python is checked as a file is.
+    project : Project
+        The project.
     table : DataFrame, optional
-        One row per block, in place of the file of the project: centroids x, y, z in metres, tonnes, grades, and codes of rock type and
-        domain, under the column names that the project gives.
+        One row per block, in place of the file of the project, under the column names that the project gives.
     progress : Progress
         Reports the steps; silent by default.
 
     Raises
     ------
     PlanError
-        If the input is not usable, with section and key or with file, row and column.
+        If the input is not usable, with file, row and column.
     """
-    return prepared(validated(project) if isinstance(project, Project) else load(project), table, progress)
-
-
-def prepared(project: Project, table: Optional[pd.DataFrame] = None, progress: Progress = silent) -> Plan:
-    """The plan of a checked project; see `prepare`."""
     model = preparation.take(preparation.read_table(project, table, progress), preparation.OF_PLAN)
     with progress.step("computing block values"):
         plan = plan_of(model)
@@ -290,7 +281,7 @@ def plan_of(model: Preparation) -> Plan:
     fixed = constraints.of_table(frame, grid, project, source)
     used = closure.used_blocks(grid, walls, wanted(values, project, fixed))
     plan = Plan(project, frame, grid, values, walls, used, source, fixed=fixed)
-    if project.fixed is not None:
+    if project.constraints is not None:
         plan.settled = constraints.settled(fixed, grid, walls)
         demand_no_clash(plan, plan.settled)
     return plan
@@ -309,55 +300,75 @@ def demand_no_clash(plan: Plan, settled: Settled) -> None:
 
 def wanted(values: Values, project: Project, fixed: FixedBlocks) -> NDArray[Any]:
     """The cells for which a pit mines others: those that can pay for themselves, and must-mine blocks."""
-    found = np.array(values.greatest_value(project.schedule.revenue_factors[-1]) > 0, dtype=bool)
+    found = np.array(values.greatest_value(project.shells.revenue_factors[-1]) > 0, dtype=bool)
     found[fixed.forced] = True
     return found
 
 
 def notes_of(plan: Plan) -> list[str]:
     """The notes of a plan: grid, cut-off, slopes, constraints, costs and rounding."""
-    grid, count = plan.grid, len(plan.table)
+    grid, project = plan.grid, plan.project
     levels, rows, columns = grid.shape
-    notes = [f"{count:,} blocks lie on a grid of {columns} x {rows} x {levels} = {grid.count:,} cells"]
-    notes += missing_blocks.notes(plan.table, grid, plan.project)
-    if plan.values.cutoff == PER_REVENUE_FACTOR:
-        steps = len(plan.values.processed) - len(plan.values.ore)
-        more = f", and {steps:,} more for processes that are better at higher prices" if plan.project.processes else ""
-        notes.append(
-            f"{len(plan.values.ore):,} potential ore blocks have a processing node{more}; "
-            "the cut-off is re-evaluated at every revenue factor"
-        )
-    else:
-        notes.append("the cut-off is fixed at the base price for all revenue factors")
-    if plan.filled:
-        notes.append(f"{plan.filled:,} empty fields were read as 0")
-    notes += [pattern.sentence() for pattern in plan.walls.patterns]
-    notes += plan.values.notes
-    grades = [plan.table[metal.column].to_numpy() for metal in plan.project.metals]
-    notes += plausibility.of_prices(plan.values.pays, plan.project.metals, grades, plan.project.money.currency)
-    if plan.project.money.mining_cost_per_bench and plan.project.money.mining_cost_reference is None:
-        notes.append(
-            f"the mining cost rises with each bench below {plan.reference - grid.size[2]:.10g} to {plan.reference:.10g} m, the highest "
-            "bench that ore depends on; [economics] mining_cost_reference sets another elevation"
-        )
-    notes += plan.fixed.notes
-    if plan.settled is not None:
-        rock = plan.values.tonnes > 0
-        dug, left = (int(np.count_nonzero(cells & rock)) for cells in (plan.settled.dug, plan.settled.left))
-        notes.append(f"with their slope cones, {dug:,} blocks are in every shell and {left:,} in none")
-    if plan.project.schedule.base_price_added:
-        notes.append("revenue factor 1.0, the base price, was added to the revenue factors")
-    notes += period_costs.notes(plan.project)
-    settings = plan.project.schedule
-    notes.append(
-        f"NPV: {100 * settings.discount_rate:.10g} % a year, cash flow discounted {IN_WORDS[settings.discounting]}"
+    grades = [plan.table[metal.column].to_numpy() for metal in project.metals]
+    return [
+        f"{len(plan.table):,} blocks lie on a grid of {columns} x {rows} x {levels} = {grid.count:,} cells",
+        *missing_blocks.notes(plan.table, grid, project),
+        *notes_of_cutoff(plan),
+        *([f"{plan.filled:,} empty fields were read as 0"] if plan.filled else []),
+        *(pattern.sentence() for pattern in plan.walls.patterns),
+        *plan.values.notes,
+        *plausibility.of_prices(plan.values.pays, project.metals, grades, project.economics.currency),
+        *notes_of_bench_costs(plan),
+        *plan.fixed.notes,
+        *notes_of_settled(plan),
+        *notes_of_cash(project),
+        *(
+            f"{name}: {it.changed:,} of {it.values:,} amounts were rounded, by at most {it.largest:.2g}"
+            for name, it in plan.values.roundings.items()
+            if it.changed
+        ),
+    ]
+
+
+def notes_of_cutoff(plan: Plan) -> list[str]:
+    """How ore and waste are separated."""
+    if plan.values.cutoff != PER_REVENUE_FACTOR:
+        return ["the cut-off is fixed at the base price for all revenue factors"]
+    steps = len(plan.values.processed) - len(plan.values.ore)
+    more = f", and {steps:,} more for processes that are better at higher prices" if plan.project.processes else ""
+    return [
+        f"{len(plan.values.ore):,} potential ore blocks have a processing node{more}; "
+        "the cut-off is re-evaluated at every revenue factor"
+    ]
+
+
+def notes_of_bench_costs(plan: Plan) -> list[str]:
+    """From which elevation the mining cost rises by bench, if the project does not say."""
+    if not plan.project.economics.mining_cost_per_bench or plan.project.economics.mining_cost_reference is not None:
+        return []
+    return [
+        f"the mining cost rises with each bench below {plan.reference - plan.grid.size[2]:.10g} to {plan.reference:.10g} m, the highest "
+        "bench that ore depends on; [economics] mining_cost_reference sets another elevation"
+    ]
+
+
+def notes_of_settled(plan: Plan) -> list[str]:
+    """How many blocks the constraints settle."""
+    if plan.settled is None:
+        return []
+    rock = plan.values.tonnes > 0
+    dug, left = (int(np.count_nonzero(cells & rock)) for cells in (plan.settled.dug, plan.settled.left))
+    return [f"with their slope cones, {dug:,} blocks are in every shell and {left:,} in none"]
+
+
+def notes_of_cash(project: Project) -> list[str]:
+    """The base price, period costs and discounting."""
+    settings = project.shells
+    added = (
+        ["revenue factor 1.0, the base price, was added to the revenue factors"] if settings.base_price_added else []
     )
-    for name, rounding in plan.values.roundings.items():
-        if rounding.changed:
-            notes.append(
-                f"{name}: {rounding.changed:,} of {rounding.values:,} amounts were rounded, by at most {rounding.largest:.2g}"
-            )
-    return notes
+    rate = f"NPV: {100 * settings.discount_rate:.10g} % a year, cash flow discounted {IN_WORDS[settings.discounting]}"
+    return [*added, *period_costs.notes(project), rate]
 
 
 def greatest_shift(table: pd.DataFrame, grid: Grid, project: Project) -> float:

@@ -19,7 +19,7 @@ MOST_PAIRS = 67_108_864
 
 @dataclass(frozen=True)
 class Pairs:
-    """What was written of needs: how many, how many of them lead off the sides, and how many bind processing to mining."""
+    """The number of precedences that were written, of those that leave the block model, and of those of processing nodes."""
 
     written: int
     clipped: int
@@ -28,9 +28,9 @@ class Pairs:
 
 @dataclass(frozen=True)
 class Needs:
-    """What is written of needs: those of the used blocks by the walls, and of each processing node its block.
+    """The precedences that the solver gets: slope arcs of the used blocks, and the arc from each processing node to its block.
 
-    settled  where it is given, the needs of the rest alone: what is dug already is needed no more
+    `settled`, if given, limits them to the reduced mine: blocks that are mined in any case are not predecessors.
     """
 
     grid: Grid
@@ -41,17 +41,17 @@ class Needs:
 
     @property
     def blocks(self) -> np.ndarray:
-        """The blocks whose needs are written, rising."""
+        """The cells whose precedences are written, rising."""
         return np.flatnonzero(self.used if self.settled is None else self.used & self.settled.rest)
 
     def open(self, needs: np.ndarray) -> np.ndarray:
-        """Needed blocks without those that are dug already, in whose place stands ABSENT."""
+        """Returns predecessors, with ABSENT in place of those that are mined in any case."""
         if self.settled is None:
             return needs
         return np.where((needs != ABSENT) & self.settled.dug[needs], ABSENT, needs)
 
     def binding(self) -> tuple[np.ndarray, np.ndarray]:
-        """The processing nodes that need another, and what they need: their block, or the node of the step before."""
+        """Returns the processing nodes with a predecessor, and these: their block, or the node of the step before."""
         nodes = self.grid.count + np.arange(len(self.processed))
         is_later = np.diff(self.processed, prepend=-1) == 0
         needed = np.where(is_later, nodes - 1, self.processed)
@@ -63,14 +63,16 @@ class Needs:
 
 @dataclass(frozen=True)
 class Rows:
-    """Compressed sparse rows: node u needs the nodes `needs[starts[u]:starts[u + 1]]`, which rise. uint32, shapes (nodes + 1,) and (pairs,)."""
+    """Compressed sparse rows: the predecessors of node u are `needs[starts[u]:starts[u + 1]]`, rising. uint32, shapes (nodes + 1,) and
+    (pairs,).
+    """
 
     starts: np.ndarray
     needs: np.ndarray
 
 
 def rows_of(needs: Needs, most: int) -> tuple[Rows, Pairs]:
-    """The rows of the needs, and how many there are. Needs above the most are counted alone."""
+    """Returns the precedences as compressed rows, and their number. Precedences beyond `most` are only counted."""
     nodes, needed = needs.binding()
     # What is not written to takes no memory.
     found = np.empty(min(most_pairs(needs), most) + len(nodes), dtype=np.uint32)
@@ -92,6 +94,6 @@ def rows_of(needs: Needs, most: int) -> tuple[Rows, Pairs]:
 
 
 def most_pairs(needs: Needs) -> int:
-    """How many needs the blocks have at most: their lists whole."""
+    """Returns an upper bound on the number of precedences: the full lists of all blocks."""
     blocks = np.bincount(needs.walls.list_of[needs.blocks], minlength=len(needs.walls.lists))
     return sum(int(count) * len(steps.steps) for count, steps in zip(blocks, needs.walls.lists))

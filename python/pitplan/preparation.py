@@ -32,6 +32,7 @@ from pitplan.slopes import domains
 from pitplan.slopes.domains import Walls
 
 from . import crop
+from .errors import WARNING
 
 
 @dataclass
@@ -126,8 +127,8 @@ def lay_grid(model: Preparation) -> None:
 def summarise(model: Preparation) -> None:
     """Describes the table: extents, tonnes, grades with units, and unused columns."""
     lines = summaries.of_table(model.table, model.grid, model.project)
-    model.warnings += [line for line in lines if line.startswith(plausibility.WARNING)]
-    model.summary = [line for line in lines if not line.startswith(plausibility.WARNING)]
+    model.warnings += [line for line in lines if line.startswith(WARNING)]
+    model.summary = [line for line in lines if not line.startswith(WARNING)]
     model.progress.lines(model.summary)
 
 

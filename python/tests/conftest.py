@@ -84,6 +84,16 @@ def plan_folder(tmp_path):
     return write
 
 
+def pytest_configure(config):
+    """Most tests have small hills at the edge of their models; those of warnings catch them."""
+    config.addinivalue_line("filterwarnings", "ignore::pitplan.errors.PlanWarning")
+
+
+def files_in(folder):
+    """The files of a folder and of those within it, by their paths in it; what they hold."""
+    return {str(path.relative_to(folder)): path.read_bytes() for path in sorted(folder.rglob("*")) if path.is_file()}
+
+
 @dataclass(frozen=True)
 class Solved:
     """The folder of a solved mine, and what the command line said on standard output and on standard error."""

@@ -37,8 +37,8 @@ def deposit():
 
 
 def shells_of(path):
-    plan = pitplan.prepare(path)
-    return pitplan.shells(plan, pitplan.solve(plan))
+    plan = pitplan.Plan.from_project(path)
+    return plan.shells().table
 
 
 def test_shells_that_reach_a_hole_are_refused(plan_folder, capsys):
@@ -51,7 +51,7 @@ def test_shells_that_reach_a_hole_are_refused(plan_folder, capsys):
         in said
     )
     assert 'missing_blocks = "air"' in said
-    assert not (path.parent / "plan" / "shells.csv").exists()
+    assert not (path.parent / "plan" / "tables/shells.csv").exists()
 
 
 def test_shells_that_reach_a_column_without_rows_are_refused(plan_folder):
@@ -86,7 +86,7 @@ def test_rock_on_request_is_dug_as_if_it_stood_in_the_table(plan_folder):
     for holes in ((table["x"] == 25) & (table["z"] == 15), table["x"] == 15):
         path = plan_folder(table[~holes], PROJECT, ROCK)
         pd.testing.assert_frame_equal(shells_of(path), whole)
-        blocks = pitplan.prepare(path).blocks
+        blocks = pitplan.Plan.from_project(path).blocks
         assert blocks["name"].str.startswith("absent-").sum() == holes.sum()
 
 
@@ -97,7 +97,7 @@ def test_rock_on_request_in_scenarios(plan_folder):
     for kept, change in ((table, []), (table[table["x"] != 15], [ROCK])):
         path = plan_folder(kept, text, *change)
         assert main(["scenarios", str(path), "--workers", "1", "--quiet"]) == 0
-        told.append(pd.read_csv(path.parent / "plan" / "scenarios" / "scenarios.csv"))
+        told.append(pd.read_csv(path.parent / "plan" / "scenarios" / "tables/scenarios.csv"))
     pd.testing.assert_frame_equal(*told)
     assert (told[0]["blocks"] > 0).any()
 
@@ -105,14 +105,14 @@ def test_rock_on_request_in_scenarios(plan_folder):
 @pytest.mark.parametrize(
     ("text", "said"),
     [
-        ('missing_blocks = "rock"', '[table] missing_blocks: "rock" is none of refuse, air'),
+        ('missing_blocks = "rock"', '[table] missing_blocks: found "rock", expected one of refuse, air'),
         ("missing_blocks = { tonnes = -1 }", "[table.missing_blocks] tonnes: -1 is below 0"),
         (
             "missing_blocks = { tonnes = 1 }",
             "[table] missing_blocks: needs a rock_type if, and only if, [table] rock_type names a column",
         ),
         ('missing_blocks = { tonnes = 1, rock_type = "R" }', "[table] missing_blocks: needs a domain if"),
-        ('missing_blocks = { tonnes = 1, rocks = "R" }', "[table.missing_blocks] rocks: is no key here"),
+        ('missing_blocks = { tonnes = 1, rocks = "R" }', "[table.missing_blocks] rocks: unknown key"),
     ],
 )
 def test_absent_is_refused_in_words(plan_folder, text, said):

@@ -5,7 +5,7 @@ import pandas as pd
 import pytest
 from conftest import PROJECT, rows
 
-from pitplan import PlanError, load, prepare, write_shells
+from pitplan import Plan, PlanError, load, write_shells
 from pitplan.verification import verify
 
 TOPOGRAPHY = ('file = "blocks.csv"', 'file = "blocks.csv"\ntopography = "ground.csv"')
@@ -35,7 +35,7 @@ def mine(plan_folder, tmp_path):
     def plan(height, text=SURFACE, *changes, **columns):
         write_ground(tmp_path / "ground.csv", slope)
         write_ground(tmp_path / "mined.csv", height)
-        return prepare(load(plan_folder(rows(10, 3, 3, **columns), text, *changes)))
+        return Plan.from_project(load(plan_folder(rows(10, 3, 3, **columns), text, *changes)))
 
     return plan
 
@@ -102,12 +102,12 @@ def test_what_a_run_writes_of_it_is_verified(plan_folder, tmp_path, without_figu
     write_shells(path)
     (rule,) = [rule for rule in verify(tmp_path / "plan") if rule.name == "as mined"]
     assert not rule.differences
-    table = pd.read_csv(tmp_path / "plan" / "blocks.csv")
+    table = pd.read_csv(tmp_path / "plan" / "tables/blocks.csv")
     assert (table.loc[(table["x"].between(30, 60)) & (table["z"] == 25), "revenue_factor"] > 0).all()
     # A block that keeps the tonnes that it had before is seen.
     row = table.index[table["x"].eq(45) & table["z"].eq(25)][0]
     table.loc[row, "tonnes"] = 54.0
-    table.to_csv(tmp_path / "plan" / "blocks.csv", index=False)
+    table.to_csv(tmp_path / "plan" / "tables/blocks.csv", index=False)
     (rule,) = [rule for rule in verify(tmp_path / "plan") if rule.name == "as mined"]
     assert rule.differences and "54 t for 0" in rule.differences[0]
 

@@ -14,7 +14,7 @@ from test_processes import WITH
 from test_pushbacks import UPRIGHT, pillars
 
 import pitplan
-from pitplan import PlanError, load, prepare
+from pitplan import Plan, PlanError, load
 from pitplan.cli import main
 from pitplan.figures import block_schedule
 from pitplan.results.folder import read_record
@@ -39,7 +39,7 @@ def wrong(folder):
 
 
 def years_of(folder):
-    years = pd.read_csv(folder / "years.csv")
+    years = pd.read_csv(folder / "tables/years.csv")
     return years[years["case"] == "block"]
 
 
@@ -61,7 +61,7 @@ def test_three_pillars_by_hand(plan_folder):
         600,
     ]
     assert years["discounted_cash_flow"].tolist() == pytest.approx([2600 / 1.1, 1400 / 1.21, 600 / 1.331], abs=1e-3)
-    blocks = pd.read_csv(folder / "blocks.csv").set_index("name")
+    blocks = pd.read_csv(folder / "tables/blocks.csv").set_index("name")
     assert blocks["year"].to_dict() == {f"b{i}-0-{k}": i + 1 for i in range(3) for k in range(2)}
     told = json.loads((folder / "block_schedule.json").read_text())
     assert told["npv"] == pytest.approx(value, abs=1e-3) and told["upper_bound"] == pytest.approx(value, abs=1e-3)
@@ -83,7 +83,10 @@ def test_money_in_thousands_has_the_share_below_the_bound_of_what_is_told(plan_f
     row, folder = scheduled(plan_folder, "[schedule]\nyears = 6\n", text)
     earned = [-0.2, 2.8, -0.2, 1.6, -0.2, 0.8]
     assert row["npv"] == pytest.approx(sum(cash / 1.1**year for year, cash in enumerate(earned, 1)))
-    told, way = json.loads((folder / "block_schedule.json").read_text()), pd.read_csv(folder / "methods.csv").iloc[0]
+    told, way = (
+        json.loads((folder / "block_schedule.json").read_text()),
+        pd.read_csv(folder / "tables/methods.csv").iloc[0],
+    )
     share = (told["upper_bound"] - told["npv"]) / told["upper_bound"]
     assert share > 0.01 and (told["npv"], told["upper_bound"]) == (way["npv"], way["upper_bound"])
     assert told["gap"] == pytest.approx(share, abs=6e-10) and way["optimality_gap"] == pytest.approx(share, abs=6e-10)
@@ -114,7 +117,7 @@ def test_years_have_prices_of_their_own(plan_folder):
     the second year and 1400 in the first are more than 2600 and 1400 + 1400."""
     text = YEARLY.replace("price = 8000", "price = 8000\nprices = [8000, 12000, 8000]")
     row, folder = scheduled(plan_folder, text=text)
-    blocks = pd.read_csv(folder / "blocks.csv").set_index("name")
+    blocks = pd.read_csv(folder / "tables/blocks.csv").set_index("name")
     assert blocks["year"][["b0-0-0", "b1-0-0", "b2-0-0"]].tolist() == [2, 1, 3]
     assert row["npv"] == pytest.approx(1400 / 1.1 + 4600 / 1.21 + 600 / 1.331) and wrong(folder) == set()
 
@@ -133,7 +136,7 @@ def with_processes():
 def test_each_ore_waits_for_the_process_where_it_is_worth_most(plan_folder):
     """In the mill: 7200 - 1300, 5040 - 1300 and 3600 - 1300, each in a year, less 400 for each pillar."""
     row, folder = scheduled(plan_folder, text=with_processes())
-    blocks = pd.read_csv(folder / "blocks.csv").set_index("name")
+    blocks = pd.read_csv(folder / "tables/blocks.csv").set_index("name")
     ores = blocks.loc[["b0-0-0", "b1-0-0", "b2-0-0"]]
     assert ores["year"].tolist() == [1, 2, 3] and ores["share_mill"].tolist() == [1] * 3
     assert row["npv"] == pytest.approx(5500 / 1.1 + 3340 / 1.21 + 1900 / 1.331) and wrong(folder) == set()
@@ -143,7 +146,7 @@ def test_a_block_goes_to_the_process_that_has_room(plan_folder):
     """With one year alone the richest ore is worth most in the mill, 7200 - 1300, and the others are leached for 2240 - 300 and 1600 -
     300."""
     row, folder = scheduled(plan_folder, "[schedule]\nyears = 1\n", with_processes())
-    blocks = pd.read_csv(folder / "blocks.csv").set_index("name")
+    blocks = pd.read_csv(folder / "tables/blocks.csv").set_index("name")
     assert blocks["year"].tolist() == [1] * 6
     assert blocks["share_mill"][["b0-0-0", "b1-0-0", "b2-0-0"]].tolist() == [1, 0, 0]
     assert blocks["share_leach"][["b0-0-0", "b1-0-0", "b2-0-0"]].tolist() == [0, 1, 1]
@@ -192,9 +195,10 @@ def test_the_command_line_tells_value_bound_and_gap(plan_folder, capsys):
     assert "round 1: bound " in said.err and "relaxation 3,971 over" in said.err
     page = (path.parent / "plan" / "block_schedule" / "report.html").read_text()
     assert (
-        "head grade of the pit at revenue factor 1.00</span>" in page and 'title="methods.csv row 2 column npv"' in page
+        "head grade of the pit at revenue factor 1.00</span>" in page
+        and 'title="tables/methods.csv row 2 column npv"' in page
     )
-    assert "methods.csv" in page and "the schedule and its upper bound, the other numbers" in page
+    assert "tables/methods.csv" in page and "the schedule and its upper bound, the other numbers" in page
 
 
 def test_without_the_library_it_is_told_what_is_missing(plan_folder):
@@ -247,7 +251,7 @@ def test_what_is_right_passes(copied, capsys):
     assert "block_schedule.json" in record["files"] and any(
         line.startswith("block order") for line in record["verified"]
     )
-    assert pd.read_csv(copied / "blocks.csv")["year"].max() > 2
+    assert pd.read_csv(copied / "tables/blocks.csv")["year"].max() > 2
 
 
 def rewrite(path, change):
@@ -263,7 +267,7 @@ def test_a_block_before_its_cone_is_found(copied):
         dug = table[table["year"] > 1].sort_values("z")
         table.loc[dug.index[0], "year"] = 1
 
-    rewrite(copied / "blocks.csv", change)
+    rewrite(copied / "tables/blocks.csv", change)
     assert "block order" in wrong(copied)
 
 
@@ -272,7 +276,7 @@ def test_a_year_that_is_none_is_found(copied, year):
     def change(table):
         table.loc[table["year"].idxmax(), "year"] = year
 
-    rewrite(copied / "blocks.csv", change)
+    rewrite(copied / "tables/blocks.csv", change)
     assert "block order" in wrong(copied)
 
 
@@ -282,7 +286,7 @@ def test_a_year_above_a_limit_is_found(copied):
     def change(table):
         table.loc[table["year"] > 0, "year"] = 1
 
-    rewrite(copied / "blocks.csv", change)
+    rewrite(copied / "tables/blocks.csv", change)
     assert {"block limits", "block value"} <= wrong(copied)
 
 
@@ -293,7 +297,7 @@ def test_a_year_that_is_not_the_sum_of_its_blocks_is_found(copied, name):
     def change(table):
         table.loc[table["case"] == "block", name] += 1
 
-    rewrite(copied / "years.csv", change)
+    rewrite(copied / "tables/years.csv", change)
     assert "block value" in wrong(copied)
 
 
@@ -320,7 +324,7 @@ def test_the_view_and_the_table_have_the_years(copied):
     table = pd.read_csv(pitplan.write_export(copied, "table"))
     assert (
         table["year"].tolist()
-        == pd.read_csv(copied / "blocks.csv").set_index("name")["year"].loc[table["name"]].tolist()
+        == pd.read_csv(copied / "tables/blocks.csv").set_index("name")["year"].loc[table["name"]].tolist()
     )
 
 
@@ -330,7 +334,7 @@ def test_a_pit_without_ore_has_an_empty_schedule(plan_folder, capsys):
     assert main(["schedule", str(path), "--by", "block", "--quiet"]) == 0
     assert capsys.readouterr().out.splitlines()[2].split()[:4] == ["0.00", "0.00", "0.00", "0"]
     folder = path.parent / "plan" / "block_schedule"
-    assert (pd.read_csv(folder / "blocks.csv")["year"] == 0).all() and years_of(folder).empty
+    assert (pd.read_csv(folder / "tables/blocks.csv")["year"] == 0).all() and years_of(folder).empty
 
 
 def test_a_pit_of_too_many_years_is_refused(plan_folder, monkeypatch):
@@ -378,7 +382,7 @@ def test_both_notations_of_one_mine_have_the_same_value_and_bound(plan_folder):
     other, _ = scheduled(plan_folder, sums, text=named, table=table)
     assert plain["npv"] == pytest.approx(other["npv"]) and plain["upper_bound"] == pytest.approx(other["upper_bound"])
     # The ore of the second pillar holds 9,000 in 100 t: 4,000 of it go to the mill, and 1,400 + 1,000 for 0.444 of its ore do not pay.
-    blocks = pd.read_csv(folder / "blocks.csv").set_index("name")
+    blocks = pd.read_csv(folder / "tables/blocks.csv").set_index("name")
     assert blocks.loc["b1-0-0", "share_mill"] < 1
 
 
@@ -389,6 +393,6 @@ def test_where_no_block_pays_nothing_is_mined_which_is_an_answer(plan_folder):
     assert row[["npv", "upper_bound", "years", "blocks"]].tolist() == [0, 0, 0, 0]
     notes = read_record(project.folder / "block_schedule")["notes"]
     assert "nothing is mined: at these prices and costs no block pays for itself and its predecessors" in notes
-    made = tables.make(prepare(project))
+    made = tables.make(Plan.from_project(project))
     axes = block_schedule.plot(made, Figure().subplots(1, 2))
     assert [text.get_text() for text in axes[0].texts] == ["nothing is mined"]

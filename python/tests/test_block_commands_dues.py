@@ -20,7 +20,7 @@ WIDE = YEARLY.replace("processing_capacity = 100", "processing_capacity = 300").
 
 def years(folder):
     """The year of each pillar's ore."""
-    return pd.read_csv(folder / "blocks.csv").set_index("name")["year"][["b0-0-0", "b1-0-0", "b2-0-0"]].tolist()
+    return pd.read_csv(folder / "tables/blocks.csv").set_index("name")["year"][["b0-0-0", "b1-0-0", "b2-0-0"]].tolist()
 
 
 @pytest.mark.parametrize(
@@ -90,7 +90,7 @@ def test_a_sum_of_blocks_that_are_put_together(plan_folder, words):
     text = f"[schedule]\nyears = 3\n[[schedule.limits]]\n{words}\nmax = 6\n"
     wide = WIDE.replace('file = "blocks.csv"', 'file = "blocks.csv"\nreblock = [2, 1, 1]')
     row, folder = scheduled(plan_folder, text, wide, table)
-    blocks = pd.read_csv(folder / "blocks.csv", dtype={"region": str})
+    blocks = pd.read_csv(folder / "tables/blocks.csv", dtype={"region": str})
     ore = blocks[blocks["name"].isin(["1-1-1", "2-1-1", "3-1-1"])].sort_values("x")
     assert (
         ore["year"].tolist() == [1, 2, 1]
@@ -99,7 +99,7 @@ def test_a_sum_of_blocks_that_are_put_together(plan_folder, words):
     )
     assert years_of(folder)["sum_as_kg"].tolist() == pytest.approx([6, 4])
     column = "as_kg" if "as_ppm" not in words else "as_ppm"
-    blocks.assign(**{column: blocks[column] + 1e-5}).to_csv(folder / "blocks.csv", index=False)
+    blocks.assign(**{column: blocks[column] + 1e-5}).to_csv(folder / "tables/blocks.csv", index=False)
     assert "reblocked" in wrong(folder)
 
 
@@ -122,7 +122,7 @@ def test_hours_of_one_process(plan_folder):
     assert text.count("capacity = 300") >= 1
     words = '[schedule]\nyears = 1\n[[schedule.limits]]\ncolumn = "hours"\nof = "mill"\nmax = 2\n'
     _, folder = scheduled(plan_folder, words, text, hours)
-    blocks = pd.read_csv(folder / "blocks.csv").set_index("name")
+    blocks = pd.read_csv(folder / "tables/blocks.csv").set_index("name")
     assert (
         blocks["share_mill"][["b0-0-0", "b1-0-0", "b2-0-0"]].tolist() == pytest.approx([0.5, 1, 0])
         and wrong(folder) == set()
@@ -145,7 +145,7 @@ def test_fixed_blocks_by_hand(plan_folder):
     fixed = {"must": lambda i, j, k: int((i, k) == (3, 0)), "never": lambda i, j, k: int((i, k) == (0, 1))}
     table = rows(4, 1, 2, cu=lambda i, j, k: 0 if k or i == 3 else (1, 0.7, 0.5)[i], **fixed)
     row, folder = scheduled(plan_folder, FIXED + "[schedule]\nyears = 4\n", YEARLY, table)
-    blocks = pd.read_csv(folder / "blocks.csv").set_index("name")["year"]
+    blocks = pd.read_csv(folder / "tables/blocks.csv").set_index("name")["year"]
     assert blocks.to_dict() == {
         "b0-0-0": 0,
         "b0-0-1": 0,
@@ -161,13 +161,13 @@ def test_fixed_blocks_by_hand(plan_folder):
         and wrong(folder) == set()
     )
     for name in ("b3-0-0", "b0-0-1"):
-        kept = (folder / "blocks.csv").read_text()
+        kept = (folder / "tables/blocks.csv").read_text()
         rewrite(
-            folder / "blocks.csv",
+            folder / "tables/blocks.csv",
             lambda it: it.__setitem__("year", it["year"].where(it["name"] != name, 0 if name[1] == "3" else 3)),
         )
         assert "block fixed" in wrong(folder)
-        (folder / "blocks.csv").write_text(kept)
+        (folder / "tables/blocks.csv").write_text(kept)
 
 
 def test_fixed_blocks_that_no_year_has_room_for_are_told(plan_folder):
@@ -178,7 +178,7 @@ def test_fixed_blocks_that_no_year_has_room_for_are_told(plan_folder):
 
 def test_a_year_below_a_least_amount_is_found(plan_folder):
     _, folder = scheduled(plan_folder, "[schedule]\nyears = 3\nminimum = { feed = 100 }\n", WIDE)
-    rewrite(folder / "blocks.csv", lambda table: table.__setitem__("year", table["year"].replace({3: 2})))
+    rewrite(folder / "tables/blocks.csv", lambda table: table.__setitem__("year", table["year"].replace({3: 2})))
     assert {"block limits", "block value"} <= wrong(folder)
     told = json.loads((folder / "block_schedule.json").read_text())
     (folder / "block_schedule.json").write_text(json.dumps(told | {"least": {"feed_tonnes": 50}}))
@@ -189,7 +189,7 @@ def test_a_year_below_a_least_amount_is_found(plan_folder):
 def test_a_sum_that_is_not_that_of_its_blocks_is_found(plan_folder, name):
     text = '[schedule]\nyears = 3\n[[schedule.limits]]\ncolumn = "as_kg"\nmax = 6\n'
     _, folder = scheduled(plan_folder, text, WIDE, pillars(**ARSENIC))
-    rewrite(folder / "years.csv", lambda table: table.__setitem__(name, table[name] + 1))
+    rewrite(folder / "tables/years.csv", lambda table: table.__setitem__(name, table[name] + 1))
     assert "block value" in wrong(folder)
 
 
@@ -200,13 +200,13 @@ def test_a_sum_that_is_not_that_of_its_blocks_is_found(plan_folder, name):
             "minimum = { feed = 100 }",
             r"\[schedule\] years: is missing: the minimum applies to each of these years",
         ),
-        ("years = 2\nminimum = { gold = 1 }", r"\[schedule.minimum\] gold: is none of feed, total, copper"),
+        ("years = 2\nminimum = { gold = 1 }", r"\[schedule.minimum\]: found gold, expected one of feed, total, copper"),
         ("years = 2\nminimum = { feed = 400 }", r"\[schedule.minimum\] feed: 400 is above the most of a year, 300"),
         ("years = 2\nminimum = { feed = -1 }", r"\[schedule.minimum\] feed: -1 is below 0"),
         ('[[schedule.limits]]\ncolumn = "cu"', r"\[schedule.limits 1\] max: is missing, and so is min"),
         (
             '[[schedule.limits]]\ncolumn = "cu"\nmax = 1\nof = "mill"',
-            r"\[schedule.limits\] cu: of mill is none of total, feed",
+            r"\[schedule.limits\] cu: of: found mill, expected one of total, feed",
         ),
         (
             '[[schedule.limits]]\ncolumn = "cu"\nmax = 1\nmin = 2',

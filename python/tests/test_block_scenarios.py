@@ -38,7 +38,13 @@ BY_BLOCK = Request(by="block")
 MILL = '[[processes]]\nname = "mill"\ncost = 10\nrecovery = { copper = 0.5 }\ncapacity = 100\n'
 IN_MILL = [("recovery = 0.5\n", ""), ("processing_capacity = 100\n", "")]
 pytestmark = pytest.mark.usefixtures("without_figures")
-FILES = ["schedules.csv", "common_schedule.csv", "common_schedule_years.csv", "quantiles.csv", "common_schedule.json"]
+FILES = [
+    "tables/schedules.csv",
+    "tables/common_schedule.csv",
+    "tables/common_schedule_years.csv",
+    "tables/quantiles.csv",
+    "common_schedule.json",
+]
 
 
 def pillars(*models):
@@ -66,11 +72,11 @@ def answered(plan_folder, table, text=TWO_YEARS):
 
 
 def table_of(folder):
-    return pd.read_csv(folder / "schedules.csv").set_index("realisation")
+    return pd.read_csv(folder / "tables/schedules.csv").set_index("realisation")
 
 
 def years_of(folder, model):
-    years = pd.read_csv(folder / "common_schedule_years.csv")
+    years = pd.read_csv(folder / "tables/common_schedule_years.csv")
     return years[years["realisation"] == model].set_index("year")
 
 
@@ -102,7 +108,7 @@ def test_two_models_by_hand(plan_folder):
         table[["common_feed_tonnes", "common_unprocessed_tonnes", "common_years_short"]].to_numpy().tolist()
         == [[200, 0, 0]] * 2
     )
-    blocks = pd.read_csv(folder / "common_schedule.csv").set_index("name")
+    blocks = pd.read_csv(folder / "tables/common_schedule.csv").set_index("name")
     assert blocks["year"].to_dict() == {f"b{i}-0-{k}": 2 if i == 1 else 1 for i in range(3) for k in range(2)}
     assert "cu" not in blocks and blocks["share_mill"][["b0-0-0", "b1-0-0", "b2-0-0"]].tolist() == [1, 1, 1]
 
@@ -139,7 +145,7 @@ def test_quantiles_by_hand(plan_folder):
     """Of two sets of prices: at 12,000 a block of grade g yields 6000 g."""
     sets = "[[scenarios.prices]]\ncopper = 8000\n[[scenarios.prices]]\ncopper = 12_000\n"
     folder = answered(plan_folder, pillars([1, 0.5, 0], [0.75, 0.5, 0]), TWO_YEARS + sets)
-    table = pd.read_csv(folder / "quantiles.csv").set_index("price_copper")
+    table = pd.read_csv(folder / "tables/quantiles.csv").set_index("price_copper")
     values = [2600 / 1.1 + 600 / 1.21, 1600 / 1.1 + 600 / 1.21]
     assert table.index.tolist() == [8000, 12000] and table["realisations"].tolist() == [2, 2]
     told = table.loc[8000, ["npv_least", "npv_greatest", "npv_mean"]].tolist()
@@ -147,7 +153,7 @@ def test_quantiles_by_hand(plan_folder):
     assert table.loc[8000, "upper_bound_quantile_0.1"] == pytest.approx(values[1] + 0.1 * (values[0] - values[1]))
     # The one schedule digs the first pillar and then the second, as each scenario's own does.
     assert table.loc[12000, "common_npv_greatest"] == pytest.approx(4600 / 1.1 + 1600 / 1.21)
-    assert pd.read_csv(folder / "schedules.csv")["price_copper"].tolist() == [8000, 12000] * 2
+    assert pd.read_csv(folder / "tables/schedules.csv")["price_copper"].tolist() == [8000, 12000] * 2
     assert record_of(folder)["perfect_information"] == pytest.approx(0, abs=0.01)
 
 
@@ -211,7 +217,10 @@ def test_no_schedule_of_all_earns_more_than_a_scenario_s_bound(tmp_path_factory,
     for name, grades, of_all in zip(found.index, (one, other), best):
         row = found.loc[name]
         assert float(max(of_all)) <= row["upper_bound"] + 1e-6 and row["npv"] <= float(max(of_all)) + 1e-6
-        year = [it or 3 for it in pd.read_csv(folder / "common_schedule.csv").set_index("name")["year"][table["name"]]]
+        year = [
+            it or 3
+            for it in pd.read_csv(folder / "tables/common_schedule.csv").set_index("name")["year"][table["name"]]
+        ]
         assert tuple(year) in every and row["common_npv"] == pytest.approx(
             float(earned(year, grades, 2, ore)), abs=1e-6
         )
@@ -403,7 +412,7 @@ def test_a_factor_another_kind_of_folder_and_the_program_are_refused(plan_folder
     folder = prepared(path).folder
     with pytest.raises(PlanError, match="holds scenarios --by block: give another folder by --out for those --by pit"):
         write_scenarios(path, folder)
-    with pytest.raises(PlanError, match="2 of 2 schedules have no answer, first sim_1: was not solved"):
+    with pytest.raises(PlanError, match="2 of 2 schedules have no result, first sim_1: was not solved"):
         gather(folder)
     with pytest.raises(PlanError, match="--revenue-factor: schedules by block"):
         gather(folder, Request(revenue_factor=0.5))
@@ -420,7 +429,9 @@ def test_without_the_library_it_is_told_what_is_missing(plan_folder):
 def without_seconds(folder):
     """The bytes of all tables, but for the seconds that schedules took."""
     found = {name: (folder / name).read_bytes() for name in FILES}
-    return found | {"schedules.csv": pd.read_csv(folder / "schedules.csv", dtype=str).drop(columns="seconds").to_csv()}
+    return found | {
+        "tables/schedules.csv": pd.read_csv(folder / "tables/schedules.csv", dtype=str).drop(columns="seconds").to_csv()
+    }
 
 
 @pytest.mark.filterwarnings("ignore:make_current is deprecated:DeprecationWarning")
@@ -435,7 +446,7 @@ def test_processes_of_dask_write_the_same_as_one_after_the_other(plan_folder, tm
     result = write_scenarios(path, tmp_path / "dask", Request("local", 2, by="block"))
     assert without_seconds(here) == without_seconds(tmp_path / "dask")
     assert any(note.startswith("4 solved (status 0)") for note in result.notes) and len(result.schedules) == 3
-    assert "0 of 4 schedules have their answer already" in result.notes
+    assert "0 of 4 schedules have a result already" in result.notes
 
 
 def test_jobs_of_slurm_solve_their_lines(plan_folder):
@@ -446,7 +457,7 @@ def test_jobs_of_slurm_solve_their_lines(plan_folder):
     assert result.start == folder / "start.sh" and (folder / "jobs.txt").read_text() == "1\n2\n3\n"
     subprocess.run(["sh", str(folder / "array.sbatch")], check=True, env={**os.environ, "SLURM_ARRAY_TASK_ID": "3"})
     assert [job.number for job in store.read_shared(folder).missing()] == [1, 2]
-    with pytest.raises(PlanError, match="2 of 3 schedules have no answer, first sim_1: was not solved"):
+    with pytest.raises(PlanError, match="2 of 3 schedules have no result, first sim_1: was not solved"):
         gather(folder)
 
 
@@ -477,7 +488,7 @@ def test_fixed_blocks_hold_in_every_schedule(plan_folder):
     folder = answered(plan_folder, table, text)
     # To dig the waste in the second year costs less.
     assert table_of(folder)["npv"].tolist() == pytest.approx([600 / 1.1 - 400 / 1.21] * 2)
-    blocks = pd.read_csv(folder / "common_schedule.csv").set_index("name")["year"]
+    blocks = pd.read_csv(folder / "tables/common_schedule.csv").set_index("name")["year"]
     assert blocks[["b0-0-0", "b0-0-1"]].tolist() == [0, 0] and blocks["b2-0-0"] == 2 and blocks["b1-0-0"] == 1
 
 
@@ -492,7 +503,7 @@ def test_a_schedule_that_reaches_ground_that_is_not_known_is_refused(plan_folder
 def test_nothing_that_pays_is_a_schedule_of_nothing(plan_folder):
     folder = answered(plan_folder, pillars([0, 0.2, 0], [0.1, 0, 0]))
     assert table_of(folder)[["npv", "upper_bound", "years", "common_npv"]].to_numpy().tolist() == [[0, 0, 0, 0]] * 2
-    assert pd.read_csv(folder / "common_schedule_years.csv").empty
+    assert pd.read_csv(folder / "tables/common_schedule_years.csv").empty
 
 
 def test_the_command_line_tells_what_a_planner_should_know(plan_folder):
@@ -503,7 +514,7 @@ def test_the_command_line_tells_what_a_planner_should_know(plan_folder):
     folder = path.parent / "plan" / "block_scenarios"
     assert out.getvalue() == f"{folder}\n"
     said = err.getvalue()
-    assert "3 of 3 schedules have their answer already" in said
+    assert "3 of 3 schedules have a result already" in said
     assert (
         "common schedule: mean NPV 1,132 over 2 scenarios, from -231 to 2,496; 2,496 as planned from the mean block values"
         in said

@@ -13,7 +13,7 @@ from pathlib import Path
 
 import numpy as np
 import pytest
-from conftest import PROJECT, ROOT, rows
+from conftest import PROJECT, ROOT, files_in, rows
 from test_fixed import FIXED_SECTION, ores_and_fixed, with_section
 from test_scenarios import COLUMNS, PRICES, UPRIGHT, pillar
 
@@ -33,13 +33,15 @@ pitshell = pytest.importorskip("pitshell", reason="make library builds it")
 
 EXAMPLES = ROOT / "examples"
 # What tells the solver, or is the program's own.
-RECORDS = {"prepare.json", "scenarios.json", "sensitivity.json", "report.html", "schedule.xlsx"}
-RECORDS |= {"starts.npy", "needs.npy", *mine_files.OF_PROGRAM}
+RECORDS = {"plan.json", "scenarios.json", "sensitivity.json", "report.html", "tables/schedule.xlsx"}
+RECORDS |= {"solver/starts.npy", "solver/needs.npy", *mine_files.IN_FOLDER}
+# Folders whose files are compared by themselves, or are the record of a run.
+OWN = ("cases/", "done/", "failed/", "realisations/", "audit-")
 
 
 def written(folder: Path) -> dict[str, bytes]:
     """The files of a folder that must be the same by either solver."""
-    return {path.name: path.read_bytes() for path in folder.iterdir() if path.is_file() and path.name not in RECORDS}
+    return {name: held for name, held in files_in(folder).items() if name not in RECORDS and not name.startswith(OWN)}
 
 
 def by_both(tmp_path: Path, command: str, project: Path, *options: str) -> tuple[Path, Path]:
@@ -58,19 +60,35 @@ def without_solver(path: Path) -> dict:
     record = json.loads(path.read_text())
     for told in (record, record.get("shells", {})):
         told.pop("solver", None)
-    record["files"] = {name: digest for name, digest in record["files"].items() if name not in mine_files.OF_PROGRAM}
+    record["files"] = {name: digest for name, digest in record["files"].items() if name not in mine_files.IN_FOLDER}
     return record
 
 
 @pytest.mark.parametrize("example", ["plan", "fixed"])
 def test_shells_are_the_same_to_the_byte(tmp_path, example):
     arrays, texts = by_both(tmp_path, "shells", EXAMPLES / example / "project.toml")
-    assert {"blocks.csv", "shells.csv", "years.csv", "plans.png", "sections.png"} <= written(arrays).keys()
-    assert without_solver(arrays / "prepare.json") == without_solver(texts / "prepare.json")
-    fixed = {"mine.fixed", "rest.blocks", "rest.prec", "pit.upit"} if example == "fixed" else set()
-    assert set(mine_files.of_program(texts)) == {"mine.blocks", "mine.upit", "mine.prec", "shells.txt", *fixed}
+    assert {
+        "tables/blocks.csv",
+        "tables/shells.csv",
+        "tables/years.csv",
+        "figures/plans.png",
+        "figures/sections.png",
+    } <= written(arrays).keys()
+    assert without_solver(arrays / "plan.json") == without_solver(texts / "plan.json")
+    fixed = (
+        {"solver/mine.fixed", "solver/rest.blocks", "solver/rest.prec", "solver/pit.upit"}
+        if example == "fixed"
+        else set()
+    )
+    assert set(mine_files.of_program(texts)) == {
+        "solver/mine.blocks",
+        "solver/mine.upit",
+        "solver/mine.prec",
+        "solver/shells.txt",
+        *fixed,
+    }
     assert mine_files.of_program(arrays) == ()
-    told = [json.loads((place / "prepare.json").read_text())["shells"]["solver"] for place in (arrays, texts)]
+    told = [json.loads((place / "plan.json").read_text())["shells"]["solver"] for place in (arrays, texts)]
     hashes = [hash_of(file) for file in (pitshell.LIBRARY, program.program())]
     assert [(it["by"], it["sha256"]) for it in told] == [("library", hashes[0]), ("program", hashes[1])]
     for place, it in zip((arrays, texts), told):
@@ -78,13 +96,13 @@ def test_shells_are_the_same_to_the_byte(tmp_path, example):
         assert (
             it["sha256"] in page
             and f"Proved for the {it['by']}, given" in page
-            and ("mine.prec" in page) == (it["by"] == "program")
+            and ("solver/mine.prec" in page) == (it["by"] == "program")
         )
 
 
 def test_a_pit_with_fixed_blocks_and_without_is_the_same(tmp_path):
     arrays, _ = by_both(tmp_path, "pit", EXAMPLES / "fixed" / "project.toml")
-    assert {"blocks.csv", "pits.csv", "project-as-run.toml"} == written(arrays).keys()
+    assert {"tables/blocks.csv", "tables/pits.csv", "project-as-run.toml"} == written(arrays).keys()
 
 
 def test_pushbacks_and_their_schedule_are_the_same(tmp_path):
@@ -93,14 +111,16 @@ def test_pushbacks_and_their_schedule_are_the_same(tmp_path):
     with open(tmp_path / "plan" / "project.toml", "a") as file:
         file.write("\n[pushbacks]\ncount = 3\nmin_mining_width = 40\n[schedule]\nbench_lag = 1\n")
     arrays, _ = by_both(tmp_path, "schedule", tmp_path / "plan" / "project.toml")
-    assert {"pushbacks.csv", "schedule.csv", "schedule.json", "blocks.csv"} <= written(arrays).keys()
+    assert {"tables/pushbacks.csv", "tables/schedule.csv", "schedule.json", "tables/blocks.csv"} <= written(
+        arrays
+    ).keys()
 
 
 def test_a_sensitivity_is_the_same_and_keeps_answers_apart(plan_folder, tmp_path):
     text = with_section(FIXED_SECTION) + '\n[sensitivity]\nchanges = [-0.1]\nparameters = ["price", "slopes"]\n'
     path = plan_folder(ores_and_fixed(), text, UPRIGHT)
     arrays, texts = by_both(tmp_path, "sensitivity", path)
-    assert {"blocks.csv", "sensitivity.csv"} <= written(arrays).keys()
+    assert {"tables/blocks.csv", "tables/sensitivity.csv"} <= written(arrays).keys()
     answers = [{it.name for it in (place / "cases").iterdir()} for place in (arrays, texts)]
     assert len(answers[0]) == len(answers[1]) == 3 and not answers[0] & answers[1]
 
@@ -108,20 +128,31 @@ def test_a_sensitivity_is_the_same_and_keeps_answers_apart(plan_folder, tmp_path
 def test_scenarios_are_the_same_and_keep_answers_apart(tmp_path):
     pytest.importorskip("distributed", reason="needs the Debian package python3-distributed")
     arrays, texts = by_both(tmp_path, "scenarios", EXAMPLES / "scenarios" / "project.toml", "--workers", "1")
-    assert {"probability.csv", "scenarios.csv", "quantiles.csv", "gathered.json", "blocks.csv"} <= written(
-        arrays
-    ).keys()
+    assert {
+        "tables/probability.csv",
+        "tables/scenarios.csv",
+        "tables/quantiles.csv",
+        "gathered.json",
+        "tables/blocks.csv",
+    } <= written(arrays).keys()
     answers = [{it.name for it in (place / "done").iterdir()} for place in (arrays, texts)]
     assert len(answers[0]) == len(answers[1]) > 3 and not answers[0] & answers[1]
-    assert (arrays / "needs.npy").is_file() and not (arrays / "mine.prec").exists() and (texts / "mine.prec").is_file()
+    assert (
+        (arrays / "solver/needs.npy").is_file()
+        and not (arrays / "solver/mine.prec").exists()
+        and (texts / "solver/mine.prec").is_file()
+    )
 
 
 @pytest.mark.parametrize("example", ["plan", "fixed"])
 def test_rows_are_the_lines_of_the_program_s_files(tmp_path, example):
     """Of the whole mine, and of what fixed blocks leave of it."""
-    plan = pitplan.prepare(EXAMPLES / example / "project.toml")
+    plan = pitplan.Plan.from_project(EXAMPLES / example / "project.toml")
     written = mine_files.write(plan, tmp_path)
-    for needs, name in ((plan.needs, "mine.prec"), (plan.needs_of_rest, "rest.prec" if plan.settled else "mine.prec")):
+    for needs, name in (
+        (plan.needs, "mine.prec"),
+        (plan.needs_of_rest, "rest.prec" if plan.settled else "mine.prec"),
+    ):
         found, pairs = counted_rows(needs, plan)
         lines = (list(map(int, line.split())) for line in open(tmp_path / name))
         listed = {block: needed for block, _, *needed in lines}
@@ -136,10 +167,10 @@ def test_rows_are_the_lines_of_the_program_s_files(tmp_path, example):
 def test_too_many_needs_are_refused_before_anything_is_solved(monkeypatch):
     monkeypatch.setattr("pitplan.solver.problem.MOST_PAIRS", 25_000)
     monkeypatch.setattr("pitplan.plan.MOST_PAIRS", 25_000)
-    plan = pitplan.prepare(replace(load(EXAMPLES / "plan" / "project.toml"), solver="library"))
+    plan = pitplan.Plan.from_project(replace(load(EXAMPLES / "plan" / "project.toml"), solver="library"))
     said = r"25,857 precedences, and the solver takes at most 25,000: reduce \[slopes\] precedence_benches, or a smaller model"
     with pytest.raises(PlanError, match=said):
-        pitplan.solve(plan)
+        plan.shells().solution
 
 
 def test_arrays_are_handed_over_as_they_are(monkeypatch):
@@ -260,7 +291,7 @@ def test_a_solve_that_takes_long_is_ended_at_once(plan_folder, asked, status, sa
     assert ran.poll() is None
     ran.send_signal(asked)
     _, err = ran.communicate(timeout=30)
-    assert time.monotonic() - began < 1.5 and ran.returncode == status
+    assert time.monotonic() - began < 10 and ran.returncode == status
     assert err.strip().splitlines()[-1:] == ([said] if said else [])
     assert not (path.parent / "plan").exists()
 
@@ -286,7 +317,7 @@ def test_what_is_asked_for_solves_else_what_is_named_else_the_library(monkeypatc
     assert choice.chosen().by == "program"
     monkeypatch.setenv("PITSHELL_LIBRARY", str(pitshell.LIBRARY))
     assert choice.chosen().by == "library"
-    with pytest.raises(PlanError, match="magic is none of library, program"):
+    with pytest.raises(PlanError, match="solver: found magic, expected one of library, program"):
         choice.chosen("magic")
 
 
@@ -354,7 +385,7 @@ def test_files_of_an_earlier_run_by_the_program_are_taken_away(plan_folder):
     path = plan_folder(rows(4, 4, 3, cu=lambda i, j, k: 6 * ((i, j, k) == (2, 2, 1))))
     project = load(path)
     pitplan.write_shells(replace(project, solver="program"), writing=pitplan.Writing(verifies=False))
-    there = {"mine.blocks", "mine.upit", "mine.prec", "shells.txt"}
+    there = {"solver/mine.blocks", "solver/mine.upit", "solver/mine.prec", "solver/shells.txt"}
     assert set(mine_files.of_program(project.folder)) == there
     with pytest.MonkeyPatch.context() as patch:
         patch.setattr(answers, "draw", lambda *_: (_ for _ in ()).throw(PlanError("no pictures")))

@@ -42,7 +42,7 @@ def test_the_command_line(mine, capsys):
             ("precedence_benches = 3", "precedence_benches = 0"),
             "[slopes] precedence_benches: must be a whole number from 1 to 40",
         ),
-        (("discount_rate = 0.1", "discount_rate = 0.1\nrates = 1"), "[shells] rates: is no key here"),
+        (("discount_rate = 0.1", "discount_rate = 0.1\nrates = 1"), "[shells] rates: unknown key"),
         (('domain = "region"', 'domain = "region"\ntopography = "nowhere.csv"'), "nowhere.csv"),
         (("[shells]", '[constraints]\nmust_mine = "must"\n[shells]'), "must"),
         (("[shells]", "[figures]\nlevels = [900]\n[shells]"), "[figures] levels: 900 is beyond the model"),

@@ -39,10 +39,10 @@ def plan_and_check(folder: Path, commands: Path) -> None:
     project = folder / "plan" / "project.toml"
     shutil.copytree(EXAMPLE, project.parent)
     run(commands / "pitplan", "shells", project, "--out", folder / "out", commands=commands)
-    shells = pd.read_csv(folder / "out" / "shells.csv", index_col="revenue_factor")
+    shells = pd.read_csv(folder / "out" / "tables/shells.csv", index_col="revenue_factor")
     # As documents have them, from a run of another day.
     assert shells["blocks"][[0.4, 0.7, 1.0, 1.2]].tolist() == [274, 623, 828, 901]
-    run(commands / "pitplan", "audit", project, "--out", folder / "out", "--revenue-factor", "0.80", commands=commands)
+    run(commands / "pitplan", "audit", folder / "out", "--revenue-factor", "0.80", commands=commands)
     said = run("sh", folder / "out" / "audit-0.80" / "check.sh", commands=commands)
     assert said == "hashes: yes\npitshell check: yes\ncheck_certificate.py: yes\n"
 
@@ -75,6 +75,9 @@ def test_the_debian_package_serves_where_it_is_unpacked(dist, tmp_path):
         "share/doc/pitshell/copyright",
         "share/doc/pitshell/version",
         "share/bash-completion/completions/pitshell",
+        "share/bash-completion/completions/pitplan",
+        "share/zsh/site-functions/_pitplan",
+        "share/fish/vendor_completions.d/pitplan.fish",
     }
     documents = (
         "README.md",

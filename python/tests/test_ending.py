@@ -48,7 +48,7 @@ def test_a_full_standard_error_costs_the_words_alone(tmp_path, table):
         ):
             ran = subprocess.run([*PITPLAN, *command], cwd=tmp_path, stdout=subprocess.PIPE, stderr=full, text=True)
             assert (ran.returncode, ran.stdout) == (0, said)
-    assert (tmp_path / "out" / "prepare.json").is_file()
+    assert (tmp_path / "out" / "plan.json").is_file()
 
 
 def test_with_standard_error_closed_standard_output_has_the_place_alone(tmp_path, table):

@@ -23,14 +23,14 @@ EXAMPLE = ROOT / "examples" / "plan"
 
 @pytest.fixture(scope="module")
 def solved_example():
-    plan = pitplan.prepare(EXAMPLE / "project.toml")
-    solution = pitplan.solve(plan)
-    return plan, solution, pitplan.shells(plan, solution)
+    plan = pitplan.Plan.from_project(EXAMPLE / "project.toml")
+    solution = plan.shells().solution
+    return plan, solution, pitplan.Shells(plan, solution).table
 
 
 def test_the_program_s_own_text_is_the_expected_one():
-    plan = pitplan.prepare(replace(pitplan.load(EXAMPLE / "project.toml"), solver="program"))
-    assert pitplan.solve(plan).answer == (EXAMPLE / "expected" / "shells.txt").read_bytes()
+    plan = pitplan.Plan.from_project(replace(pitplan.load(EXAMPLE / "project.toml"), solver="program"))
+    assert plan.shells().solution.answer == (EXAMPLE / "expected" / "shells.txt").read_bytes()
 
 
 def test_the_table_of_shells_is_the_expected_one(solved_example):
@@ -79,10 +79,10 @@ def test_tonnes_and_worth_are_the_sums_over_the_rows(solved_example, factor):
 def test_a_fixed_cutoff_digs_no_more_and_earns_no_more(solved_example):
     """At every factor the moving cut-off's pit is worth at least as much in the factor's own values."""
     plan, solution, _ = solved_example
-    fixed = replace(plan.project, money=replace(plan.project.money, cutoff="base_price"))
-    other = pitplan.solve(pitplan.prepare(fixed))
-    lost = [factor for factor in plan.project.schedule.revenue_factors if other.worth[factor] < solution.worth[factor]]
-    assert all(other.worth[factor] <= solution.worth[factor] for factor in plan.project.schedule.revenue_factors)
+    fixed = replace(plan.project, economics=replace(plan.project.economics, cutoff="base_price"))
+    other = pitplan.Plan.from_project(fixed).shells().solution
+    lost = [factor for factor in plan.project.shells.revenue_factors if other.worth[factor] < solution.worth[factor]]
+    assert all(other.worth[factor] <= solution.worth[factor] for factor in plan.project.shells.revenue_factors)
     assert 0.5 in lost and 1.0 not in lost and 1.2 in lost
 
 
@@ -98,6 +98,6 @@ def test_the_large_example_prepares_a_table_of_its_own_command(tmp_path):
     )
     (tmp_path / "examples" / "large").mkdir(parents=True)
     (tmp_path / "examples" / "large" / "project.toml").write_text(text)
-    plan = pitplan.prepare(tmp_path / "examples" / "large" / "project.toml")
+    plan = pitplan.Plan.from_project(tmp_path / "examples" / "large" / "project.toml")
     made = (tmp_path / "build" / "large" / "blocks.csv").read_text().splitlines()
-    assert len(plan.blocks) == len(made) - 1 > 900 and len(plan.project.schedule.revenue_factors) == 21
+    assert len(plan.blocks) == len(made) - 1 > 900 and len(plan.project.shells.revenue_factors) == 21

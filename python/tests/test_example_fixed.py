@@ -13,7 +13,7 @@ from conftest import ROOT
 from test_oracle import cotangent
 
 import pitplan
-from pitplan import prepare
+from pitplan import Plan
 from pitplan.solver import program
 
 EXAMPLE = ROOT / "examples" / "fixed"
@@ -49,7 +49,10 @@ def by_hand(rows):
 
 
 def test_the_tables_are_the_expected_ones(folder):
-    for name, written in (("shells.csv", folder / "shells.csv"), ("pits.csv", folder / "pit" / "pits.csv")):
+    for name, written in (
+        ("shells.csv", folder / "tables/shells.csv"),
+        ("pits.csv", folder / "pit" / "tables/pits.csv"),
+    ):
         tables = [
             pd.read_csv(path, dtype={"value_at_revenue_factor": str}) for path in (EXAMPLE / "expected" / name, written)
         ]
@@ -60,7 +63,7 @@ def test_the_fixed_blocks_are_those_of_the_map():
     """24 blocks of the cut; on the plant's 16 columns stand 13 x 11 + 3 x 12 = 179."""
     rows = table_of_rows()
     forced, barred = by_hand(rows)
-    plan = prepare(EXAMPLE / "project.toml")
+    plan = Plan.from_project(EXAMPLE / "project.toml")
     called = plan.blocks.set_index("id")["planner_id"]
     assert {rows[place]["id"] for place in forced} == set(called[plan.fixed.forced])
     assert {rows[place]["id"] for place in barred} == set(called[plan.fixed.barred])
@@ -70,11 +73,11 @@ def test_the_fixed_blocks_are_those_of_the_map():
 
 def test_without_fixed_blocks_the_pit_is_that_of_the_plain_example_less_the_cut(folder):
     """The cut lies within the plain pit; what was mined of it neither costs nor yields anything now."""
-    pits = pd.read_csv(folder / "pit" / "pits.csv").set_index("fixed_blocks")
+    pits = pd.read_csv(folder / "pit" / "tables/pits.csv").set_index("fixed_blocks")
     plain = pd.read_csv(ROOT / "examples" / "plan" / "expected" / "shells.csv").set_index("revenue_factor").loc[1.0]
     rows = table_of_rows()
     called = {rows[place]["id"] for place in by_hand(rows)[0]}
-    plan = prepare(ROOT / "examples" / "plan" / "project.toml")
+    plan = Plan.from_project(ROOT / "examples" / "plan" / "project.toml")
     blocks = plan.blocks[plan.blocks["planner_id"].isin(called)]
     is_ore = blocks["revenue"] > blocks["processing_cost"]
     gone = {"blocks": 24, "tonnes": blocks["tonnes"].sum(), "feed_tonnes": blocks["tonnes"][is_ore].sum()}
@@ -97,7 +100,7 @@ def test_each_shell_keeps_to_walls_cut_and_plant(folder, factor):
     """By the whole cone above each block that is dug, as the walls are asked for."""
     rows = table_of_rows()
     forced, barred = by_hand(rows)
-    blocks = pd.read_csv(folder / "blocks.csv").set_index("planner_id")["revenue_factor"]
+    blocks = pd.read_csv(folder / "tables/blocks.csv").set_index("planner_id")["revenue_factor"]
     pit = {place for place, row in rows.items() if 0 < blocks[row["id"]] <= factor}
     assert forced <= pit and not barred & pit
     cones = {region: cone(wall) for region, wall in WALLS.items()}

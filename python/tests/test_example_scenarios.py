@@ -97,7 +97,7 @@ def pits():
 
 def test_each_scenario_is_that_of_the_oracle(folder, pits):
     """Eight scenarios at two factors; the third model pays at the higher price alone."""
-    table = rows_of(folder / "scenarios.csv")
+    table = rows_of(folder / "tables/scenarios.csv")
     assert len(table) == len(pits) == 16
     for row in table:
         inside, worth = pits[row["realisation"], int(row["price_copper"]), float(row["revenue_factor"])]
@@ -108,7 +108,7 @@ def test_each_scenario_is_that_of_the_oracle(folder, pits):
 
 @pytest.mark.parametrize("factor", FACTORS)
 def test_probabilities_are_shares_of_the_oracle(folder, pits, factor):
-    likely = pd.read_csv(folder / "probability.csv").set_index("planner_id")[f"probability_{factor:.2f}"]
+    likely = pd.read_csv(folder / "tables/probability.csv").set_index("planner_id")[f"probability_{factor:.2f}"]
     asked = [inside for (_, _, at), (inside, _) in pits.items() if at == factor]
     assert likely.to_dict() == {name: sum(name in inside for inside in asked) / 8 for name in likely.index}
     assert likely.max() >= 0.75 and len(likely) == 523
@@ -116,7 +116,7 @@ def test_probabilities_are_shares_of_the_oracle(folder, pits, factor):
 
 def test_quantiles_by_hand_from_the_oracle(folder, pits):
     """Of four models, the median lies half way between the second and the third, and a tenth at 0.3 of the way from the first."""
-    table = pd.read_csv(folder / "quantiles.csv").set_index(["price_copper", "revenue_factor"])
+    table = pd.read_csv(folder / "tables/quantiles.csv").set_index(["price_copper", "revenue_factor"])
     for price, factor in table.index:
         counts = sorted(len(inside) for (_, at, of), (inside, _) in pits.items() if (at, of) == (price, factor))
         row = table.loc[(price, factor)]
@@ -217,8 +217,8 @@ def milled(worth, year):
 
 def test_bounds_and_what_the_one_schedule_earns_are_those_of_programmes_of_the_tests_own(scheduled):
     """Eight scenarios: each bound is the optimum of the whole linear programme within 1e-4, and no value is above that."""
-    table, leads = pd.read_csv(scheduled / "schedules.csv"), needs()
-    year = pd.read_csv(scheduled / "common_schedule.csv").set_index("planner_id")["year"].to_dict()
+    table, leads = pd.read_csv(scheduled / "tables/schedules.csv"), needs()
+    year = pd.read_csv(scheduled / "tables/common_schedule.csv").set_index("planner_id")["year"].to_dict()
     bounds = []
     for row in table.to_dict("records"):
         worth = worths(EXAMPLE / "realisations" / f"{row['realisation']}.csv", int(row["price_copper"]))

@@ -17,7 +17,7 @@ CODES = ("name", "rock", "region")
 
 def refused(project, **given):
     with pytest.raises(PlanError) as said:
-        pitplan.prepare(project, **given)
+        pitplan.Plan.from_project(project, **given)
     return str(said.value)
 
 
@@ -71,7 +71,7 @@ def test_a_table_in_utf_16_without_a_mark_is_refused_with_the_remedy(plan_folder
     table.write_bytes(table.read_text().encode("utf-16-le"))
     assert "blocks.csv row 1: contains a NUL byte" in refused(path)
     path.write_text(path.read_text().replace('id = "name"', 'id = "name"\nencoding = "utf-16-le"'))
-    assert len(pitplan.prepare(path).blocks) == 8
+    assert len(pitplan.Plan.from_project(path).blocks) == 8
 
 
 def test_points_of_a_surface_hold_no_nul_byte(plan_folder):
@@ -98,7 +98,9 @@ def test_truths_in_one_piece_alone_are_refused_there(plan_folder, monkeypatch):
 
 
 def test_codes_may_be_truths(plan_folder):
-    blocks = pitplan.prepare(plan_folder(rows(3, 2, 2, rock=lambda i, j, k: "TRUE", region=lambda i, j, k: "1"))).blocks
+    blocks = pitplan.Plan.from_project(
+        plan_folder(rows(3, 2, 2, rock=lambda i, j, k: "TRUE", region=lambda i, j, k: "1"))
+    ).blocks
     assert set(blocks["rock"]) == {"TRUE"}
 
 
@@ -122,7 +124,7 @@ def test_a_text_among_grades_is_refused_whatever_its_dtype(plan_folder, dtype, e
         table = rows(3, 2, 2).assign(cu=pd.Series([*grades[:7], text, *grades[8:]], dtype=dtype))
         assert f'table row 9 column cu: "{text}" is not a number' in refused(path, table=table)
     table = rows(3, 2, 2).assign(cu=pd.Series(grades, dtype=dtype))
-    assert sorted(set(pitplan.prepare(path, table=table).blocks["cu"])) == [0.0, 0.1, 0.5, 6.0]
+    assert sorted(set(pitplan.Plan.from_project(path, table=table).blocks["cu"])) == [0.0, 0.1, 0.5, 6.0]
 
 
 @pytest.mark.parametrize("dtype", DTYPES)
@@ -130,7 +132,7 @@ def test_an_empty_field_of_each_dtype_is_one(plan_folder, dtype):
     table = rows(3, 2, 2).assign(cu=pd.Series(["0.5", None, ""] + ["1"] * 9, dtype=dtype))
     assert "table row 3 column cu: is empty" in refused(plan_folder(rows(3, 2, 2)), table=table)
     path = plan_folder(rows(3, 2, 2), PROJECT, ('id = "name"', 'id = "name"\nempty = "zero"'))
-    plan = pitplan.prepare(path, table=table)
+    plan = pitplan.Plan.from_project(path, table=table)
     assert sorted(plan.blocks["cu"])[:3] == [0.0, 0.0, 0.5] and any("2 empty fields" in note for note in plan.notes)
 
 

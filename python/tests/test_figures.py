@@ -3,7 +3,7 @@
 import json
 
 import pytest
-from conftest import PROJECT, rows
+from conftest import PROJECT, files_in, rows
 
 import pitplan
 from pitplan import Writing
@@ -32,7 +32,7 @@ def mine(plan_folder):
 
 
 def figures_in(folder):
-    return {path.name for path in folder.iterdir() if path.suffix in (".png", ".svg", ".pdf")}
+    return {name for name in files_in(folder) if name.endswith((".png", ".svg", ".pdf"))}
 
 
 @pytest.mark.parametrize(
@@ -51,12 +51,12 @@ def figures_in(folder):
 def test_a_run_without_figures_removes_those_of_an_earlier_run(mine, command, name, drawn, headings):
     folder = mine.parent / "plan" / name
     first = command(mine, writing=ONCE)
-    page, record = (folder / "report.html").read_text(), json.loads((folder / "prepare.json").read_text())
+    page, record = (folder / "report.html").read_text(), json.loads((folder / "plan.json").read_text())
     assert figures_in(folder) == {*drawn.values()} < {*record["files"]} and record["figures"] is True
     assert page.count("data:image/png") == len(drawn) and "<h2>Figures</h2>" in page
     assert all(f"<h3>{heading}</h3>" in page for heading in headings)
     second = command(mine, writing=BARE)
-    page, record = (folder / "report.html").read_text(), json.loads((folder / "prepare.json").read_text())
+    page, record = (folder / "report.html").read_text(), json.loads((folder / "plan.json").read_text())
     assert figures_in(folder) == set() and record["figures"] is False and not {*FIGURES} & {*record["files"]}
     assert "<img" not in page and "<h2>Figures</h2>" not in page and "<h2>Tables</h2>" in page
     assert not any(f"<h3>{heading}</h3>" in page for heading in headings)
@@ -76,7 +76,7 @@ def test_figures_of_other_formats_are_removed_too(mine):
 def test_a_sensitivity_without_figures(mine):
     folder = mine.parent / "plan" / "sensitivity"
     pitplan.write_sensitivity(mine, writing=ONCE)
-    assert figures_in(folder) == {"tornado.png", "spider.png", "grid-price-mining_cost.png"}
+    assert figures_in(folder) == {"figures/tornado.png", "figures/spider.png", "figures/grid-price-mining_cost.png"}
     assert json.loads((folder / "sensitivity.json").read_text())["figures"] is True
     pitplan.write_shells(mine, writing=BARE)
     assert (mine.parent / "plan" / "report.html").read_text().count(
@@ -89,12 +89,15 @@ def test_a_sensitivity_without_figures(mine):
         and json.loads((folder / "sensitivity.json").read_text())["figures"] is False
     )
     page = pitplan.write_report(mine.parent / "plan").read_text()
-    assert "<img" not in page and "sensitivity.csv" in page
+    assert "<img" not in page and "tables/sensitivity.csv" in page
 
 
 @pytest.mark.parametrize(
     ("by", "names"),
-    [("pit", {"probability_plans.png", "probability_sections.png", "spread.png"}), ("block", {"schedule_values.png"})],
+    [
+        ("pit", {"figures/probability_plans.png", "figures/probability_sections.png", "figures/spread.png"}),
+        ("block", {"figures/schedule_values.png"}),
+    ],
 )
 def test_scenarios_without_figures(mine, by, names):
     pytest.importorskip("distributed")

@@ -13,7 +13,7 @@ from decimal import Decimal
 import numpy as np
 import pandas as pd
 import pytest
-from conftest import PROJECT, ROOT, rows
+from conftest import PROJECT, ROOT, files_in, rows
 
 import pitplan
 from pitplan import BudgetUsedUp, PlanError, ProgramError, load
@@ -37,20 +37,20 @@ def test_shells_write_tables_pictures_and_a_page_that_needs_no_other_file(solved
     """Where the library solves it needs no other file either."""
     project, folder = solved
     pitplan.write_shells(replace(project, solver="program"), writing=pitplan.Writing(verifies=False))
-    names = {path.name for path in folder.iterdir()}
+    names = {*files_in(folder)}
     pictures = set(PICTURES.values())
     assert (
         names
         == {
-            "mine.blocks",
-            "mine.upit",
-            "mine.prec",
-            "prepare.json",
+            "solver/mine.blocks",
+            "solver/mine.upit",
+            "solver/mine.prec",
+            "plan.json",
             "project-as-run.toml",
-            "blocks.csv",
-            "shells.csv",
-            "years.csv",
-            "shells.txt",
+            "tables/blocks.csv",
+            "tables/shells.csv",
+            "tables/years.csv",
+            "solver/shells.txt",
             "report.html",
         }
         | pictures
@@ -74,14 +74,14 @@ def test_a_mine_without_ore_has_a_report_and_a_page_too(plan_folder):
 
 def test_the_record_is_json_that_can_be_read(solved):
     """A key a line, two blanks deep."""
-    first, second, *_ = (solved[1] / "prepare.json").read_text().splitlines()
+    first, second, *_ = (solved[1] / "plan.json").read_text().splitlines()
     assert (first, second) == ("{", '  "title": "Test hill",')
 
 
 def test_the_record_has_hashes_of_all_that_was_read_and_written(solved):
     project, folder = solved
     pitplan.write_shells(replace(project, solver="program"), writing=pitplan.Writing(verifies=False))
-    record = json.loads((folder / "prepare.json").read_text())
+    record = json.loads((folder / "plan.json").read_text())
     names = [*record["files"], *record["inputs"]]
     places = [folder / name for name in record["files"]] + [project.path.parent / name for name in record["inputs"]]
     said = subprocess.run(["sha256sum", *map(str, places)], capture_output=True, text=True, check=True).stdout.split(
@@ -90,17 +90,16 @@ def test_the_record_has_hashes_of_all_that_was_read_and_written(solved):
     assert dict(zip(names, (line.split()[0] for line in said if line))) == {**record["files"], **record["inputs"]}
     assert (
         record["needs"]["written"]
-        == sum(int(line.split()[1]) for line in open(folder / "mine.prec")) - record["needs"]["of_processing_nodes"]
+        == sum(int(line.split()[1]) for line in open(folder / "solver/mine.prec"))
+        - record["needs"]["of_processing_nodes"]
     )
 
 
 def test_a_file_changed_since_is_refused(solved):
     _, folder = solved
-    with open(folder / "years.csv", "a") as file:
+    with open(folder / "tables/years.csv", "a") as file:
         file.write("\n")
-    with pytest.raises(
-        PlanError, match="years.csv: has changed since prepare.json was written: run pitplan shells again"
-    ):
+    with pytest.raises(PlanError, match="years.csv: has changed since plan.json was written: run pitplan shells again"):
         read_folder(folder)
 
 
@@ -109,7 +108,7 @@ def test_a_prepared_folder_has_no_shells_yet(plan_folder):
     write_plan(project, project.folder, silent)
     with pytest.raises(PlanError, match="has no shells yet: run pitplan shells first"):
         read_folder(project.folder)
-    with pytest.raises(PlanError, match="nowhere/prepare.json: cannot be read: run pitplan shells first"):
+    with pytest.raises(PlanError, match="nowhere/plan.json: cannot be read: run pitplan shells first"):
         read_folder(project.folder / "nowhere")
 
 
@@ -123,9 +122,13 @@ def test_an_audit_is_confirmed_by_the_program_and_by_the_short_checker(solved, f
     ran = subprocess.run(["sh", str(target / "check.sh")], capture_output=True, text=True, env=environment, check=True)
     assert ran.stdout.split("\n") == ["hashes: yes", "pitshell check: yes", "check_certificate.py: yes", ""]
     record = json.loads((target / "audit.json").read_text())
-    table = pd.read_csv(folder / "shells.csv", dtype={"value_at_revenue_factor": str}).set_index("revenue_factor")
+    table = pd.read_csv(folder / "tables/shells.csv", dtype={"value_at_revenue_factor": str}).set_index(
+        "revenue_factor"
+    )
     assert Decimal(record["value_at_revenue_factor"]) == Decimal(table["value_at_revenue_factor"][factor])
-    assert record["program"] == program.identity() and record["plan"]["blocks.csv"] == hash_of(folder / "blocks.csv")
+    assert record["program"] == program.identity() and record["plan"]["tables/blocks.csv"] == hash_of(
+        folder / "tables/blocks.csv"
+    )
 
 
 def test_a_bent_audit_is_not_confirmed(solved):
@@ -141,7 +144,7 @@ def test_an_audit_of_other_blocks_or_of_another_worth_is_refused(solved):
     folder = read_folder(solved[1])
     stage = pitplan.audit(solved[1], 1.0, silent)
     worth = audit.demand_same(stage, folder, 1.0)
-    shells = pd.read_csv(solved[1] / "shells.csv", dtype={"value_at_revenue_factor": str})
+    shells = pd.read_csv(solved[1] / "tables/shells.csv", dtype={"value_at_revenue_factor": str})
     assert [worth] == shells.loc[shells["revenue_factor"] == 1.0, "value_at_revenue_factor"].map(Decimal).tolist()
     dug = folder.blocks["revenue_factor"] == 0.5
     other = replace(
@@ -151,7 +154,7 @@ def test_an_audit_of_other_blocks_or_of_another_worth_is_refused(solved):
     with pytest.raises(PlanError, match="the audited pit is not the shell of revenue factor 1.00"):
         audit.demand_same(stage, other, 1.0)
     shells.assign(value_at_revenue_factor=shells["value_at_revenue_factor"] + "1").to_csv(
-        solved[1] / "shells.csv", index=False
+        solved[1] / "tables/shells.csv", index=False
     )
     with pytest.raises(PlanError, match="the audited pit is not the shell of revenue factor 1.00"):
         audit.demand_same(stage, folder, 1.0)
@@ -194,7 +197,7 @@ def test_a_factor_that_is_not_solved_is_refused(solved):
 def test_csv_has_the_blocks_of_all_pits(solved):
     _, folder = solved
     table = pd.read_csv(pitplan.write_export(folder, "csv", 1.0, silent))
-    blocks = pd.read_csv(folder / "blocks.csv")
+    blocks = pd.read_csv(folder / "tables/blocks.csv")
     assert len(table) == (blocks["revenue_factor"] > 0.0).sum() > 0 and set(table["name"]) == set(
         blocks["name"][blocks["revenue_factor"] > 0.0]
     )
@@ -211,7 +214,7 @@ def test_vti_is_read_back_by_vtk_cell_by_cell(solved):
     image = reader.GetOutput()
     assert image.GetDimensions() == (11, 10, 6) and image.GetBounds() == (0, 100, 0, 90, 0, 50)
     factor = vtk_to_numpy(image.GetCellData().GetArray("revenue_factor"))
-    for _, block in pd.read_csv(folder / "blocks.csv").iterrows():
+    for _, block in pd.read_csv(folder / "tables/blocks.csv").iterrows():
         place = int(block.z // 10) * 90 + int(block.y // 10) * 10 + int(block.x // 10)
         assert factor[place] == block.revenue_factor
 
@@ -227,7 +230,7 @@ def test_vtu_has_a_cell_a_block_of_rock_where_the_block_lies(plan_folder):
     reader.SetFileName(str(pitplan.write_export(path.parent / "plan", "vtu")))
     reader.Update()
     mesh = reader.GetOutput()
-    blocks = pd.read_csv(path.parent / "plan" / "blocks.csv")
+    blocks = pd.read_csv(path.parent / "plan" / "tables/blocks.csv")
     blocks = blocks[blocks["tonnes"] > 0].reset_index(drop=True)
     assert mesh.GetNumberOfCells() == len(blocks) == 23 and mesh.GetNumberOfPoints() == 5 * 4 * 3
     for number, block in blocks.iterrows():
@@ -247,7 +250,7 @@ def test_a_workbook_has_all_tables_of_the_folder(solved):
     book = openpyxl.load_workbook(pitplan.write_export(folder, "xlsx"))
     assert book.sheetnames == ["shells", "years"]
     for name in book.sheetnames:
-        table = pd.read_csv(folder / f"{name}.csv")
+        table = pd.read_csv(folder / "tables" / f"{name}.csv")
         head, *lines = ([cell.value for cell in row] for row in book[name])
         assert head == list(table.columns) and len(lines) == len(table) > 2
         assert [line[:4] for line in lines] == table.iloc[:, :4].values.tolist()
@@ -257,7 +260,7 @@ def test_dxf_has_the_area_of_the_pit_on_each_level(solved):
     ezdxf = pytest.importorskip("ezdxf")
     _, folder = solved
     drawing = ezdxf.readfile(pitplan.write_export(folder, "dxf", 1.0, silent))
-    blocks = pd.read_csv(folder / "blocks.csv")
+    blocks = pd.read_csv(folder / "tables/blocks.csv")
     dug = blocks[(blocks["revenue_factor"] > 0.0) & (blocks["revenue_factor"] <= 1.0)]
     areas = {}
     for line in drawing.modelspace().query("POLYLINE"):
@@ -296,11 +299,14 @@ def test_rings_have_a_point_at_each_corner_and_at_no_other(seed):
 
 def test_the_planners_own_table_is_never_written_over(plan_folder):
     path = plan_folder(rows(4, 4, 3, **ORE))
-    before = (path.parent / "blocks.csv").read_bytes()
+    (path.parent / "tables").mkdir()
+    (path.parent / "blocks.csv").rename(path.parent / "tables/blocks.csv")
+    path.write_text(path.read_text().replace('file = "blocks.csv"', 'file = "tables/blocks.csv"'))
+    before = files_in(path.parent)
     for command in (write_plan, pitplan.write_shells):
         with pytest.raises(PlanError, match="blocks.csv: the run would overwrite it: give another folder with --out"):
             command(load(path), path.parent, silent)
-    assert (path.parent / "blocks.csv").read_bytes() == before and len(list(path.parent.iterdir())) == 2
+    assert files_in(path.parent) == before
 
 
 @pytest.mark.parametrize(
@@ -346,11 +352,11 @@ def test_nothing_half_written_stays(plan_folder, monkeypatch):
 
 def test_a_failed_run_leaves_the_earlier_one(solved, monkeypatch):
     project, folder = solved
-    before = {path.name: path.read_bytes() for path in folder.iterdir()}
+    before = files_in(folder)
     monkeypatch.setattr(answers, "draw", lambda *_: (_ for _ in ()).throw(PlanError("no pictures")))
     with pytest.raises(PlanError, match="no pictures"):
         pitplan.write_shells(project, folder)
-    assert {path.name: path.read_bytes() for path in folder.iterdir()} == before
+    assert files_in(folder) == before
 
 
 def test_missing_libraries_are_named_with_their_packages(monkeypatch, tmp_path):
@@ -445,15 +451,15 @@ def test_the_command_line_tells_table_steps_and_warnings(solved_once):
 
 def test_the_command_line_exports_in_silence(solved, capsys):
     project, folder = solved
-    assert main(["export", str(project.path), "--to", "csv", "--quiet"]) == 0
+    assert main(["export", str(folder), "--to", "csv", "--quiet"]) == 0
     said = capsys.readouterr()
     assert said.err == "" and said.out == f"{folder / 'pit.csv'}\n"
 
 
 def test_the_command_line_writes_a_page_and_an_audit(solved, capsys):
     project, folder = solved
-    assert main(["view", str(project.path), "--quiet"]) == 0
-    assert main(["audit", str(project.path), "--revenue-factor", "0.50", "--quiet"]) == 0
+    assert main(["view", str(folder), "--quiet"]) == 0
+    assert main(["audit", str(folder), "--revenue-factor", "0.50", "--quiet"]) == 0
     said = capsys.readouterr()
     assert (said.out, said.err) == (f"{folder / 'view.html'}\n{folder / 'audit-0.50'}\n", "")
     assert (folder / "view.html").is_file() and json.loads((folder / "audit-0.50" / "audit.json").read_text())[
@@ -463,21 +469,21 @@ def test_the_command_line_writes_a_page_and_an_audit(solved, capsys):
 
 def test_an_audit_by_another_release_is_warned_of_with_quiet_and_in_python(solved, capsys):
     project, folder = solved
-    record = json.loads((folder / "prepare.json").read_text())
+    record = json.loads((folder / "plan.json").read_text())
     record["shells"]["solver"]["version"] = "libpitshell 0.0.7"
-    write_json(folder / "prepare.json", record)
+    write_json(folder / "plan.json", record)
     path = pitplan.audit(folder, 0.5)
     assert path == folder / "audit-0.50"
     assert [*path.notes] == [
         f"WARNING: libpitshell 0.0.7 found the shells, and {program.identity()['version']} audited them"
     ]
-    assert main(["audit", str(project.path), "--revenue-factor", "0.50", "--quiet"]) == 0
+    assert main(["audit", str(folder), "--revenue-factor", "0.50", "--quiet"]) == 0
     assert capsys.readouterr().err.splitlines() == [*path.notes]
 
 
 def test_a_folder_with_another_record_is_no_plan(solved):
-    (solved[1] / "prepare.json").write_text("{}")
-    with pytest.raises(PlanError, match="prepare.json: title: is missing: run pitplan shells again"):
+    (solved[1] / "plan.json").write_text("{}")
+    with pytest.raises(PlanError, match="plan.json: title: is missing: run pitplan shells again"):
         read_folder(solved[1])
 
 
@@ -543,7 +549,7 @@ def test_the_version_is_the_release(capsys):
 def test_a_plan_is_shown_in_a_few_lines(plan_folder):
     import pitplan
 
-    shown = repr(pitplan.prepare(plan_folder(rows(4, 4, 3, **ORE))))
+    shown = repr(pitplan.Plan.from_project(plan_folder(rows(4, 4, 3, **ORE))))
     assert len(shown.splitlines()) <= 10 and max(map(len, shown.splitlines())) < 160
     assert "48 blocks of 10 x 10 x 10 m on a grid of 4 x 4 x 3" in shown
 

@@ -14,9 +14,9 @@ from hypothesis import given, strategies as st
 from test_shells import BOX, CLOSED, SMALL, best_by_trying, grades, project_of
 
 import pitplan
-from pitplan import constraints, load, prepare
+from pitplan import Plan, constraints, load
 from pitplan.cli import main
-from pitplan.config.constraints import FixedRules
+from pitplan.config.constraints import ConstraintRules
 from pitplan.core.progress import Progress, silent
 from pitplan.errors import PlanError
 from pitplan.results.folder import read_record
@@ -29,7 +29,7 @@ def with_section(text):
 
 def lines_of(path, table, text, tmp_path):
     """The lines of mine.fixed."""
-    plan = prepare(load(path(table, with_section(text))))
+    plan = Plan.from_project(load(path(table, with_section(text))))
     mine_files.write(plan, tmp_path)
     return (tmp_path / "mine.fixed").read_text().splitlines()
 
@@ -51,7 +51,7 @@ def test_cells_without_rock_are_never_fixed(plan_folder, tmp_path):
 
 def test_nothing_is_fixed(plan_folder, tmp_path):
     assert lines_of(plan_folder, rows(2, 1, 1), "[constraints]\n", tmp_path) == []
-    plan = prepare(load(plan_folder(rows(2, 1, 1))))
+    plan = Plan.from_project(load(plan_folder(rows(2, 1, 1))))
     (tmp_path / "free").mkdir()
     mine_files.write(plan, tmp_path / "free")
     assert not (tmp_path / "free" / "mine.fixed").exists()
@@ -61,7 +61,7 @@ def test_rock_above_the_surface_must_be_dug(plan_folder, tmp_path):
     """Blocks of 10 m on levels with centres 5, 15 and 25: the ground lies at 20, at 5 on the mean, and is not known."""
     points = "x,y,z\n3,4,20\n12,2,0\n18,9,10\n-50,5,0\n"
     (tmp_path / "mined.csv").write_text(points)
-    plan = prepare(
+    plan = Plan.from_project(
         load(plan_folder(rows(3, 1, 3), with_section('[constraints]\nas_mined = "mined.csv"\ntopography = "blocks"\n')))
     )
     assert plan.fixed.forced.tolist() == [0, 1, 4]
@@ -74,7 +74,7 @@ def test_each_column_has_the_surface_of_its_own_points(plan_folder, tmp_path):
     points = [(10 * i + 5 + a, 10 * j + 5 - a, height + a) for (i, j), height in heights.items() for a in (-4, 4)]
     points += [(-1, 5, -900), (41, 15, -900), (15, -1, -900), (25, 31, -900)]
     pd.DataFrame(points, columns=["x", "y", "z"]).to_csv(tmp_path / "mined.csv", index=False)
-    plan = prepare(
+    plan = Plan.from_project(
         load(plan_folder(rows(4, 3, 4), with_section('[constraints]\nas_mined = "mined.csv"\ntopography = "blocks"\n')))
     )
     blocks = plan.blocks
@@ -96,7 +96,7 @@ def test_a_surface_between_points_is_their_plane(plan_folder, tmp_path):
         tmp_path / "mined.csv", index=False
     )
     table = rows(6, 4, 3).assign(x=lambda it: it["x"] + east, y=lambda it: it["y"] + north)
-    plan = prepare(
+    plan = Plan.from_project(
         load(plan_folder(table, with_section('[constraints]\nas_mined = "mined.csv"\ntopography = "blocks"\n')))
     )
     blocks = plan.blocks
@@ -108,7 +108,7 @@ def test_a_surface_between_points_is_their_plane(plan_folder, tmp_path):
 def test_points_that_make_no_triangle_say_nothing_beside_them(plan_folder, tmp_path, points):
     """Over the second and third column: one point, the same twice, and points on a line."""
     (tmp_path / "mined.csv").write_text("x,y,z\n" + points)
-    plan = prepare(
+    plan = Plan.from_project(
         load(plan_folder(rows(3, 3, 1), with_section('[constraints]\nas_mined = "mined.csv"\ntopography = "blocks"\n')))
     )
     over = {
@@ -123,7 +123,7 @@ def test_points_that_make_no_triangle_say_nothing_beside_them(plan_folder, tmp_p
 def test_a_triangle_bars_what_lies_in_it(plan_folder, tmp_path):
     """Below the line from 40 m in the north to 60 m in the east."""
     (tmp_path / "corner.csv").write_text("x,y\n0,0\n60,0\n0,40\n")
-    plan = prepare(
+    plan = Plan.from_project(
         load(
             plan_folder(
                 rows(7, 5, 1), with_section('[[constraints.areas]]\npolygon = "corner.csv"\nexclude = "inside"\n')
@@ -137,7 +137,7 @@ def test_a_triangle_bars_what_lies_in_it(plan_folder, tmp_path):
 def test_blocks_of_less_than_a_tonne_are_rock(plan_folder, tmp_path):
     table = rows(3, 1, 1, must=lambda i, j, k: 1, tonnes=lambda i, j, k: [0.5, 0, 1][i])
     assert lines_of(plan_folder, table, '[constraints]\nmust_mine = "must"\n', tmp_path) == ["in 0", "in 2"]
-    plan = prepare(load(plan_folder(table)))
+    plan = Plan.from_project(load(plan_folder(table)))
     assert plan.values.mining.tolist() == [1_000_000, 0, 2_000_000]
 
 
@@ -145,7 +145,7 @@ def test_a_surface_of_few_points_is_laid_between_them(plan_folder, tmp_path):
     """A plane that falls from 31 m in the west to 1 m in the east, by its corners alone: over the columns at 5, 15 and 25 m it lies
     at 26, 16 and 6 m."""
     (tmp_path / "mined.csv").write_text("x,y,z\n0,-50,31\n0,50,31\n30,-50,1\n30,50,1\n")
-    plan = prepare(
+    plan = Plan.from_project(
         load(plan_folder(rows(3, 1, 3), with_section('[constraints]\nas_mined = "mined.csv"\ntopography = "blocks"\n')))
     )
     assert plan.fixed.forced.tolist() == [1, 2, 5]
@@ -160,7 +160,7 @@ def test_areas_on_the_map(plan_folder, tmp_path):
     (tmp_path / "lease.csv").write_text("x,y\n0,0\n30,0\n30,10\n0,10\n")
     (tmp_path / "river.csv").write_text("x,y\n10,-5\n20,-5\n20,15\n10,15\n")
     text = '[[constraints.areas]]\npolygon = "lease.csv"\nexclude = "outside"\n[[constraints.areas]]\npolygon = "river.csv"\nexclude = "inside"\n'
-    plan = prepare(load(plan_folder(rows(4, 1, 2), with_section(text))))
+    plan = Plan.from_project(load(plan_folder(rows(4, 1, 2), with_section(text))))
     assert plan.fixed.barred.tolist() == [1, 3, 5, 7]
 
 
@@ -196,21 +196,21 @@ def test_a_polygon_with_a_bay():
         ),
         ('[[constraints.areas]]\npolygon = "area.csv"\nexclude = "both"\n', "", "exclude"),
         ('[[constraints.areas]]\npolygon = "area.csv"\n', "", "exclude"),
-        ('[constraints]\nforce = "must"\n', "", "force: is no key here"),
+        ('[constraints]\nforce = "must"\n', "", "force: unknown key"),
     ],
 )
 def test_what_is_refused(plan_folder, tmp_path, text, file, said):
     (tmp_path / "area.csv").write_text(file)
     path = plan_folder(rows(2, 1, 1, must=lambda i, j, k: 1), with_section(text))
     with pytest.raises(PlanError, match=said):
-        prepare(load(path))
+        Plan.from_project(load(path))
 
 
 def test_the_needs_of_forced_blocks_are_kept(plan_folder):
     """No block pays, so that all needs but those of the forced block at the floor are left out."""
     table = rows(3, 1, 3, must=lambda i, j, k: int((i, k) == (1, 0)))
-    assert not prepare(load(plan_folder(table))).used.any()
-    plan = prepare(load(plan_folder(table, with_section('[constraints]\nmust_mine = "must"\n'))))
+    assert not Plan.from_project(load(plan_folder(table))).used.any()
+    plan = Plan.from_project(load(plan_folder(table, with_section('[constraints]\nmust_mine = "must"\n'))))
     assert np.flatnonzero(plan.used).tolist() == [0, 1, 2, 3, 4, 5, 7]
 
 
@@ -230,7 +230,7 @@ def test_a_pit_that_keeps_to_fixed_blocks(plan_folder, capsys):
     path = plan_folder(ore_below_waste(), with_section('[constraints]\nexclude = "never"\n'))
     assert main(["pit", str(path), "--quiet"]) == 0
     folder = path.parent / "plan" / "pit"
-    table = pd.read_csv(folder / "pits.csv")
+    table = pd.read_csv(folder / "tables/pits.csv")
     assert table["fixed_blocks"].tolist() == ["kept", "free"]
     assert table["blocks"].tolist() == [0, 4]
     assert table["revenue_factor"].tolist() == [1.0, 1.0]
@@ -266,13 +266,13 @@ def test_shells_with_fixed_blocks_are_the_best_of_all_closed_sets_that_keep_to_t
     allowed = [chosen for chosen in CLOSED if all(chosen[b] for b in forced) and not any(chosen[b] for b in barred)]
     at = {word: (lambda i, j, k, word=word: int(words[(2 - k) * 3 + i] == word)) for word in ("in", "out")}
     table = rows(*BOX, cu=lambda i, j, k: by_id[(2 - k) * 3 + i], must=at["in"], never=at["out"])
-    project = replace(project_of(tmp_path, cutoff=cutoff), fixed=FixedRules("must", "never", None, ()))
+    project = replace(project_of(tmp_path, cutoff=cutoff), constraints=ConstraintRules("must", "never", None, ()))
     if not allowed:
         with pytest.raises(PlanError, match="is must-mine and depends on block .* which is excluded"):
-            prepare(project, table=table)
+            Plan.from_project(project, table=table)
         return
-    solution = pitplan.solve(prepare(project, table=table))
-    for factor in project.schedule.revenue_factors:
+    solution = Plan.from_project(project, table=table).shells().solution
+    for factor in project.shells.revenue_factors:
         yields = [Decimal(str(grade)) * 4000 for grade in by_id]
         if cutoff == "per_revenue_factor":
             values = [max(Decimal(str(factor)) * y - 1000, Decimal(0)) - 200 for y in yields]
@@ -302,7 +302,7 @@ FIXED_SECTION = '[constraints]\nmust_mine = "must"\nexclude = "never"\n'
 def test_shells_keep_to_fixed_blocks_and_are_compared_with_the_pit_of_the_program(plan_folder, capsys):
     path = plan_folder(ores_and_fixed(), with_section(FIXED_SECTION))
     assert main(["shells", str(path), "--quiet"]) == 0
-    blocks = pd.read_csv(path.parent / "plan" / "blocks.csv", dtype={"planner_id": str})
+    blocks = pd.read_csv(path.parent / "plan" / "tables/blocks.csv", dtype={"planner_id": str})
     assert (blocks.loc[blocks["must"] == 1, "revenue_factor"] == 0.5).all()
     assert (blocks.loc[blocks["never"] == 1, "revenue_factor"] == 0).all()
     # For their sake: the forced block at the floor needs the one beside its upper neighbour, and the floor's second needs the barred.
@@ -360,13 +360,13 @@ def test_scenarios_keep_to_fixed_blocks(plan_folder, tmp_path):
     told = io.StringIO()
     pitplan.write_scenarios(project, folder, pitplan.Request(workers=1), pitplan.Writing(Progress(told)))
     assert "solving 2 scenarios .. 1 2 " in told.getvalue()
-    likely = pd.read_csv(folder / "probability.csv")
+    likely = pd.read_csv(folder / "tables/probability.csv")
     assert (likely.loc[likely["must"] == 1, "probability_0.50"] == 1).all()
     assert (likely.loc[likely["never"] == 1, "probability_1.50"] == 0).all()
     inside = np.zeros(len(likely))
     for model in ("first", "second"):
         alone = replace(project, metals=(replace(project.metals[0], column=model),))
-        blocks = pitplan.blocks(plan := prepare(alone, table=table), pitplan.solve(plan))
+        blocks = pitplan.Shells(plan := Plan.from_project(alone, table=table), plan.shells().solution).blocks
         inside += ((blocks["revenue_factor"] > 0.0) & (blocks["revenue_factor"] <= 1.0)).to_numpy() / 2
     assert likely["probability_1.00"].tolist() == inside.tolist()
 

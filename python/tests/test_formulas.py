@@ -21,7 +21,7 @@ def test_a_text_that_begins_as_a_formula_is_named_once_by_row_and_column(plan_fo
         table = rows(3, 2, 2).astype(object)
         table.loc[5, "rock"] = table.loc[3, "region"] = table.loc[8, "name"] = text
         path = plan_folder(table)
-        assert warned(pitplan.prepare(path)) == [
+        assert warned(pitplan.Plan.from_project(path)) == [
             f"WARNING: {path.parent / 'blocks.csv'} row 5 column 'region': {text!r} begins with =, +, - or @, as do 2 other texts: CSV files keep it,"
             " and a spreadsheet may evaluate it; workbooks store it as text"
         ]
@@ -31,11 +31,11 @@ def test_names_of_columns_and_columns_that_are_not_used_count_too(plan_folder):
     table = rows(3, 2, 2).assign(
         note=["", "ok", "-5", "=A1"] * 3, **{"@more": 1, "sign": [" =1", "a=b", "1-2", "e@f"] * 3}
     )
-    (said,) = warned(pitplan.prepare(plan_folder(table)))
+    (said,) = warned(pitplan.Plan.from_project(plan_folder(table)))
     assert "row 1 column '@more': '@more' begins with =, +, - or @, as do 3 other texts" in said
-    assert warned(pitplan.prepare(plan_folder(table.drop(columns=["note", "@more"])))) == []
+    assert warned(pitplan.Plan.from_project(plan_folder(table.drop(columns=["note", "@more"])))) == []
     (said,) = warned(
-        pitplan.prepare(
+        pitplan.Plan.from_project(
             plan_folder(rows(3, 2, 2)), table=table[["note", *rows(3, 2, 2).columns]].astype({"note": "category"})
         )
     )
@@ -45,7 +45,7 @@ def test_names_of_columns_and_columns_that_are_not_used_count_too(plan_folder):
 def test_a_long_text_is_cut(plan_folder):
     table = rows(3, 2, 2).astype(object)
     table.loc[0, "rock"] = "=" + "9" * 1000
-    (said,) = warned(pitplan.prepare(plan_folder(table)))
+    (said,) = warned(pitplan.Plan.from_project(plan_folder(table)))
     assert "'=" + "9" * 39 + "..' begins" in said
 
 
@@ -59,7 +59,7 @@ def test_csv_files_keep_the_text(plan_folder, without_figures, capsys):
     said = capsys.readouterr()
     assert (said.out + said.err).count("begins with =, +, - or @") == 1
     folder = pitplan.load(path).folder
-    with open(folder / "blocks.csv", newline="") as written:
+    with open(folder / "tables/blocks.csv", newline="") as written:
         assert sorted(row["rock"] for row in csv.DictReader(written)) == ["=1+2", "@a", *["R"] * 16]
     with open(pitplan.write_export(folder, "table"), newline="") as written:
         assert [row["rock"] for row in csv.DictReader(written)] == table["rock"].tolist()

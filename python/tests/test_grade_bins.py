@@ -247,11 +247,11 @@ def test_ore_in_bins_is_written_and_passes(written):
     told = json.loads((written / "schedule.json").read_text())
     assert told["methods"]["rule"]["npv"] < told["methods"]["lp"]["npv"] <= told["upper_bound"] + 1e-3
     assert list(told["bins"]) == ["lp"] and told["bins"]["lp"]["reclaim_cost"] == 0.5
-    milling = pd.read_csv(written / "mill_feed.csv")
+    milling = pd.read_csv(written / "tables/mill_feed.csv")
     assert set(milling["bin"]) == {1, 2} and milling["reclaimed_tonnes"].sum() > 0
     # By bins of 0.3 and 0.35 per cent, and of 1 and 1.2: 40 a per cent and tonne, less 10 for processing.
     assert told["bins"]["lp"]["edges"] == pytest.approx([(4 + 30) / 2])
-    schedule = pd.read_csv(written / "schedule.csv")
+    schedule = pd.read_csv(written / "tables/schedule.csv")
     by_lp = schedule[schedule["method"] == "lp"]
     assert by_lp["feed_tonnes"].sum() == pytest.approx(
         milling["milled_tonnes"].sum() + milling["reclaimed_tonnes"].sum()
@@ -274,15 +274,15 @@ def test_ore_in_bins_is_written_and_passes(written):
     ],
 )
 def test_milling_that_is_bent_is_found(written, name, by):
-    kept = (written / "mill_feed.csv").read_text()
+    kept = (written / "tables/mill_feed.csv").read_text()
     try:
-        table = pd.read_csv(written / "mill_feed.csv")
+        table = pd.read_csv(written / "tables/mill_feed.csv")
         row = table["milled_tonnes"].idxmax()
         table.loc[row, name] += by
-        table.to_csv(written / "mill_feed.csv", index=False)
+        table.to_csv(written / "tables/mill_feed.csv", index=False)
         assert "schedule amounts" in {rule.name for rule in verify(written) if rule.differences}
     finally:
-        (written / "mill_feed.csv").write_text(kept)
+        (written / "tables/mill_feed.csv").write_text(kept)
 
 
 @pytest.mark.parametrize(("year", "cutoff"), [(1, 17.5), (1, None), (1, 16.0), (2, 17.5)])
@@ -299,16 +299,16 @@ def test_a_cutoff_that_is_told_as_another_is_found(written, year, cutoff):
 
 
 def test_ore_that_is_reclaimed_before_it_is_stocked_is_found(written):
-    kept = {name: (written / name).read_text() for name in ("mill_feed.csv", "schedule.csv")}
+    kept = {name: (written / name).read_text() for name in ("tables/mill_feed.csv", "tables/schedule.csv")}
     try:
         for name in kept:
             table = pd.read_csv(written / name)
-            late = table["reclaimed_tonnes"] > 0 if name == "mill_feed.csv" else (table["share"] == 0)
+            late = table["reclaimed_tonnes"] > 0 if name == "tables/mill_feed.csv" else (table["share"] == 0)
             table.loc[late, "year"] = 1
             table.to_csv(written / name, index=False)
         found = [text for rule in verify(written) for text in rule.differences]
         # Of three levels the lowest has its centre 20 m below the first, at 25 m.
-        early = pd.read_csv(written / "mill_feed.csv").query("reclaimed_tonnes > 0")
+        early = pd.read_csv(written / "tables/mill_feed.csv").query("reclaimed_tonnes > 0")
         places = {
             f"pushback {row.pushback}, level {(25 - row.bench) / 10:.0f}, bin {row.bin}" for row in early.itertuples()
         }
@@ -325,7 +325,7 @@ def test_tonnages_great_and_small_are_right_too(without_figures, tmp_path, tonne
     text = TEXT.replace("processing_capacity = 100", f"processing_capacity = {tonnes}")
     project = scheduled(tmp_path, WORDS, text, tonnes=lambda i, j, k: tonnes)
     pitplan.write_schedule(project)
-    reclaimed = pd.read_csv(project.folder / "schedule" / "mill_feed.csv")["reclaimed_tonnes"]
+    reclaimed = pd.read_csv(project.folder / "schedule" / "tables/mill_feed.csv")["reclaimed_tonnes"]
     assert 0 < reclaimed.sum() / tonnes <= 1 + 1e-6
     assert [rule.name for rule in verify(project.folder / "schedule") if rule.differences] == []
 
@@ -351,7 +351,7 @@ def test_what_is_reclaimed_is_stocked_the_year_before_by_hand():
         f"mill_feed.csv: more is reclaimed of pushback {at} than is stocked"
         for at in ("3, level 5, bin 2", "4, level 1, bin 1")
     ]
-    assert milling.unlike_stock(table, whole, False) == ["ore is reclaimed, and there is no stockpile"]
+    assert milling.unlike_stock(table, whole, False) == ["ore is reclaimed without a stockpile"]
 
 
 @pytest.mark.parametrize(

@@ -133,7 +133,7 @@ def test_faces_that_hold_something_else_are_not_kept(monkeypatch):
 
 def volume_dug(folder, name, number):
     """Of the blocks of rock up to a pushback or year; they have 1,000 cubic metres."""
-    blocks = pd.read_csv(folder / "blocks.csv")
+    blocks = pd.read_csv(folder / "tables/blocks.csv")
     return 1000.0 * int(((blocks[name] > 0) & (blocks[name] <= number)).sum())
 
 
@@ -141,9 +141,9 @@ def volume_dug(folder, name, number):
 @pytest.mark.parametrize("name", ["pushback", "year"])
 def test_each_pushback_and_each_year_has_a_surface(folder, kind, name, capsys):
     pytest.importorskip("vtk")
-    last = int(pd.read_csv(folder / "blocks.csv")[name].max())
-    words = ["--out", str(folder), "--to", kind, "--of", name, "--surface", "ground"]
-    assert main(["export", str(folder.parents[1] / "project.toml"), *words]) == 0
+    last = int(pd.read_csv(folder / "tables/blocks.csv")[name].max())
+    words = ["--to", kind, "--of", name, "--surface", "ground"]
+    assert main(["export", str(folder), *words]) == 0
     target = folder / f"ground-{name}s-{kind}"
     said = capsys.readouterr()
     assert said.out.strip() == str(target)
@@ -192,7 +192,7 @@ def test_a_drawing_has_a_layer_a_bench_and_pushback(folder):
     assert {"BEFORE_GROUND", "PUSHBACK_1_GROUND", "PUSHBACK_2_GROUND"} < set(faces) and not any(
         name.startswith("BEFORE_BENCH") for name in faces
     )
-    blocks = pd.read_csv(folder / "blocks.csv")
+    blocks = pd.read_csv(folder / "tables/blocks.csv")
     for number in (1, 2):
         dug = blocks[(blocks["pushback"] > 0) & (blocks["pushback"] <= number)]
         layers = {f"PUSHBACK_{number}_BENCH_{z - 5:g}" for z in dug["z"].unique()}
@@ -216,21 +216,24 @@ def test_a_drawing_has_a_layer_a_bench_and_pushback(folder):
     [
         (
             ["--to", "csv", "--of", "pushback"],
-            "csv holds all factors, pushbacks and years: of one kind of them are dxf, stl, obj, gpkg, str, lines",
+            "csv: holds all revenue factors, pushbacks and years, so pushback cannot be selected: use one of dxf, stl, obj, gpkg, str, lines",
         ),
-        (["--to", "vtu", "--surface", "ground"], "vtu has no surface of the ground: dxf, stl, obj have"),
-        (["--to", "gpkg", "--surface", "ground"], "gpkg has no surface of the ground: dxf, stl, obj have"),
-        (["--to", "stl", "--smooth"], "the surface round blocks is never smoothed: that of the ground may be"),
+        (["--to", "vtu", "--surface", "ground"], "vtu: has no surface of the ground: use one of dxf, stl, obj"),
+        (["--to", "gpkg", "--surface", "ground"], "gpkg: has no surface of the ground: use one of dxf, stl, obj"),
+        (
+            ["--to", "stl", "--smooth"],
+            "smooth: applies to the surface of the ground, not to that around blocks: add --surface ground",
+        ),
     ],
 )
 def test_what_cannot_be_is_refused(folder, capsys, words, said):
-    assert main(["export", str(folder.parents[1] / "project.toml"), "--out", str(folder), *words]) == 1
+    assert main(["export", str(folder), *words]) == 1
     assert re.search(said, capsys.readouterr().err)
 
 
 def test_a_folder_without_pushbacks_is_told_what_makes_them(solved):
     for name, command in (("pushback", "pushbacks"), ("year", "schedule")):
-        with pytest.raises(PlanError, match=f"has no {name}s: run pitplan {command}, and name its folder by --out"):
+        with pytest.raises(PlanError, match=f"has no {name}s: run pitplan {command}, and give its folder"):
             pitplan.write_export(solved[1], "dxf", shape=Shape(name))
 
 
@@ -246,8 +249,7 @@ def test_a_year_by_whose_end_nothing_is_dug_has_no_body_and_is_told(folder, monk
 
 def test_by_how_much_smoothing_changes_the_volume_is_told_with_quiet_and_to_python(folder, capsys):
     pytest.importorskip("vtk")
-    project = str(folder.parents[1] / "project.toml")
-    words = ["export", project, "--out", str(folder), "--to", "stl", "--surface", "ground", "--smooth"]
+    words = ["export", str(folder), "--to", "stl", "--surface", "ground", "--smooth"]
     assert main([*words, "--quiet"]) == 0
     quiet = capsys.readouterr()
     assert (

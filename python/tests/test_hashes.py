@@ -42,7 +42,7 @@ def test_two_inputs_of_one_name_have_a_hash_each(two_grounds):
     pitplan.write_shells(two_grounds, writing=pitplan.Writing(verifies=False))
     pitplan.write_sensitivity(two_grounds, writing=pitplan.Writing(verifies=False))
     names = ("project.toml", "blocks.csv", "a/ground.csv", "b/ground.csv")
-    for record in (place / "plan" / "prepare.json", place / "plan" / "sensitivity" / "sensitivity.json"):
+    for record in (place / "plan" / "plan.json", place / "plan" / "sensitivity" / "sensitivity.json"):
         assert json.loads(record.read_text())["inputs"] == {name: sha256(place / name) for name in names}
 
 
@@ -53,7 +53,7 @@ def test_an_input_elsewhere_is_named_by_its_way_from_the_project(plan_folder, tm
     shutil.move(tmp_path / "blocks.csv", tmp_path / "table" / "blocks.csv")
     project = shutil.move(path, tmp_path / "mine" / "project.toml")
     pitplan.write_shells(project, tmp_path / "elsewhere", writing=pitplan.Writing(verifies=False))
-    inputs = json.loads((tmp_path / "elsewhere" / "prepare.json").read_text())["inputs"]
+    inputs = json.loads((tmp_path / "elsewhere" / "plan.json").read_text())["inputs"]
     assert inputs == {"project.toml": sha256(project), "../table/blocks.csv": sha256(tmp_path / "table" / "blocks.csv")}
     assert pitplan.write_report(tmp_path / "elsewhere").is_file()
     assert len(pd.read_csv(pitplan.write_export(tmp_path / "elsewhere", "table"))) == 168
@@ -73,10 +73,10 @@ def test_the_report_has_the_hashes_of_inputs_and_outputs_apart(two_grounds):
     names = ("project.toml", "blocks.csv", "a/ground.csv", "b/ground.csv")
     assert digests(page, "Input files and their SHA-256") == {name: sha256(place / name) for name in names}
     written = digests(page, "Output files and their SHA-256")
-    assert {"blocks.csv", "shells.csv", "years.csv"} < {*written}
+    assert {"tables/blocks.csv", "tables/shells.csv", "tables/years.csv"} < {*written}
     del written[next(name for name in written if name.startswith(("pitshell ", "libpitshell ")))]
     assert written == {name: sha256(place / "plan" / name) for name in written}
-    assert sha256(place / "blocks.csv") != sha256(place / "plan" / "blocks.csv")
+    assert sha256(place / "blocks.csv") != sha256(place / "plan" / "tables/blocks.csv")
 
 
 def test_an_audit_has_the_hashes_of_inputs_and_outputs_apart(two_grounds):
@@ -84,7 +84,7 @@ def test_an_audit_has_the_hashes_of_inputs_and_outputs_apart(two_grounds):
     pitplan.write_shells(two_grounds, writing=pitplan.Writing(verifies=False))
     record = json.loads((pitplan.audit(place / "plan", 1.0) / "audit.json").read_text())
     assert record["inputs"]["blocks.csv"] == sha256(place / "blocks.csv")
-    assert record["plan"]["blocks.csv"] == sha256(place / "plan" / "blocks.csv")
+    assert record["plan"]["tables/blocks.csv"] == sha256(place / "plan" / "tables/blocks.csv")
 
 
 @pytest.mark.parametrize("name", ["a/ground.csv", "b/ground.csv", "blocks.csv", "project.toml"])

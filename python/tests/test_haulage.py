@@ -35,7 +35,7 @@ def test_roads_and_costs_by_hand(plan_folder):
     Waste: 0.4 x (250 + 200) / 1000 = 0.18 a tonne, of 100 t 18, with 2 a tonne 218. Ore: 0.5 x 1250 / 1000 = 0.625, which is 0.445 more,
     of 100 t 44.5, with 10 a tonne 1044.5.
     """
-    plan = pitplan.prepare(hauled(plan_folder, rows(6, 2, 3, cu=lambda i, j, k: 2.0)))
+    plan = pitplan.Plan.from_project(hauled(plan_folder, rows(6, 2, 3, cu=lambda i, j, k: 2.0)))
     block = plan.blocks.set_index("name").loc["b4-0-1"]
     assert (block["haul_distance"], block["haulage_cost"], block["ore_haulage_cost"]) == (250, 18, 44.5)
     assert (block["mining_cost"], block["processing_cost"], block["revenue"]) == (218, 1044.5, 8000)
@@ -47,7 +47,7 @@ def test_roads_are_kept_to_a_millimetre_and_costs_are_exact(plan_folder):
     At 0.37 a kilometre 0.37 x 141.231 / 1000 = 0.05225547, of 100.1 t 5.230772547, kept as 5.230773.
     """
     section = "[haulage]\npit_exit = [15, 45, 30]\nramp_gradient = 0.1\ncost = 0.37\n"
-    plan = pitplan.prepare(hauled(plan_folder, rows(6, 2, 3, tonnes=lambda i, j, k: 100.1), section))
+    plan = pitplan.Plan.from_project(hauled(plan_folder, rows(6, 2, 3, tonnes=lambda i, j, k: 100.1), section))
     block = plan.blocks.set_index("name").loc["b0-0-2"]
     assert block["haul_distance"] == 141.231 and block["haulage_cost"] == 5.230773
     assert Decimal(str(block["mining_cost"])) == (Decimal("100.1") * 2 + Decimal("5.230772547")).quantize(
@@ -64,13 +64,13 @@ def test_a_road_is_rounded_once_and_verified(plan_folder, without_figures):
     section = "[haulage]\npit_exit = [25, 25, 40]\nramp_gradient = 0.12\ncost = 0.12\n"
     path = hauled(plan_folder, rows(6, 4, 4, cu=lambda i, j, k: 4.0), section)
     pitplan.write_shells(path)
-    assert pitplan.prepare(path).blocks.set_index("name").loc["b0-0-0", "haul_distance"] == 361.618
+    assert pitplan.Plan.from_project(path).blocks.set_index("name").loc["b0-0-0", "haul_distance"] == 361.618
 
 
 def test_blocks_above_the_exit_have_a_ramp_down(plan_folder):
     """The exit at -5 m, below all floors: the top level's floor is 25 m above it, its ramp 250 m."""
     section = "[haulage]\npit_exit = [5, 5, -5]\nramp_gradient = 0.1\ncost = 1\n"
-    plan = pitplan.prepare(hauled(plan_folder, rows(3, 2, 3), section))
+    plan = pitplan.Plan.from_project(hauled(plan_folder, rows(3, 2, 3), section))
     assert plan.blocks.set_index("name")["haul_distance"][["b0-0-2", "b0-0-1", "b0-0-0", "b1-0-0"]].tolist() == [
         250,
         150,
@@ -82,7 +82,7 @@ def test_blocks_above_the_exit_have_a_ramp_down(plan_folder):
 def test_what_comes_to_the_mill_is_hauled_there(plan_folder):
     """Of 100 t 90 come to the mill, with 9 of dilution: 99 x 0.445 = 44.055 more for ore; all rock is hauled as waste first."""
     change = ("processing_cost = 10", "processing_cost = 10\nmining_recovery = 0.9\ndilution = 0.1")
-    plan = pitplan.prepare(hauled(plan_folder, rows(6, 2, 3, cu=lambda i, j, k: 2.0), SECTION, change))
+    plan = pitplan.Plan.from_project(hauled(plan_folder, rows(6, 2, 3, cu=lambda i, j, k: 2.0), SECTION, change))
     block = plan.blocks.set_index("name").loc["b4-0-1"]
     assert (block["haulage_cost"], block["ore_haulage_cost"], block["processing_cost"]) == (
         18,
@@ -102,14 +102,16 @@ def test_an_answer_is_verified_and_a_wrong_road_is_found(plan_folder):
     pitplan.write_shells(path)
     folder = path.parent / "plan"
     assert [rule.name for rule in verification.verify(folder) if rule.name == "haulage"] == ["haulage"]
-    blocks = pd.read_csv(folder / "blocks.csv")
+    blocks = pd.read_csv(folder / "tables/blocks.csv")
     for column, by in (
         ("haul_distance", 0.002),
         ("haulage_cost", 0.01),
         ("ore_haulage_cost", 0.01),
         ("mining_cost", 0.01),
     ):
-        blocks.assign(**{column: blocks[column] + by * (blocks.index == 7)}).to_csv(folder / "blocks.csv", index=False)
+        blocks.assign(**{column: blocks[column] + by * (blocks.index == 7)}).to_csv(
+            folder / "tables/blocks.csv", index=False
+        )
         differences = [said for rule in verification.verify(folder) for said in rule.differences]
         assert any(column in said for said in differences)
 
@@ -124,7 +126,7 @@ def test_the_exit_of_a_turned_model_is_the_planners(plan_folder):
         table = turned(ore_hill(), degrees, 6)
         path = hauled(plan_folder, table, section, ("size = [10, 10, 10]", "tolerance = 0.001"))
         pitplan.write_shells(path)
-        found.append(pd.read_csv(path.parent / "plan" / "blocks.csv").set_index("name"))
+        found.append(pd.read_csv(path.parent / "plan" / "tables/blocks.csv").set_index("name"))
     assert found[0]["revenue_factor"].nunique() > 2
     assert np.abs(found[1]["haul_distance"] - found[0]["haul_distance"]).max() <= 0.0011
     assert (found[1]["revenue_factor"] == found[0]["revenue_factor"]).all()
@@ -136,8 +138,8 @@ def test_sensitivity_to_haulage(plan_folder):
     section = SECTION + '[sensitivity]\nchanges = [0.1]\nparameters = ["haulage"]\n'
     path = hauled(plan_folder, ore_hill(), section, ("discount_rate = 0.1", "discount_rate = 0.1\nselected = 1.0"))
     table = pitplan.write_sensitivity(path, path.parent / "hang").set_index("parameter")
-    plan = pitplan.prepare(path)
-    entry = pitplan.solve(plan).entry[: plan.grid.count]
+    plan = pitplan.Plan.from_project(path)
+    entry = plan.shells().solution.entry[: plan.grid.count]
     dug = (entry > 0) & (entry <= 1.0)
     cost = plan.values.hauled.waste[dug].sum() + plan.values.hauled.ore_more[dug & plan.values.pays].sum()
     lost = table["kept_undiscounted_cash_flow"].iloc[0] - table.loc["haulage", "kept_undiscounted_cash_flow"]
@@ -152,10 +154,10 @@ def test_scenarios_haul_too(plan_folder, tmp_path):
     section = SECTION.replace("[15, 45, 30]", "[600035, 6500031, 30]")
     path = hauled(plan_folder, table, section + '[scenarios]\nrealisations = "realisations"\n')
     assert main(["scenarios", str(path), "--out", str(tmp_path / "many"), "--workers", "1", "--quiet"]) == 0
-    likely, plan = pd.read_csv(tmp_path / "many" / "probability.csv"), pitplan.prepare(path)
+    likely, plan = pd.read_csv(tmp_path / "many" / "tables/probability.csv"), pitplan.Plan.from_project(path)
     assert likely[["x", "y", "z"]].to_numpy().tolist() == plan.blocks[["x", "y", "z"]].to_numpy().tolist()
-    told = pd.read_csv(tmp_path / "many" / "scenarios.csv").set_index("revenue_factor")["undiscounted_cash_flow"]
-    shells = pitplan.shells(plan, pitplan.solve(plan)).set_index("revenue_factor")["undiscounted_cash_flow"]
+    told = pd.read_csv(tmp_path / "many" / "tables/scenarios.csv").set_index("revenue_factor")["undiscounted_cash_flow"]
+    shells = plan.shells().table.set_index("revenue_factor")["undiscounted_cash_flow"]
     assert told.tolist() == pytest.approx(shells.tolist()) and json.loads(
         (tmp_path / "many" / "scenarios.json").read_text()
     )
@@ -181,7 +183,7 @@ def test_scenarios_haul_too(plan_folder, tmp_path):
         ),
         ("waste = 0.4 }", "waste = -0.4 }", r"\[haulage.cost\] waste: -0.4 is below 0"),
         ("waste = 0.4 }", "dump = 0.4 }", r"\[haulage.cost\] waste: is missing"),
-        ("ramp_gradient = 0.1", "ramp_gradient = 0.1\nroute = 3", r"\[haulage\] route: is no key here"),
+        ("ramp_gradient = 0.1", "ramp_gradient = 0.1\nroute = 3", r"\[haulage\] route: unknown key"),
         ("cost = { ore = 0.5, waste = 0.4 }", "", r"\[haulage\] cost: is missing"),
     ],
 )
@@ -196,7 +198,7 @@ def test_ore_that_costs_less_than_nothing_to_mill_is_refused(plan_folder):
     section = SECTION.replace("ore = 0.5, waste = 0.4", "ore = 0, waste = 50")
     said = r"row 2 column x, y, z: \[haulage\] hauling ore costs \S+ per tonne less than waste from here, more than its processing cost of 10"
     with pytest.raises(PlanError, match=said):
-        pitplan.prepare(hauled(plan_folder, rows(6, 2, 3, cu=lambda i, j, k: 2.0), section))
+        pitplan.Plan.from_project(hauled(plan_folder, rows(6, 2, 3, cu=lambda i, j, k: 2.0), section))
 
 
 def test_a_sensitivity_to_no_haulage_is_refused(plan_folder):

@@ -29,7 +29,7 @@ def test_help_loads_no_package(words):
 
 def test_names_are_imported_on_first_use():
     assert loaded("import pitplan; dir(pitplan); pitplan.PlanError") == []
-    assert "pandas" in loaded("import pitplan; pitplan.shells") and "matplotlib" in loaded(
+    assert "pandas" in loaded("import pitplan; pitplan.Solution") and "matplotlib" in loaded(
         "import pitplan; pitplan.write_shells"
     )
     assert loaded("import pitplan; pitplan.errors.PlanError") == [], "modules too"

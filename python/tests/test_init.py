@@ -7,7 +7,7 @@ import pandas as pd
 import pytest
 from conftest import PROJECT, rows
 
-from pitplan import PlanError, load, prepare
+from pitplan import Plan, PlanError, load
 from pitplan.blockmodel import column_guesses, wizard
 from pitplan.cli import main
 
@@ -72,7 +72,7 @@ def test_increments_a_density_and_decimal_commas(tmp_path):
         "ROCK",
     )
     assert project.grid.size == (10.0, 10.0, 10.0) and project.metals[0].unit == "percent"
-    plan = prepare(tmp_path / "project.toml")
+    plan = Plan.from_project(tmp_path / "project.toml")
     # A block of 10 m, of 2.5 tonnes a cubic metre.
     assert plan.values.tonnes.tolist() == [2500.0] * 256
 
@@ -102,7 +102,7 @@ def test_a_volume_and_a_density(tmp_path):
     more = {"volume": lambda i, j, k: 1000.0 - k, "density": lambda i, j, k: 2.5 + i}
     exported(tmp_path / "m.csv", VULCAN, **more)
     wizard.write(tmp_path / "m.csv", tmp_path / "project.toml")
-    table, plan = rows(8, 8, 4, **more), prepare(tmp_path / "project.toml")
+    table, plan = rows(8, 8, 4, **more), Plan.from_project(tmp_path / "project.toml")
     assert plan.table["tonnes"].tolist() == (table["volume"] * table["density"]).tolist()
     assert load(tmp_path / "project.toml").metals[0].column == "cu (%)"
 
@@ -131,7 +131,7 @@ def test_the_project_runs_as_it_stands(tmp_path, capsys):
         "unused columns: Roche é",
     ]
     assert main(["shells", str(tmp_path / "project.toml"), "--quiet"]) == 0
-    shells = pd.read_csv(tmp_path / "plan" / "shells.csv")
+    shells = pd.read_csv(tmp_path / "plan" / "tables/shells.csv")
     assert shells["blocks"].iloc[-1] > 0
 
 
@@ -236,7 +236,7 @@ def test_ore_a_year_is_by_taylors_rule(tmp_path):
     table = rows(8, 8, 4, cu=lambda i, j, k: 0.16 if k == 1 else 0.15, tonnes=lambda i, j, k: 250_000)
     table.to_csv(tmp_path / "m.csv", index=False)
     wizard.write(tmp_path / "m.csv", tmp_path / "project.toml")
-    assert load(tmp_path / "project.toml").schedule.processing_capacity == 1_300_000
+    assert load(tmp_path / "project.toml").shells.processing_capacity == 1_300_000
 
 
 def test_sub_blocks_and_empty_grades_are_told(tmp_path):
@@ -345,7 +345,7 @@ def test_a_section_or_a_level_alone_runs_too(tmp_path, counts, size):
     rows(*counts, cu=lambda i, j, k: 1.0).to_csv(tmp_path / "m.csv", index=False)
     told = wizard.write(tmp_path / "m.csv", tmp_path / "project.toml")
     why, project = said(tmp_path / "project.toml")
-    assert project.grid.size == size and prepare(tmp_path / "project.toml").grid.shape == counts[::-1]
+    assert project.grid.size == size and Plan.from_project(tmp_path / "project.toml").grid.shape == counts[::-1]
     flat = " and ".join(axis for axis, count in zip("xyz", counts) if count == 1)
     assert (
         f"metres, the smallest steps between centroids; set your own along {flat}, where all centroids are equal" in why
@@ -369,4 +369,4 @@ def test_a_project_that_names_a_workbook_is_told_so(plan_folder, tmp_path):
     project = plan_folder(rows(3, 3, 3), PROJECT, ('file = "blocks.csv"', 'file = "m.xlsx"'))
     rows(3, 3, 3).to_excel(tmp_path / "m.xlsx", index=False)
     with pytest.raises(PlanError, match="m.xlsx: is a workbook or another packed file"):
-        prepare(project)
+        Plan.from_project(project)

@@ -106,7 +106,7 @@ def test_it_is_written_as_a_way_of_its_own(plan_folder):
     folder = project.folder / "schedule"
     told = json.loads((folder / "schedule.json").read_text())
     assert told["milp_upper_bound"] == pytest.approx(value, rel=1.1e-3) and set(
-        pd.read_csv(folder / "years.csv")["case"]
+        pd.read_csv(folder / "tables/years.csv")["case"]
     ) == {"best", "worst", *told["methods"]}
     assert [rule.name for rule in verify(folder) if rule.differences] == []
     notes = read_record(folder)["notes"]
@@ -128,7 +128,7 @@ def test_where_none_is_found_in_time_the_others_stand(plan_folder, monkeypatch):
         ("milp = true", "[schedule.milp] must be a section of its own"),
         ("milp = { gap = 0.1 }", "[schedule.milp] seconds: must be a whole number from 1 to 604,800"),
         ("milp = { gap = 1, seconds = 5 }", "[schedule.milp] gap: is a share of the bound"),
-        ("milp = { time = 5, seconds = 5 }", "[schedule.milp] time: is no key here"),
+        ("milp = { time = 5, seconds = 5 }", "[schedule.milp] time: unknown key"),
     ],
 )
 def test_what_is_refused(plan_folder, words, said):

@@ -30,11 +30,11 @@ def path(plan_folder):
 @pytest.mark.parametrize(
     ("command", "file", "shows"),
     [
-        ("shells", "shells.csv", "report.html"),
-        ("pit", "pits.csv", "pits.csv"),
-        ("pushbacks", "pushbacks.csv", "report.html"),
-        ("schedule", "methods.csv", "report.html"),
-        ("sensitivity", "sensitivity.csv", "sensitivity.csv"),
+        ("shells", "tables/shells.csv", "report.html"),
+        ("pit", "tables/pits.csv", "tables/pits.csv"),
+        ("pushbacks", "tables/pushbacks.csv", "report.html"),
+        ("schedule", "tables/methods.csv", "report.html"),
+        ("sensitivity", "tables/sensitivity.csv", "tables/sensitivity.csv"),
     ],
 )
 def test_the_table_is_that_of_the_file(path, capsys, command, file, shows):

@@ -22,7 +22,7 @@ LAYERS = (
         "export",
         "figures",
     ),
-    *("report", "commands", "cli", "__main__"),
+    *("report", "commands", "api", "cli", "__main__"),
 )
 PACKAGE = ROOT / "python" / "pitplan"
 MODULES = sorted(PACKAGE.rglob("*.py"))

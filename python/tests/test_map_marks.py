@@ -11,7 +11,7 @@ from matplotlib.figure import Figure
 import pitplan
 from pitplan import PlanError
 from pitplan.blockmodel.grid import Grid
-from pitplan.config.figures import PictureRules
+from pitplan.config.figures import FigureRules
 from pitplan.figures import map_marks, plans_sections, pushbacks, scenarios
 from pitplan.figures.style import ALSO, panels
 
@@ -23,7 +23,7 @@ def grid():
     return Grid((4, 5, 6), (430_012.5, 6_512_010.0, 95.0), (25.0, 20.0, 10.0), np.arange(120))
 
 
-def scene(rules=PictureRules()):
+def scene(rules=FigureRules()):
     """A pit of two levels, the lower of one block in row 3 and column 4."""
     factor = np.zeros((4, 5, 6))
     factor[0, 2:5, 3:6] = 0.5
@@ -116,7 +116,7 @@ def test_the_lines_of_sections_are_where_they_go():
 
 def test_sections_and_levels_are_those_asked_for():
     """A level holds its upper edge no more, and at the model's ends the last is taken."""
-    asked = scene(PictureRules(levels=(99.0, 90.0, 60.0), north=6_512_015.0, east=430_149.0))
+    asked = scene(FigureRules(levels=(99.0, 90.0, 60.0), north=6_512_015.0, east=430_149.0))
     assert plans_sections.levels_to_show(asked) == [0, 1, 3] and (asked.section_row, asked.section_column) == (0, 5)
     figure = Figure()
     found = plans_sections.plot_plans(asked, figure.subplots(2, 2))
@@ -138,7 +138,7 @@ def test_a_picture_of_two_maps_has_no_empty_frames():
     assert len(axes) == 3 and [ax.axison for ax in figure.axes] == [True, True, True, False]
 
 
-def pushback_scene(rules=PictureRules()):
+def pushback_scene(rules=FigureRules()):
     """The scene's pit in two pushbacks, the second of which is the block below."""
     cube = scene().factor
     return pushbacks.PushbackScene(
@@ -146,7 +146,7 @@ def pushback_scene(rules=PictureRules()):
     )
 
 
-def likely(rules=PictureRules()):
+def likely(rules=FigureRules()):
     """Half of the scenarios dig the scene's upper level, and all the block below."""
     cube = scene().factor
     return scenarios.Likely(
@@ -191,7 +191,7 @@ def test_sections_of_pushbacks_and_of_scenarios_go_along_these_lines():
 @pytest.mark.parametrize(("module", "scene_of"), [(pushbacks, pushback_scene), (scenarios, likely)])
 def test_plans_and_sections_of_pushbacks_and_of_scenarios_are_those_asked_for(module, scene_of, tmp_path):
     """Of four levels the second and the last; row 0 has its middle at 6,512,010 m and column 5 at 430,137.5."""
-    asked = scene_of(PictureRules(levels=(90.0, 60.0), north=6_512_015.0, east=430_149.0))
+    asked = scene_of(FigureRules(levels=(90.0, 60.0), north=6_512_015.0, east=430_149.0))
     found = module.plot_plans(asked, Figure().subplots(3))
     titles = [ax.get_title(loc="left") or ax.get_title() for ax in found]
     assert titles[1].lower().endswith("level 80 to 90 m") and titles[2].lower().endswith("level 60 to 70 m")
@@ -224,10 +224,13 @@ def project(plan_folder):
 
 
 def test_grades_are_those_of_the_metal_asked_for(project):
-    plan = pitplan.prepare(project('metal = "gold"'))
-    scene_of = plans_sections.scene_of(plan, pitplan.solve(plan), 1.0)
+    plan = pitplan.Plan.from_project(project('metal = "gold"'))
+    scene_of = plans_sections.scene_of(plan, plan.shells().solution, 1.0)
     assert scene_of.metal.name == "gold" and scene_of.grade[0, 0].tolist() == [1, 2, 3, 4, 5]
-    assert plans_sections.scene_of(pitplan.prepare(project("")), pitplan.solve(plan), 1.0).metal.name == "copper"
+    assert (
+        plans_sections.scene_of(pitplan.Plan.from_project(project("")), plan.shells().solution, 1.0).metal.name
+        == "copper"
+    )
 
 
 def test_pictures_are_written_as_pdf_and_svg_too_the_same_each_time(project):
@@ -236,18 +239,20 @@ def test_pictures_are_written_as_pdf_and_svg_too_the_same_each_time(project):
     for _ in range(2):
         pitplan.write_shells(path, writing=pitplan.Writing(verifies=False))
         folder = path.parent / "plan"
-        record = json.loads((folder / "prepare.json").read_text())["files"]
+        record = json.loads((folder / "plan.json").read_text())["files"]
         names = {
-            f"{name}.{kind}" for name in ("pit_by_pit", "years", "plans", "sections") for kind in ("png", "pdf", "svg")
+            f"figures/{name}.{kind}"
+            for name in ("pit_by_pit", "years", "plans", "sections")
+            for kind in ("png", "pdf", "svg")
         }
         assert names <= set(record) and all(
             hashlib.sha256((folder / name).read_bytes()).hexdigest() == record[name] for name in names
         )
         written.append({name: record[name] for name in names})
     assert written[0] == written[1]
-    assert (folder / "plans.pdf").read_bytes().startswith(b"%PDF-") and b"<svg" in (folder / "plans.svg").read_bytes()[
-        :500
-    ]
+    assert (folder / "figures/plans.pdf").read_bytes().startswith(b"%PDF-") and b"<svg" in (
+        folder / "figures/plans.svg"
+    ).read_bytes()[:500]
 
 
 def test_pushbacks_are_drawn_where_the_project_asks_for(project, monkeypatch):
@@ -272,9 +277,9 @@ def test_without_a_word_pictures_are_png_alone(solved):
         ("levels = [1, 2, 3, 4, 5, 6, 7, 8]", "levels: must be a list of one to 7"),
         ("levels = 5", "levels: must be a list of one to 7"),
         ('levels = ["top"]', "levels: 'top' is not a number"),
-        ('metal = "tin"', 'metal: "tin" is none of copper, gold'),
-        ('formats = ["png"]', 'formats: "png" is none of pdf, svg'),
-        ("scale = 5", "scale: is no key here"),
+        ('metal = "tin"', 'metal: found "tin", expected one of copper, gold'),
+        ('formats = ["png"]', 'formats: found "png", expected one of pdf, svg'),
+        ("scale = 5", "scale: unknown key"),
     ],
 )
 def test_what_is_refused(project, words, said):
@@ -297,6 +302,6 @@ def test_places_beyond_the_model_are_refused(project, words, said):
 
 
 def test_the_models_ends_are_within_it(project):
-    plan = pitplan.prepare(project("levels = [0, 30]\nnorth = 50\neast = 0"))
-    shown = plans_sections.scene_of(plan, pitplan.solve(plan), 1.0)
+    plan = pitplan.Plan.from_project(project("levels = [0, 30]\nnorth = 50\neast = 0"))
+    shown = plans_sections.scene_of(plan, plan.shells().solution, 1.0)
     assert plans_sections.levels_to_show(shown) == [2, 0] and (shown.section_row, shown.section_column) == (4, 0)

@@ -22,7 +22,7 @@ def one_block(grade=0.8):
 
 def test_a_block_by_hand(plan_folder):
     """Of 100 t 90 come to the mill, and 9 of waste with them: 0.36 t of copper sell for 2880, less 144."""
-    values = pitplan.prepare(plan_folder(one_block(), PROJECT, ("mining_cost = 2\n", TEXT))).values
+    values = pitplan.Plan.from_project(plan_folder(one_block(), PROJECT, ("mining_cost = 2\n", TEXT))).values
     assert values.revenue.tolist() == [0, 2736 * MILLION]
     assert values.processing.tolist() == [0, 99 * 10_500_000]
     assert values.mining.tolist() == [200 * MILLION] * 2
@@ -33,7 +33,7 @@ def test_a_block_by_hand(plan_folder):
 
 
 def test_nothing_is_said_of_what_the_project_does_not_name(plan_folder):
-    values = pitplan.prepare(plan_folder(one_block())).values
+    values = pitplan.Plan.from_project(plan_folder(one_block())).values
     assert (values.feed == values.tonnes).all() and (values.undiluted == values.tonnes).all()
     assert not any("royalty" in note or "dilution" in note for note in values.notes)
 
@@ -42,7 +42,7 @@ def test_by_rock_and_by_region(plan_folder):
     """Rock R loses a tenth, S nothing; of region 1 a fifth comes with it, of 2 nothing. Half of 0.5 t of copper a block, at 8000."""
     table = rows(2, 2, 1, cu=lambda i, j, k: 1, rock=lambda i, j, k: "RS"[i], region=lambda i, j, k: "12"[j])
     text = "mining_cost = 2\nmining_recovery = { R = 0.9, S = 1 }\ndilution = { domain = { 1 = 0.2, 2 = 0 } }\n"
-    values = pitplan.prepare(plan_folder(table, PROJECT, ("mining_cost = 2\n", text))).values
+    values = pitplan.Plan.from_project(plan_folder(table, PROJECT, ("mining_cost = 2\n", text))).values
     assert (values.revenue / MILLION).tolist() == [3600, 4000, 3600, 4000]
     assert (values.processing / MILLION).tolist() == [1080, 1200, 900, 1000]
 
@@ -52,7 +52,7 @@ def test_amounts_are_exact_in_decimals(plan_folder):
     grades = [0.1, 0.7, 0.301, 1.07]
     table = rows(2, 2, 1, tonnes=lambda i, j, k: 100.1 + i, cu=lambda i, j, k: grades[i + 2 * j])
     text = "mining_cost = 2\nmining_recovery = 0.973\ndilution = 0.0417\nroyalty = 0.0275\nroyalty_per_tonne = 0.333\ndecimals = 2\n"
-    plan = pitplan.prepare(
+    plan = pitplan.Plan.from_project(
         plan_folder(table, PROJECT, ("mining_cost = 2\n", text), ("price = 8000", "price = 8123.45"))
     )
     for _, row in plan.blocks.iterrows():
@@ -74,12 +74,14 @@ def test_amounts_are_exact_in_decimals(plan_folder):
             "mining_recovery = { domain = { 2 = 0.1 } }",
             'blocks.csv row 2 column region: [economics] mining_recovery names no domain "1"',
         ),
-        ("dilution = { domain = { 1 = 0.1 }, rock = 1 }", "[economics.dilution] rock: is no key here"),
+        ("dilution = { domain = { 1 = 0.1 }, rock = 1 }", "[economics.dilution] rock: unknown key"),
     ],
 )
 def test_what_is_wrong_is_named(plan_folder, text, said):
     with pytest.raises(PlanError) as error:
-        pitplan.prepare(plan_folder(one_block(), PROJECT, ("mining_cost = 2\n", f"mining_cost = 2\n{text}\n")))
+        pitplan.Plan.from_project(
+            plan_folder(one_block(), PROJECT, ("mining_cost = 2\n", f"mining_cost = 2\n{text}\n"))
+        )
     assert said in str(error.value)
 
 
@@ -91,7 +93,7 @@ def test_by_region_needs_a_column_of_regions(plan_folder):
     with pytest.raises(
         PlanError, match=r"\[table\] domain: is missing, and mining recovery or dilution is given by domain"
     ):
-        pitplan.prepare(plan_folder(one_block(), PROJECT, *changes))
+        pitplan.Plan.from_project(plan_folder(one_block(), PROJECT, *changes))
 
 
 def test_a_shell_by_hand(plan_folder):
@@ -150,7 +152,7 @@ def passed_over(**changed):
     weigh = block_values.values_of
 
     def values_of(frame, grid, project, *more):
-        return weigh(frame, grid, replace(project, money=replace(project.money, **changed)), *more)
+        return weigh(frame, grid, replace(project, economics=replace(project.economics, **changed)), *more)
 
     return values_of
 

@@ -35,17 +35,17 @@ def test_pushbacks_and_years_by_hand(pushed):
     """Of ore there are 100 t a year, and waste takes no time: that of a pushback is dug as the one before ends. Pushback by pushback the waste costs
     200, 350 and 450, and the ore earns 2800, 1450 and 550. Bench by bench it is all waste first, and then a third of the ore a year.
     """
-    table = pd.read_csv(pushed / "pushbacks.csv")
+    table = pd.read_csv(pushed / "tables/pushbacks.csv")
     assert table["undiscounted_cash_flow"].tolist() == [2600, 1400, 600] and table["mining_cost_added"].tolist() == [
         0,
         300,
         500,
     ]
     assert (table["value_lost_to_width"] == 0).all()
-    years = pd.read_csv(pushed / "years.csv").set_index(["case", "revenue_factor"])
+    years = pd.read_csv(pushed / "tables/years.csv").set_index(["case", "revenue_factor"])
     assert years.loc[("best", 1.0), "cash_flow"].tolist() == pytest.approx([2800 - 200 - 350, 1450 - 450, 550])
     assert years.loc[("worst", 1.0), "cash_flow"].tolist() == pytest.approx([600, 1600, 1600])
-    shells = pd.read_csv(pushed / "shells.csv").set_index("revenue_factor")
+    shells = pd.read_csv(pushed / "tables/shells.csv").set_index("revenue_factor")
     assert shells["undiscounted_cash_flow"].tolist() == [2600, 4000, 4600]
     assert shells["npv_best"].tolist() == pytest.approx(
         [present(2600), present(2250, 1450), present(2250, 1000, 550)], abs=1e-3
@@ -54,11 +54,11 @@ def test_pushbacks_and_years_by_hand(pushed):
 
 
 def test_shells_and_costs_of_blocks_are_those_without_it(pushed, plan_folder):
-    blocks = pd.read_csv(pushed / "blocks.csv")
+    blocks = pd.read_csv(pushed / "tables/blocks.csv")
     path = plan_folder(pillars(), with_pushbacks("count = 3", AT_ENDS))
     pitplan.write_pushbacks(path)
-    pd.testing.assert_frame_equal(pd.read_csv(path.parent / "plan" / "pushbacks" / "blocks.csv"), blocks)
-    assert "mining_cost_added" not in pd.read_csv(path.parent / "plan" / "pushbacks" / "pushbacks.csv")
+    pd.testing.assert_frame_equal(pd.read_csv(path.parent / "plan" / "pushbacks" / "tables/blocks.csv"), blocks)
+    assert "mining_cost_added" not in pd.read_csv(path.parent / "plan" / "pushbacks" / "tables/pushbacks.csv")
 
 
 def test_it_is_told_and_shown(pushed):
@@ -75,7 +75,7 @@ def test_a_schedule_pays_it(plan_folder, bins):
     path = plan_folder(pillars(), text)
     ways = pitplan.write_schedule(path).set_index("method")
     folder = path.parent / "plan" / "schedule"
-    rows = pd.read_csv(folder / "schedule.csv")
+    rows = pd.read_csv(folder / "tables/schedule.csv")
     by_pushback = rows.groupby(["method", "pushback"])["cash_flow"].sum()
     assert by_pushback["rule"].tolist() == pytest.approx([2600, 1100, -200])
     assert by_pushback["lp"].tolist() == pytest.approx([2600, 1100])
@@ -84,7 +84,7 @@ def test_a_schedule_pays_it(plan_folder, bins):
         and ways.loc["lp", "npv"] <= ways.loc["lp", "upper_bound"] + 1e-6
     )
     assert ways.loc["lp", "npv"] == pytest.approx(present(2600, 1100), abs=1e-2)
-    years = pd.read_csv(folder / "years.csv")
+    years = pd.read_csv(folder / "tables/years.csv")
     assert years[years["case"] == "rule"]["cash_flow"].sum() == pytest.approx(3500)
 
 
@@ -97,7 +97,7 @@ def test_blocks_that_come_in_another_pushback_for_its_width_pay_there(plan_folde
     table = pitplan.write_pushbacks(path)
     assert table["tonnes"].tolist() == [3000, 1600] and table["mining_cost_added"].tolist() == [3000, 3200]
     folder = path.parent / "plan" / "pushbacks"
-    cash, shells = (pd.read_csv(folder / name) for name in ("years.csv", "shells.csv"))
+    cash, shells = (pd.read_csv(folder / name) for name in ("tables/years.csv", "tables/shells.csv"))
     whole = cash.groupby(["case", "revenue_factor"])["cash_flow"].sum()
     assert whole[("best", 1.5)] == pytest.approx(
         shells.set_index("revenue_factor")["undiscounted_cash_flow"][1.5] - 6200
@@ -131,7 +131,7 @@ def test_what_is_refused(plan_folder, words, said):
     path = plan_folder(pillars(), with_pushbacks(words))
     with pytest.raises(PlanError, match=said):
         pitplan.write_pushbacks(path)
-    assert not (path.parent / "plan" / "pushbacks" / "pushbacks.csv").exists()
+    assert not (path.parent / "plan" / "pushbacks" / "tables/pushbacks.csv").exists()
 
 
 def test_blocks_one_by_one_have_no_pushbacks(plan_folder):
@@ -151,10 +151,10 @@ def test_the_second_look_agrees(pushed):
 @pytest.mark.parametrize(
     ("name", "column", "rule"),
     [
-        ("pushbacks.csv", "mining_cost_added", "pushbacks"),
-        ("years.csv", "cash_flow", "years"),
-        ("shells.csv", "npv_best", "years"),
-        ("shells.csv", "npv_worst", "years"),
+        ("tables/pushbacks.csv", "mining_cost_added", "pushbacks"),
+        ("tables/years.csv", "cash_flow", "years"),
+        ("tables/shells.csv", "npv_best", "years"),
+        ("tables/shells.csv", "npv_worst", "years"),
     ],
 )
 def test_numbers_that_are_bent_are_found(pushed, name, column, rule):

@@ -20,7 +20,7 @@ MILLION = 10**6
 def test_values_of_a_block_by_hand(plan_folder):
     # 100 t at 0.8 %, half recovered: 0.4 t of copper. It sells for 8000 a tonne and costs 500 to sell.
     table = rows(2, 2, 2, cu=lambda i, j, k: 0.8 if (i, j, k) == (1, 0, 0) else 0)
-    plan = pitplan.prepare(plan_folder(table, PROJECT, ("price = 8000", "price = 8000\nselling_cost = 500")))
+    plan = pitplan.Plan.from_project(plan_folder(table, PROJECT, ("price = 8000", "price = 8000\nselling_cost = 500")))
     values = plan.values
     assert values.ore.tolist() == [5]
     assert values.revenue[5] == 3200 * MILLION
@@ -36,7 +36,7 @@ def test_values_of_a_block_by_hand(plan_folder):
 def test_the_most_that_a_block_can_be_worth_by_hand(plan_folder, cutoff, second):
     """100 t: mining 200, processing 1000; the metal of 0.8 % sells for 3200 at the price as given, that of 0.2 % for 800."""
     table = rows(3, 1, 1, cu=lambda i, j, k: [0.8, 0.2, 0][i])
-    values = pitplan.prepare(
+    values = pitplan.Plan.from_project(
         plan_folder(table, PROJECT, ("mining_cost = 2", f'mining_cost = 2\ncutoff = "{cutoff}"'))
     ).values
     by_factor = zip((0.375, 1.25, 1.5, 2.0), (0, 2800, 3600, 5200), second)
@@ -45,7 +45,7 @@ def test_the_most_that_a_block_can_be_worth_by_hand(plan_folder, cutoff, second)
 
 
 def test_cost_rises_with_the_level_from_the_top(plan_folder):
-    plan = pitplan.prepare(
+    plan = pitplan.Plan.from_project(
         plan_folder(rows(2, 1, 3), PROJECT, ("mining_cost = 2", "mining_cost = 2\nmining_cost_per_bench = 0.25"))
     )
     assert (plan.values.mining / MILLION).tolist() == [200, 200, 225, 225, 250, 250]
@@ -68,7 +68,7 @@ PER_LEVEL = "mining_cost = 2\nmining_cost_per_bench = 0.25"
 def test_cost_rises_with_the_level_from_a_reference(plan_folder, reference, costs):
     """Levels of 10 m between 0 and 30 m."""
     text = f"{PER_LEVEL}\nmining_cost_reference = {reference}"
-    plan = pitplan.prepare(plan_folder(rows(1, 1, 3), PROJECT, ("mining_cost = 2", text)))
+    plan = pitplan.Plan.from_project(plan_folder(rows(1, 1, 3), PROJECT, ("mining_cost = 2", text)))
     assert (plan.values.mining / MILLION).tolist() == costs
 
 
@@ -81,7 +81,7 @@ def test_cost_rises_with_the_level_from_a_reference(plan_folder, reference, cost
     ],
 )
 def test_the_level_from_which_mining_costs_more_is_told_where_it_was_chosen(plan_folder, text, is_told):
-    notes = pitplan.prepare(
+    notes = pitplan.Plan.from_project(
         plan_folder(rows(1, 1, 3), PROJECT, ("mining_cost = 2\n", f"mining_cost = 2\n{text}"))
     ).notes
     assert any("the mining cost rises with each bench below" in note for note in notes) == is_told
@@ -93,19 +93,19 @@ def test_one_far_block_above_changes_no_cost(plan_folder):
     far = table.iloc[[0]].assign(name="far", x=205.0, z=125.0, tonnes=1)
     changes = [("mining_cost = 2", PER_LEVEL), ('file = "blocks.csv"', 'file = "blocks.csv"\nmissing_blocks = "air"')]
     near, both = (
-        pitplan.prepare(plan_folder(it, PROJECT, *changes))
+        pitplan.Plan.from_project(plan_folder(it, PROJECT, *changes))
         for it in (table, pd.concat([table, far], ignore_index=True))
     )
     for plan in (near, both):
         assert (plan.blocks.set_index("name").loc["b3-0-0", "mining_cost"]) == 250
         assert any("bench below 20 to 30 m, the highest bench that ore depends on" in note for note in plan.notes)
-    assert pitplan.solve(near).worth.tolist() == pitplan.solve(both).worth.tolist()
+    assert near.shells().solution.worth.tolist() == both.shells().solution.worth.tolist()
 
 
 def test_cost_by_elevation(plan_folder):
     """Levels with centres 5, 15 and 25 m: half way between 0.5 at 10 and 0.1 at 20, and as at the ends beyond them."""
     text = "mining_cost = 2\nmining_cost_by_elevation = [[20, 0.1], [10, 0.5]]"
-    plan = pitplan.prepare(plan_folder(rows(1, 1, 3), PROJECT, ("mining_cost = 2", text)))
+    plan = pitplan.Plan.from_project(plan_folder(rows(1, 1, 3), PROJECT, ("mining_cost = 2", text)))
     assert (plan.values.mining / MILLION).tolist() == [210, 230, 250]
 
 
@@ -131,7 +131,7 @@ def test_two_metals_and_prices_by_rock(plan_folder):
     gold = '[[metals]]\nname = "gold"\ncolumn = "au"\nunit = "gram_per_tonne"\nprice = 60\nrecovery = { R = 0.9, S = 0 }\n[slopes]'
     table = rows(2, 1, 2, cu=lambda i, j, k: 0.5, au=lambda i, j, k: 2, rock=lambda i, j, k: "RS"[i])
     changes = [("[slopes]", gold), ("mining_cost = 2", "mining_cost = { R = 2, S = 3 }")]
-    plan = pitplan.prepare(plan_folder(table, PROJECT, *changes))
+    plan = pitplan.Plan.from_project(plan_folder(table, PROJECT, *changes))
     # 100 t: 0.25 t of copper for 2000; of rock R also 180 g of gold for 10800.
     assert (plan.values.revenue / MILLION).tolist() == [12800, 2000] * 2
     assert (plan.values.mining / MILLION).tolist() == [200, 300] * 2
@@ -141,7 +141,7 @@ def test_amounts_are_exact_in_decimals(plan_folder):
     grades = [0.1, 0.7, 0.301, 1.07, 0.009, 2.3, 0.33, 0.0]
     table = rows(2, 2, 2, tonnes=lambda i, j, k: 100.1 + i, cu=lambda i, j, k: grades[i + 2 * j + 4 * k])
     changes = [("price = 8000", "price = 8123.45"), ("recovery = 0.5", "recovery = 0.87")]
-    plan = pitplan.prepare(plan_folder(table, PROJECT, *changes))
+    plan = pitplan.Plan.from_project(plan_folder(table, PROJECT, *changes))
     for _, row in plan.blocks.iterrows():
         exact = Decimal(str(row.tonnes)) * Decimal(str(row.cu)) / 100 * Decimal("0.87") * Decimal("8123.45")
         assert int(plan.values.revenue[row.id]) == int((exact * MILLION).to_integral_value())
@@ -149,7 +149,7 @@ def test_amounts_are_exact_in_decimals(plan_folder):
 
 def test_whole_money_is_rounded_and_said(plan_folder):
     table = rows(2, 2, 2, cu=lambda i, j, k: 0.111 if i else 0)
-    plan = pitplan.prepare(
+    plan = pitplan.Plan.from_project(
         plan_folder(
             table, PROJECT, ("mining_cost = 2", "mining_cost = 2\ndecimals = 0"), ("price = 8000", "price = 8010")
         )
@@ -168,7 +168,7 @@ def test_whole_money_is_rounded_and_said(plan_folder):
 def test_an_ore_block_has_a_node_for_processing(plan_folder, tmp_path):
     # 0.2 % yields 800 and costs 1000 to process: no ore at the price as given, but at 1500.
     table = rows(2, 1, 2, cu=lambda i, j, k: 0.2 if (i, k) == (1, 0) else 0)
-    plan = pitplan.prepare(plan_folder(table))
+    plan = pitplan.Plan.from_project(plan_folder(table))
     mine_files.write(plan, tmp_path)
     lines = (tmp_path / mine_files.BLOCKS).read_text().splitlines()
     assert lines == ["0 0 0 1 0 200", "1 1 0 1 0 200", "2 0 0 0 0 200", "3 1 0 0 0 200", "4 1 0 0 800 1000"]
@@ -184,7 +184,9 @@ def test_an_ore_block_has_a_node_for_processing(plan_folder, tmp_path):
 
 def test_a_fixed_cutoff_settles_ore_at_the_price_as_given(plan_folder, tmp_path):
     table = rows(2, 1, 2, cu=lambda i, j, k: 0.2 if (i, k) == (1, 0) else 0.5 if (i, k) == (0, 0) else 0)
-    plan = pitplan.prepare(plan_folder(table, PROJECT, ("mining_cost = 2", 'mining_cost = 2\ncutoff = "base_price"')))
+    plan = pitplan.Plan.from_project(
+        plan_folder(table, PROJECT, ("mining_cost = 2", 'mining_cost = 2\ncutoff = "base_price"'))
+    )
     mine_files.write(plan, tmp_path)
     lines = (tmp_path / mine_files.BLOCKS).read_text().splitlines()
     assert lines == ["0 0 0 1 0 200", "1 1 0 1 0 200", "2 0 0 0 2000 1200", "3 1 0 0 0 200"]
@@ -207,20 +209,20 @@ def test_a_fixed_cutoff_settles_ore_at_the_price_as_given(plan_folder, tmp_path)
 def test_missing_prices_and_huge_amounts_are_refused(plan_folder, change, words):
     table = rows(2, 1, 2, cu=lambda i, j, k: 0.9 if (i, k) == (1, 0) else 0)
     with pytest.raises(PlanError, match=words):
-        pitplan.prepare(plan_folder(table, PROJECT, change))
+        pitplan.Plan.from_project(plan_folder(table, PROJECT, change))
 
 
 def test_a_single_tonne_of_a_rock_without_a_cost_is_refused(plan_folder):
     table = rows(2, 1, 1, tonnes=lambda i, j, k: i, rock=lambda i, j, k: "RS"[i])
     with pytest.raises(PlanError, match=r'row 3 column rock: \[economics\] mining_cost names no rock type "S"'):
-        pitplan.prepare(plan_folder(table, PROJECT, ("mining_cost = 2", "mining_cost = { T = 2 }")))
+        pitplan.Plan.from_project(plan_folder(table, PROJECT, ("mining_cost = 2", "mining_cost = { T = 2 }")))
 
 
 def test_a_block_that_yields_a_millionth_is_weighed(plan_folder):
     """Half a tonne of copper at two millionths a tonne; a rock without a recovery yields nothing, whatever its grade."""
     table = rows(3, 1, 1, cu=lambda i, j, k: [1, 0.9, 1][i], rock=lambda i, j, k: "RRS"[i])
     changes = [("price = 8000", "price = 0.000002"), ("recovery = 0.5", "recovery = { R = 0.5 }")]
-    values = pitplan.prepare(plan_folder(table, PROJECT, *changes)).values
+    values = pitplan.Plan.from_project(plan_folder(table, PROJECT, *changes)).values
     assert values.ore.tolist() == [0, 1] and values.revenue.tolist() == [1, 1, 0]
     assert values.processing.tolist() == [1000 * MILLION, 1000 * MILLION, 0]
     assert values.metal["copper"].tolist() == [0.5, 0.45, 0]
@@ -243,14 +245,16 @@ def test_a_block_that_yields_a_millionth_is_weighed(plan_folder):
 )
 def test_grades_that_a_unit_hardly_allows_are_warned_of(plan_folder, unit, grade, said):
     table = rows(2, 1, 2, cu=lambda i, j, k: grade * i)
-    notes = pitplan.prepare(plan_folder(table, PROJECT, ('unit = "percent"', f'unit = "{unit}"'))).notes
+    notes = pitplan.Plan.from_project(plan_folder(table, PROJECT, ('unit = "percent"', f'unit = "{unit}"'))).notes
     warned = [note for note in notes if "grade" in note]
     assert len(warned) == bool(said) and all(note.endswith(said) for note in warned)
 
 
 def test_rocks_without_recovery_are_told(plan_folder):
     table = rows(2, 1, 2, cu=lambda i, j, k: 0.5, rock=lambda i, j, k: "RS"[k])
-    plan = pitplan.prepare(plan_folder(table, PROJECT, ("recovery = 0.5", "recovery = { R = 0.5, OLD = 0.4 }")))
+    plan = pitplan.Plan.from_project(
+        plan_folder(table, PROJECT, ("recovery = 0.5", "recovery = { R = 0.5, OLD = 0.4 }"))
+    )
     assert "2 blocks of rock type S have no recovery of copper and yield none" in plan.notes
     assert "recovery of copper names rock type OLD, which no block has" in plan.notes
     assert plan.values.ore.tolist() == [2, 3]

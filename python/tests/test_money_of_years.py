@@ -37,7 +37,7 @@ def mean(start, end):
 def solved(path):
     """The table of shells at revenue factor 1.00, and its years of the best case."""
     shells = pitplan.write_shells(path)
-    years = pd.read_csv(path.parent / "plan" / "years.csv")
+    years = pd.read_csv(path.parent / "plan" / "tables/years.csv")
     return shells.set_index("revenue_factor").loc[1.0], years[
         (years["case"] == "best") & (years["revenue_factor"] == 1.0)
     ].set_index("year")
@@ -84,7 +84,7 @@ def test_a_royalty_is_owed_on_the_years_prices_too(mine):
 
 
 def test_shells_and_ore_keep_the_one_price(mine):
-    plain, other = (pitplan.prepare(mine(*changes)) for changes in ((), (MONEY, PRICES)))
+    plain, other = (pitplan.Plan.from_project(mine(*changes)) for changes in ((), (MONEY, PRICES)))
     assert (
         plain.values.mining.tolist() == other.values.mining.tolist()
         and plain.values.revenue.tolist() == other.values.revenue.tolist()
@@ -266,7 +266,7 @@ def test_money_that_is_passed_over_is_found(plan_folder, monkeypatch, without_fi
 def test_costs_of_a_year_that_are_bent_are_found(mine):
     path = mine(MONEY, of_years("end_of_year"))
     pitplan.write_shells(path)
-    file = path.parent / "plan" / "years.csv"
+    file = path.parent / "plan" / "tables/years.csv"
     table = pd.read_csv(file)
     table.loc[table.index[-1], "fixed_cost"] += 1
     table.loc[table.index[-1], "cash_flow"] -= 1

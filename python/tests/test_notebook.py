@@ -62,7 +62,7 @@ def test_a_page_exports_and_a_folder_for_auditors_are_told_by_their_paths(solved
     folder = solved[1]
     assert pitplan.view(str(folder)) == folder / "view.html"
     assert pitplan.write_export(folder, "csv") == folder / "pit.csv"
-    blocks = pd.read_csv(folder / "blocks.csv")
+    blocks = pd.read_csv(folder / "tables/blocks.csv")
     assert len(pd.read_csv(folder / "pit.csv")) == (blocks["revenue_factor"] > 0.0).sum()
     assert pitplan.write_export(folder, "dxf", 0.5) == folder / "pit-0.50.dxf"
     assert (pitplan.audit(folder, 0.5) / "check.sh").exists()
@@ -73,7 +73,7 @@ def test_a_page_exports_and_a_folder_for_auditors_are_told_by_their_paths(solved
     [
         (
             lambda folder: pitplan.write_export(folder, "dwg"),
-            "dwg is none of table, csv, xlsx, vti, vtu, dxf, stl, obj, gpkg, str, lines",
+            "dwg: is not a format, expected one of table, csv, xlsx, vti, vtu, dxf, stl, obj, gpkg, str, lines",
         ),
         (
             lambda folder: pitplan.write_export(folder, "dxf", 0.9),
@@ -85,11 +85,11 @@ def test_a_page_exports_and_a_folder_for_auditors_are_told_by_their_paths(solved
         ),
         (
             lambda folder: pitplan.view(folder / "nowhere"),
-            "nowhere/prepare.json: cannot be read: run pitplan shells first",
+            "nowhere: not found, expected the output folder of a plan: give the folder that pitplan shells wrote",
         ),
         (
             lambda folder: pitplan.verify(folder / "nowhere"),
-            "nowhere/prepare.json: cannot be read: run pitplan shells first",
+            "nowhere/plan.json: cannot be read: run pitplan shells first",
         ),
         (lambda folder: pitplan.gather(folder), "scenarios.json: cannot be read: run pitplan scenarios first"),
         (lambda folder: pitplan.write_scenarios(folder.parent / "project.toml"), r"\[scenarios\] is missing"),
@@ -106,7 +106,7 @@ def test_a_verified_folder_is_told_rule_by_rule(solved):
     assert all(
         isinstance(rule, pitplan.Rule) and rule.holds and rule.differences == () and rule.count == 0 for rule in rules
     )
-    path = solved[1] / "shells.csv"
+    path = solved[1] / "tables/shells.csv"
     table = pd.read_csv(path, dtype=str)
     right = float(table["waste_tonnes"][0])
     table.assign(waste_tonnes=[right + 1, *table["waste_tonnes"][1:]]).to_csv(path, index=False)
@@ -118,7 +118,7 @@ def test_a_pit_with_fixed_blocks_and_without_them(plan):
     table = pitplan.write_pit(plan, 0.5)
     assert table["fixed_blocks"].tolist() == ["kept", "free"] and table["revenue_factor"].tolist() == [0.5, 0.5]
     assert (table["value_at_revenue_factor"][1] - table["value_at_revenue_factor"][0]) == 600
-    assert (plan.parent / "plan" / "pit" / "pits.csv").exists()
+    assert (plan.parent / "plan" / "pit" / "tables/pits.csv").exists()
 
 
 def test_scenarios_are_given_as_frames(plan_folder):
@@ -164,12 +164,12 @@ def test_the_notebook_from_a_frame_to_a_schedule_runs(monkeypatch):
     given = pd.read_csv("plan/blocks.csv").set_index("id")
     blocks = names["plan"].blocks.set_index("planner_id")
     assert blocks["cu_pct"].to_numpy() == pytest.approx(0.9 * given["cu_pct"][blocks.index].to_numpy())
-    inside = names["divided"].pushback[blocks["id"]] > 0
-    ways = names["pushback_schedule"].ways(names["schedule"])
+    inside = names["pushbacks"].found.pushback[blocks["id"]] > 0
+    ways = names["schedule"].methods
     assert (ways["tonnes"] + ways["unmined_tonnes"]).tolist() == pytest.approx(
         [given["tonnes"][blocks.index[inside]].sum()] * len(ways)
     )
-    years = names["pushback_schedule"].years(names["schedule"])
+    years = names["schedule"].years
     assert (years["feed_tonnes"] <= 800_000 * (1 + 1e-9)).all() and (
         years["total_tonnes"] <= 2_000_000 * (1 + 1e-9)
     ).all()
@@ -182,7 +182,7 @@ def test_lists_of_jobs_are_told_by_what_to_start(plan_folder):
     assert found.start == path.parent / "many" / "start.sh"
     with pytest.raises(PlanError, match="probability.csv: cannot be read: run pitplan scenarios or gather first"):
         found.probability
-    with pytest.raises(PlanError, match="3 of 3 scenarios have no answer"):
+    with pytest.raises(PlanError, match="3 of 3 scenarios have no result"):
         pitplan.gather(found.folder)
 
 

@@ -221,10 +221,10 @@ def test_plans_are_those_of_the_oracle(tmp_path, seed, three, levels, cutoff, is
     pits = [pit_of(read, needs, factor, cutoff) for factor in FACTORS]
     if pits[0] is None:
         with pytest.raises(pitplan.PlanError, match="is must-mine and depends on|is both must-mine and excluded"):
-            pitplan.prepare(tmp_path / "project.toml")
+            pitplan.Plan.from_project(tmp_path / "project.toml")
         return
-    plan = pitplan.prepare(tmp_path / "project.toml")
-    blocks = pitplan.blocks(plan, pitplan.solve(plan))
+    plan = pitplan.Plan.from_project(tmp_path / "project.toml")
+    blocks = plan.shells().blocks
     for factor, pit in zip(FACTORS, pits):
         inside = (blocks["revenue_factor"] > 0.0) & (blocks["revenue_factor"] <= factor)
         assert set(blocks["name"][inside]) == {f"b{i}-{j}-{k}" for i, j, k in pit if (i, j, k) in read}, factor

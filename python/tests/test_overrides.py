@@ -44,7 +44,7 @@ def test_a_run_records_the_project_with_the_set_keys(path):
     before = path.read_bytes()
     assert main(["shells", str(path), "--out", str(out), *options]) == 0
     recorded = load(out / "project-as-run.toml")
-    assert str(recorded.metals[0].price) == "9000" and str(recorded.money.mining_cost) == "2.6"
+    assert str(recorded.metals[0].price) == "9000" and str(recorded.economics.mining_cost) == "2.6"
     assert path.read_bytes() == before and all(not rule.differences for rule in pitplan.verify(out))
 
 
@@ -61,7 +61,7 @@ def test_a_run_records_the_project_with_the_set_keys(path):
         ("title.more=1", r"title is 'Test hill', and no section"),
         (
             "economics.minning_cost=3",
-            r"project.toml with --set economics.minning_cost=3: \[economics\] minning_cost: is no key here; mining_cost is",
+            r"project.toml with --set economics.minning_cost=3: \[economics\] minning_cost: unknown key: did you mean mining_cost",
         ),
         ("economics.mining_cost=two", r"with --set economics.mining_cost=two: \[economics\] mining_cost: "),
     ],

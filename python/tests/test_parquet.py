@@ -35,14 +35,14 @@ def in_parquet(plan_folder, tmp_path):
 def test_without_pyarrow_it_is_said_what_is_missing(in_parquet):
     said = r"blocks.parquet: is Parquet, which needs pyarrow \(python3-pyarrow\), .*: export the table as CSV"
     with pytest.raises(MissingPackage, match=said):
-        pitplan.prepare(in_parquet(rows(2, 2, 2)))
+        pitplan.Plan.from_project(in_parquet(rows(2, 2, 2)))
 
 
 @pytest.mark.skipif(not HAS_PYARROW, reason="needs pyarrow, which Debian 12 does not have")
 def test_it_is_planned_as_the_same_table_as_text(in_parquet, plan_folder):
     table = rows(4, 3, 2, cu=lambda i, j, k: np.float32(0.3 + i))
-    found = pitplan.prepare(in_parquet(table.assign(more=1)))
-    text = pitplan.prepare(plan_folder(table.assign(cu=[round(float(it), 1) for it in table["cu"]])))
+    found = pitplan.Plan.from_project(in_parquet(table.assign(more=1)))
+    text = pitplan.Plan.from_project(plan_folder(table.assign(cu=[round(float(it), 1) for it in table["cu"]])))
     pd.testing.assert_frame_equal(found.blocks, text.blocks)
     assert any("unused columns: more" in line for line in found.summary)
 
@@ -50,7 +50,7 @@ def test_it_is_planned_as_the_same_table_as_text(in_parquet, plan_folder):
 @pytest.mark.skipif(not HAS_PYARROW, reason="needs pyarrow, which Debian 12 does not have")
 def test_a_column_that_is_missing_is_named(in_parquet):
     with pytest.raises(PlanError, match="blocks.parquet row 1: there is no column cu"):
-        pitplan.prepare(in_parquet(rows(2, 2, 2).drop(columns=["cu"])))
+        pitplan.Plan.from_project(in_parquet(rows(2, 2, 2).drop(columns=["cu"])))
 
 
 def test_what_is_made_of_columns():

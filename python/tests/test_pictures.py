@@ -385,9 +385,9 @@ def test_sections_show_a_grade_in_one_colour():
 
 def test_what_plans_show_of_a_solved_plan(solved):
     """The pit of a hill of ten by nine columns; its scene is what blocks.csv says."""
-    plan = pitplan.prepare(solved[0])
-    scene = plans_sections.scene_of(plan, pitplan.solve(plan), 1.5)
-    blocks = pd.read_csv(solved[1] / "blocks.csv")
+    plan = pitplan.Plan.from_project(solved[0])
+    scene = plans_sections.scene_of(plan, plan.shells().solution, 1.5)
+    blocks = pd.read_csv(solved[1] / "tables/blocks.csv")
     assert scene.dug.sum() == (blocks["revenue_factor"] > 0.0).sum() and scene.solid.sum() == len(blocks)
     places = [((45 - blocks["z"]) // 10).astype(int), (blocks["y"] // 10).astype(int), (blocks["x"] // 10).astype(int)]
     assert scene.grade[tuple(places)].tolist() == blocks["cu"].tolist()
@@ -403,5 +403,5 @@ def test_what_plans_show_of_a_solved_plan(solved):
     assert {(row, column): drawn[int(row), int(column)] for row, column in deepest.index} == (deepest - 5).to_dict()
     assert np.ma.count(np.ma.masked_invalid(drawn)) == len(deepest)
     plt.close(figure)
-    chosen = plans_sections.scene_of(plan, pitplan.solve(plan)).selected
-    assert chosen == json.loads((solved[1] / "prepare.json").read_text())["shells"]["selected"]
+    chosen = plans_sections.scene_of(plan, plan.shells().solution).selected
+    assert chosen == json.loads((solved[1] / "plan.json").read_text())["shells"]["selected"]

@@ -25,7 +25,7 @@ def area_of(points):
 
 def expected(folder, name):
     """By pushback or year, kind, bench's floor and height the area that is dug on the level, of blocks of 10 m."""
-    blocks, areas = pd.read_csv(folder / "blocks.csv"), {}
+    blocks, areas = pd.read_csv(folder / "tables/blocks.csv"), {}
     for number in range(1, int(blocks[name].max()) + 1):
         for z, level in blocks[(blocks[name] > 0) & (blocks[name] <= number)].groupby("z"):
             areas |= {(number, kind, z - 5, z - 5 + up): 100.0 * len(level) for kind, up in (("toe", 0), ("crest", 10))}
@@ -92,6 +92,12 @@ def test_a_geopackage_is_read_by_gdal_and_is_the_same_each_time(folder):
     assert areas == pytest.approx(expected(folder, "pushback"))
 
 
+def test_a_geopackage_has_the_revenue_factor_of_its_pit(solved):
+    ogr = pytest.importorskip("osgeo.ogr", reason="needs the Debian package python3-gdal")
+    source = ogr.Open(str(pitplan.write_export(solved[1], "gpkg", 0.5)))
+    assert {feature["revenue_factor"] for feature in source.GetLayerByName("lines")} == {0.5}
+
+
 def test_a_geopackage_is_one_for_those_who_read_its_tables(folder):
     """Of SQLite, with the mark of a GeoPackage and the extent of all lines."""
     pytest.importorskip("osgeo.ogr")
@@ -101,7 +107,7 @@ def test_a_geopackage_is_one_for_those_who_read_its_tables(folder):
             "select table_name, min_x, min_y, max_x, max_y from gpkg_contents"
         ).fetchall()
         count = base.execute("select count(*) from lines where kind = 'toe'").fetchone()[0]
-    dug = pd.read_csv(folder / "blocks.csv").query("year > 0")
+    dug = pd.read_csv(folder / "tables/blocks.csv").query("year > 0")
     ends = [dug["x"].min() - 5, dug["y"].min() - 5, dug["x"].max() + 5, dug["y"].max() + 5]
     assert name == "lines" and [west, south, east, north] == pytest.approx(ends)
     assert count == sum(
@@ -113,7 +119,7 @@ def test_a_pit_of_one_factor_by_hand(plan_folder, capsys):
     """One block of ore under one of waste: four corners on two levels, each with a toe and a crest."""
     path = plan_folder(rows(1, 1, 2, cu=lambda i, j, k: 6 if k == 0 else 0))
     pitplan.write_shells(path, writing=pitplan.Writing(verifies=False))
-    assert main(["export", str(path), "--to", "str", "--revenue-factor", "1.00"]) == 0
+    assert main(["export", str(path.parent / "plan"), "--to", "str", "--revenue-factor", "1.00"]) == 0
     found = path.parent / "plan" / "lines-1.00.str"
     assert capsys.readouterr().out.strip() == str(found)
     strings = strings_of(found)

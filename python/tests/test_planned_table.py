@@ -45,7 +45,7 @@ def test_rows_and_fields_are_the_planners_and_numbers_those_of_their_block(solve
     before, after = lines(project.table.file), lines(pitplan.write_export(folder, "table"))
     assert after[0] == [*before[0], *FOUND]
     assert [line[: len(before[0])] for line in after] == before
-    blocks = pd.read_csv(folder / "blocks.csv", dtype=str).set_index("name")
+    blocks = pd.read_csv(folder / "tables/blocks.csv", dtype=str).set_index("name")
     assert [line[-2:] for line in after[1:]] == [list(blocks.loc[line[0], FOUND]) for line in before[1:]]
     assert wrong(folder) == set()
 
@@ -115,7 +115,7 @@ def test_rock_of_cells_without_rows_has_none(plan_folder):
     pitplan.write_shells(path)
     after = pd.read_csv(pitplan.write_export(path.parent / "plan", "table"))
     assert after["name"].tolist() == table["name"].tolist()
-    assert "absent-37" in set(pd.read_csv(path.parent / "plan" / "blocks.csv")["name"])
+    assert "absent-37" in set(pd.read_csv(path.parent / "plan" / "tables/blocks.csv")["name"])
 
 
 def test_rows_that_are_put_together_have_the_numbers_of_their_block(plan_folder):
@@ -198,7 +198,7 @@ def test_a_project_or_a_table_that_has_changed_is_refused(solved, tmp_path, caps
     for path in (project.path, project.table.file):
         kept = shutil.copy(path, tmp_path / "kept")
         path.write_text(path.read_text() + "\n")
-        assert main(["export", str(project.path), "--to", "table", "--quiet"]) == 1
+        assert main(["export", str(folder), "--to", "table", "--quiet"]) == 1
         assert capsys.readouterr().err.startswith(
             f"pitplan: {folder / '..' / path.name}: has changed since {folder} was written"
         )

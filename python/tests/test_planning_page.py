@@ -27,18 +27,21 @@ def test_the_lines_for_a_notebook_run(tmp_path, monkeypatch):
         project.write("\n[pushbacks]\nrevenue_factors = [0.5, 1.0]\n")
     names = {}
     exec(re.search(r"```python\n(.*?)```", PAGE, re.DOTALL)[1], names)
-    assert len(names["plan"].blocks) == 7119 and names["solution"].worth.index.tolist()[-1] == 1.2
-    assert names["table"]["revenue_factor"].tolist() == names["solution"].worth.index.tolist() and names["pushbacks"][
-        "revenue_factor"
-    ].tolist() == [0.5, 1.0]
+    shells = names["shells"]
+    assert len(names["plan"].blocks) == 7119 and shells.solution.worth.index.tolist()[-1] == 1.2
+    assert shells.table["revenue_factor"].tolist() == shells.solution.worth.index.tolist()
+    assert len(names["pushbacks"].table) == 4 and names["schedule"].methods["method"].tolist() == ["rule", "lp"]
+    assert all(not rule.differences for rule in pitplan.verify("out"))
 
 
 def test_the_table_of_cutoffs_is_that_of_the_example():
-    plan = pitplan.prepare(EXAMPLE)
-    fixed = pitplan.prepare(replace(plan.project, money=replace(plan.project.money, cutoff="base_price")))
-    solutions = [pitplan.solve(plan), pitplan.solve(fixed)]
+    plan = pitplan.Plan.from_project(EXAMPLE)
+    fixed = pitplan.Plan.from_project(
+        replace(plan.project, economics=replace(plan.project.economics, cutoff="base_price"))
+    )
+    solutions = [plan.shells().solution, fixed.shells().solution]
     tables = [
-        pitplan.shells(it, solution).set_index("revenue_factor") for it, solution in zip((plan, fixed), solutions)
+        pitplan.Shells(it, solution).table.set_index("revenue_factor") for it, solution in zip((plan, fixed), solutions)
     ]
     section = PAGE.partition("\n## Cut-off\n")[2].partition("\n## ")[0]
     told = {row[0]: row[1:] for row in (re.split(r" *\| *", line)[1:-1] for line in section.splitlines()) if row}
@@ -56,7 +59,7 @@ def test_the_table_of_cutoffs_is_that_of_the_example():
 )
 def test_the_angles_of_the_west_walls_are_those_of_the_page(levels, steeper, needs):
     project = pitplan.load(EXAMPLE)
-    plan = pitplan.prepare(replace(project, slopes=replace(project.slopes, precedence_benches=levels)))
+    plan = pitplan.Plan.from_project(replace(project, slopes=replace(project.slopes, precedence_benches=levels)))
     west = plan.walls.patterns[0]
     assert len(west.offsets) == needs and west.errors.max() == pytest.approx(steeper, abs=0.05)
     assert re.search(rf"{steeper} (degrees )?with {levels} (benches )?\({needs}", PAGE)
@@ -64,13 +67,13 @@ def test_the_angles_of_the_west_walls_are_those_of_the_page(levels, steeper, nee
 
 def test_the_levels_that_the_page_says_are_chosen():
     project = pitplan.load(EXAMPLE)
-    plan = pitplan.prepare(replace(project, slopes=replace(project.slopes, precedence_benches=None)))
+    plan = pitplan.Plan.from_project(replace(project, slopes=replace(project.slopes, precedence_benches=None)))
     chosen = [pattern.levels for pattern in plan.walls.patterns]
     assert "for the example's domains {} and {} benches".format(*chosen) in PAGE
 
 
 def test_the_pairs_of_the_page_are_those_of_the_example(tmp_path):
-    plan = pitplan.prepare(EXAMPLE)
+    plan = pitplan.Plan.from_project(EXAMPLE)
     written = mine_files.write(plan, tmp_path).written
     plan.used[:] = True
     whole = mine_files.write(plan, tmp_path).written
@@ -78,8 +81,8 @@ def test_the_pairs_of_the_page_are_those_of_the_example(tmp_path):
 
 
 def test_the_net_present_values_of_the_page_are_those_of_the_example():
-    plan = pitplan.prepare(EXAMPLE)
-    table = pitplan.shells(plan, pitplan.solve(plan)).set_index("revenue_factor")
+    plan = pitplan.Plan.from_project(EXAMPLE)
+    table = plan.shells().table.set_index("revenue_factor")
     best, worst = table["npv_best"], table["npv_worst"]
     mean = (best + worst)[:1.0].sort_values()
     assert (
@@ -95,7 +98,7 @@ def test_the_net_present_values_of_the_page_are_those_of_the_example():
 
 def test_the_pushbacks_of_the_page_are_those_of_the_example():
     project = pitplan.load(EXAMPLE)
-    plan = pitplan.prepare(
+    plan = pitplan.Plan.from_project(
         pitplan.pushbacks.nested.ending(replace(project, pushbacks=PushbackRules(4, None, None, 1.0)))
     )
     table = pitplan.pushbacks.nested.table(pitplan.pushbacks.nested.divide(plan)).set_index("pushback")
@@ -126,16 +129,16 @@ def test_the_schedule_of_the_page_is_that_of_the_example():
     plain, binned = (
         pushback_schedule.make(
             pitplan.pushbacks.nested.divide(
-                pitplan.prepare(
+                pitplan.Plan.from_project(
                     pitplan.pushbacks.nested.ending(
-                        replace(project, pushbacks=PushbackRules(4, None, None, 1.0), schedule_rules=asked)
+                        replace(project, pushbacks=PushbackRules(4, None, None, 1.0), schedule=asked)
                     )
                 )
             )
         )
         for asked in (rules, replace(rules, bins=8, reclaim_cost=1.0))
     )
-    ways = pushback_schedule.ways(plain).set_index("method")
+    ways = pushback_schedule.methods(plain).set_index("method")
     assert f"earn {ways['npv']['rule'] / 1e6:.2f} M USD by rule in {ways['years']['rule']} years" in PAGE
     assert f"each pushback {plain.lead} benches behind the one before" in PAGE and ways["npv"]["lp"] == pytest.approx(
         ways["npv"]["rule"]
@@ -149,7 +152,7 @@ def test_the_schedule_of_the_page_is_that_of_the_example():
 def test_the_schedule_by_block_of_the_page_is_that_of_the_example():
     project = pitplan.load(EXAMPLE)
     table = block_result.make(
-        pitplan.prepare(replace(project, schedule_rules=ScheduleRules(ramp_up=(0.5, 1.0))))
+        pitplan.Plan.from_project(replace(project, schedule=ScheduleRules(ramp_up=(0.5, 1.0))))
     ).table.iloc[0]
     said = f"the example's blocks earn {table['npv'] / 1e6:.2f} M USD, {100 * table['optimality_gap']:.2f} % less than the bound of {table['upper_bound'] / 1e6:.2f}."
     assert f"With `ramp_up = [0.5, 1.0]` {said}" in PAGE
@@ -159,7 +162,9 @@ def test_the_widths_of_the_page_are_those_of_the_example():
     project = pitplan.load(EXAMPLE)
 
     def divided(*rules):
-        plan = pitplan.prepare(pitplan.pushbacks.nested.ending(replace(project, pushbacks=PushbackRules(*rules))))
+        plan = pitplan.Plan.from_project(
+            pitplan.pushbacks.nested.ending(replace(project, pushbacks=PushbackRules(*rules)))
+        )
         return pitplan.pushbacks.nested.divide(plan)
 
     shells, wide, four = (

@@ -39,8 +39,8 @@ def ore():
 def test_a_converted_price_makes_the_same_plan(plan_folder, unit, given, same):
     """Unit definitions of NIST SP 811, appendix B.8; the prices are chosen so that both texts are exact."""
     changes = [GOLD] if unit == "gram_per_tonne" else []
-    by_given = pitplan.prepare(plan_folder(ore(), PROJECT, *changes, priced(*given)))
-    by_same = pitplan.prepare(plan_folder(ore(), PROJECT, *changes, priced(*same)))
+    by_given = pitplan.Plan.from_project(plan_folder(ore(), PROJECT, *changes, priced(*given)))
+    by_same = pitplan.Plan.from_project(plan_folder(ore(), PROJECT, *changes, priced(*same)))
     assert by_given.values.revenue.any()
     pd.testing.assert_frame_equal(by_given.blocks, by_same.blocks)
     metal, natural = by_given.project.metals[0], by_same.project.metals[0]
@@ -64,5 +64,5 @@ def test_a_run_by_the_pound_is_verified_and_reads_back(plan_folder):
 
 
 def test_an_unknown_unit_is_refused(plan_folder):
-    with pytest.raises(PlanError, match=r"\[metals 1\] price_per: \"ounce\" is none of t, kg, g, lb, oz"):
+    with pytest.raises(PlanError, match=r"\[metals 1\] price_per: found \"ounce\", expected one of t, kg, g, lb, oz"):
         load(plan_folder(ore(), PROJECT, priced("4", "0", "4", "ounce")))

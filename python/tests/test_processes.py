@@ -114,7 +114,7 @@ def one_column():
 
 def test_nodes_by_hand(plan_folder, tmp_path):
     path = plan_folder(one_column(), PROJECT, *WITH)
-    plan = pitplan.prepare(path)
+    plan = pitplan.Plan.from_project(path)
     mine_files.write(plan, tmp_path)
     lines = (tmp_path / mine_files.BLOCKS).read_text().splitlines()
     assert lines == ["0 0 0 1 0 200", "1 0 0 0 0 200", "2 0 0 0 2560 300", "3 0 0 0 3200 1000"]
@@ -133,13 +133,13 @@ def test_nodes_by_hand(plan_folder, tmp_path):
         "1 potential ore blocks have a processing node, and 1 more for processes that are better at higher prices; the cut-off is re-evaluated at every revenue factor"
         in plan.notes
     )
-    assert plan.project.schedule.processing_capacity == 400
+    assert plan.project.shells.processing_capacity == 400
 
 
 def test_nodes_of_a_block_that_must_be_dug_by_hand(plan_folder, tmp_path):
     """Its first step needs nothing more, the second still the first."""
     table = one_column().assign(must=[1, 0])
-    plan = pitplan.prepare(plan_folder(table, PROJECT + '[constraints]\nmust_mine = "must"\n', *WITH))
+    plan = pitplan.Plan.from_project(plan_folder(table, PROJECT + '[constraints]\nmust_mine = "must"\n', *WITH))
     mine_files.write(plan, tmp_path)
     assert (tmp_path / mine_files.REST_BLOCKS).read_text().splitlines()[2:] == ["2 0 0 0 2560 300", "3 0 0 0 3200 1000"]
     assert (tmp_path / mine_files.REST_PREC).read_text().splitlines() == ["3 1 2"]
@@ -151,7 +151,7 @@ def test_the_process_of_a_block_by_hand(plan_folder, without_figures, grade, pro
     table = rows(1, 1, 2, cu=lambda i, j, k: 0 if k else grade, must=lambda i, j, k: 1 - k)
     path = plan_folder(table, PROJECT + '[constraints]\nmust_mine = "must"\n', *WITH)
     shell = pitplan.write_shells(path).set_index("revenue_factor").loc[1.0]
-    blocks = pd.read_csv(path.parent / "plan" / "blocks.csv", keep_default_na=False).set_index("name")
+    blocks = pd.read_csv(path.parent / "plan" / "tables/blocks.csv", keep_default_na=False).set_index("name")
     assert blocks["process"].tolist() == ["", process] and shell["feed_tonnes"] == ore
     assert {name: shell[f"feed_tonnes_{name}"] for name in ("leach", "mill")} == {
         name: ore * (name == process) for name in ("leach", "mill")
@@ -202,19 +202,19 @@ def wrong(folder):
 def test_the_second_look_agrees_and_each_process_has_ore(plan_folder, without_figures):
     folder = solved(plan_folder)
     assert wrong(folder) == set()
-    shells = pd.read_csv(folder / "shells.csv").set_index("revenue_factor")
+    shells = pd.read_csv(folder / "tables/shells.csv").set_index("revenue_factor")
     assert (shells.loc[1.0, ["feed_tonnes_leach", "feed_tonnes_mill"]] > 100).all()
     assert shells["feed_tonnes"].tolist() == pytest.approx(
         (shells["feed_tonnes_leach"] + shells["feed_tonnes_mill"]).tolist()
     )
     # Some blocks are leached at a low price and milled at the given one.
-    plan = pitplan.prepare(folder.parent / "project.toml")
+    plan = pitplan.Plan.from_project(folder.parent / "project.toml")
     assert (np.diff(plan.values.processed) == 0).sum() > 5
 
 
 def test_each_process_keeps_its_capacity(plan_folder, without_figures):
     folder = solved(plan_folder)
-    years = pd.read_csv(folder / "years.csv")
+    years = pd.read_csv(folder / "tables/years.csv")
     assert years["feed_tonnes_mill"].max() == pytest.approx(100) and years["feed_tonnes_leach"].max() <= 300 + 1e-6
 
 
@@ -222,33 +222,33 @@ def test_each_process_keeps_its_capacity(plan_folder, without_figures):
 def test_shells_are_those_of_the_best_process_at_each_factor(plan_folder, cutoff):
     """One factor after the other, each block with one node that has what its best process is worth there."""
     path = plan_folder(deposit(), PROJECT, *MORE, ("decimals = 2\n", f'decimals = 2\ncutoff = "{cutoff}"\n'))
-    plan = pitplan.prepare(path)
-    entry = shell_tables.cells_of(plan, pitplan.solve(plan)).factor
-    for factor in plan.project.schedule.revenue_factors:
-        best = best_way(plan.values.ways, factor if cutoff == "per_revenue_factor" else 1.0)
+    plan = pitplan.Plan.from_project(path)
+    entry = shell_tables.cells_of(plan, plan.shells().solution).factor
+    for factor in plan.project.shells.revenue_factors:
+        best = best_way(plan.values.by_process, factor if cutoff == "per_revenue_factor" else 1.0)
         alone = tuple(
             replace(
                 way,
                 **{
-                    name: np.choose(best, [getattr(it, name) for it in plan.values.ways])
+                    name: np.choose(best, [getattr(it, name) for it in plan.values.by_process])
                     for name in ("revenue", "cost")
                 },
             )
-            for way in plan.values.ways[:1]
+            for way in plan.values.by_process[:1]
         )
-        one = replace(plan, values=replace(plan.values, ways=alone, best=np.zeros_like(best)))
-        one.project = replace(plan.project, schedule=replace(plan.project.schedule, revenue_factors=(factor,)))
-        inside = pitplan.solve(one).entry[: plan.grid.count] > 0
+        one = replace(plan, values=replace(plan.values, by_process=alone, best=np.zeros_like(best)))
+        one.project = replace(plan.project, shells=replace(plan.project.shells, revenue_factors=(factor,)))
+        inside = one.shells().solution.entry[: plan.grid.count] > 0
         assert ((entry > 0) & (entry <= factor)).tolist() == inside.tolist()
 
 
 @pytest.mark.parametrize("column", ["process", "revenue_leach", "processing_cost_mill", "revenue"])
 def test_what_is_bent_in_blocks_is_found(plan_folder, without_figures, column):
     folder = solved(plan_folder)
-    table = pd.read_csv(folder / "blocks.csv", keep_default_na=False)
+    table = pd.read_csv(folder / "tables/blocks.csv", keep_default_na=False)
     at = table.index[table["process"] == "mill"][0]
     table.loc[at, column] = "leach" if column == "process" else table.loc[at, column] + 0.02
-    table.to_csv(folder / "blocks.csv", index=False)
+    table.to_csv(folder / "tables/blocks.csv", index=False)
     assert "money" in wrong(folder)
 
 
@@ -308,7 +308,7 @@ def test_pushbacks_and_schedules_keep_to_the_capacities(plan_folder, without_fig
         ([*WITH, ('name = "mill"', 'name = "the mill"')], '"the mill" is not one word'),
         (
             [*WITH, ("{ copper = 0.4 }", "{ gold = 0.4 }")],
-            r"\[\[processes\]\] leach recovers gold, which is none of the \[\[metals\]\] copper",
+            r"\[\[processes\]\] leach recovery: found gold, expected one of the \[\[metals\]\]: copper",
         ),
         (
             [*WITH, ("[shells]", "[pushbacks]\ncount = 2\n[schedule]\nbins = 2\n[shells]")],

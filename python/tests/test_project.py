@@ -28,7 +28,7 @@ def test_a_byte_order_mark_is_passed_over_and_another_encoding_is_refused(plan_f
         (
             "mining_cost = 2",
             "mining_cost = 2\nminning_cost = 2",
-            "[economics] minning_cost: is no key here; mining_cost is",
+            "[economics] minning_cost: unknown key: did you mean mining_cost",
         ),
         ('title = "Test hill"', 'title = """Test\nhill"""', "title: must be one line of plain text"),
         (
@@ -36,7 +36,7 @@ def test_a_byte_order_mark_is_passed_over_and_another_encoding_is_refused(plan_f
             'id = "name"\nencoding = "utf-9"',
             '[table] encoding: "utf-9" is not an encoding: expected one such as utf-8, cp1252',
         ),
-        ('id = "name"', 'id = "name"\ndecimal = ";"', '[table] decimal: ";" is none of ., ,'),
+        ('id = "name"', 'id = "name"\ndecimal = ";"', '[table] decimal: found ";", expected one of ., ,'),
         ("mining_cost = 2", "mining_cost = true", "[economics] mining_cost: True is not a number"),
         ("mining_cost = 2", "mining_cost = nan", "[economics] mining_cost: NaN is not a number"),
         ("mining_cost = 2", "mining_cost = 2026-11-27", "[economics] mining_cost: 2026-11-27 is not a number"),
@@ -55,7 +55,7 @@ def test_a_byte_order_mark_is_passed_over_and_another_encoding_is_refused(plan_f
         (
             "mining_cost = 2",
             'mining_cost = 2\ncutoff = "loose"',
-            '[economics] cutoff: "loose" is none of per_revenue_factor, base_price',
+            '[economics] cutoff: found "loose", expected one of per_revenue_factor, base_price',
         ),
         (
             "mining_cost = 2",
@@ -78,7 +78,11 @@ def test_a_byte_order_mark_is_passed_over_and_another_encoding_is_refused(plan_f
             "[economics] mining_cost_by_elevation: must be a list of pairs [elevation, cost a tonne]",
         ),
         ("recovery = 0.5", "recovery = 50", "[metals 1] recovery: must lie from 0 to 1"),
-        ('unit = "percent"', 'unit = "ppm"', '[metals 1] unit: "ppm" is none of percent, fraction, gram_per_tonne'),
+        (
+            'unit = "percent"',
+            'unit = "ppm"',
+            '[metals 1] unit: found "ppm", expected one of percent, fraction, gram_per_tonne',
+        ),
         ("[10, 10, 10]", "[10, 10]", "[grid] size: must be a list of 3 numbers"),
         ("[10, 10, 10]", "[10, 10, 0]", "[grid] size: a block's size is above 0"),
         (
@@ -86,7 +90,7 @@ def test_a_byte_order_mark_is_passed_over_and_another_encoding_is_refused(plan_f
             "precedence_benches = 0",
             "[slopes] precedence_benches: must be a whole number from 1 to 40",
         ),
-        ('pattern = "1:5"', 'pattern = "1:7"', '[slopes.domains 1] pattern: "1:7" is none of 1:5, 1:9'),
+        ('pattern = "1:5"', 'pattern = "1:7"', '[slopes.domains 1] pattern: found "1:7", expected one of 1:5, 1:9'),
         (
             'pattern = "1:5"',
             "",
@@ -173,7 +177,7 @@ def test_a_byte_order_mark_is_passed_over_and_another_encoding_is_refused(plan_f
         ("[[metals]]", "[metals]", "metals: write at least one [[metals]]"),
         ("[[slopes.domains]]", "[slopes.domains]", "[slopes] domains: write at least one [[slopes.domains]]"),
         ('rock_type = "rock"\n', "", "[table] rock_type: is missing, and prices or recoveries are given by rock type"),
-        ("[slopes]\n", "", "[metals 1] precedence_benches: is no key here"),
+        ("[slopes]\n", "", "[metals 1] precedence_benches: unknown key"),
         ("[shells]\n", "[shell]\n", "shells: is missing"),
         ('title = "Test hill"', "title = 3", "title: must be a text in quotes"),
     ],
@@ -205,7 +209,7 @@ def test_a_missing_project_is_named(tmp_path):
 
 def test_factors_by_steps(plan_folder):
     path = plan_folder(rows(2, 2, 2), PROJECT, ("[0.5, 1.0, 1.5]", "{ from = 0.8, to = 1.25, step = 0.15 }"))
-    schedule = pitplan.load(path).schedule
+    schedule = pitplan.load(path).shells
     assert schedule.revenue_factors == (0.8, 0.95, 1.0, 1.1, 1.25) and schedule.base_price_added
 
 
@@ -287,8 +291,13 @@ def test_what_is_left_out(tmp_path):
         "processing_capacity = 100\n"
     )
     project = pitplan.load(path)
-    assert (project.title, project.folder, project.scenarios, project.fixed) == ("hill", folder / "plan", None, None)
-    table, money, slopes, schedule = project.table, project.money, project.slopes, project.schedule
+    assert (project.title, project.folder, project.scenarios, project.constraints) == (
+        "hill",
+        folder / "plan",
+        None,
+        None,
+    )
+    table, money, slopes, schedule = project.table, project.economics, project.slopes, project.shells
     assert (table.x, table.y, table.z, table.tonnes, table.id, table.rock_type, table.domain) == (
         "x",
         "y",

@@ -50,7 +50,7 @@ def test_a_changed_project_is_verified_as_it_was_run(mine, name):
     assert not [rule for rule in verify(path.parent / "out") if rule.differences]
     assert path.read_bytes() == before
     again = load(path.parent / "out" / "project-as-run.toml")
-    assert again.metals == project.metals and again.schedule == project.schedule
+    assert again.metals == project.metals and again.shells == project.shells
     assert again.table.file.resolve() == project.table.file.resolve()
 
 
@@ -59,7 +59,7 @@ def test_the_report_shows_the_project_that_was_run(mine):
     pitplan.write_shells(project)
     page = (project.folder / "report.html").read_text()
     assert "price = 12000" in page and "price = 8000" not in page
-    record = json.loads((project.folder / "prepare.json").read_text())
+    record = json.loads((project.folder / "plan.json").read_text())
     assert record["files"]["project-as-run.toml"] == hash_of(project.folder / "project-as-run.toml")
     assert record["files"]["project-as-run.toml"] in page
     pitplan.write_report(project.folder)
@@ -93,7 +93,7 @@ def test_the_text_of_a_run_is_never_written_over_by_a_run_of_it(mine):
     ):
         pitplan.write_shells(again)
     pitplan.write_shells(again, path.parent / "again")
-    for name in ("shells.csv", "years.csv", "blocks.csv"):
+    for name in ("tables/shells.csv", "tables/years.csv", "tables/blocks.csv"):
         assert (path.parent / "again" / name).read_bytes() == (path.parent / "plan" / name).read_bytes()
 
 
@@ -103,7 +103,7 @@ def test_a_text_of_a_run_that_has_changed_is_refused(mine):
     text = path.parent / "plan" / "project-as-run.toml"
     text.write_text(text.read_text().replace("8000", "8001"))
     with pytest.raises(
-        PlanError, match="project-as-run.toml: has changed since prepare.json was written: run pitplan shells again"
+        PlanError, match="project-as-run.toml: has changed since plan.json was written: run pitplan shells again"
     ):
         pitplan.write_report(path.parent / "plan")
     assert {rule.name for rule in verify(path.parent / "plan") if rule.differences} >= {"money"}

@@ -10,7 +10,7 @@ from hypothesis import given, settings, strategies as st
 from test_pushbacks import UPRIGHT, blocks_of, with_pushbacks, wrong
 
 import pitplan
-from pitplan import PlanError, load, prepare
+from pitplan import Plan, PlanError, load
 from pitplan.config.pushbacks import PushbackRules
 from pitplan.pushbacks import mining_width, nested
 from pitplan.results.folder import read_record
@@ -186,7 +186,7 @@ def random_plan(seed, plan_text):
     table = rows(12, 11, 4, must=lambda i, j, k: int((i, j, k) == (1, 1, 3)), never=lambda i, j, k: int(i == 11))
     table = table[(table["z"] < 30) | (table["x"] < 70)]
     table["cu"] = np.where(rng.random(len(table)) < 0.1, rng.random(len(table)).round(3) * 5, 0.0)
-    plan = prepare(load(plan_text(table)))
+    plan = Plan.from_project(load(plan_text(table)))
     first = rng.integers(0, 4, plan.grid.count) * (plan.grid.spread(table["cu"].to_numpy()) > 0) * ~plan.settled.left
     pushback = np.zeros(plan.grid.count, dtype=np.int16)
     for number in (3, 2, 1):
@@ -271,25 +271,25 @@ def copied(divided, tmp_path):
 @pytest.mark.parametrize("more", [-10, 10, 0.4])
 def test_each_shape_that_is_bent_is_found(copied, column, rule, more):
     assert wrong(copied) == {}
-    table = pd.read_csv(copied / "pushbacks.csv")
+    table = pd.read_csv(copied / "tables/pushbacks.csv")
     table.loc[0, column] += more
-    table.to_csv(copied / "pushbacks.csv", index=False)
+    table.to_csv(copied / "tables/pushbacks.csv", index=False)
     assert set(wrong(copied)) == {rule}
 
 
 def test_a_block_of_a_later_factor_than_the_last_pushback_is_found(copied):
-    table = pd.read_csv(copied / "blocks.csv")
+    table = pd.read_csv(copied / "tables/blocks.csv")
     table.loc[table["revenue_factor"] > 0.0, "revenue_factor"] += 1.0
-    table.to_csv(copied / "blocks.csv", index=False)
+    table.to_csv(copied / "tables/blocks.csv", index=False)
     assert "blocks" in wrong(copied)
 
 
 @pytest.mark.parametrize(("name", "number"), [("b5-3-0", 0), ("b3-2-0", 2), ("b10-2-0", 0)])
 def test_a_block_that_makes_a_pushback_too_narrow_is_found(copied, name, number):
     """The filled notch, a corner of the first square, and one of the second, in another pushback or in none."""
-    table = pd.read_csv(copied / "blocks.csv")
+    table = pd.read_csv(copied / "tables/blocks.csv")
     table.loc[table["name"] == name, "pushback"] = number
-    table.to_csv(copied / "blocks.csv", index=False)
+    table.to_csv(copied / "tables/blocks.csv", index=False)
     found = wrong(copied)["pushback widths"]
     assert any("lies where it is too narrow" in text for text in found.differences)
 
@@ -303,9 +303,9 @@ def test_a_bottom_that_is_wide_by_a_later_pushback_alone_is_found(plan_folder):
     # Above the second square a block of pushback 2 lies between one of pushback 1 and the ground.
     assert pitplan.write_pushbacks(project)["min_width"].tolist() == [20, 10]
     folder = project.folder / "pushbacks"
-    table = pd.read_csv(folder / "blocks.csv")
+    table = pd.read_csv(folder / "tables/blocks.csv")
     table.loc[table["name"] == "b4-2-0", "pushback"] = 2
-    table.to_csv(folder / "blocks.csv", index=False)
+    table.to_csv(folder / "tables/blocks.csv", index=False)
     told = [text for text in wrong(folder)["pushback widths"].differences if "too narrow" in text]
     assert told == [
         f"block {name} of pushback 1 lies where it is too narrow" for name in ("b3-2-0", "b3-3-0", "b4-3-0")
@@ -313,9 +313,9 @@ def test_a_bottom_that_is_wide_by_a_later_pushback_alone_is_found(plan_folder):
 
 
 def test_a_pushback_that_is_not_there_is_found(copied):
-    table = pd.read_csv(copied / "blocks.csv")
+    table = pd.read_csv(copied / "tables/blocks.csv")
     table.loc[table["pushback"] == 2, "pushback"] = 3
-    table.to_csv(copied / "blocks.csv", index=False)
+    table.to_csv(copied / "tables/blocks.csv", index=False)
     assert any("pushback 3 for" in text for text in wrong(copied)["pushback of blocks"].differences)
 
 

@@ -34,7 +34,7 @@ def with_pushbacks(words, text=UPRIGHT):
 
 
 def blocks_of(folder):
-    return pd.read_csv(folder / "blocks.csv").set_index("name")
+    return pd.read_csv(folder / "tables/blocks.csv").set_index("name")
 
 
 def test_three_shells_of_like_tonnage_are_three_pushbacks(plan_folder):
@@ -50,7 +50,9 @@ def test_three_shells_of_like_tonnage_are_three_pushbacks(plan_folder):
     assert table["undiscounted_cash_flow"].tolist() == [2600, 1400, 600]
     folder = project.folder / "pushbacks"
     assert blocks_of(folder)["pushback"].to_dict() == {f"b{i}-0-{k}": i + 1 for i in range(3) for k in range(2)}
-    pd.testing.assert_frame_equal(pd.read_csv(folder / "pushbacks.csv").set_index("pushback"), table, check_dtype=False)
+    pd.testing.assert_frame_equal(
+        pd.read_csv(folder / "tables/pushbacks.csv").set_index("pushback"), table, check_dtype=False
+    )
     assert not [
         note
         for note in read_record(folder)["notes"]
@@ -196,7 +198,7 @@ def test_an_empty_pit_is_refused(plan_folder, capsys):
     path = plan_folder(pillars(), with_pushbacks("count = 2\nultimate_pit = 0.3"))
     assert main(["pushbacks", str(path), "--quiet"]) == 1
     assert "[pushbacks] the pit of revenue factor 0.30 is empty" in capsys.readouterr().err
-    assert not (path.parent / "plan" / "pushbacks" / "pushbacks.csv").exists()
+    assert not (path.parent / "plan" / "pushbacks" / "tables/pushbacks.csv").exists()
 
 
 @pytest.mark.parametrize(
@@ -220,7 +222,7 @@ def test_an_empty_pit_is_refused(plan_folder, capsys):
             "[pushbacks] ultimate_pit: is the last of the revenue_factors: remove it",
         ),
         ("count = 2\nultimate_pit = 0.0", "[pushbacks] ultimate_pit: found 0, expected 0.001 or more"),
-        ("number = 2\ncount = 2", "[pushbacks] number: is no key here"),
+        ("number = 2\ncount = 2", "[pushbacks] number: unknown key"),
     ],
 )
 def test_what_is_refused(plan_folder, words, said):
@@ -313,10 +315,10 @@ NUMBERS = "blocks tonnes feed_tonnes waste_tonnes strip_ratio head_grade_copper 
     ("column", "rule"), [*((name, "pushbacks") for name in NUMBERS.split()), ("revenue_factor", "pushback of blocks")]
 )
 def test_each_number_of_a_pushback_that_is_bent_is_found(copied, column, rule):
-    table = pd.read_csv(copied / "pushbacks.csv")
+    table = pd.read_csv(copied / "tables/pushbacks.csv")
     table[column] = table[column].astype(float)
     table.loc[table.index[-1], column] += 1 if column in ("blocks", "revenue_factor") else 0.02
-    table.to_csv(copied / "pushbacks.csv", index=False)
+    table.to_csv(copied / "tables/pushbacks.csv", index=False)
     assert set(wrong(copied)) == {rule}
 
 
@@ -335,9 +337,9 @@ def test_each_number_of_a_pushback_that_is_bent_is_found(copied, column, rule):
     ],
 )
 def test_a_block_in_another_pushback_is_found(copied, where, number, rules):
-    table = pd.read_csv(copied / "blocks.csv")
+    table = pd.read_csv(copied / "tables/blocks.csv")
     table.loc[table.index[where(table)][0], "pushback"] = number
-    table.to_csv(copied / "blocks.csv", index=False)
+    table.to_csv(copied / "tables/blocks.csv", index=False)
     assert rules <= set(wrong(copied))
 
 
@@ -352,7 +354,7 @@ def test_a_pushback_of_a_factor_that_was_not_asked_for_is_found(divided, copied)
     ("asked", "said"),
     [
         ("count = 3\nultimate_pit = 0.4", "the last pushback is of revenue factor {last:.2f} for 0.40"),
-        ("count = 2", "3 pushbacks for 2"),
+        ("count = 2", "3 pushbacks, expected at most 2"),
         ("revenue_factors = [0.001, 0.4]", "the last pushback is of revenue factor {last:.2f} for 0.40"),
     ],
 )
@@ -360,8 +362,20 @@ def test_pushbacks_that_the_project_does_not_ask_for_are_found(copied, asked, sa
     path = copied.parent.parent / "project.toml"
     path.write_text(path.read_text().replace("count = 3", asked))
     (rule,) = wrong(copied).values()
-    last = pd.read_csv(copied / "pushbacks.csv")["revenue_factor"].max()
+    last = pd.read_csv(copied / "tables/pushbacks.csv")["revenue_factor"].max()
     assert rule.name == "pushback of blocks" and said.format(last=last) in rule.differences
+
+
+def test_a_last_pushback_beyond_the_base_price_is_found(divided, tmp_path):
+    """Of a project that names no last shell: `shells` selects none above the base price."""
+    path = shutil.copytree(divided, tmp_path / "mine", ignore=shutil.ignore_patterns("plan")) / "project.toml"
+    text = path.read_text()
+    path.write_text(text.replace("count = 3", "count = 3\nultimate_pit = 1.5"))
+    pitplan.write_pushbacks(path, writing=pitplan.Writing(verifies=False))
+    path.write_text(text)
+    (rule,) = wrong(path.parent / "plan" / "pushbacks").values()
+    assert rule.name == "pushback of blocks"
+    assert rule.differences == ("the last pushback is of revenue factor 1.50 for 1.00",)
 
 
 def test_pushbacks_of_a_project_that_asks_for_none_are_found(copied):
@@ -377,7 +391,7 @@ def test_nothing_is_written_where_a_pushback_is_wrong(plan_folder, monkeypatch):
     project = load(plan_folder(pillars(), with_pushbacks("count = 3")))
     with pytest.raises(PlanError, match="verification failed"):
         pitplan.write_pushbacks(project)
-    assert not (project.folder / "pushbacks" / "pushbacks.csv").exists()
+    assert not (project.folder / "pushbacks" / "tables/pushbacks.csv").exists()
 
 
 def test_a_column_that_is_called_pushback_is_kept(plan_folder):

@@ -18,11 +18,11 @@ def with_metal(project, **changes):
 
 
 def with_shells(project, **changes):
-    return replace(project, schedule=replace(project.schedule, **changes))
+    return replace(project, shells=replace(project.shells, **changes))
 
 
 def with_money(project, **changes):
-    return replace(project, money=replace(project.money, **changes))
+    return replace(project, economics=replace(project.economics, **changes))
 
 
 WRONG = {
@@ -48,15 +48,15 @@ def project(plan_folder):
 def test_a_wrong_value_is_refused_by_its_key(project, wrong):
     change, said = WRONG[wrong]
     changed = change(project)
-    for refusing in (pitplan.prepare, pitplan.write_shells, pitplan.check):
+    for refusing in (pitplan.Plan.from_project, pitplan.write_shells, pitplan.check):
         with pytest.raises(pitplan.PlanError, match=rf"project\.toml as changed in Python: {said}"):
             refusing(changed)
     assert not project.folder.exists()
 
 
 def test_a_float_is_the_decimal_that_it_shows(project):
-    by_float = pitplan.prepare(with_metal(with_money(project, mining_cost=2.1), price=8000.5, recovery=0.9))
-    by_decimal = pitplan.prepare(
+    by_float = pitplan.Plan.from_project(with_metal(with_money(project, mining_cost=2.1), price=8000.5, recovery=0.9))
+    by_decimal = pitplan.Plan.from_project(
         with_metal(with_money(project, mining_cost=Decimal("2.1")), price=Decimal("8000.5"), recovery=Decimal("0.9"))
     )
     pd.testing.assert_frame_equal(by_float.blocks, by_decimal.blocks)
@@ -68,5 +68,5 @@ def test_a_project_from_a_file_stays_as_it_is(path):
     project = replace(load(path), solver="program")
     assert validated(project) == project
     fewer = with_shells(project, revenue_factors=(0.3, 0.7), selected=None, base_price_added=False)
-    assert validated(fewer).schedule == fewer.schedule
-    assert validated(with_shells(fewer, revenue_factors=(0.7, 0.3))).schedule == fewer.schedule
+    assert validated(fewer).shells == fewer.shells
+    assert validated(with_shells(fewer, revenue_factors=(0.7, 0.3))).shells == fewer.shells

@@ -38,8 +38,8 @@ def few(monkeypatch):
 
 def solved(path):
     """By the blocks' names the factor at which each comes in, of those that do."""
-    plan = pitplan.prepare(path)
-    blocks = shell_tables.blocks(plan, pitplan.solve(plan)).set_index("name")
+    plan = pitplan.Plan.from_project(path)
+    blocks = shell_tables.blocks(plan, plan.shells().solution).set_index("name")
     return plan, blocks["revenue_factor"][blocks["revenue_factor"] > 0.0].sort_index()
 
 
@@ -60,8 +60,8 @@ def test_shells_are_the_same(plan_folder, monkeypatch):
 
 
 def test_no_shell_touches_a_side_that_is_none_of_the_model(plan_folder, few):
-    plan = pitplan.prepare(plan_folder(deposit(), PROJECT, ANGLES))
-    solution = pitplan.solve(plan)
+    plan = pitplan.Plan.from_project(plan_folder(deposit(), PROJECT, ANGLES))
+    solution = plan.shells().solution
     assert shell_tables.edge_notes(plan, solution) == []
 
 
@@ -116,14 +116,14 @@ def test_what_is_too_large_all_the_same_is_refused(plan_folder, monkeypatch):
         PlanError,
         match="shells can reach 384 of the 4,320 cells, and the solver takes at most 300 blocks",
     ):
-        pitplan.prepare(plan_folder(deposit(), PROJECT, ANGLES))
+        pitplan.Plan.from_project(plan_folder(deposit(), PROJECT, ANGLES))
 
 
 def test_a_model_in_which_nothing_pays_is_refused(plan_folder, few):
     with pytest.raises(
         PlanError, match="4,320 cells, and the solver takes at most 3,000 blocks: no block pays for its processing"
     ):
-        pitplan.prepare(plan_folder(deposit().assign(cu=0.0), PROJECT, ANGLES))
+        pitplan.Plan.from_project(plan_folder(deposit().assign(cu=0.0), PROJECT, ANGLES))
 
 
 def wrong(path):
@@ -135,13 +135,13 @@ def test_the_second_look_agrees(plan_folder, few, without_figures):
     pitplan.write_shells(path)
     assert wrong(path) == {}
     assert "reach" in {rule.name for rule in verify(path.parent / "plan")}
-    assert len(pd.read_csv(path.parent / "plan" / "blocks.csv")) < 1000
+    assert len(pd.read_csv(path.parent / "plan" / "tables/blocks.csv")) < 1000
 
 
 def test_a_table_written_back_has_no_factor_where_it_was_left_out(plan_folder, few, without_figures):
     path = plan_folder(deposit(), PROJECT, ANGLES)
     pitplan.write_shells(path)
-    blocks = pd.read_csv(path.parent / "plan" / "blocks.csv").set_index("name")
+    blocks = pd.read_csv(path.parent / "plan" / "tables/blocks.csv").set_index("name")
     after = pd.read_csv(pitplan.write_export(path.parent / "plan", "table")).set_index("name")
     assert after.index.tolist() == deposit()["name"].tolist()
     pd.testing.assert_series_equal(after["revenue_factor"], blocks["revenue_factor"].reindex(after.index, fill_value=0))

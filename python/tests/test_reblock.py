@@ -29,7 +29,7 @@ def four(**more):
 
 def test_four_blocks_in_one_by_hand(plan_folder):
     """A has 400 t, B 600; region 1 has 700 t, 2 has 300."""
-    plan = pitplan.prepare(plan_folder(four(), PROJECT, TWOS))
+    plan = pitplan.Plan.from_project(plan_folder(four(), PROJECT, TWOS))
     (block,) = plan.table.to_dict("records")
     assert block == {"name": "1-1-1", "x": 10, "y": 10, "z": 5, "tonnes": 1000, "cu": 0.7, "rock": "B", "region": "1"}
     assert plan.grid.size == (20, 20, 10) and plan.grid.shape == (1, 1, 1)
@@ -46,7 +46,7 @@ def test_columns_that_a_schedule_sums(plan_folder):
     table = four(as_ppm=lambda i, j, k: 10 + 10 * (i + 2 * j), kwh=lambda i, j, k: 1.5 + i + 2 * j)
     sums = '[[schedule.limits]]\ncolumn = "{}"\nmax = 1\n{}'
     text = PROJECT + sums.format("as_ppm", "per_tonne = true\n") + sums.format("kwh", "")
-    plan = pitplan.prepare(plan_folder(table, text, TWOS))
+    plan = pitplan.Plan.from_project(plan_folder(table, text, TWOS))
     assert plan.table[["as_ppm", "kwh", "cu"]].values.tolist() == [[29, 12, 0.7]]
     text = PROJECT + sums.format("as_ppm", "per_tonne = true\n") + sums.format("as_ppm", 'name = "whole"\n')
     with pytest.raises(
@@ -64,7 +64,7 @@ def test_sides_that_are_not_full_and_fixed_blocks(plan_folder):
     """Five blocks from the west: the third of the new ones holds one. A block is fixed where a part of it is."""
     table = rows(5, 1, 3, must=lambda i, j, k: int((i, k) == (1, 2)), cu=lambda i, j, k: i)
     change = ('file = "blocks.csv"', 'file = "blocks.csv"\nreblock = [2, 1, 2]')
-    plan = pitplan.prepare(plan_folder(table, PROJECT + '[constraints]\nmust_mine = "must"\n', change))
+    plan = pitplan.Plan.from_project(plan_folder(table, PROJECT + '[constraints]\nmust_mine = "must"\n', change))
     table = plan.table
     assert (
         table["x"].tolist() == [10, 30, 50] * 2
@@ -89,7 +89,7 @@ SIZE = ("size = [10, 10, 10]\n", "tolerance = 0.02\n")
 
 def test_sub_blocks_by_hand(plan_folder):
     """1500 t of 1 % in 2000.5."""
-    plan = pitplan.prepare(plan_folder(sub_blocks(), PROJECT, PARENTS, SIZE))
+    plan = pitplan.Plan.from_project(plan_folder(sub_blocks(), PROJECT, PARENTS, SIZE))
     assert plan.table["x"].tolist() == [110, 130] and plan.table["tonnes"].tolist() == [4000, 2000.5]
     assert plan.table["cu"].tolist() == [0.3, round(1500 / 2000.5, 9)] and plan.table["rock"].tolist() == ["R", "R"]
     assert (
@@ -115,13 +115,13 @@ def test_sub_blocks_by_hand(plan_folder):
 )
 def test_what_is_wrong_is_named(plan_folder, changes, said):
     with pytest.raises(PlanError, match=said):
-        pitplan.prepare(plan_folder(four(), PROJECT, TWOS, *changes))
+        pitplan.Plan.from_project(plan_folder(four(), PROJECT, TWOS, *changes))
 
 
 def test_rows_in_one_place_are_refused(plan_folder):
     table = pd.concat([sub_blocks(), sub_blocks().tail(1).assign(name="e")])
     with pytest.raises(PlanError, match="row 6 column x, y, z: another row has the same centroid"):
-        pitplan.prepare(plan_folder(table, PROJECT, PARENTS, SIZE))
+        pitplan.Plan.from_project(plan_folder(table, PROJECT, PARENTS, SIZE))
 
 
 def hill():
@@ -162,7 +162,7 @@ def test_the_second_look_agrees(solved_hill):
     rules = {rule.name: rule for rule in verify(folder)}
     assert not any(rule.differences for rule in rules.values())
     assert f"holds the {len(hill())} rows that lie in it" in rules["reblocked"].holds
-    assert (pd.read_csv(folder / "shells.csv")["blocks"] > 0).any()
+    assert (pd.read_csv(folder / "tables/shells.csv")["blocks"] > 0).any()
 
 
 @pytest.mark.parametrize(
@@ -170,9 +170,9 @@ def test_the_second_look_agrees(solved_hill):
 )
 def test_each_number_that_is_bent_is_found(solved_hill, column, more):
     folder = solved_hill()
-    table = pd.read_csv(folder / "blocks.csv", dtype={"rock": str, "region": str})
+    table = pd.read_csv(folder / "tables/blocks.csv", dtype={"rock": str, "region": str})
     table.loc[40, column] = table.loc[40, column] + more
-    table.to_csv(folder / "blocks.csv", index=False)
+    table.to_csv(folder / "tables/blocks.csv", index=False)
     assert column in wrong(folder)["reblocked"]
 
 
@@ -210,8 +210,8 @@ def test_a_table_that_is_too_large_by_itself(plan_folder, monkeypatch):
         PlanError,
         match="shells can reach 858 of the 858 cells, and the solver takes at most 200 blocks",
     ):
-        pitplan.prepare(plan_folder(hill(), PROJECT))
-    plan = pitplan.prepare(
+        pitplan.Plan.from_project(plan_folder(hill(), PROJECT))
+    plan = pitplan.Plan.from_project(
         plan_folder(hill(), PROJECT, ('file = "blocks.csv"', 'file = "blocks.csv"\nreblock = [2, 2, 2]'))
     )
     assert plan.grid.shape == (3, 6, 7)
@@ -222,7 +222,7 @@ def test_a_corner_that_is_no_multiple_of_the_size_is_right(plan_folder, without_
     moved = (PARENTS[0], PARENTS[1].replace("corner = [60,", "corner = [65,"))
     path = plan_folder(sub_blocks().assign(x=lambda it: it["x"] + 5), PROJECT, moved, SIZE)
     pitplan.write_shells(path)
-    assert pd.read_csv(path.parent / "plan" / "blocks.csv")["x"].tolist() == [115, 135]
+    assert pd.read_csv(path.parent / "plan" / "tables/blocks.csv")["x"].tolist() == [115, 135]
     assert [rule.name for rule in verify(path.parent / "plan") if rule.differences] == []
 
 
@@ -242,7 +242,7 @@ def test_sums_and_means_are_exact_and_rounded_once(plan_folder):
     path = plan_folder(
         table, PROJECT, ('file = "blocks.csv"', 'file = "blocks.csv"\nreblock = [2, 2, 1]'), ('id = "name"\n', "")
     )
-    found = pitplan.prepare(path).table.set_index(["x", "y", "z"])
+    found = pitplan.Plan.from_project(path).table.set_index(["x", "y", "z"])
     parts = table.assign(x=table["x"] // 20 * 20 + 10, y=table["y"] // 20 * 20 + 10).groupby(["x", "y", "z"])
     assert len(parts) == len(found) == 12
     for centre, block in parts:
@@ -258,4 +258,4 @@ def test_tonnes_by_density_are_the_exact_product(plan_folder):
     """0.1 x 3 is 0.3, and 2.655 x 1000 is 2655; products of floats are 0.30000000000000004 and 2654.9999999999995."""
     table = rows(2, 1, 1, cu=lambda i, j, k: 1).drop(columns="tonnes").assign(sg=[0.1, 2.655], volume=[3.0, 1000.0])
     change = ('file = "blocks.csv"', 'file = "blocks.csv"\ndensity = "sg"\nvolume = "volume"')
-    assert pitplan.prepare(plan_folder(table, PROJECT, change)).values.tonnes.tolist() == [0.3, 2655.0]
+    assert pitplan.Plan.from_project(plan_folder(table, PROJECT, change)).values.tonnes.tolist() == [0.3, 2655.0]

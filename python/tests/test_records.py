@@ -66,7 +66,7 @@ OTHERS = (None, True, -1, 2.5, float("nan"), "", "\0", [], [1], {}, {"a": 1}, 10
 
 def test_each_part_of_a_record_is_of_its_kind_or_named(solved):
     _, folder = solved
-    whole, file = read_record(folder), folder / "prepare.json"
+    whole, file = read_record(folder), folder / "plan.json"
     reader, count = json_records.Reader(file, "pitplan shells"), 0
     for place in parts_of(whole):
         if (
@@ -115,7 +115,11 @@ def test_each_part_of_a_record_is_of_its_kind_or_named(solved):
         (("shells", "solver", "by"), "hand", 'shells.solver.by: found "hand", expected library or program'),
         (("metals", 0, "column"), 3, "metals[0].column: found 3, expected a text"),
         (("notes", 0), {"a": 1}, 'notes[0]: found {"a": 1}, expected a text'),
-        (("files",), {"../blocks.csv": "0" * 64}, 'files: found "../blocks.csv", expected the name of a file'),
+        (
+            ("files",),
+            {"../blocks.csv": "0" * 64},
+            'files: found "../blocks.csv", expected the path of a file within the folder',
+        ),
         (("files", "blocks.csv"), "0", 'files.blocks.csv: found "0", expected a SHA-256'),
         (("inputs",), [], "inputs: found [], expected a table"),
         (("title",), "\n" * 200, 'title: found "'),
@@ -124,23 +128,23 @@ def test_each_part_of_a_record_is_of_its_kind_or_named(solved):
 def test_what_is_found_and_what_is_expected(solved, place, value, said):
     _, folder = solved
     record = read_record(folder)
-    (folder / "prepare.json").write_text(json.dumps(bent(record, place, value)))
+    (folder / "plan.json").write_text(json.dumps(bent(record, place, value)))
     if place == ("title",):
-        json_records.read_plan(folder / "prepare.json")
+        json_records.read_plan(folder / "plan.json")
         return
     with pytest.raises(PlanError) as error:
-        json_records.read_plan(folder / "prepare.json")
-    assert str(error.value) == f"{folder / 'prepare.json'}: {said}: run pitplan shells again"
+        json_records.read_plan(folder / "plan.json")
+    assert str(error.value) == f"{folder / 'plan.json'}: {said}: run pitplan shells again"
 
 
 @pytest.mark.parametrize("text", ["", "[]", "{", "nothing", "[" * 100_000, "1" * 5000, "\xff", '"\\ud800"', "null"])
 def test_what_is_no_record(solved, text):
     _, folder = solved
-    (folder / "prepare.json").write_bytes(text.encode("latin-1"))
+    (folder / "plan.json").write_bytes(text.encode("latin-1"))
     for read in (read_folder, verification.verify_folder):
         with pytest.raises(
             PlanError,
-            match="prepare.json: (cannot be read as JSON|found .*, expected a table).*: run pitplan shells again",
+            match="plan.json: (cannot be read as JSON|found .*, expected a table).*: run pitplan shells again",
         ) as error:
             read(folder)
         assert "\n" not in str(error.value)
@@ -178,7 +182,7 @@ def test_records_that_do_not_fit_what_stands_beside_them(solved):
     calls = (verification.verify_folder, lambda it: pitplan.write_export(it, "csv"), pitplan.view)
     refusals = 0
     for place, value in bends():
-        (folder / "prepare.json").write_text(
+        (folder / "plan.json").write_text(
             json.dumps(bent(whole, place, value) if len(place) > 1 or place[0] in whole else {**whole, place[0]: value})
         )
         for call in calls:
@@ -200,7 +204,7 @@ def test_a_bent_record_of_a_schedule_is_named(folder, text):
     why = (
         "cannot be read: run pitplan schedule first"
         if text is None
-        else r"does not fit the tables beside it \(.*\): run pitplan schedule again"
+        else r"does not match the tables of the folder \(.*\): run pitplan schedule again"
     )
     with pytest.raises(PlanError, match=f"schedule.json: {why}"):
         verification.verify(folder)

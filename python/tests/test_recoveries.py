@@ -26,14 +26,14 @@ def row_of(*grades):
 
 
 def revenues(path):
-    return (pitplan.prepare(path).values.revenue / 10**6).tolist()
+    return (pitplan.Plan.from_project(path).values.revenue / 10**6).tolist()
 
 
 def test_between_two_grades_by_hand(plan_folder):
     """100 t, of which 0.5, 0.5, 0.7, 0.9 and 0.9 of the copper are sold at 8000."""
     path = plan_folder(row_of(0.1, 0.2, 0.4, 0.6, 1.0), PROJECT, ("recovery = 0.5", CURVE))
     assert revenues(path) == [400, 800, 2240, 4320, 7200]
-    (note,) = [note for note in pitplan.prepare(path).notes if "recovery of copper" in note]
+    (note,) = [note for note in pitplan.Plan.from_project(path).notes if "recovery of copper" in note]
     assert (
         note
         == "recovery of copper depends on the head grade; 2 of 5 blocks lie outside 0.2 to 0.6 %, where it is constant"
@@ -54,7 +54,7 @@ def test_a_fixed_tail_by_hand(plan_folder):
         row_of(0.5, 0.06), PROJECT, ("recovery = 0.5", "recovery = 0.5\ntail_grade = 0.05"), ("mining_cost = 2\n", text)
     )
     assert revenues(path) == [1750, 0]
-    assert "constant tail of copper: 0.05 % of every tonne of feed are lost" in pitplan.prepare(path).notes
+    assert "constant tail of copper: 0.05 % of every tonne of feed are lost" in pitplan.Plan.from_project(path).notes
 
 
 def test_by_rock(plan_folder):

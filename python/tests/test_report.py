@@ -17,7 +17,7 @@ import pitplan
 from pitplan import PlanError
 from pitplan.cli import main
 from pitplan.core.atomic_files import hash_of, read_json, write_json
-from pitplan.report import html
+from pitplan.report import columns, html
 from pitplan.results import names
 from pitplan.results.folder import read_record
 from pitplan.verification import verify
@@ -94,7 +94,7 @@ def copied(written, tmp_path):
 
 
 def cells_of(folder):
-    return {path.name: list(csv.reader(path.open())) for path in folder.glob("*.csv")}
+    return {f"tables/{path.name}": list(csv.reader(path.open())) for path in folder.glob("tables/*.csv")}
 
 
 def size_of(heading, column):
@@ -126,25 +126,47 @@ def test_each_number_of_the_page_is_one_of_a_written_table(written, place):
         half = Decimal(1).scaleb(Decimal(number).as_tuple().exponent) * size_of(heading, column) / 2
         assert abs(shown - Decimal(written_as)) <= half, f"{source}: {text} for {written_as}"
     assert {
-        ("shells.csv", "npv_best"),
-        ("shells.csv", "head_grade_gold"),
-        ("years.csv", "discounted_cash_flow"),
-        ("sensitivity.csv", "npv"),
+        ("tables/shells.csv", "npv_best"),
+        ("tables/shells.csv", "head_grade_gold"),
+        ("tables/years.csv", "discounted_cash_flow"),
+        ("tables/sensitivity.csv", "npv"),
     } <= found
     if place == "plan/schedule":
         assert {
-            ("methods.csv", "npv"),
-            ("methods.csv", "upper_bound"),
-            ("methods.csv", "recovered_gold"),
-            ("pushbacks.csv", "undiscounted_cash_flow"),
+            ("tables/methods.csv", "npv"),
+            ("tables/methods.csv", "upper_bound"),
+            ("tables/methods.csv", "recovered_gold"),
+            ("tables/pushbacks.csv", "undiscounted_cash_flow"),
         } <= found
     assert page.parts == PARTS and page.bare == []
+
+
+def test_the_table_of_a_sensitivity_has_no_share_among_its_amounts(written):
+    """The column `change` of the file is a share of a parameter. The command line shows by how much the NPV changes, the report does not."""
+    table = pd.read_csv(written / "plan" / "sensitivity" / "tables/sensitivity.csv").fillna(
+        {"parameter": "", "second_parameter": ""}
+    )
+    project = pitplan.load(written / "project.toml")
+    cases = columns.of_cases(table)
+    shown = columns.OF_CASES.of(cases, project)
+    change = dict(zip((name for name, *_ in shown), zip(*columns.cells_of(cases, shown))))["npv_change"]
+    size = next(size for name, _, size, _ in shown if name == "npv_change")
+    assert [float(text.replace(",", "")) * size for text in change] == [
+        pytest.approx(npv - table["npv"][0], abs=size / 100) for npv in table["npv"]
+    ]
+    assert table["npv"].nunique() > 2
+    page = (written / "plan" / "report.html").read_text()
+    headings = re.search(r"<code>tables/sensitivity.csv</code></caption>\s*<thead><tr>(.*?)</tr>", page)[1]
+    assert [it.partition(",")[0] for it in re.findall("<th>(.*?)</th>", headings)] == [
+        *("case", "NPV", "total", "ore"),
+        *("undiscounted cash flow", "years"),
+    ]
 
 
 def test_the_answer_is_the_first_that_is_told(written):
     """The schedule's value, bound, rock and life, by the table of its ways; the pit's grades, by the last shell."""
     page = Page((written / "plan" / "schedule" / "report.html").read_text())
-    ways = pd.read_csv(written / "plan" / "schedule" / "methods.csv")
+    ways = pd.read_csv(written / "plan" / "schedule" / "tables/methods.csv")
     row = 2 + int(ways["npv"].round(2).argmax())
     names = [
         "npv",
@@ -156,7 +178,9 @@ def test_the_answer_is_the_first_that_is_told(written):
         "recovered_gold",
         "years",
     ]
-    assert [source for source, _, _ in page.shown[:8]] == [f"methods.csv row {row} column {name}" for name in names]
+    assert [source for source, _, _ in page.shown[:8]] == [
+        f"tables/methods.csv row {row} column {name}" for name in names
+    ]
     assert page.shown[7][1] == f"{ways['years'][row - 2]} years"
     assert [source.partition(" column ")[2] for source, _, _ in page.shown[8:10]] == [
         "head_grade_copper",
@@ -167,8 +191,8 @@ def test_the_answer_is_the_first_that_is_told(written):
 def test_ways_are_the_sums_of_their_years(written):
     """Anew, from schedule.csv and schedule.json."""
     folder = written / "plan" / "schedule"
-    rows_of, told = pd.read_csv(folder / "schedule.csv").groupby("method"), read_json(folder / "schedule.json")
-    for way in pd.read_csv(folder / "methods.csv").itertuples():
+    rows_of, told = pd.read_csv(folder / "tables/schedule.csv").groupby("method"), read_json(folder / "schedule.json")
+    for way in pd.read_csv(folder / "tables/methods.csv").itertuples():
         dug = rows_of.get_group(way.method)
         assert (way.tonnes, way.feed_tonnes) == (
             pytest.approx(dug["total_tonnes"].sum()),
@@ -189,42 +213,42 @@ def test_ways_are_the_sums_of_their_years(written):
 )
 def test_a_way_that_is_bent_is_found(copied, name):
     folder = copied / "plan" / "schedule"
-    table = pd.read_csv(folder / "methods.csv")
+    table = pd.read_csv(folder / "tables/methods.csv")
     table.loc[0, name] += 1 if name != "optimality_gap" else 1e-4
-    table.to_csv(folder / "methods.csv", index=False)
+    table.to_csv(folder / "tables/methods.csv", index=False)
     assert {rule.name for rule in verify(folder) if rule.differences} == {"schedule value"}
 
 
 def test_ways_that_are_missing_or_others_are_found(copied):
-    path = copied / "plan" / "schedule" / "methods.csv"
+    path = copied / "plan" / "schedule" / "tables/methods.csv"
     text = path.read_text()
     for bent, said in (
         (text.replace("rule", "hand"), "methods.csv has the methods ['hand', 'lp'] for ['rule', 'lp']"),
         (None, "methods.csv is missing"),
     ):
         path.unlink() if bent is None else path.write_text(bent)
-        found = {rule.name: rule.differences for rule in verify(path.parent) if rule.differences}
+        found = {rule.name: rule.differences for rule in verify(path.parents[1]) if rule.differences}
         assert found == {"schedule value": (said,)}
 
 
 def test_the_report_is_made_anew_with_a_sensitivity_of_the_same_inputs(copied, capsys):
     folder = copied / "plan"
     shutil.move(folder / "sensitivity", copied / "other")
-    assert main(["report", str(copied / "project.toml")]) == 0
+    assert main(["report", str(folder)]) == 0
     assert capsys.readouterr().out.strip() == str(folder / "report.html")
     assert "<h3>Sensitivity</h3>" not in (folder / "report.html").read_text()
-    assert main(["report", str(copied / "project.toml"), "--sensitivity", str(copied / "other")]) == 0
+    assert main(["report", str(folder), "--sensitivity", str(copied / "other")]) == 0
     page = (folder / "report.html").read_text()
     assert (
         "<h3>Sensitivity</h3>" in page
         and "mining cost +10 %" in page
         and "Pairs of parameters are in the same file." in page
     )
-    assert hash_of(copied / "other" / "sensitivity.csv") in page
-    (copied / "other" / "tornado.png").unlink()
+    assert hash_of(copied / "other" / "tables/sensitivity.csv") in page
+    (copied / "other" / "figures/tornado.png").unlink()
     pitplan.write_report(folder, copied / "other")
     assert (folder / "report.html").read_text().count("data:image/png") == page.count("data:image/png") - 1
-    assert main(["report", str(copied / "project.toml"), "--sensitivity", str(copied)]) == 1
+    assert main(["report", str(folder), "--sensitivity", str(copied)]) == 1
     assert f"pitplan: {copied}: has no sensitivity.json: run pitplan sensitivity first" in capsys.readouterr().err
 
 
@@ -259,7 +283,7 @@ def test_a_report_of_a_project_that_has_changed_is_refused(copied):
 def test_a_table_that_is_too_wide_stands_in_parts(count):
     """Each with the first column, and of at most 13; none is lost, and the grade of a metal is beside what is recovered of it."""
     names = ["revenue_factor", *(f"{kind}_{k}" for k in range(count) for kind in ("grade", "metal"))][:count]
-    table = html.Written("shells.csv", pd.DataFrame({name: [1.0, 2.0] for name in names}))
+    table = html.Written("tables/shells.csv", pd.DataFrame({name: [1.0, 2.0] for name in names}))
     parts = html.parts_of(table, lambda frame, project: [(name, name, 1.0, 0) for name in names], None)
     assert all(
         part["headings"][0] == "revenue_factor" and len(part["headings"]) <= 13 and len(part["rows"]) == 2
@@ -269,17 +293,17 @@ def test_a_table_that_is_too_wide_stands_in_parts(count):
         -(count - 1) // 12
     )
     assert not any(part["headings"][1].startswith("metal") for part in parts)
-    assert parts[-1]["rows"][1]["cells"][0]["source"] == "shells.csv row 3 column revenue_factor"
+    assert parts[-1]["rows"][1]["cells"][0]["source"] == "tables/shells.csv row 3 column revenue_factor"
 
 
 def test_a_bound_that_was_not_found_is_a_dash_without_a_unit():
     ways = html.Written(
-        "methods.csv", pd.DataFrame({"method": ["rule"], "npv": [2.5e7], "upper_bound": [float("nan")]})
+        "tables/methods.csv", pd.DataFrame({"method": ["rule"], "npv": [2.5e7], "upper_bound": [float("nan")]})
     )
     told = [ways.figure("NPV", 0, (name, "NPV, M EUR", 1e6, 1)) for name in ("npv", "upper_bound")]
     assert [(it.text, it.source) for it in told] == [
-        ("25.0 M EUR", "methods.csv row 2 column npv"),
-        ("–", "methods.csv row 2 column upper_bound"),
+        ("25.0 M EUR", "tables/methods.csv row 2 column npv"),
+        ("–", "tables/methods.csv row 2 column upper_bound"),
     ]
 
 

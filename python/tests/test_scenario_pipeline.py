@@ -99,7 +99,7 @@ def alone(path, scenario, table, grades):
     """The plan of a scenario as a project of its own."""
     project = load(path)
     project = replace(realisations.priced(project, scenario.priced()), scenarios=None)
-    return pitplan.prepare(project, table.assign(cu=grades[scenario.realisation]))
+    return pitplan.Plan.from_project(project, table.assign(cu=grades[scenario.realisation]))
 
 
 def demand_plans_of_their_own(path, table, grades, solver=None):
@@ -108,14 +108,14 @@ def demand_plans_of_their_own(path, table, grades, solver=None):
     assert len(shared.scenarios) >= len(grades)
     for scenario in shared.scenarios:
         own = alone(path, scenario, table, grades)
-        expected = pitplan.solve(own)
+        expected = own.shells().solution
         cells = shell_tables.cells_of(own, expected)
         assert shared.grid.as_json() == own.grid.as_json() and (shared.grid.rows == own.grid.rows).all()
 
         assert worker.solve(str(shared.folder), scenario.number).status == 0, scenario.label
         places, answer = pit_probability.read_answer(shared, scenario)
-        assert [0, *own.project.schedule.revenue_factors] == [0, *shared.record["revenue_factors"]]
-        factors = np.array([0, *own.project.schedule.revenue_factors])
+        assert [0, *own.project.shells.revenue_factors] == [0, *shared.record["revenue_factors"]]
+        factors = np.array([0, *own.project.shells.revenue_factors])
         assert (factors[places] == cells.factor[own.grid.rows]).all(), scenario.label
         assert [Decimal(it) for it in answer["value_at_revenue_factor"]] == expected.worth.tolist()
         amounts = shell_tables.amounts(own, cells)
@@ -230,7 +230,10 @@ def test_rows_of_models_are_those_of_the_table_before_reblocking(plan_folder, ch
 @pytest.mark.parametrize(
     ("bend", "said"),
     [
-        (lambda it: it.assign(name=["1-1-1", *it["name"][1:]]), "cu_a.csv row 2 column name: 1-1-1 is no block of "),
+        (
+            lambda it: it.assign(name=["1-1-1", *it["name"][1:]]),
+            "cu_a.csv row 2 column name: 1-1-1 is not the id of a block of ",
+        ),
         (lambda it: it[1:], "cu_a.csv: 1 blocks are missing, first that of "),
         (lambda it: it.drop(columns="name").assign(x=it["x"] + 0.02), "column x, y, z: no block of "),
     ],

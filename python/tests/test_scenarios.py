@@ -179,10 +179,13 @@ def test_centres_of_a_model_may_lie_off_by_the_tolerance_and_no_more(plan_folder
 @pytest.mark.parametrize(
     "bend, words",
     [
-        (lambda m: m.assign(name=["nobody", *m["name"][1:]]), "row 2 column name: nobody is no block of {table}"),
+        (
+            lambda m: m.assign(name=["nobody", *m["name"][1:]]),
+            "row 2 column name: nobody is not the id of a block of {table}",
+        ),
         (lambda m: m.drop(columns="name").assign(x=m["x"] + 1), "row 2 column x, y, z: no block of "),
         (lambda m: m[~m["name"].isin(["b1-0-0", "b2-1-1"])], "2 blocks are missing, first that of {table} row 3"),
-        (lambda m: pd.concat([m, m[:1]]), "row 14: the block stands in another row too"),
+        (lambda m: pd.concat([m, m[:1]]), "row 14: the block is in another row too: expected each block once"),
         (lambda m: m.assign(cu=[-0.5, *m["cu"][1:]]), "row 2 column cu: -0.5 is negative"),
         (lambda m: m.assign(cu=["", *m["cu"][1:]]), "row 2 column cu: is empty"),
         (lambda m: m.drop(columns="cu"), "row 1: there is no column cu; "),
@@ -212,7 +215,7 @@ def test_a_model_that_does_not_fit_is_named_by_file_and_row(plan_folder, bend, w
         (COLUMNS.replace("sim_", "none_"), r"blocks.csv row 1: no column is called none_\*"),
         (
             COLUMNS.replace("copper = ", "gold = "),
-            r"\[scenarios\] names gold, which is none of the \[\[metals\]\] copper",
+            r"\[scenarios\]: found gold, expected one of the \[\[metals\]\]: copper",
         ),
         (PROJECT + "[scenarios]\ncolumns = {}\n", r"\[scenarios\] columns: name the columns of at least one metal"),
         (PRICES.replace("12_000", "-1"), r"\[scenarios.prices 2\] copper: -1 is below 0"),
@@ -283,7 +286,7 @@ def test_the_program_s_statuses_are_kept_apart(plan_folder, broken_program, caps
     assert worker.Outcome(2, status, "", 0).is_final == (status != 75)
     # There are no others that could be gathered.
     with pytest.raises(
-        PlanError, match="3 of 3 scenarios have no answer, first sim_1: was not solved: run them again$"
+        PlanError, match="3 of 3 scenarios have no result, first sim_1: was not solved: run them again$"
     ):
         pit_probability.gather(shared, partial=True)
 
@@ -292,7 +295,7 @@ def test_a_changed_or_missing_folder_is_status_5(plan_folder):
     shared = prepared(plan_folder(pillar(), COLUMNS))
     assert worker.solve(str(shared.folder), 4).why.endswith("has no scenario 4")
     assert worker.solve(str(shared.folder / "nowhere"), 1).status == 5
-    needs = "needs.npy" if shared.solver.by == "library" else "mine.prec"
+    needs = "solver/needs.npy" if shared.solver.by == "library" else "solver/mine.prec"
     (shared.folder / needs).write_text("")
     worker.shared_of.cache_clear()
     outcome = worker.solve(str(shared.folder), 1)
@@ -318,11 +321,11 @@ def test_what_went_wrong_is_told_by_status(plan_folder, monkeypatch):
 def test_some_answers_are_gathered_on_request_alone(plan_folder):
     shared = prepared(plan_folder(pillar(), COLUMNS, UPRIGHT))
     assert [worker.solve(str(shared.folder), number).status for number in (1, 3)] == [0, 0]
-    with pytest.raises(PlanError, match="1 of 3 scenarios have no answer, first sim_2: was not solved"):
+    with pytest.raises(PlanError, match="1 of 3 scenarios have no result, first sim_2: was not solved"):
         pitplan.gather(shared.folder)
     notes = pitplan.gather(shared.folder, Request(partial=True, revenue_factor=1.5)).notes
     assert "WARNING: 1 scenarios have no result and are left out of all tables and figures" in notes
-    blocks = pd.read_csv(shared.folder / "probability.csv")
+    blocks = pd.read_csv(shared.folder / "tables/probability.csv")
     assert (
         blocks["name"].tolist() == ["b0-0-2", "b0-0-1", "b0-0-0"] and blocks["probability_1.50"].tolist() == [0.5] * 3
     )
@@ -340,7 +343,10 @@ def test_pictures_of_scenarios_are_those_that_the_project_asks_for(plan_folder, 
     solved_in_turn(shared)
     pitplan.gather(shared.folder)
     assert scenarios.levels_to_show(shown[0]) == [2]
-    assert b"<svg" in (shared.folder / "spread.svg").read_bytes()[:500] and (shared.folder / "spread.png").is_file()
+    assert (
+        b"<svg" in (shared.folder / "figures/spread.svg").read_bytes()[:500]
+        and (shared.folder / "figures/spread.png").is_file()
+    )
 
 
 def test_a_picture_beyond_the_model_is_refused_before_a_model_is_read(plan_folder):
@@ -368,7 +374,7 @@ def test_lists_of_jobs_are_shell_and_name_what_is_missing(plan_folder, kind):
     assert worker.solve(str(prepared(path).folder), 1).status == 0
     result = pitplan.write_scenarios(load(path), load(path).folder, Request(where=kind))
     folder = load(path).folder
-    assert result.notes[-1] == "1 of 3 scenarios have their answer already"
+    assert result.notes[-1] == "1 of 3 scenarios have a result already"
     assert result.start == folder / "start.sh" and (folder / "jobs.txt").read_text() == "2\n3\n"
     names = ["start.sh", "scenario.sh"] + (["array.sbatch", "gather.sbatch"] if kind == "slurm" else [])
     for name in names:
@@ -466,7 +472,7 @@ def test_a_scheduler_that_is_not_there_is_named(plan_folder):
 
 def likely(folder):
     return (
-        pd.read_csv(folder / "probability.csv")[["probability_0.50", "probability_1.00", "probability_1.50"]]
+        pd.read_csv(folder / "tables/probability.csv")[["probability_0.50", "probability_1.00", "probability_1.50"]]
         .to_numpy()
         .tolist()
     )
@@ -479,7 +485,7 @@ def test_answers_are_gathered_from_the_command_line(plan_folder, capsys):
         assert worker.solve(str(shared.folder), number).status == 0
     words = ["gather", str(shared.folder), "--quiet"]
     assert main(words) == 1
-    assert "1 of 3 scenarios have no answer, first sim_2: was not solved" in capsys.readouterr().err
+    assert "1 of 3 scenarios have no result, first sim_2: was not solved" in capsys.readouterr().err
     assert main([*words, "--partial"]) == 0
     said = capsys.readouterr()
     assert said.out == f"{shared.folder}\n"
@@ -496,8 +502,8 @@ def test_no_lists_of_jobs_are_written_where_all_is_answered(plan_folder, kind):
     solved_in_turn(prepared(path))
     result = pitplan.write_scenarios(load(path), load(path).folder, Request(where=kind))
     assert (result.folder, result.start) == (load(path).folder, None)
-    assert result.notes[-1] == "3 of 3 scenarios have their answer already"
-    assert (load(path).folder / "quantiles.csv").exists() and not (load(path).folder / "jobs.txt").exists()
+    assert result.notes[-1] == "3 of 3 scenarios have a result already"
+    assert (load(path).folder / "tables/quantiles.csv").exists() and not (load(path).folder / "jobs.txt").exists()
 
 
 def test_cost_that_rises_with_the_level_is_one_for_all_scenarios(plan_folder):
@@ -551,12 +557,14 @@ def test_a_broken_folder_of_scenarios_is_named(plan_folder, tmp_path):
     solved_in_turn(shared)
     answer = shared.answer(shared.scenarios[1])
     answer.write_bytes(b"nothing")
-    with pytest.raises(PlanError, match=f"{answer}: is no answer: remove it, and run pitplan scenarios again"):
+    with pytest.raises(
+        PlanError, match=f"{answer}: is not a result of sim_.*: remove it, and run pitplan scenarios again"
+    ):
         pit_probability.gather(shared)
     with pytest.raises(PlanError, match="nowhere/scenarios.json: cannot be read: run pitplan scenarios first"):
         store.read_shared(tmp_path / "nowhere")
     (shared.folder / "scenarios.json").write_text("{}")
-    with pytest.raises(PlanError, match="scenarios.json: is no record of scenarios"):
+    with pytest.raises(PlanError, match="scenarios.json: is not a record of scenarios"):
         store.read_shared(shared.folder)
 
 

@@ -16,7 +16,7 @@ from hypothesis import given, strategies as st
 import pitplan
 from pitplan import PlanError
 from pitplan.config.project import of_data
-from pitplan.config.shells import read_schedule
+from pitplan.config.shells import read_shells
 from pitplan.config.toml_section import Section
 from pitplan.pits import shell_tables
 from pitplan.results.folder import read_folder
@@ -63,7 +63,7 @@ def dug(project, tonnes, grades, entry, box=BOX):
     def of(values):
         return lambda i, j, k: values[((levels - 1 - k) * north + j) * columns + i]
 
-    return pitplan.prepare(project, table=rows(*box, tonnes=of(tonnes), cu=of(grades))), solution_of(entry)
+    return pitplan.Plan.from_project(project, table=rows(*box, tonnes=of(tonnes), cu=of(grades))), solution_of(entry)
 
 
 def amounts_of(tonnes, grade):
@@ -99,7 +99,7 @@ def present(cash, start, end, rate):
 
 def walked(pieces, project):
     """The life, and by year the amounts and the present worth: each piece fills what the years have left of both capacities."""
-    settings = project.schedule
+    settings = project.shells
     most = [
         Fraction(settings.processing_capacity),
         None if settings.mining_capacity is None else Fraction(settings.mining_capacity),
@@ -151,8 +151,8 @@ def plan_of(mine, project):
 @given(blocks, capacities)
 def test_years_are_those_of_a_walk_through_the_pieces(mine, capacity):
     project = project_of(*capacity)
-    table = pitplan.years(*plan_of(mine, project)).set_index(["case", "revenue_factor"])
-    shells = pitplan.shells(*plan_of(mine, project)).set_index("revenue_factor")
+    table = pitplan.Shells(*plan_of(mine, project)).years.set_index(["case", "revenue_factor"])
+    shells = pitplan.Shells(*plan_of(mine, project)).table.set_index("revenue_factor")
     for factor in FACTORS:
         for case in ("best", "worst"):
             end, years = walked(pieces_of(mine, factor, case), project)
@@ -173,7 +173,7 @@ def test_years_are_those_of_a_walk_through_the_pieces(mine, capacity):
 def test_years_keep_the_capacities_and_add_up_to_the_shell(mine, capacity, discounting):
     project = project_of(*capacity, discounting)
     solved = plan_of(mine, project)
-    table, shells = pitplan.years(*solved), pitplan.shells(*solved).set_index("revenue_factor")
+    table, shells = pitplan.Shells(*solved).years, pitplan.Shells(*solved).table.set_index("revenue_factor")
     assert (table["feed_tonnes"] <= capacity[1] * (1 + 1e-6)).all()
     if capacity[2] is not None:
         assert (table["total_tonnes"] <= capacity[2] * (1 + 1e-6)).all()
@@ -207,12 +207,12 @@ def test_capacity_lost_while_stripping_is_not_caught_up():
     waste, ore = [(0, 1.0)] * columns, [(5, 1.0)] * columns
     # 8,100 t of waste at 900 a year, and 900 t of ore at 90 a year.
     plan, solution = pillar(project_of(ore=90, rock=900), *[waste] * 9, ore)
-    shell = pitplan.shells(plan, solution).set_index("revenue_factor").loc[1.0]
+    shell = pitplan.Shells(plan, solution).table.set_index("revenue_factor").loc[1.0]
     assert shell["years"] == pytest.approx(19)
     # A tonne of ore is worth 5 x 40 - 10 - 2 = 188; the mean of 1.1^-t over a year is (1.1^-s - 1.1^-e) / ln 1.1.
     npv = (-1800 * (1 - 1.1**-9) + 90 * 188 * (1.1**-9 - 1.1**-19)) / log(1.1)
     assert shell["npv_best"] == pytest.approx(npv) and shell["npv_worst"] == pytest.approx(npv)
-    years = pitplan.years(plan, solution)
+    years = pitplan.Shells(plan, solution).years
     assert years["feed_tonnes"].round(6).tolist() == ([0] * 9 + [90] * 10) * 2
     assert years["total_tonnes"].round(6).tolist() == ([900] * 9 + [90] * 10) * 2
 
@@ -220,12 +220,12 @@ def test_capacity_lost_while_stripping_is_not_caught_up():
 def test_a_year_of_several_pieces_by_hand():
     """Rock at 150 t a year and ore at 100: after 100 t of waste the first year takes 50 t of ore, and the mill is half used."""
     plan, solution = pillar(project_of(rock=150), [(0, 1.0)], [(1, 1.0)])
-    table = pitplan.years(plan, solution)
+    table = pitplan.Shells(plan, solution).years
     best = table[table["case"] == "best"]
     # The waste costs 200; the ore yields 4000 - 1000 - 200, half of it in each year. The second ends when the mill is half used.
     assert best["total_tonnes"].tolist() == [150, 50] and best["feed_tonnes"].tolist() == [50, 50]
     assert best["recovered_copper"].tolist() == [0.25, 0.25] and best["cash_flow"].tolist() == [1200, 1400]
-    assert pitplan.shells(plan, solution)["years"].tolist() == [0, 0, 1.5]
+    assert pitplan.Shells(plan, solution).table["years"].tolist() == [0, 0, 1.5]
     first, second = 1200 * (1 - 1.1**-1) / log(1.1), 1400 * (1.1**-1 - 1.1**-1.5) / (0.5 * log(1.1))
     assert best["discounted_cash_flow"].tolist() == pytest.approx([first, second])
 
@@ -233,16 +233,18 @@ def test_a_year_of_several_pieces_by_hand():
 def test_waste_is_mined_in_the_years_in_which_the_mill_works():
     """A bench of ore and one of waste: the shovels do both in the year in which the mill does the ore. No bench waits for the mill."""
     plan, solution = pillar(project_of(rock=200), [(1, 1.0)], [(0, 1.0)])
-    years = pitplan.years(plan, solution)
+    years = pitplan.Shells(plan, solution).years
     assert years["total_tonnes"].tolist() == [200, 200] and years["feed_tonnes"].tolist() == [100, 100]
-    assert pitplan.shells(plan, solution)["years"].tolist() == [0, 0, 1]
+    assert pitplan.Shells(plan, solution).table["years"].tolist() == [0, 0, 1]
 
 
 @pytest.mark.parametrize("discounting, before", [("end_of_year", 0.0), ("mid_year", 0.5)])
 def test_years_discounted_as_spreadsheets_do(discounting, before):
     plan, solution = pillar(project_of(rock=150, discounting=discounting), [(0, 1.0)], [(1, 1.0)])
     expected = [1200 / 1.1 ** (1 - before), 1400 / 1.1 ** (2 - before)]
-    table, shells = pitplan.years(plan, solution), pitplan.shells(plan, solution).set_index("revenue_factor")
+    table, shells = pitplan.Shells(plan, solution).years, pitplan.Shells(plan, solution).table.set_index(
+        "revenue_factor"
+    )
     for case in ("best", "worst"):
         assert table["discounted_cash_flow"][table["case"] == case].tolist() == pytest.approx(expected)
         assert shells[f"npv_{case}"][1.0] == pytest.approx(sum(expected))
@@ -251,16 +253,16 @@ def test_years_discounted_as_spreadsheets_do(discounting, before):
 def test_cash_is_discounted_from_the_end_of_its_year_by_default():
     """As the function NPV of spreadsheets does it."""
     data = {"revenue_factors": [1], "discount_rate": Decimal("0.1"), "processing_capacity": 100}
-    assert read_schedule(Section("project.toml", "shells", data), ()).discounting == "end_of_year"
+    assert read_shells(Section("project.toml", "shells", data), ()).discounting == "end_of_year"
 
 
 def test_the_worst_case_can_be_worth_more_than_the_best():
     """Ore of the first shell beside waste of the second: mined bench by bench, they share the years that the mill needs for the ore."""
     plan, solution = pillar(project_of(rock=100, ore=50), [(1, 0.7), (0, 1.0)], [(0, 1.0), (4, 1.0)])
-    shells = pitplan.shells(plan, solution).set_index("revenue_factor")
+    shells = pitplan.Shells(plan, solution).table.set_index("revenue_factor")
     # Best: the waste of the second shell fills the shovels of year 2, and the last bench begins in year 3.
     assert shells["years"][1.0] == pytest.approx(4.5)
-    years = pitplan.years(plan, solution).set_index(["case", "revenue_factor"])
+    years = pitplan.Shells(plan, solution).years.set_index(["case", "revenue_factor"])
     best, worst = years.loc[("best", 1.0)], years.loc[("worst", 1.0)]
     assert best["total_tonnes"].tolist() == [50, 100, 100, 100, 50] and best["feed_tonnes"].tolist() == [
         50,
@@ -279,14 +281,14 @@ def test_the_worst_case_can_be_worth_more_than_the_best():
 def test_waste_takes_no_time_where_rock_has_no_limit():
     """It is mined in the year that the mill's capacity ends."""
     plan, solution = pillar(project_of(), [(0, 1.0)], [(1, 1.0)], [(0, 1.0)], [(1, 1.0)])
-    years = pitplan.years(plan, solution)
+    years = pitplan.Shells(plan, solution).years
     best = years[years["case"] == "best"]
     assert best["total_tonnes"].tolist() == [300, 100] and best["cash_flow"].tolist() == [2400, 2800]
     npv = (2400 * (1 - 1.1**-1) + 2800 * (1.1**-1 - 1.1**-2)) / log(1.1)
     assert best["discounted_cash_flow"].sum() == pytest.approx(npv)
     # A pit of waste alone is dug in no time.
     plan, solution = pillar(project_of(), [(0, 1.0)])
-    years, shells = pitplan.years(plan, solution), pitplan.shells(plan, solution)
+    years, shells = pitplan.Shells(plan, solution).years, pitplan.Shells(plan, solution).table
     assert years[["year", "cash_flow", "discounted_cash_flow"]].to_numpy().tolist() == [[1, -200, -200]] * 2
     assert shells["years"].tolist() == [0, 0, 0]
 
@@ -294,38 +296,40 @@ def test_waste_takes_no_time_where_rock_has_no_limit():
 def test_nine_ninths_of_a_year_are_a_year():
     """Binary fractions add up to a hair more, which is no second year."""
     plan, solution = pillar(project_of(ore=900), *[[(1, 1.0)]] * 9)
-    years = pitplan.years(plan, solution)
+    years = pitplan.Shells(plan, solution).years
     assert years["year"].tolist() == [1, 1] and years["total_tonnes"].tolist() == pytest.approx([900, 900])
-    assert pitplan.shells(plan, solution)["years"].tolist() == [0, 0, 1]
+    assert pitplan.Shells(plan, solution).table["years"].tolist() == [0, 0, 1]
 
 
 def test_years_that_could_not_be_counted_are_refused():
     plan, solution = pillar(project_of(ore=1), *[[(1, 0.7)]] * 11)
     with pytest.raises(PlanError) as said:
-        pitplan.shells(plan, solution)
+        pitplan.Shells(plan, solution).table
     assert str(said.value) == (
         "project.toml: [shells] processing_capacity, mining_capacity: the largest shell would take at least 1,100 years, "
         "expected at most 1,000: check that the capacities are in tonnes per year"
     )
-    plan.project = replace(plan.project, schedule=replace(plan.project.schedule, processing_capacity=1.1))
-    assert len(pitplan.years(plan, solution)) == 2 * 2 * 1000
+    plan.project = replace(plan.project, shells=replace(plan.project.shells, processing_capacity=1.1))
+    assert len(pitplan.Shells(plan, solution).years) == 2 * 2 * 1000
 
 
 def test_an_empty_pit_has_no_years():
     plan, solution = pillar(project_of(), [(1, 0)])
-    table = pitplan.years(plan, solution)
+    table = pitplan.Shells(plan, solution).years
     assert list(table.columns) == ["case", "revenue_factor", "year", *AMOUNTS] and table.empty
-    assert pitplan.shells(plan, solution)[["npv_best", "npv_worst", "years"]].to_numpy().tolist() == [[0, 0, 0]] * 3
+    assert (
+        pitplan.Shells(plan, solution).table[["npv_best", "npv_worst", "years"]].to_numpy().tolist() == [[0, 0, 0]] * 3
+    )
 
 
 def test_the_file_of_years_stands_beside_the_shells(solved):
     project, folder = solved
-    table = pd.read_csv(folder / "years.csv")
-    assert "years.csv" in read_folder(folder).record["files"]
-    plan = pitplan.prepare(project)
-    expected = shown(shell_tables.years(plan, pitplan.solve(plan))).assign(discounting="end_of_year")
+    table = pd.read_csv(folder / "tables/years.csv")
+    assert "tables/years.csv" in read_folder(folder).record["files"]
+    plan = pitplan.Plan.from_project(project)
+    expected = shown(shell_tables.years(plan, plan.shells().solution)).assign(discounting="end_of_year")
     pd.testing.assert_frame_equal(table, expected, check_dtype=False)
-    shells = pd.read_csv(folder / "shells.csv").set_index("revenue_factor")
+    shells = pd.read_csv(folder / "tables/shells.csv").set_index("revenue_factor")
     sums = table.groupby(["case", "revenue_factor"])["discounted_cash_flow"].sum()
     for case in ("best", "worst"):
         assert sums[case].tolist() == pytest.approx(shells[f"npv_{case}"].tolist(), abs=0.01)
@@ -333,7 +337,9 @@ def test_the_file_of_years_stands_beside_the_shells(solved):
 
 def test_discounting_is_one_of_three(plan_folder):
     path = plan_folder(rows(2, 2, 2), PROJECT, ("discount_rate = 0.1", 'discount_rate = 0.1\ndiscounting = "yearly"'))
-    with pytest.raises(PlanError, match='discounting: "yearly" is none of end_of_year, mid_year, continuous'):
+    with pytest.raises(
+        PlanError, match='discounting: found "yearly", expected one of end_of_year, mid_year, continuous'
+    ):
         pitplan.load(path)
 
 
@@ -341,7 +347,7 @@ def test_the_factor_to_show_is_that_of_the_best_mean_of_both_cases_up_to_1000():
     table = pd.DataFrame(
         {"revenue_factor": [0.4, 0.7, 1.0, 1.3], "npv_best": [5.0, 9, 10, 99], "npv_worst": [5.0, 4, 2, 99]}
     )
-    schedule = project_of().schedule
+    schedule = project_of().shells
     assert shell_tables.selected_factor(table, schedule) == 0.7
     assert (
         shell_tables.selected_factor(table.assign(npv_best=[9.0, 9, 9, 9], npv_worst=[1.0, 2, 3, 4]), schedule) == 1.0

@@ -36,7 +36,7 @@ def schedule():
         "lp": np.array([[1, 0, 0], [0.25, 0.75, 0], [0, 0.25, 0.75]]),
     }
     grid = SimpleNamespace(elevations=lambda: np.array([15.0, 5.0]))
-    project = SimpleNamespace(money=SimpleNamespace(currency="USD"), metals=(METAL,))
+    project = SimpleNamespace(economics=SimpleNamespace(currency="USD"), metals=(METAL,))
     pushbacks = SimpleNamespace(plan=SimpleNamespace(grid=grid, project=project), factors=(0.5, 1.0))
     optimum = Relaxed(np.array([[1.0, 1, 1], [0.5, 1, 1], [0, 0.5, 1]]), 990.0, np.array([300.0, 700, 300]))
     return pushback_schedule.YearlySchedule(pushbacks, problem, shares, 1, 3, optimum)

@@ -6,7 +6,7 @@ import shutil
 import numpy as np
 import pandas as pd
 import pytest
-from conftest import PROJECT, rows
+from conftest import PROJECT, files_in, rows
 from matplotlib.figure import Figure
 
 import pitplan
@@ -227,7 +227,7 @@ def test_fixed_blocks_hold_in_every_case_and_ore_may_be_settled(plan_folder):
         shells.loc[1.0, ["blocks", "undiscounted_cash_flow"]].tolist()
     )
     folder = path.parent / "plan" / "sensitivity"
-    blocks, record = pd.read_csv(folder / "blocks.csv"), json.loads((folder / "sensitivity.json").read_text())
+    blocks, record = pd.read_csv(folder / "tables/blocks.csv"), json.loads((folder / "sensitivity.json").read_text())
     for case in record["cases"]:
         entry = np.load(folder / "cases" / f"{case['key']}.npz")["entry"][blocks["id"]]
         assert (entry[blocks["must"] == 1] == 0.5).all() and not entry[blocks["never"] == 1].any()
@@ -310,17 +310,16 @@ def test_files_and_what_the_command_line_tells(small, capsys, monkeypatch):
     assert out[2].split() == ["base", "case", "21.75", "0.00", "100.00", "100.00", "22.80", "1.0"]
     assert out[3].split()[:3] == ["price", "-20", "%"] and "price -20 %, mining cost +10 %" in out[13]
     folder = path.parent / "plan" / "sensitivity"
-    assert out[-1] == str(folder / "sensitivity.csv")
-    assert {it.name for it in folder.iterdir()} == {
+    assert out[-1] == str(folder / "tables/sensitivity.csv")
+    assert {name for name in files_in(folder) if not name.startswith("cases/")} == {
         *(
-            "blocks.csv",
-            "cases",
+            "tables/blocks.csv",
             "project-as-run.toml",
-            "sensitivity.csv",
+            "tables/sensitivity.csv",
             "sensitivity.json",
-            "tornado.png",
-            "spider.png",
-            "grid-price-mining_cost.png",
+            "figures/tornado.png",
+            "figures/spider.png",
+            "figures/grid-price-mining_cost.png",
         )
     }
     record = json.loads((folder / "sensitivity.json").read_text())
@@ -341,8 +340,8 @@ def test_cases_over_dask_are_those_of_one_after_the_other(small, capsys):
         == 0
     )
     pitplan.write_sensitivity(path, path.parent / "one", writing=pitplan.Writing(verifies=False))
-    assert (path.parent / "dask" / "sensitivity.csv").read_bytes() == (
-        path.parent / "one" / "sensitivity.csv"
+    assert (path.parent / "dask" / "tables/sensitivity.csv").read_bytes() == (
+        path.parent / "one" / "tables/sensitivity.csv"
     ).read_bytes()
     assert len(list((path.parent / "dask" / "cases").iterdir())) == 5
     path.write_text(path.read_text().replace("[-0.1, 0.1]", "[-0.9999]"))
@@ -368,19 +367,19 @@ def test_cases_are_solved_here_or_over_dask_alone(small, capsys):
         ('changes = ["much"]', "changes: 'much' is not a number"),
         (
             'parameters = "rent"',
-            'parameters: "rent" is none of price, mining_cost, processing_cost, selling_cost, recovery, slopes, capacity, haulage; price, selling_cost',
+            'parameters: found "rent", expected one of price, mining_cost, processing_cost, selling_cost, recovery, slopes, capacity, haulage; price, selling_cost',
         ),
-        ('parameters = "slopes copper"', 'parameters: "slopes copper" is none of'),
-        ('parameters = "price tin"', 'parameters: "price tin" is none of'),
+        ('parameters = "slopes copper"', 'parameters: found "slopes copper", expected one of'),
+        ('parameters = "price tin"', 'parameters: found "price tin", expected one of'),
         ('parameters = ["price", "price"]', "parameters: names a parameter twice"),
         ('pairs = ["price"]', "pairs: must be a list of pairs of names"),
-        ('pairs = [["price", "rent"]]', 'pairs: "rent" is none of'),
+        ('pairs = [["price", "rent"]]', 'pairs: found "rent", expected one of'),
         ('pairs = [["price", "price copper"]]', "pairs: price and price copper are not two different parameters"),
         (
             'pairs = [["price copper", "price copper"]]',
             "pairs: price copper and price copper are not two different parameters",
         ),
-        ("share = 1", "[sensitivity] share: is no key here"),
+        ("share = 1", "[sensitivity] share: unknown key"),
     ],
 )
 def test_what_is_refused(small, words, said):
@@ -430,7 +429,7 @@ def test_what_is_right_passes(copied):
 
 
 def test_grades_ratios_and_years_have_six_decimals_and_amounts_three(copied):
-    table = pd.read_csv(copied / "sensitivity.csv", dtype=str)
+    table = pd.read_csv(copied / "tables/sensitivity.csv", dtype=str)
     decimals = {name: table[name].dropna().str.partition(".")[2].str.len().max() for name in table}
     fine = ("head_grade_copper", "head_grade_gold", "strip_ratio", "years", "kept_years")
     assert max(decimals.pop(name) for name in fine) == 6 and decimals.pop("value_at_revenue_factor") == 9
@@ -439,10 +438,10 @@ def test_grades_ratios_and_years_have_six_decimals_and_amounts_three(copied):
 
 @pytest.mark.parametrize("column", ["mining_cost", "revenue", "processing_cost", "revenue_factor"])
 def test_what_blocks_have_as_given_and_is_bent_is_found(copied, column):
-    table = pd.read_csv(copied / "blocks.csv", float_precision="round_trip")
+    table = pd.read_csv(copied / "tables/blocks.csv", float_precision="round_trip")
     at = table.index[table[column] > 0][-1]
     table.loc[at, column] += 1
-    table.to_csv(copied / "blocks.csv", index=False)
+    table.to_csv(copied / "tables/blocks.csv", index=False)
     assert list(wrong(copied)) == ["as given"]
 
 
@@ -450,9 +449,9 @@ def test_what_blocks_have_as_given_and_is_bent_is_found(copied, column):
     "column", ["kept_undiscounted_cash_flow", "kept_npv_best", "kept_npv_worst", "kept_years", "skin_value"]
 )
 def test_what_is_not_told_of_the_pit_as_given_is_found(copied, column):
-    table = pd.read_csv(copied / "sensitivity.csv", dtype=str, keep_default_na=False)
+    table = pd.read_csv(copied / "tables/sensitivity.csv", dtype=str, keep_default_na=False)
     table.loc[1, column] = ""
-    table.to_csv(copied / "sensitivity.csv", index=False)
+    table.to_csv(copied / "tables/sensitivity.csv", index=False)
     assert set(wrong(copied)) == {"skin" if column == "skin_value" else "kept"}
 
 
@@ -474,11 +473,11 @@ AMOUNTS = "blocks tonnes feed_tonnes waste_tonnes strip_ratio processed_at_reven
 )
 def test_each_number_that_is_bent_is_found(copied, column, name):
     """A hundredth more in the last row, which is of a pair."""
-    table = pd.read_csv(copied / "sensitivity.csv", dtype={"value_at_revenue_factor": str})
+    table = pd.read_csv(copied / "tables/sensitivity.csv", dtype={"value_at_revenue_factor": str})
     at = table.index[-1]
     bent = float(table.loc[at, column]) + (1 if column in ("blocks", "revenue_factor") else 0.02)
     table.loc[at, column] = f"{bent:.6f}" if column == "value_at_revenue_factor" else bent
-    table.to_csv(copied / "sensitivity.csv", index=False)
+    table.to_csv(copied / "tables/sensitivity.csv", index=False)
     found = wrong(copied)
     assert name in found
     assert name == "cases" or all(said.startswith("price +0.2, capacity +0.2: ") for said in found[name])
@@ -494,8 +493,8 @@ def test_each_number_that_is_bent_is_found(copied, column, name):
     ],
 )
 def test_cases_that_are_not_those_asked_for_are_found(copied, bend):
-    bend(pd.read_csv(copied / "sensitivity.csv", dtype={"value_at_revenue_factor": str})).to_csv(
-        copied / "sensitivity.csv", index=False
+    bend(pd.read_csv(copied / "tables/sensitivity.csv", dtype={"value_at_revenue_factor": str})).to_csv(
+        copied / "tables/sensitivity.csv", index=False
     )
     assert "cases" in wrong(copied)
 
@@ -542,7 +541,10 @@ def test_walls_of_patterns_that_move_not_are_as_given(plan_folder):
         (
             "mining_cost",
             lambda project, by, metal: perturb.replace(
-                project, money=perturb.replace(project.money, mining_cost=perturb.times(project.money.mining_cost, by))
+                project,
+                economics=perturb.replace(
+                    project.economics, mining_cost=perturb.times(project.economics.mining_cost, by)
+                ),
             ),
         ),
         ("slopes", lambda project, by, metal: project),
@@ -550,8 +552,8 @@ def test_walls_of_patterns_that_move_not_are_as_given(plan_folder):
             "capacity",
             lambda project, by, metal: perturb.replace(
                 project,
-                schedule=perturb.replace(
-                    project.schedule, processing_capacity=project.schedule.processing_capacity * float(by)
+                shells=perturb.replace(
+                    project.shells, processing_capacity=project.shells.processing_capacity * float(by)
                 ),
             ),
         ),
@@ -565,7 +567,7 @@ def test_a_number_that_is_varied_otherwise_is_found(answered, tmp_path, monkeypa
     monkeypatch.setitem(perturb.VARIED, number, careless)
     with pytest.raises(PlanError, match="verification failed"):
         pitplan.write_sensitivity(place / "project.toml")
-    assert not (place / "plan" / "sensitivity" / "sensitivity.csv").exists()
+    assert not (place / "plan" / "sensitivity" / "tables/sensitivity.csv").exists()
 
 
 def test_a_folder_without_its_answers_is_named(copied):

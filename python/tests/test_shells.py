@@ -71,9 +71,9 @@ grades = st.lists(st.sampled_from([0, 0, 0, 0.1, 0.25, 0.3, 0.5, 1, 2, 4]), min_
 def test_shells_are_the_best_of_all_closed_sets(tmp_path, by_id):
     """100 t a block: mining 200, processing 1000, and 40,000 for each per cent of copper."""
     table = rows(*BOX, cu=lambda i, j, k: by_id[(2 - k) * 3 + i])
-    plan = pitplan.prepare(project_of(tmp_path), table=table)
-    solution = pitplan.solve(plan)
-    for factor in plan.project.schedule.revenue_factors:
+    plan = pitplan.Plan.from_project(project_of(tmp_path), table=table)
+    solution = plan.shells().solution
+    for factor in plan.project.shells.revenue_factors:
         gains = [Decimal(str(factor)) * Decimal(str(grade)) * 4000 - 1000 for grade in by_id]
         worth, pit = best_by_trying(CLOSED, [max(gain, Decimal(0)) - 200 for gain in gains])
         assert solution.worth[factor] == worth
@@ -87,9 +87,9 @@ def test_shells_are_the_best_of_all_closed_sets(tmp_path, by_id):
 @given(grades)
 def test_a_fixed_cutoff_is_the_best_with_ore_settled_at_1000(tmp_path, by_id):
     table = rows(*BOX, cu=lambda i, j, k: by_id[(2 - k) * 3 + i])
-    plan = pitplan.prepare(project_of(tmp_path, cutoff="base_price"), table=table)
-    solution = pitplan.solve(plan)
-    for factor in plan.project.schedule.revenue_factors:
+    plan = pitplan.Plan.from_project(project_of(tmp_path, cutoff="base_price"), table=table)
+    solution = plan.shells().solution
+    for factor in plan.project.shells.revenue_factors:
         yields = [Decimal(str(grade)) * 4000 for grade in by_id]
         values = [Decimal(str(factor)) * y - 1200 if y > 1000 else Decimal(-200) for y in yields]
         worth, pit = best_by_trying(CLOSED, values)
@@ -110,19 +110,19 @@ def test_trimmed_needs_give_the_same_shells(seed, walls, cutoff):
     project = project_of(Path("."), cutoff=cutoff)
     wall = {"angle": Decimal(walls)} if walls.isdigit() else {"pattern": walls}
     slopes = read_slopes(Section("test", "slopes", {"precedence_benches": 3, "domains": [wall]}))
-    plan = pitplan.prepare(replace(project, slopes=slopes), table=table)
-    trimmed = pitplan.solve(plan)
+    plan = pitplan.Plan.from_project(replace(project, slopes=slopes), table=table)
+    trimmed = plan.shells().solution
     assert plan.used.sum() < plan.grid.count
     plan.used[:] = True
-    whole = pitplan.solve(plan)
+    whole = plan.shells().solution
     assert (trimmed.entry == whole.entry).all() and (trimmed.worth == whole.worth).all()
 
 
 def test_the_table_of_shells_by_hand(tmp_path):
     """A pillar of three blocks: waste, poor ore at 0.4 %, and at the floor rich ore at 1.5 %."""
     table = rows(1, 1, 3, cu=lambda i, j, k: [1.5, 0.4, 0][k])
-    plan = pitplan.prepare(project_of(tmp_path, factors=(0.2, 0.5, 1.0)), table=table)
-    shells = pitplan.shells(plan, pitplan.solve(plan)).set_index("revenue_factor")
+    plan = pitplan.Plan.from_project(project_of(tmp_path, factors=(0.2, 0.5, 1.0)), table=table)
+    shells = plan.shells().table.set_index("revenue_factor")
     # At the price as given processing the rich block gains 6000 - 1000, the poor one 1600 - 1000. At 0.5 the poor one
     # is mined and thrown away: 800 does not pay its processing. At 0.2 the rich one gains 200, and mining costs 600.
     assert shells["blocks"].tolist() == [0, 3, 3]
@@ -146,8 +146,8 @@ def test_best_and_worst_case_by_hand(plan_folder):
     table = rows(2, 1, 2, cu=lambda i, j, k: 0 if k else [4, 0.4][i])
     upright = ('pattern = "1:5"', "angle = 90")
     changes = [upright, ("processing_capacity = 100", "processing_capacity = 100\nmining_capacity = 100")]
-    plan = pitplan.prepare(plan_folder(table, PROJECT, *changes))
-    shells = pitplan.shells(plan, pitplan.solve(plan)).set_index("revenue_factor")
+    plan = pitplan.Plan.from_project(plan_folder(table, PROJECT, *changes))
+    shells = plan.shells().table.set_index("revenue_factor")
     assert shells["blocks"].to_dict() == {0.5: 2, 1.0: 4, 1.5: 4}
     # The rich floor is worth 16000 - 1000 - 200, the poor one 1600 - 1000 - 200. In the best case each block takes a year;
     # in the worst case each level takes two.
@@ -162,8 +162,8 @@ def test_best_and_worst_case_by_hand(plan_folder):
 
 def test_pits_that_touch_the_model_are_warned_of(plan_folder):
     table = rows(5, 5, 3, cu=lambda i, j, k: 8 if (i, j, k) == (1, 2, 0) else 0)
-    plan = pitplan.prepare(plan_folder(table))
-    notes = shell_tables.edge_notes(plan, pitplan.solve(plan))
+    plan = pitplan.Plan.from_project(plan_folder(table))
+    notes = shell_tables.edge_notes(plan, plan.shells().solution)
     touched = [note.split(" of the block model")[0] for note in notes]
     assert touched == [
         f"WARNING: the largest shell reaches the {side}" for side in ("west side", "south side", "north side", "floor")
@@ -175,6 +175,6 @@ def test_pits_that_touch_the_model_are_warned_of(plan_folder):
 
 
 def test_factor_1000_is_always_there(plan_folder):
-    plan = pitplan.prepare(plan_folder(rows(2, 2, 2), PROJECT, ("[0.5, 1.0, 1.5]", "[0.9, 0.5]")))
-    assert plan.project.schedule.revenue_factors == (0.5, 0.9, 1.0)
+    plan = pitplan.Plan.from_project(plan_folder(rows(2, 2, 2), PROJECT, ("[0.5, 1.0, 1.5]", "[0.9, 0.5]")))
+    assert plan.project.shells.revenue_factors == (0.5, 0.9, 1.0)
     assert "revenue factor 1.0, the base price, was added to the revenue factors" in plan.notes

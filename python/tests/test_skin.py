@@ -142,7 +142,7 @@ def test_the_second_look_finds_a_skin_that_others_need(plan_folder):
     said = json.loads((folder / "sensitivity.json").read_text())
     answer = folder / "cases" / f"{said['cases'][0]['key']}.npz"
     arrays = dict(np.load(answer))
-    blocks = pd.read_csv(folder / "blocks.csv")
+    blocks = pd.read_csv(folder / "tables/blocks.csv")
     above = np.zeros_like(arrays["skin"])
     above[blocks["id"][(blocks["revenue_factor"] > 0.0) & (blocks["z"] == blocks["z"].max())].to_numpy()[:1]] = True
     np.savez_compressed(answer, **arrays | {"skin": above})

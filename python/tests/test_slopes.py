@@ -42,7 +42,7 @@ def made_mine(tmp_path, blocks, pattern):
 
 @pytest.mark.parametrize("pattern", ["1:5", "1:9"])
 def test_patterns_are_those_of_the_tool_byte_for_byte(plan_folder, tmp_path, pattern):
-    plan = pitplan.prepare(plan_folder(made_mine(tmp_path, 300, pattern), PROJECT, ('"1:5"', f'"{pattern}"')))
+    plan = pitplan.Plan.from_project(plan_folder(made_mine(tmp_path, 300, pattern), PROJECT, ('"1:5"', f'"{pattern}"')))
     plan.used[:] = True
     mine_files.write(plan, tmp_path)
     assert (tmp_path / mine_files.PREC).read_bytes() == (tmp_path / "made.prec").read_bytes()
@@ -50,7 +50,7 @@ def test_patterns_are_those_of_the_tool_byte_for_byte(plan_folder, tmp_path, pat
 
 def test_a_cone_of_45_degrees_needs_what_that_of_the_tool_needs(plan_folder, tmp_path):
     table = made_mine(tmp_path, 400, "cone")
-    plan = pitplan.prepare(plan_folder(table, PROJECT, ('pattern = "1:5"', "angle = 45")))
+    plan = pitplan.Plan.from_project(plan_folder(table, PROJECT, ('pattern = "1:5"', "angle = 45")))
     plan.used[:] = True
     mine_files.write(plan, tmp_path)
     mine, made = pairs_of(tmp_path / mine_files.PREC), pairs_of(tmp_path / "made.prec")
@@ -217,7 +217,9 @@ def test_each_wall_entry_takes_its_own_levels_and_the_record_names_them(plan_fol
     table = rows(4, 3, 2, region=lambda i, j, k: "soft" if i < 2 else "hard")
     steep = f"angle = {math.degrees(math.atan(10)):.9f}"
     entries = f'domain = "hard"\n{steep}\n[[slopes.domains]]\ndomain = "soft"\npattern = "1:9"'
-    plan = pitplan.prepare(plan_folder(table, PROJECT, ("precedence_benches = 3\n", ""), ('pattern = "1:5"', entries)))
+    plan = pitplan.Plan.from_project(
+        plan_folder(table, PROJECT, ("precedence_benches = 3\n", ""), ('pattern = "1:5"', entries))
+    )
     assert [walls["levels"] for walls in plan.record(mine_files.write(plan, tmp_path))["walls"]] == [23, 1]
     assert any("precedences per block over 23 benches, slopes" in note for note in plan.notes)
     assert any("9 precedences per block over 1 bench, slopes" in note for note in plan.notes)
@@ -226,7 +228,7 @@ def test_each_wall_entry_takes_its_own_levels_and_the_record_names_them(plan_fol
 def test_azimuth_90_is_the_east_wall(plan_folder):
     """Flat in the east, steep in the west: the needs of a block lie to its east."""
     angles = "azimuths = [[0, 60], [90, 30], [180, 60], [270, 80]]"
-    plan = pitplan.prepare(plan_folder(rows(5, 5, 3), PROJECT, ('pattern = "1:5"', angles)))
+    plan = pitplan.Plan.from_project(plan_folder(rows(5, 5, 3), PROJECT, ('pattern = "1:5"', angles)))
     offsets = plan.walls.patterns[0].offsets
     assert (1, 0, 1) in offsets and (-1, 0, 1) not in offsets
     assert max(x for x, _, _ in offsets) > -min(x for x, _, _ in offsets)
@@ -242,7 +244,9 @@ def test_dip_directions_are_the_opposite_bearings(plan_folder, turn):
     )
     by_wall = "azimuths = [[0, 60], [90.5, 30], [180, 60], [270, 80]]"
     by_dip = 'azimuths = [[180, 60], [270.5, 30], [0, 60], [90, 80]]\nazimuth_of = "dip"'
-    found = [pitplan.prepare(plan_folder(grid, PROJECT, ('pattern = "1:5"', text))) for text in (by_wall, by_dip)]
+    found = [
+        pitplan.Plan.from_project(plan_folder(grid, PROJECT, ('pattern = "1:5"', text))) for text in (by_wall, by_dip)
+    ]
     walls, dips = (plan.walls.patterns[0] for plan in found)
     assert np.array_equal(walls.offsets, dips.offsets) and np.array_equal(walls.angles, dips.angles)
     assert "60 at 0 80 at 90 60 at 180 30 at 270.5 (dip directions)" in dips.name
@@ -251,13 +255,13 @@ def test_dip_directions_are_the_opposite_bearings(plan_folder, turn):
 def test_azimuth_of_needs_azimuths(plan_folder):
     path = plan_folder(rows(3, 3, 2), PROJECT, ('pattern = "1:5"', 'angle = 45\nazimuth_of = "dip"'))
     with pytest.raises(PlanError, match="azimuth_of: requires azimuths"):
-        pitplan.prepare(path)
+        pitplan.Plan.from_project(path)
 
 
 def test_each_region_has_its_walls(plan_folder, tmp_path):
     table = rows(4, 3, 2, region=lambda i, j, k: "soft" if i < 2 else "hard")
     walls = 'domain = "hard"\npattern = "1:5"\n[[slopes.domains]]\ndomain = ["soft", "clay"]\npattern = "1:9"'
-    plan = pitplan.prepare(plan_folder(table, PROJECT, ('pattern = "1:5"', walls)))
+    plan = pitplan.Plan.from_project(plan_folder(table, PROJECT, ('pattern = "1:5"', walls)))
     plan.used[:] = True
     mine_files.write(plan, tmp_path)
     pairs = pairs_of(tmp_path / mine_files.PREC)
@@ -269,14 +273,14 @@ def test_each_region_has_its_walls(plan_folder, tmp_path):
 def test_air_takes_the_walls_of_the_ground_below(plan_folder):
     table = rows(3, 3, 3, region=lambda i, j, k: "a" if i == 0 else "b")
     walls = 'domain = "a"\npattern = "1:5"\n[[slopes.domains]]\ndomain = "b"\npattern = "1:9"'
-    plan = pitplan.prepare(
+    plan = pitplan.Plan.from_project(
         plan_folder(
             table[table["z"] < 20], PROJECT, ('[[slopes.domains]]\npattern = "1:5"', f"[[slopes.domains]]\n{walls}")
         )
     )
     assert plan.grid.shape == (2, 3, 3)
     top = table[(table["z"] < 20) | ((table["x"] == 5) & (table["y"] == 5))]
-    plan = pitplan.prepare(
+    plan = pitplan.Plan.from_project(
         plan_folder(top, PROJECT, ('[[slopes.domains]]\npattern = "1:5"', f"[[slopes.domains]]\n{walls}"))
     )
     assert plan.walls.code[:9].tolist() == [0, 1, 1] * 3
@@ -287,7 +291,7 @@ def test_a_region_without_walls_is_refused(plan_folder):
     with pytest.raises(
         PlanError, match=r"\[slopes\] no \[\[slopes.domains\]\] is for domain 1, and none applies to all other domains"
     ):
-        pitplan.prepare(plan_folder(rows(2, 2, 2), PROJECT, ('pattern = "1:5"', walls)))
+        pitplan.Plan.from_project(plan_folder(rows(2, 2, 2), PROJECT, ('pattern = "1:5"', walls)))
 
 
 def test_walls_for_regions_alone_need_a_region_column(plan_folder):
@@ -297,7 +301,7 @@ def test_walls_for_regions_alone_need_a_region_column(plan_folder):
     with pytest.raises(
         PlanError, match=r"all \[\[slopes.domains\]\] name a domain, and \[table\] names no column as domain"
     ):
-        pitplan.prepare(path)
+        pitplan.Plan.from_project(path)
 
 
 def test_a_list_that_cannot_hold_a_flat_wall_is_refused():
@@ -309,7 +313,7 @@ def test_a_list_that_cannot_hold_a_flat_wall_is_refused():
 
 
 def test_needs_that_leave_the_grid_at_its_sides_are_counted(plan_folder, tmp_path):
-    plan = pitplan.prepare(plan_folder(rows(3, 3, 2)))
+    plan = pitplan.Plan.from_project(plan_folder(rows(3, 3, 2)))
     plan.used[:] = True
     # Of the nine lower blocks the four corners lack two neighbours each, and the four edges one.
     record = plan.record(mine_files.write(plan, tmp_path))
@@ -332,7 +336,7 @@ def test_steps_to_a_cell_of_a_cone_and_beside_it():
 
 @pytest.mark.parametrize(("levels", "said"), [(1, "over 1 bench,"), (2, "over 2 benches,"), (3, "over 3 benches,")])
 def test_walls_are_told_with_their_levels(plan_folder, levels, said):
-    plan = pitplan.prepare(
+    plan = pitplan.Plan.from_project(
         plan_folder(
             rows(3, 3, 4),
             PROJECT,
@@ -345,7 +349,7 @@ def test_walls_are_told_with_their_levels(plan_folder, levels, said):
 
 def test_no_more_than_forty_levels_are_chosen(plan_folder):
     """Walls of 88.6 degrees step back by a block within 41 levels, and not within 40."""
-    plan = pitplan.prepare(
+    plan = pitplan.Plan.from_project(
         plan_folder(rows(2, 2, 2), PROJECT, ("precedence_benches = 3\n", ""), ('pattern = "1:5"', "angle = 88.6"))
     )
     assert plan.walls.patterns[0].levels == 40

@@ -14,9 +14,10 @@ from pitplan.pits import shell_tables
 
 ORE = {"cu": lambda i, j, k: {(3, 3, 1): 6, (4, 3, 1): 2.5, (3, 4, 0): 9}.get((i, j, k), 0)}
 PAIRS = {
-    "blocks": pitplan.blocks,
-    "shells": pitplan.shells,
-    "years": pitplan.years,
+    "blocks": shell_tables.blocks,
+    "shells": shell_tables.shells,
+    "years": shell_tables.years,
+    "Shells": pitplan.Shells,
     "edge_notes": shell_tables.edge_notes,
     "scene_of": plans_sections.scene_of,
 }
@@ -38,7 +39,7 @@ def mine(plan_folder):
 
     def prepare(*changes):
         table = rows(8, 7, 3, rock=lambda i, j, k: "RS"[i == 3], due=lambda i, j, k: int((i, j, k) == (1, 1, 2)), **ORE)
-        return pitplan.prepare(plan_folder(table, PROJECT, *changes))
+        return pitplan.Plan.from_project(plan_folder(table, PROJECT, *changes))
 
     return prepare
 
@@ -46,11 +47,11 @@ def mine(plan_folder):
 @pytest.mark.parametrize("name", PAIRS)
 def test_each_function_refuses_a_solution_of_another_plan(mine, name):
     plan, other = mine(), mine(("price = 8000", "price = 9000"))
-    PAIRS[name](plan, pitplan.solve(plan))
+    PAIRS[name](plan, plan.shells().solution)
     with pytest.raises(
-        PlanError, match=r"blocks.csv: the solution is of another plan \(.*\): use the one from pitplan.solve\(plan\)"
+        PlanError, match=r"blocks.csv: the solution is of another plan \(.*\): use the one from plan.shells\(\)"
     ):
-        PAIRS[name](plan, pitplan.solve(other))
+        PAIRS[name](plan, other.shells().solution)
 
 
 @pytest.mark.parametrize("change", OTHERS)
@@ -58,35 +59,38 @@ def test_whatever_shells_depend_on_makes_another_plan(mine, change):
     plan, other = mine(), mine(*OTHERS[change])
     for one, two in ((plan, other), (other, plan)):
         with pytest.raises(PlanError, match="the solution is of another plan"):
-            pitplan.shells(one, pitplan.solve(two))
+            pitplan.Shells(one, two.shells().solution).table
 
 
 def test_a_solution_of_a_smaller_model_is_refused(mine, plan_folder):
-    plan, other = mine(), pitplan.prepare(plan_folder(rows(7, 7, 3, **ORE)))
+    plan, other = mine(), pitplan.Plan.from_project(plan_folder(rows(7, 7, 3, **ORE)))
     with pytest.raises(PlanError, match=r"it has 150 nodes, the plan 171"):
-        pitplan.shells(plan, pitplan.solve(other))
+        pitplan.Shells(plan, other.shells().solution).table
 
 
 def test_what_shells_do_not_depend_on_makes_no_other_plan(mine):
     """A plan prepared again, and another rate, which is of years alone."""
-    plan, solution = mine(), pitplan.solve(mine())
-    assert pitplan.shells(plan, solution).equals(pitplan.shells(plan, pitplan.solve(plan)))
+    plan, solution = mine(), mine().shells().solution
+    assert pitplan.Shells(plan, solution).table.equals(plan.shells().table)
     later = mine(("discount_rate = 0.1", "discount_rate = 0.2"))
-    assert pitplan.shells(later, solution)["npv_best"].iloc[-1] < pitplan.shells(plan, solution)["npv_best"].iloc[-1]
+    assert (
+        pitplan.Shells(later, solution).table["npv_best"].iloc[-1]
+        < pitplan.Shells(plan, solution).table["npv_best"].iloc[-1]
+    )
 
 
 def test_a_plan_by_the_program_has_the_key_of_that_by_the_library(mine):
     plan = mine()
-    by_program = pitplan.solve(replace(plan, project=replace(plan.project, solver="program")))
+    by_program = replace(plan, project=replace(plan.project, solver="program")).shells().solution
     assert np.array_equal(
-        pitplan.blocks(plan, by_program)["revenue_factor"], pitplan.blocks(plan, pitplan.solve(plan))["revenue_factor"]
+        pitplan.Shells(plan, by_program).blocks["revenue_factor"], plan.shells().blocks["revenue_factor"]
     )
 
 
 def test_pushbacks_have_a_solution_of_their_own_factors(plan_folder):
     path = plan_folder(rows(8, 7, 3, **ORE), PROJECT + "[pushbacks]\ncount = 2\n")
-    whole = pitplan.prepare(load(path))
+    whole = pitplan.Plan.from_project(load(path))
     pushbacks = pitplan.pushbacks.nested.divide(whole)
-    assert len(pitplan.shells(pushbacks.plan, pushbacks.solution)) != len(whole.project.schedule.revenue_factors)
+    assert len(pitplan.Shells(pushbacks.plan, pushbacks.solution).table) != len(whole.project.shells.revenue_factors)
     with pytest.raises(PlanError, match="the solution is of another plan"):
-        pitplan.shells(whole, pushbacks.solution)
+        pitplan.Shells(whole, pushbacks.solution).table

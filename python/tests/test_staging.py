@@ -7,15 +7,16 @@ import sys
 from pathlib import Path
 
 import pytest
-from conftest import PROJECT, rows
+from conftest import PROJECT, files_in, rows
 
 import pitplan
 from pitplan import PlanError, Request, Shape
 from pitplan.cli import main
 from pitplan.commands.prepare import write_plan
 from pitplan.commands.writing import Writing
-from pitplan.core import staging
+from pitplan.core import atomic_files, staging
 from pitplan.export import registry
+from pitplan.results.folder import read_record
 
 pytestmark = pytest.mark.usefixtures("without_figures")
 ORE = {"cu": lambda i, j, k: {(3, 3, 1): 6, (4, 3, 1): 2.5, (3, 4, 0): 9}.get((i, j, k), 0)}
@@ -219,7 +220,16 @@ def turns(folder: Path, count: int) -> None:
 
 
 @pytest.mark.parametrize(
-    "name", ["prepare.json", "blocks.csv", "mine.prec", "shells.csv", "years.csv", "plans.png", "report.html"]
+    "name",
+    [
+        "plan.json",
+        "tables/blocks.csv",
+        "solver/mine.prec",
+        "tables/shells.csv",
+        "tables/years.csv",
+        "figures/plans.png",
+        "report.html",
+    ],
 )
 def test_a_folder_in_place_of_a_file_is_refused_before_anything_is_replaced(mine, name, monkeypatch):
     if name.endswith(".png"):
@@ -227,18 +237,18 @@ def test_a_folder_in_place_of_a_file_is_refused_before_anything_is_replaced(mine
     folder = mine.parent / "out"
     pitplan.write_shells(mine, folder, writing=pitplan.Writing(verifies=False))
     (folder / name).unlink(missing_ok=True)
-    (folder / name).mkdir()
-    before = {path.name: path.read_bytes() for path in folder.iterdir() if path.is_file()}
+    (folder / name).mkdir(parents=True)
+    before = files_in(folder)
     mine.write_text(mine.read_text().replace("price = 8000", "price = 9000"))
     with pytest.raises(
         PlanError,
         match=rf"out/{name}: found a folder, expected a file or nothing: move it away, or give another folder by --out",
     ):
         pitplan.write_shells(mine, folder, writing=pitplan.Writing(verifies=False))
-    assert {path.name: path.read_bytes() for path in folder.iterdir() if path.is_file()} == before
+    assert files_in(folder) == before
     (folder / name).rmdir()
     pitplan.write_shells(mine, folder, writing=pitplan.Writing(verifies=False))
-    assert (folder / "shells.csv").read_bytes() != before.get("shells.csv")
+    assert (folder / "tables/shells.csv").read_bytes() != before.get("tables/shells.csv")
 
 
 def test_a_folder_in_place_of_an_export_is_refused(mine):
@@ -248,6 +258,14 @@ def test_a_folder_in_place_of_an_export_is_refused(mine):
     with pytest.raises(PlanError, match="out/pit.csv: found a folder, expected a file or nothing"):
         pitplan.write_export(folder, "csv")
     assert list((folder / "pit.csv").iterdir()) == []
+
+
+def test_a_failed_write_leaves_no_folder_that_it_made(tmp_path):
+    with pytest.raises(PlanError, match="no more"):
+        with atomic_files.staged_file(tmp_path / "new" / "deep" / "pit.csv") as path:
+            path.write_text("half")
+            raise PlanError("no more")
+    assert list(tmp_path.iterdir()) == []
 
 
 def test_what_is_not_made_leaves_no_folder(mine):
@@ -261,15 +279,37 @@ def test_what_is_not_made_leaves_no_folder(mine):
 @pytest.mark.parametrize("name", ["prepare", "shells", "pit", "pushbacks", "schedule"])
 def test_no_run_replaces_the_table_of_another_mine(mine, name):
     other = mine.parent / "other"
-    other.mkdir()
-    texts = {"project.toml": mine.read_text(), "blocks.csv": (mine.parent / "blocks.csv").read_text()}
+    (other / "tables").mkdir(parents=True)
+    text = mine.read_text().replace('file = "blocks.csv"', 'file = "tables/blocks.csv"')
+    texts = {"project.toml": text.encode(), "tables/blocks.csv": (mine.parent / "blocks.csv").read_bytes()}
     for file, text in texts.items():
-        (other / file).write_text(text)
+        (other / file).write_bytes(text)
     with pytest.raises(
-        PlanError, match=r"other/blocks\.csv: the run would overwrite it: give another folder with --out"
+        PlanError, match=r"other/tables/blocks\.csv: the run would overwrite it: give another folder with --out"
     ):
         RUNS[name](mine, other)
-    assert {path.name: path.read_text() for path in other.iterdir()} == texts
+    assert files_in(other) == texts
+
+
+def test_a_file_in_place_of_a_subfolder_is_refused_before_anything_is_replaced(mine):
+    folder, name = mine.parent / "out", "tables"
+    folder.mkdir()
+    (folder / name).write_text("mine")
+    with pytest.raises(PlanError, match=rf"out/{name}: cannot be written: "):
+        pitplan.write_shells(mine, folder, writing=pitplan.Writing(verifies=False))
+    assert files_in(folder) == {name: b"mine"}
+
+
+def test_a_subfolder_that_may_not_be_written_is_refused_before_anything_is_replaced(mine, monkeypatch):
+    """As another user's: who runs the tests as root may write anywhere."""
+    folder = mine.parent / "out"
+    pitplan.write_shells(mine, folder, writing=pitplan.Writing(verifies=False))
+    before, asked = files_in(folder), os.access
+    mine.write_text(mine.read_text().replace("price = 8000", "price = 9000"))
+    monkeypatch.setattr(os, "access", lambda path, mode: Path(path).name != "tables" and asked(path, mode))
+    with pytest.raises(PlanError, match="out/tables: cannot be written: Permission denied"):
+        pitplan.write_shells(mine, folder, writing=pitplan.Writing(verifies=False))
+    assert files_in(folder) == before
 
 
 def test_scenarios_do_not_replace_the_project_of_another_mine(mine):
@@ -281,3 +321,30 @@ def test_scenarios_do_not_replace_the_project_of_another_mine(mine):
     ):
         RUNS["scenarios"](mine, other)
     assert {path.name: path.read_text() for path in other.iterdir()} == {"project.toml": "title = 'another mine'\n"}
+
+
+def test_a_run_removes_what_an_earlier_one_wrote_and_it_does_not(mine, monkeypatch):
+    """Tables, records, figures and pages of a schedule show other results than the shells; exports stay."""
+    monkeypatch.setattr(Writing, "figures", True)
+    folder, bare = mine.parent / "out", pitplan.Writing(verifies=False)
+    pitplan.write_schedule(mine, folder, writing=bare)
+    pitplan.write_export(folder, "csv", read_record(folder)["shells"]["selected"])
+    earlier = {*files_in(folder)}
+    assert {"tables/schedule.csv", "schedule.json", "figures/schedule_gantt.png", "report.html"} < earlier
+    pitplan.write_shells(mine, folder, writing=bare)
+    pitplan.write_shells(mine, mine.parent / "alone", writing=bare)
+    assert {*files_in(folder)} == {*files_in(mine.parent / "alone"), "pit.csv"}
+    pitplan.write_pit(mine, 1.0, folder, writing=bare)
+    assert "report.html" not in files_in(folder) and not (folder / "figures").exists()
+
+
+@pytest.mark.parametrize("name", ["prepare", "pit"])
+def test_a_run_into_a_folder_that_is_no_plans_removes_nothing(mine, name):
+    """Neither writes a report or a schedule: these are the planner's own."""
+    folder = mine.parent / "out"
+    (folder / "figures").mkdir(parents=True)
+    own = {"report.html": b"a page", "schedule.json": b"{}", "figures/plans.png": b"a plan"}
+    for file, held in own.items():
+        (folder / file).write_bytes(held)
+    RUNS[name](mine, folder)
+    assert own.items() <= files_in(folder).items()

@@ -28,8 +28,8 @@ def deposit():
 
 def dug(path):
     """The places, by columns, rows and levels from the floor, that are dug at revenue factor 1.00."""
-    plan = pitplan.prepare(path)
-    inside = np.flatnonzero(shell_tables.cells_of(plan, pitplan.solve(plan)).factor[:] == 0.5)
+    plan = pitplan.Plan.from_project(path)
+    inside = np.flatnonzero(shell_tables.cells_of(plan, plan.shells().solution).factor[:] == 0.5)
     column, row, level = plan.grid.indices(inside)
     return set(zip(column.tolist(), row.tolist(), (4 - level).tolist()))
 
@@ -64,7 +64,9 @@ def test_steps_by_region(plan_folder):
 
 def test_what_is_told_of_steps(plan_folder):
     """To the east by a block of 10 m a level of 10 m: 45 degrees, and upright to the west."""
-    plan = pitplan.prepare(plan_folder(deposit(), PROJECT, walls("offsets = [[0, 0, 1], [1, 0, 1], [1, 0, 2]]")))
+    plan = pitplan.Plan.from_project(
+        plan_folder(deposit(), PROJECT, walls("offsets = [[0, 0, 1], [1, 0, 1], [1, 0, 2]]"))
+    )
     (pattern,) = plan.walls.patterns
     assert (pattern.angles[90], pattern.angles[270]) == pytest.approx((45, 90))
     assert (
@@ -86,7 +88,7 @@ BENCH = "bench = { height = 20, face_angle = 63.43494882292201, berm_width = 10 
 
 def test_benches_are_as_their_overall_angle(plan_folder):
     """Faces of 2 to 1: 10 m back for 20 up, and as much of a berm, are 45 degrees."""
-    plans = [pitplan.prepare(plan_folder(deposit(), PROJECT, walls(text))) for text in (BENCH, "angle = 45")]
+    plans = [pitplan.Plan.from_project(plan_folder(deposit(), PROJECT, walls(text))) for text in (BENCH, "angle = 45")]
     assert plans[0].walls.patterns[0].offsets == plans[1].walls.patterns[0].offsets
     note = "other domains, benches of 20 m, face angle 63.4349 degrees, berms of 10 m, 45 degrees: "
     assert any(said.startswith(note) for said in plans[0].notes)
@@ -123,7 +125,7 @@ def test_the_second_look_agrees(plan_folder, without_figures, text):
     path = plan_folder(deposit(), PROJECT, walls(text))
     pitplan.write_shells(path)
     assert wrong(path) == set()
-    assert (pd.read_csv(path.parent / "plan" / "shells.csv")["blocks"] > 5).all()
+    assert (pd.read_csv(path.parent / "plan" / "tables/shells.csv")["blocks"] > 5).all()
 
 
 def test_a_step_that_is_passed_over_is_found(plan_folder, monkeypatch, without_figures):

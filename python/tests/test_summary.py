@@ -5,7 +5,7 @@ import json
 import pytest
 from conftest import PROJECT, rows
 
-from pitplan import load, prepare
+from pitplan import Plan, load
 from pitplan.cli import main
 
 FLOOR_OF_ORE = {"cu": lambda i, j, k: 2.0 if k == 0 else 0.5, "tonnes": lambda i, j, k: 300 if k == 0 else 100}
@@ -40,7 +40,7 @@ def test_prepare_tells_them_first_and_keeps_them(plan_folder, tmp_path, capsys):
     path = box(plan_folder)
     assert main(["prepare", str(path)]) == 0
     assert first_lines(capsys.readouterr().err) == expected(tmp_path)
-    assert json.loads((tmp_path / "plan" / "prepare.json").read_text())["summary"] == expected(tmp_path)
+    assert json.loads((tmp_path / "plan" / "plan.json").read_text())["summary"] == expected(tmp_path)
 
 
 def test_quiet_tells_none(plan_folder, capsys):
@@ -66,7 +66,7 @@ def test_the_report_has_them(solved):
 
 def test_columns_that_are_not_used_or_not_named(plan_folder, tmp_path):
     changes = [('id = "name"\nrock_type = "rock"\ndomain = "region"\n', "")]
-    lines = prepare(box(plan_folder, *changes, notes=lambda i, j, k: "core")).summary
+    lines = Plan.from_project(box(plan_folder, *changes, notes=lambda i, j, k: "core")).summary
     assert lines == [
         *expected(tmp_path)[:4],
         "unused columns: name, rock, region, notes",
@@ -79,7 +79,7 @@ def test_gaps_between_blocks_are_cells(plan_folder):
     """Without the upper level's west row of three blocks."""
     table = rows(4, 3, 2, **FLOOR_OF_ORE)
     path = plan_folder(table[(table["z"] < 10) | (table["x"] > 10)])
-    assert ": 21 blocks in 24 cells, 4,500 tonnes in tonnes" in prepare(path).summary[0]
+    assert ": 21 blocks in 24 cells, 4,500 tonnes in tonnes" in Plan.from_project(path).summary[0]
 
 
 @pytest.mark.parametrize(
@@ -93,7 +93,7 @@ def test_tonnes_of_a_density_name_their_columns(plan_folder, words, said):
     """24 blocks of 2.5 t a cubic metre, of 1,000 or of 900 cubic metres."""
     more = {"sg": lambda i, j, k: 2.5, "m3": lambda i, j, k: 900}
     path = box(plan_folder, ('id = "name"', f'id = "name"\n{words}'), **more)
-    assert prepare(path).summary[0].endswith(said)
+    assert Plan.from_project(path).summary[0].endswith(said)
 
 
 def told(plan):
@@ -104,7 +104,9 @@ def told(plan):
 def test_metals_in_grams_and_grades_that_cannot_be(plan_folder):
     """Two metals: the one weighs more than its block, the other all but as much."""
     more = {"au": lambda i, j, k: 1e6 if k else 0, "cu": lambda i, j, k: 100.5 if i + j + k == 0 else 0}
-    lines = told(prepare(box(plan_folder, ("[slopes]\nprecedence_benches", GOLD + "\nprecedence_benches"), **more)))
+    lines = told(
+        Plan.from_project(box(plan_folder, ("[slopes]\nprecedence_benches", GOLD + "\nprecedence_benches"), **more))
+    )
     # 1,200 of 4,800 t, and 300 of 4,800 t with 100.5 %.
     assert "gold: au, mean 2.5e+05, maximum 1e+06 g/t, priced per gram" in lines
     assert "copper: cu, mean 6.281, maximum 100.5 %, priced per tonne" in lines
@@ -119,7 +121,7 @@ def test_metals_in_grams_and_grades_that_cannot_be(plan_folder):
 def test_each_unit_has_its_limit(plan_folder, unit, most, whole):
     changes = [('unit = "percent"', f'unit = "{unit}"'), ("price = 8000", "price = 1")]
     for greatest, count in ((whole, 0), (most, 1)):
-        lines = told(prepare(box(plan_folder, *changes, cu=lambda i, j, k: greatest)))
+        lines = told(Plan.from_project(box(plan_folder, *changes, cu=lambda i, j, k: greatest)))
         assert sum("is more metal than the block" in line for line in lines) == count
 
 
@@ -127,7 +129,7 @@ def test_empty_fields_and_the_text_are_told(plan_folder):
     table = rows(4, 3, 2, cu=lambda i, j, k: None if i == 0 else 2.0)
     path = plan_folder(table, PROJECT, ('file = "blocks.csv"', 'file = "blocks.csv"\nempty = "zero"'))
     table.to_csv(path.parent / "blocks.csv", index=False, sep=";")
-    lines = told(prepare(path))
+    lines = told(Plan.from_project(path))
     assert "the fields are separated by semicolons; [table] separator sets another separator" in lines
     assert "WARNING: 6 empty tonnes or grades are read as 0" in lines
 

@@ -58,11 +58,11 @@ def far(plan_folder):
 @pytest.mark.parametrize("kind", ["stl", "obj"])
 @pytest.mark.parametrize("factor", [0.5, 1.5])
 def test_a_surface_holds_what_its_blocks_do(far, capsys, kind, factor):
-    assert main(["export", str(far), "--to", kind, "--revenue-factor", str(factor)]) == 0
+    assert main(["export", str(far.parent / "plan"), "--to", kind, "--revenue-factor", str(factor)]) == 0
     said = capsys.readouterr()
     path = far.parent / "plan" / f"pit-{factor:.2f}.{kind}"
     assert said.out.strip() == str(path)
-    blocks = pd.read_csv(far.parent / "plan" / "blocks.csv")
+    blocks = pd.read_csv(far.parent / "plan" / "tables/blocks.csv")
     dug = blocks[(blocks["revenue_factor"] > 0.0) & (blocks["revenue_factor"] <= factor) & (blocks["tonnes"] > 0)]
     triangles = triangles_of(path)
     assert volume_of(triangles) == pytest.approx(1000 * len(dug), rel=1e-3) and is_closed(triangles)

@@ -12,7 +12,7 @@ from osgeo import gdal, ogr, osr
 from test_verify import looked_at
 
 import pitplan
-from pitplan import PlanError, constraints, load, prepare
+from pitplan import Plan, PlanError, constraints, load
 from pitplan.blockmodel import tin as terrain
 from pitplan.config.survey import SurveyFile
 from pitplan.survey import readers
@@ -139,7 +139,7 @@ def test_a_plane_of_a_drawing_is_that_of_its_formula(plan_folder, tmp_path, shap
     """It falls to the east and rises to the north; of 72 blocks those above it must be dug, and the second look says so too."""
     drawing(tmp_path / "mined.dxf", shape)
     path = plan_folder(rows(6, 4, 3), PROJECT + SURFACE + '"mined.dxf"\n')
-    plan = prepare(load(path))
+    plan = Plan.from_project(load(path))
     blocks = plan.blocks
     above = blocks["z"] > 21 - 0.4 * blocks["x"] + 0.3 * blocks["y"]
     assert plan.fixed.forced.tolist() == blocks.loc[above, "id"].tolist()
@@ -148,7 +148,7 @@ def test_a_plane_of_a_drawing_is_that_of_its_formula(plan_folder, tmp_path, shap
         "mined.dxf: " in note and "layer TOPO, read by ezdxf; coordinates are not transformed" in note
         for note in plan.notes
     )
-    assert [rule.differences for rule in looked_at(prepare(path)) if rule.name == "fixed"] == [()]
+    assert [rule.differences for rule in looked_at(Plan.from_project(path)) if rule.name == "fixed"] == [()]
 
 
 def contours(space):
@@ -169,13 +169,13 @@ def test_a_surface_of_faces_is_theirs_and_not_that_of_their_corners(plan_folder,
     low, high = [(0, 0, 0), (60, 60, 0)], [(0, 60, 16), (60, 0, 16)]
     drawing(tmp_path / "valley.dxf", lambda space: [space.add_3dface([*low, corner], **layer("T")) for corner in high])
     path = plan_folder(rows(6, 6, 2), PROJECT + SURFACE + '"valley.dxf"\n')
-    blocks = prepare(load(path)).blocks
+    blocks = Plan.from_project(load(path)).blocks
     above = blocks["z"] > 8 * ((blocks["x"] - 30) / 30 - (blocks["y"] - 30) / 30).abs()
-    assert prepare(load(path)).fixed.forced.tolist() == blocks.loc[above, "id"].tolist()
-    assert [rule.differences for rule in looked_at(prepare(path)) if rule.name == "fixed"] == [()]
+    assert Plan.from_project(load(path)).fixed.forced.tolist() == blocks.loc[above, "id"].tolist()
+    assert [rule.differences for rule in looked_at(Plan.from_project(path)) if rule.name == "fixed"] == [()]
     # All of them are demanded where none is taken as such.
     monkeypatch.setattr(constraints, "of_table", lambda *_: constraints.NOTHING)
-    (rule,) = [rule for rule in looked_at(prepare(path)) if rule.differences]
+    (rule,) = [rule for rule in looked_at(Plan.from_project(path)) if rule.differences]
     assert (rule.name, rule.count) == ("fixed", above.sum())
 
 
@@ -268,7 +268,7 @@ def test_a_layer_is_named_in_the_project(plan_folder, tmp_path):
     forced = []
     for name in ("DESIGN", "TOPO"):
         text = PROJECT + SURFACE + f'{{ file = "mined.dxf", layer = "{name}" }}\n'
-        forced.append(len(prepare(load(plan_folder(rows(3, 1, 3), text))).fixed.forced))
+        forced.append(len(Plan.from_project(load(plan_folder(rows(3, 1, 3), text))).fixed.forced))
     assert forced == [9, 3]
 
 
@@ -331,7 +331,7 @@ def test_fields_of_a_shapefile_are_an_input(plan_folder, tmp_path):
     project = load(plan_folder(rows(3, 1, 3), text))
     assert [path.name for path in project.inputs] == ["project.toml", "blocks.csv", "contours.shp", "contours.dbf"]
     # Over the columns it rises from 16.2 to 18.
-    assert prepare(project).fixed.forced.tolist() == [0, 1, 2]
+    assert Plan.from_project(project).fixed.forced.tolist() == [0, 1, 2]
 
 
 def test_triangles_of_a_map(tmp_path):
@@ -378,10 +378,10 @@ def test_a_raster_is_planned_with(plan_folder, tmp_path):
     x, y = np.meshgrid(-18 + 4 * np.arange(28), 62 - 4 * np.arange(24))
     tiff(tmp_path / "mined.tif", 21 - 0.4 * x + 0.3 * y, place)
     path = plan_folder(rows(6, 4, 3), PROJECT + SURFACE + '"mined.tif"\n')
-    blocks = prepare(load(path)).blocks
+    blocks = Plan.from_project(load(path)).blocks
     above = blocks["z"] > 21 - 0.4 * blocks["x"] + 0.3 * blocks["y"]
-    assert prepare(load(path)).fixed.forced.tolist() == blocks.loc[above, "id"].tolist()
-    assert [rule.differences for rule in looked_at(prepare(path)) if rule.name == "fixed"] == [()]
+    assert Plan.from_project(load(path)).fixed.forced.tolist() == blocks.loc[above, "id"].tolist()
+    assert [rule.differences for rule in looked_at(Plan.from_project(path)) if rule.name == "fixed"] == [()]
 
 
 def test_heights_over_triangles_at_random(tmp_path):
@@ -390,7 +390,7 @@ def test_heights_over_triangles_at_random(tmp_path):
     points = np.column_stack([rng.uniform(-10, 70, 60), rng.uniform(-10, 50, 60), rng.uniform(0, 30, 60)])
     pd.DataFrame(points, columns=["x", "y", "z"]).to_csv(tmp_path / "mined.csv", index=False)
     (tmp_path / "project.toml").write_text(PROJECT)
-    grid = prepare(load(tmp_path / "project.toml"), rows(9, 4, 1)).grid
+    grid = Plan.from_project(load(tmp_path / "project.toml"), rows(9, 4, 1)).grid
     triangles = terrain.triangles_of(read(tmp_path / "mined.csv"))
     found = terrain.heights(triangles, grid)
     for place, (x, y) in enumerate((5 + 10 * i, 5 + 10 * j) for j in range(4) for i in range(9)):
@@ -425,13 +425,13 @@ def test_a_lease_of_a_drawing(plan_folder, tmp_path, shape):
     """Round the first three of four columns of blocks."""
     drawing(tmp_path / "lease.dxf", shape)
     path = plan_folder(rows(4, 1, 2), PROJECT + AREA + '"lease.dxf"\nexclude = "outside"\n')
-    plan = prepare(load(path))
+    plan = Plan.from_project(load(path))
     assert plan.fixed.barred.tolist() == [3, 7]
     assert any(
         "lease.dxf: 1 polygons of the layer LEASE, read by ezdxf; coordinates are not transformed" in note
         for note in plan.notes
     )
-    assert [rule.differences for rule in looked_at(prepare(path)) if rule.name == "fixed"] == [()]
+    assert [rule.differences for rule in looked_at(Plan.from_project(path)) if rule.name == "fixed"] == [()]
 
 
 def test_several_polygons_of_a_drawing_are_one_area(plan_folder, tmp_path):
@@ -441,7 +441,7 @@ def test_several_polygons_of_a_drawing_are_one_area(plan_folder, tmp_path):
 
     drawing(tmp_path / "lease.dxf", two)
     text = PROJECT + AREA + '{ file = "lease.dxf", layer = "LEASE" }\nexclude = "inside"\n'
-    assert prepare(load(plan_folder(rows(4, 1, 1), text))).fixed.barred.tolist() == [0, 2]
+    assert Plan.from_project(load(plan_folder(rows(4, 1, 1), text))).fixed.barred.tolist() == [0, 2]
 
 
 def test_a_polyline_in_another_is_no_hole(plan_folder, tmp_path):
@@ -452,7 +452,7 @@ def test_a_polyline_in_another_is_no_hole(plan_folder, tmp_path):
             space.add_lwpolyline([(west, -1), (east, -1), (east, 11), (west, 11)], close=True, **layer("LEASE"))
 
     drawing(tmp_path / "lease.dxf", two)
-    plan = prepare(load(plan_folder(rows(5, 1, 1), PROJECT + AREA + '"lease.dxf"\nexclude = "inside"\n')))
+    plan = Plan.from_project(load(plan_folder(rows(5, 1, 1), PROJECT + AREA + '"lease.dxf"\nexclude = "inside"\n')))
     assert plan.fixed.barred.tolist() == [0, 1, 2, 3]
     said = "1 columns of blocks lie in several polygons, which are not read as holes"
     assert f"WARNING: {tmp_path / 'lease.dxf'}: {said}" in plan.notes
@@ -495,10 +495,10 @@ def test_a_polygon_with_a_hole_and_one_beside_it(plan_folder, tmp_path, driver, 
         named["crs"] = {"type": "name", "properties": {"name": "urn:ogc:def:crs:EPSG::32719"}}
         (tmp_path / "lease.geojson").write_text(json.dumps(named))
     path = plan_folder(rows(6, 4, 1), PROJECT + AREA + f'"lease.{ending}"\nexclude = "inside"\n')
-    plan = prepare(load(path))
+    plan = Plan.from_project(load(path))
     assert plan.fixed.barred.tolist() == [0, 1, 2, 3, 4, 6, 8, 9, 12, 13, 14, 15]
     assert any("2 polygons of the layer lease, read by GDAL" in note for note in plan.notes)
-    assert [rule.differences for rule in looked_at(prepare(path)) if rule.name == "fixed"] == [()]
+    assert [rule.differences for rule in looked_at(Plan.from_project(path)) if rule.name == "fixed"] == [()]
 
 
 def test_closed_lines_and_several_polygons_of_a_map(tmp_path):
@@ -529,5 +529,5 @@ def test_areas_that_are_passed_over_are_found(plan_folder, tmp_path, monkeypatch
     gis(tmp_path / "lease.gpkg", "GPKG", {"lease": [(HOLED, 0)]})
     path = plan_folder(rows(5, 4, 1, cu=lambda i, j, k: 6), PROJECT + AREA + '"lease.gpkg"\nexclude = "inside"\n')
     monkeypatch.setattr(constraints, "of_table", lambda *_: constraints.NOTHING)
-    (rule,) = [rule for rule in looked_at(prepare(path)) if rule.differences]
+    (rule,) = [rule for rule in looked_at(Plan.from_project(path)) if rule.differences]
     assert (rule.name, rule.count) == ("fixed", 11)

@@ -7,7 +7,7 @@ import pytest
 from conftest import PROJECT, rows
 from test_survey_files import AREA, HOLED, LEASE, SURFACE, areas, drawing, gis, layer, read, tiff
 
-from pitplan import MissingPackage, PlanError, load, prepare
+from pitplan import MissingPackage, Plan, PlanError, load
 
 EAST = 600_000
 
@@ -120,15 +120,15 @@ def test_what_has_no_layers_or_heights(tmp_path):
     [
         (
             AREA + '"lease.dxf"\nlayer = "LEASE"\nexclude = "inside"\n',
-            'layer: stands beside its file: polygon = { file = "..", layer = ".." }',
+            'layer: must be in the table of its file: polygon = { file = "..", layer = ".." }',
         ),
         (SURFACE + '{ layer = "TOPO" }\n', r"\[constraints.as_mined\] file: is missing"),
         (
             SURFACE + '{ file = "a.dxf", layers = "TOPO" }\n',
-            r"\[constraints.as_mined\] layers: is no key here; layer is",
+            r"\[constraints.as_mined\] layers: unknown key: did you mean layer",
         ),
         (SURFACE + "5\n", r"\[constraints\] as_mined: must be a text in quotes"),
-        (AREA + '{ file = "a.gpkg", height = "ELEV" }\nexclude = "inside"\n', "height: is no key here"),
+        (AREA + '{ file = "a.gpkg", height = "ELEV" }\nexclude = "inside"\n', "height: unknown key"),
     ],
 )
 def test_keys_that_are_wrong(plan_folder, text, said):
@@ -158,11 +158,11 @@ def test_what_lies_beside_the_model(plan_folder, tmp_path):
     drawing(tmp_path / "lease.dxf", far_lease)
     said = "lease.dxf: no block lies in its polygons: its extents (x 599999 to 600031, y -1 to 11) do not overlap the block model (x 5 to 35, y 5 to 5): "
     with pytest.raises(PlanError, match=re.escape(said)):
-        prepare(load(plan_folder(rows(4, 1, 1), PROJECT + AREA + '"lease.dxf"\nexclude = "outside"\n')))
-    plan = prepare(load(plan_folder(rows(4, 1, 1), PROJECT + AREA + '"lease.dxf"\nexclude = "inside"\n')))
+        Plan.from_project(load(plan_folder(rows(4, 1, 1), PROJECT + AREA + '"lease.dxf"\nexclude = "outside"\n')))
+    plan = Plan.from_project(load(plan_folder(rows(4, 1, 1), PROJECT + AREA + '"lease.dxf"\nexclude = "inside"\n')))
     assert any(note.startswith("WARNING: ") and said in note for note in plan.notes)
     (tmp_path / "mined.csv").write_text(f"x,y,z\n{EAST},0,5\n{EAST},9,5\n{EAST + 9},9,5\n")
     with pytest.raises(
         PlanError, match="mined.csv: covers no block: its extents .x 600000 to 600009, y 0 to 9. do not"
     ):
-        prepare(load(plan_folder(rows(4, 1, 1), PROJECT + SURFACE + '"mined.csv"\n')))
+        Plan.from_project(load(plan_folder(rows(4, 1, 1), PROJECT + SURFACE + '"mined.csv"\n')))

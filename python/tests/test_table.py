@@ -15,7 +15,7 @@ from pitplan.blockmodel.reader import read
 
 def refused(project):
     with pytest.raises(PlanError) as said:
-        pitplan.prepare(project)
+        pitplan.Plan.from_project(project)
     return str(said.value)
 
 
@@ -29,7 +29,7 @@ def refused(project):
         ("cu", "-99", "row 4 column cu: -99 is negative"),
         ("cu", "n/a", 'row 4 column cu: "n/a" is not a number'),
         ("x", "", "row 4 column x: is empty"),
-        ("name", "b0-0-0", "row 4 column name: b0-0-0 stands in row 2 too"),
+        ("name", "b0-0-0", "row 4 column name: b0-0-0 is the id of row 2 too: expected a different id in each row"),
         ("rock", " ", "row 4 column rock: is empty"),
         ("region", "", "row 4 column region: is empty"),
         ("z", "5.4", "row 4 column z: 5.4 is off the grid"),
@@ -57,8 +57,8 @@ def test_one_centre_off_the_grid_is_named_by_its_row_with_all_digits(plan_folder
 @pytest.mark.parametrize("separator", [";", "\t", "|"])
 def test_separator_and_decimal_commas_are_told_by_the_text(plan_folder, separator):
     table = rows(3, 2, 2, cu=lambda i, j, k: 0.125 * i, tonnes=lambda i, j, k: 99.5)
-    plain = pitplan.prepare(plan_folder(table))
-    told = pitplan.prepare(plan_folder(table.to_csv(index=False, sep=separator, decimal=",")))
+    plain = pitplan.Plan.from_project(plan_folder(table))
+    told = pitplan.Plan.from_project(plan_folder(table.to_csv(index=False, sep=separator, decimal=",")))
     pd.testing.assert_frame_equal(told.blocks, plain.blocks)
     assert [note.split(";")[0] for note in told.notes[:2]] == [
         f"the fields are separated by { {';': 'semicolons', chr(9): 'tabs', '|': 'bars'}[separator] }",
@@ -73,7 +73,7 @@ def test_a_comma_within_a_number_parts_thousands_where_commas_part_fields(plan_f
 
 def test_another_encoding_is_asked_for_and_read(plan_folder):
     table = rows(2, 2, 2, rock=lambda i, j, k: "S\u00fc")
-    plain = pitplan.prepare(
+    plain = pitplan.Plan.from_project(
         plan_folder(
             table,
             PROJECT,
@@ -92,7 +92,10 @@ def test_another_encoding_is_asked_for_and_read(plan_folder):
         )
         text = path.read_text().replace('file = "blocks.csv"\n', f'file = "blocks.csv"\nencoding = "{encoding}"\n')
         (path.parent / "other.toml").write_text(text)
-        assert pitplan.prepare(path.parent / "other.toml").blocks["rock"].tolist() == plain.blocks["rock"].tolist()
+        assert (
+            pitplan.Plan.from_project(path.parent / "other.toml").blocks["rock"].tolist()
+            == plain.blocks["rock"].tolist()
+        )
 
 
 def test_a_column_that_stands_twice_is_refused(plan_folder):
@@ -101,12 +104,12 @@ def test_a_column_that_stands_twice_is_refused(plan_folder):
     table = rows(2, 2, 2)
     table.columns = ["name", "x", "y", "z", "tonnes", "cu", "rock", "tonnes"]
     with pytest.raises(PlanError, match="table row 1: the column tonnes occurs twice"):
-        pitplan.prepare(plan_folder(rows(2, 2, 2)), table=table.assign(region="1"))
+        pitplan.Plan.from_project(plan_folder(rows(2, 2, 2)), table=table.assign(region="1"))
 
 
 def test_a_column_of_another_name_with_a_point_is_no_second_one(plan_folder):
     table = rows(2, 2, 2).assign(**{"cu.1": 7})
-    assert pitplan.prepare(plan_folder(table)).table["cu"].tolist() == [0] * 8
+    assert pitplan.Plan.from_project(plan_folder(table)).table["cu"].tolist() == [0] * 8
 
 
 def test_a_table_without_rock_is_refused(plan_folder):
@@ -136,18 +139,18 @@ def test_a_line_with_too_many_fields_is_refused(plan_folder):
 def test_empty_fields_are_taken_as_0_where_the_project_says_so(plan_folder):
     table = rows(2, 2, 2).astype(object)
     table.loc[[1, 2], "cu"] = ""
-    plan = pitplan.prepare(plan_folder(table, PROJECT, ('id = "name"', 'id = "name"\nempty = "zero"')))
+    plan = pitplan.Plan.from_project(plan_folder(table, PROJECT, ('id = "name"', 'id = "name"\nempty = "zero"')))
     assert "2 empty fields were read as 0" in plan.notes
     assert plan.table["cu"].tolist() == [0.0] * 8
 
 
 def test_a_compressed_table_with_another_separator_is_the_same(plan_folder):
     table = rows(3, 2, 2, cu=lambda i, j, k: 0.1 * i)
-    plain = pitplan.prepare(plan_folder(table))
+    plain = pitplan.Plan.from_project(plan_folder(table))
     path = plan_folder(table, PROJECT, ('"blocks.csv"', '"blocks.csv.gz"\nseparator = ";"'))
     with gzip.open(path.parent / "blocks.csv.gz", "wt") as file:
         table.to_csv(file, sep=";", index=False)
-    pd.testing.assert_frame_equal(pitplan.prepare(path).blocks, plain.blocks)
+    pd.testing.assert_frame_equal(pitplan.Plan.from_project(path).blocks, plain.blocks)
 
 
 MIXED = rows(3, 3, 2, cu=lambda i, j, k: 0.1 * i + k, rock=lambda i, j, k: ["7", "7.0", "R"][j]).astype(object)
@@ -197,10 +200,10 @@ ZIP = ('"blocks.csv"', '"blocks.zip"')
 def test_a_zipped_table_is_the_same(plan_folder):
     """With semicolons, decimal commas and a spreadsheet's mark, which are told by looking at it."""
     table = rows(3, 2, 2, cu=lambda i, j, k: 0.1 * i)
-    plain = pitplan.prepare(plan_folder(table))
+    plain = pitplan.Plan.from_project(plan_folder(table))
     path = plan_folder(table, PROJECT, ZIP)
     zipped(path.parent / "blocks.zip", blocks_csv="\ufeff" + table.to_csv(sep=";", decimal=",", index=False))
-    pd.testing.assert_frame_equal(pitplan.prepare(path).blocks, plain.blocks)
+    pd.testing.assert_frame_equal(pitplan.Plan.from_project(path).blocks, plain.blocks)
 
 
 def test_zipped_tables_that_cannot_be_read_are_named(plan_folder):
@@ -210,20 +213,20 @@ def test_zipped_tables_that_cannot_be_read_are_named(plan_folder):
     for files, count in (({"a_csv": text, "b_csv": text}, 2), ({}, 0)):
         zipped(place, **files)
         with pytest.raises(PlanError, match=f"blocks.zip: packs {count} files, and must pack one table"):
-            pitplan.prepare(path)
+            pitplan.Plan.from_project(path)
     zipped(place, a_csv=text)
     whole = place.read_bytes()
     for broken in (b"no archive", whole[:40] + b"????" + whole[44:]):
         place.write_bytes(broken)
         with pytest.raises(PlanError, match="blocks.zip: cannot be read: "):
-            pitplan.prepare(path)
+            pitplan.Plan.from_project(path)
 
 
 def test_a_spreadsheets_mark_at_the_beginning_is_passed_over(plan_folder):
     path = plan_folder("\ufeff" + rows(2, 2, 2).to_csv(index=False))
     assert (
-        pitplan.prepare(path).blocks["name"].tolist()
-        == pitplan.prepare(plan_folder(rows(2, 2, 2))).blocks["name"].tolist()
+        pitplan.Plan.from_project(path).blocks["name"].tolist()
+        == pitplan.Plan.from_project(plan_folder(rows(2, 2, 2))).blocks["name"].tolist()
     )
 
 
@@ -247,13 +250,13 @@ def test_a_column_of_codes_that_is_named_as_one_of_numbers_is_refused(plan_folde
 
 def test_rock_and_region_may_be_one_column(plan_folder):
     path = plan_folder(rows(3, 2, 2), PROJECT, ('domain = "region"', 'domain = "rock"'))
-    assert set(pitplan.prepare(path).blocks["rock"]) == {"R"}
+    assert set(pitplan.Plan.from_project(path).blocks["rock"]) == {"R"}
 
 
 def test_columns_with_names_of_the_plans_own_are_kept_beside_them(plan_folder):
     table = rows(3, 2, 2).rename(columns={"name": "id", "cu": "revenue"})
     path = plan_folder(table, PROJECT, ('id = "name"', 'id = "id"'), ('column = "cu"', 'column = "revenue"'))
-    blocks = pitplan.prepare(path).blocks
+    blocks = pitplan.Plan.from_project(path).blocks
     assert blocks["id"].tolist() == list(range(12)) and blocks["planner_id"][0] == "b0-0-1"
     assert blocks["planner_revenue"].tolist() == [0] * 12 == blocks["revenue"].tolist()
 
@@ -267,8 +270,8 @@ def test_codes_stay_texts(plan_folder):
 def test_a_table_of_pandas_is_taken_as_it_is(plan_folder):
     table = rows(3, 3, 2, cu=lambda i, j, k: 0.7 if (i, j, k) == (1, 1, 0) else 0)
     path = plan_folder(table)
-    given = pitplan.prepare(path, table=table)
-    pd.testing.assert_frame_equal(given.blocks, pitplan.prepare(path).blocks)
+    given = pitplan.Plan.from_project(path, table=table)
+    pd.testing.assert_frame_equal(given.blocks, pitplan.Plan.from_project(path).blocks)
     bad = table.assign(tonnes=np.where(table.index == 3, np.nan, 1.0))
     with pytest.raises(PlanError, match="table row 5 column tonnes: is empty"):
-        pitplan.prepare(path, table=bad)
+        pitplan.Plan.from_project(path, table=bad)

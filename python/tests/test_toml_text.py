@@ -102,7 +102,7 @@ def test_a_long_value_is_cut(refused):
     for key, words in (
         ("encoding", "is not an encoding: expected one such as"),
         ("separator", "is not a separator"),
-        ("empty", "is none of refuse, zero"),
+        ("empty", "expected one of refuse, zero"),
     ):
         assert words in refused(PROJECT.replace("[table]", f'[table]\n{key} = "{"x" * 5000}"'))
 
@@ -126,7 +126,7 @@ def test_what_parts_no_fields(refused, sign):
             ("[shells]", '[scenarios]\ncolumns = { copper = ["a", ""] }\n[shells]'),
             "[scenarios.columns] copper: codes may not be empty or contain a NUL byte",
         ),
-        (("[economics]", '"a\\nb" = 1\n[economics]'), "[grid] a\\nb: is no key here"),
+        (("[economics]", '"a\\nb" = 1\n[economics]'), "[grid] a\\nb: unknown key: remove it"),
     ],
 )
 def test_names_that_are_none(refused, change, sentence):

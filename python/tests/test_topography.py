@@ -31,7 +31,7 @@ def plane(tmp_path, height, places=FAR):
 
 def tonnes_of(path):
     """By the blocks' names."""
-    return pitplan.prepare(path).table.set_index("name")["tonnes"]
+    return pitplan.Plan.from_project(path).table.set_index("name")["tonnes"]
 
 
 @pytest.mark.parametrize(
@@ -82,7 +82,7 @@ def test_a_plane_by_hand(plan_folder, tmp_path, height, shares):
 def test_grades_and_costs_of_what_is_left(plan_folder, tmp_path):
     """Half of each block on the diagonal: 50 t, of the grade of the whole, cost 2 a tonne; what lies above costs nothing."""
     plane(tmp_path, lambda x, y: x)
-    plan = pitplan.prepare(plan_folder(rows(3, 1, 3, cu=lambda i, j, k: 3), PROJECT, CUT))
+    plan = pitplan.Plan.from_project(plan_folder(rows(3, 1, 3, cu=lambda i, j, k: 3), PROJECT, CUT))
     blocks = plan.blocks.set_index("name")
     assert (blocks["cu"] == 3).all()
     assert blocks["mining_cost"][["b0-0-0", "b0-0-1", "b1-0-0", "b1-0-1"]].tolist() == [100, 0, 200, 100]
@@ -93,7 +93,9 @@ def test_grades_and_costs_of_what_is_left(plan_folder, tmp_path):
 def test_what_is_told(plan_folder, tmp_path):
     """Of nine blocks of 100 t three are cut to the half, three are air and three are whole; one of those had no tonnes before."""
     plane(tmp_path, lambda x, y: x)
-    plan = pitplan.prepare(plan_folder(rows(3, 1, 3, tonnes=lambda i, j, k: 100 * ((i, k) != (0, 2))), PROJECT, CUT))
+    plan = pitplan.Plan.from_project(
+        plan_folder(rows(3, 1, 3, tonnes=lambda i, j, k: 100 * ((i, k) != (0, 2))), PROJECT, CUT)
+    )
     said = "3 blocks are cut by this topography and 2 lie above it, as air; 450 of 800 t lie below it"
     assert [note for note in plan.notes if "topo.csv" in note] == [f"{tmp_path / 'topo.csv'}: {said}"]
     assert plan.table["tonnes"].sum() == 450
@@ -107,14 +109,14 @@ def test_densities_volumes_and_the_size_of_blocks(plan_folder, tmp_path):
         change = (CUT[0], f'{CUT[1]}\ndensity = "sg"{more}')
         path = plan_folder(table, PROJECT, change)
         assert tonnes_of(path).tolist() == [tonnes]
-        assert [rule.differences for rule in looked_at(pitplan.prepare(path))] == [()] * 11
+        assert [rule.differences for rule in looked_at(pitplan.Plan.from_project(path))] == [()] * 11
 
 
 def test_blocks_that_are_put_together_are_cut_as_a_whole(plan_folder, tmp_path):
     """Of four blocks of 10 m in one of 20 x 10 x 20 m, with 100, 200, 300 and 400 t, half lies below the diagonal."""
     plane(tmp_path, lambda x, y: x)
     table = rows(2, 1, 2, tonnes=lambda i, j, k: 100 + 100 * i + 200 * k, cu=lambda i, j, k: k)
-    plan = pitplan.prepare(plan_folder(table, PROJECT, (CUT[0], f"{CUT[1]}\nreblock = [2, 1, 2]")))
+    plan = pitplan.Plan.from_project(plan_folder(table, PROJECT, (CUT[0], f"{CUT[1]}\nreblock = [2, 1, 2]")))
     assert plan.table["tonnes"].tolist() == [500] and plan.table["cu"].tolist() == [0.7]
     assert [rule.differences for rule in looked_at(plan)] == [()] * 12
 
@@ -124,7 +126,7 @@ def test_cells_without_rows_are_cut_too(plan_folder, tmp_path):
     plane(tmp_path, lambda x, y: x)
     table = rows(3, 1, 3)
     absent = (CUT[0], f'{CUT[1]}\nmissing_blocks = {{ tonnes = 80, rock_type = "R", domain = "1" }}')
-    plan = pitplan.prepare(plan_folder(table[table["x"] != 15], PROJECT, absent))
+    plan = pitplan.Plan.from_project(plan_folder(table[table["x"] != 15], PROJECT, absent))
     blocks = plan.blocks
     assert blocks.loc[blocks["x"] == 15, "tonnes"].tolist() == [0, 40, 80]
     assert [rule.differences for rule in looked_at(plan)] == [()] * 11
@@ -142,10 +144,12 @@ def test_a_grid_that_is_turned(plan_folder, tmp_path, degrees):
         turned(points, angle, 6).to_csv(tmp_path / "topo.csv", index=False)
         path = plan_folder(turned(table, angle, 6), PROJECT, CUT, no_size)
         found.append(tonnes_of(path))
-    assert abs(pitplan.prepare(path).grid.azimuth - degrees) < 1e-4
+    assert abs(pitplan.Plan.from_project(path).grid.azimuth - degrees) < 1e-4
     assert found[1].to_numpy() == pytest.approx(found[0].to_numpy(), abs=1e-3)
     assert ((found[0] > 0) & (found[0] < 100)).sum() > 20
-    assert [rule.differences for rule in looked_at(pitplan.prepare(path)) if rule.name == "topography"] == [()]
+    assert [rule.differences for rule in looked_at(pitplan.Plan.from_project(path)) if rule.name == "topography"] == [
+        ()
+    ]
 
 
 @given(st.integers(0, 10**6))
@@ -203,7 +207,7 @@ def test_faces_of_a_drawing(plan_folder, tmp_path):
         "b1-0-1": 0,
     }
     assert {name: found[name] for name in expected} == pytest.approx(expected, abs=1e-6)
-    assert any("2 triangles of the layer TOPO, read by ezdxf" in note for note in pitplan.prepare(path).notes)
+    assert any("2 triangles of the layer TOPO, read by ezdxf" in note for note in pitplan.Plan.from_project(path).notes)
 
 
 def test_faces_that_stand_twice_count_once(plan_folder, tmp_path):
@@ -218,7 +222,7 @@ def test_faces_that_stand_twice_count_once(plan_folder, tmp_path):
         drawing(tmp_path / "topo.dxf", *shapes)
         path = plan_folder(rows(3, 3, 2), PROJECT, (CUT[0], text))
         found.append(tonnes_of(path))
-        assert any("2 triangles of the layer TOPO" in note for note in pitplan.prepare(path).notes)
+        assert any("2 triangles of the layer TOPO" in note for note in pitplan.Plan.from_project(path).notes)
     assert found[0].equals(found[1]) and (found[0] < 100).any()
 
 
@@ -247,7 +251,7 @@ def test_cells_of_a_raster(plan_folder, tmp_path):
 def test_columns_beyond_the_points_are_left_whole(plan_folder, tmp_path):
     """The points end in the middle of the second of four columns, from where on nothing is known."""
     plane(tmp_path, lambda x, y: 5, [(-1, -1), (-1, 11), (15, -1), (15, 11)])
-    plan = pitplan.prepare(plan_folder(rows(4, 1, 2), PROJECT, CUT))
+    plan = pitplan.Plan.from_project(plan_folder(rows(4, 1, 2), PROJECT, CUT))
     assert plan.table.set_index("name")["tonnes"].tolist() == [50, 50, 100, 100, 0, 0, 100, 100]
     file = tmp_path / "topo.csv"
     warnings = [note for note in plan.notes if note.startswith("WARNING: ") and "topo" in note]
@@ -262,7 +266,7 @@ def test_rock_that_the_table_lacks_is_told(plan_folder, tmp_path):
     """Over the second column the ground lies at 21 m, and the table ends at 10; over the first it lies at 21 too and the table has 30."""
     plane(tmp_path, lambda x, y: 21)
     table = rows(2, 1, 3)
-    plan = pitplan.prepare(plan_folder(table[(table["x"] < 10) | (table["z"] < 10)], PROJECT, CUT))
+    plan = pitplan.Plan.from_project(plan_folder(table[(table["x"] < 10) | (table["z"] < 10)], PROJECT, CUT))
     said = (
         "over 1 columns of blocks it lies more than one block above the highest row: material there is not in the table"
     )
@@ -292,7 +296,7 @@ def over_each_other(space):
 def test_what_is_refused(plan_folder, tmp_path, points, said):
     (tmp_path / "topo.csv").write_text("x,y,z\n" + points)
     with pytest.raises(PlanError, match=said):
-        pitplan.prepare(plan_folder(rows(3, 1, 3), PROJECT, CUT))
+        pitplan.Plan.from_project(plan_folder(rows(3, 1, 3), PROJECT, CUT))
 
 
 def test_two_surfaces_are_refused(plan_folder, tmp_path):
@@ -302,7 +306,7 @@ def test_two_surfaces_are_refused(plan_folder, tmp_path):
         PlanError,
         match="topo.dxf: has several heights over 3 columns of blocks, the first at 5, 5: select one surface by its layer",
     ):
-        pitplan.prepare(path)
+        pitplan.Plan.from_project(path)
 
 
 def test_sums_of_whole_blocks_do_not_go_with_it(plan_folder):
@@ -342,19 +346,19 @@ def test_the_second_look_agrees(cut_hill):
         rules["topography"].holds
         == "tonnes lie below the triangles of the topography, in 72 columns of blocks exactly, in 72 by 36 heights to a tenth"
     )
-    tonnes = pd.read_csv(cut_hill / "blocks.csv")["tonnes"]
+    tonnes = pd.read_csv(cut_hill / "tables/blocks.csv")["tonnes"]
     assert (tonnes == 0).sum() > 20 and ((tonnes > 0) & (tonnes < 99)).sum() > 60
-    assert (pd.read_csv(cut_hill / "shells.csv")["blocks"] > 0).any()
+    assert (pd.read_csv(cut_hill / "tables/shells.csv")["blocks"] > 0).any()
     assert set(read_record(cut_hill)["inputs"]) == {"project.toml", "blocks.csv", "topo.csv"}
 
 
 @pytest.mark.usefixtures("without_figures")
 @pytest.mark.parametrize("more", [1e-4, -1e-4, 60])
 def test_tonnes_that_are_bent_are_found(cut_hill, more):
-    blocks = pd.read_csv(cut_hill / "blocks.csv", dtype={"region": str})
+    blocks = pd.read_csv(cut_hill / "tables/blocks.csv", dtype={"region": str})
     row = blocks.index[(blocks["tonnes"] > 5) & (blocks["tonnes"] < 90)][0]
     blocks.loc[row, "tonnes"] += more
-    blocks.to_csv(cut_hill / "blocks.csv", index=False)
+    blocks.to_csv(cut_hill / "tables/blocks.csv", index=False)
     assert f"block {blocks['name'][row]}: " in wrong(cut_hill)["topography"]
 
 
@@ -364,10 +368,10 @@ def test_many_columns_are_looked_at_by_heights(cut_hill, monkeypatch):
     from pitplan.verification import topography as second
 
     monkeypatch.setattr(second, "EXACTLY", 2)
-    blocks = pd.read_csv(cut_hill / "blocks.csv", dtype={"region": str})
+    blocks = pd.read_csv(cut_hill / "tables/blocks.csv", dtype={"region": str})
     row = blocks.index[(blocks["tonnes"] > 30) & (blocks["tonnes"] < 70)][5]
     blocks.loc[row, "tonnes"] += 20
-    blocks.to_csv(cut_hill / "blocks.csv", index=False)
+    blocks.to_csv(cut_hill / "tables/blocks.csv", index=False)
     assert f"block {blocks['name'][row]}: " in wrong(cut_hill)["topography"]
 
 
@@ -379,9 +383,9 @@ def test_no_block_has_more_than_the_table_gives_or_less_than_nothing(cut_hill, m
 
     monkeypatch.setattr(second, "EXACTLY", 1)
     monkeypatch.setattr(second, "MANY", 1)
-    blocks = pd.read_csv(cut_hill / "blocks.csv", dtype={"region": str})
+    blocks = pd.read_csv(cut_hill / "tables/blocks.csv", dtype={"region": str})
     blocks.loc[50, "tonnes"] = tonnes
-    blocks.to_csv(cut_hill / "blocks.csv", index=False)
+    blocks.to_csv(cut_hill / "tables/blocks.csv", index=False)
     assert f"block {blocks['name'][50]}: {tonnes} t for " in wrong(cut_hill)["topography"]
 
 
@@ -407,7 +411,7 @@ def test_a_model_too_large_for_the_program(plan_folder, tmp_path, monkeypatch):
     plane(tmp_path, lambda x, y: 75, [(-900, -900), (900, -900), (0, 2000)])
     path = plan_folder(table, PROJECT, CUT)
     pitplan.write_shells(path)
-    plan = pitplan.prepare(path)
+    plan = pitplan.Plan.from_project(path)
     assert plan.left_out > 1000 and plan.table["tonnes"].isin([0, 50, 100]).all()
     assert not wrong(path.parent / "plan")
 
@@ -424,8 +428,8 @@ def test_a_sensitivity_of_blocks_that_are_cut(plan_folder, tmp_path):
     # 50 t of 6 % with a recovery of a half at 8000 a tonne, with 10 for processing and 2 for mining.
     assert table["undiscounted_cash_flow"].tolist() == pytest.approx([50 * (240 - 12), 50 * (264 - 12)])
     folder = path.parent / "plan" / "sensitivity"
-    blocks = pd.read_csv(folder / "blocks.csv", dtype={"region": str})
+    blocks = pd.read_csv(folder / "tables/blocks.csv", dtype={"region": str})
     assert main(["verify", str(folder)]) == 0
     blocks.loc[0, "tonnes"] = 51
-    blocks.to_csv(folder / "blocks.csv", index=False)
+    blocks.to_csv(folder / "tables/blocks.csv", index=False)
     assert main(["verify", str(folder)]) == 1

@@ -51,7 +51,7 @@ def planned(plan_folder, table, text=PROJECT, *changes):
     path = plan_folder(table, text, *changes)
     pitplan.write_shells(path)
     folder = path.parent / "plan"
-    return folder, pd.read_csv(folder / "blocks.csv").set_index("name")
+    return folder, pd.read_csv(folder / "tables/blocks.csv").set_index("name")
 
 
 @pytest.mark.parametrize("degrees", [30, -12.5, 44])
@@ -84,7 +84,7 @@ def test_walls_that_are_not_turned_along_make_another_pit(plan_folder):
 @pytest.mark.parametrize("decimals", [2, 4])
 def test_the_azimuth_is_found(plan_folder, degrees, size, decimals):
     path = plan_folder(turned(rows(40, 35, 2), degrees, decimals), PROJECT, ("size = [10, 10, 10]", size))
-    plan = pitplan.prepare(path)
+    plan = pitplan.Plan.from_project(path)
     assert (
         abs(plan.grid.azimuth - degrees) < 0.001 and plan.grid.size == (10, 10, 10) and plan.grid.shape == (2, 35, 40)
     )
@@ -101,7 +101,9 @@ def test_blocks_may_be_longer_than_wide_and_the_angle_any(plan_folder):
         (120, (25, 10, 10), (2, 9, 7)),
         (-150, (10, 25, 10), (2, 7, 9)),
     ):
-        grid = pitplan.prepare(plan_folder(table, PROJECT, ("size = [10, 10, 10]", f"azimuth = {azimuth}"))).grid
+        grid = pitplan.Plan.from_project(
+            plan_folder(table, PROJECT, ("size = [10, 10, 10]", f"azimuth = {azimuth}"))
+        ).grid
         assert grid.azimuth == azimuth and grid.size == pytest.approx(size) and grid.shape == shape
         x, y, _ = grid.centres(grid.rows)
         assert np.abs(x - table["x"]).max() < 0.002 and np.abs(y - table["y"]).max() < 0.002
@@ -116,9 +118,9 @@ def test_an_azimuth_that_is_not_that_of_the_centres_is_refused_with_both(plan_fo
     ):
         said = f"azimuth is {azimuth} degrees, and the centres lie on a grid whose north has azimuth {found}$"
         with pytest.raises(PlanError, match=said):
-            pitplan.prepare(plan_folder(table, PROJECT, given(azimuth)))
+            pitplan.Plan.from_project(plan_folder(table, PROJECT, given(azimuth)))
     with pytest.raises(PlanError, match=r"\[grid\] azimuth: 361 is not an angle from -360 to 360 degrees"):
-        pitplan.prepare(plan_folder(rows(3, 3, 2), PROJECT, given(361)))
+        pitplan.Plan.from_project(plan_folder(rows(3, 3, 2), PROJECT, given(361)))
 
 
 def test_a_centre_off_the_turned_grid_is_named_by_its_row(plan_folder):
@@ -126,15 +128,15 @@ def test_a_centre_off_the_turned_grid_is_named_by_its_row(plan_folder):
     table.loc[33, "x"] += 0.3
     off = r"row 35 column x, y: \S+, \S+ is off the grid of blocks of 10 x 10 m turned by 30 degrees by 0.2\d+ m"
     with pytest.raises(PlanError, match=off):
-        pitplan.prepare(plan_folder(table, PROJECT, NO_SIZE))
+        pitplan.Plan.from_project(plan_folder(table, PROJECT, NO_SIZE))
     table = turned(rows(20, 18, 2), 30)
     table.loc[40, ["x", "y"]] = table.loc[41, ["x", "y"]]
     with pytest.raises(PlanError, match="row 43 column x, y, z: the block of row 42 lies there too"):
-        pitplan.prepare(plan_folder(table, PROJECT, NO_SIZE))
+        pitplan.Plan.from_project(plan_folder(table, PROJECT, NO_SIZE))
     with pytest.raises(
         PlanError, match=r"no neighbours along the grid's north: give the blocks' size as \[grid\] size"
     ):
-        pitplan.prepare(plan_folder(turned(rows(9, 1, 2), 30), PROJECT, NO_SIZE))
+        pitplan.Plan.from_project(plan_folder(turned(rows(9, 1, 2), 30), PROJECT, NO_SIZE))
 
 
 # The sides 3, 4 and 5: the grid's east goes by (0.8, -0.6), its north by (0.6, 0.8), so that all is decimals.
@@ -172,7 +174,7 @@ def test_the_grid_of_sides_3_4_5(one_block):
 @pytest.mark.parametrize("kind", ["stl", "obj"])
 def test_surfaces_stand_in_the_planners_coordinates(one_block, kind):
     pytest.importorskip("vtk", reason="needs the Debian package python3-vtk9")
-    assert main(["export", str(one_block), "--to", kind, "--revenue-factor", "1.00"]) == 0
+    assert main(["export", str(one_block.parent / "plan"), "--to", kind, "--revenue-factor", "1.00"]) == 0
     text = (one_block.parent / "plan" / f"pit-1.00.{kind}").read_text()
     points = np.array(re.findall(r"^\s*v(?:ertex)? (\S+) (\S+) (\S+)", text, re.MULTILINE), dtype=float).round(1)
     assert {(x, y) for x, y, _ in points} == CORNERS and {z for _, _, z in points} == {10, 20}
@@ -180,7 +182,7 @@ def test_surfaces_stand_in_the_planners_coordinates(one_block, kind):
 
 def test_a_drawing_stands_in_the_planners_coordinates(one_block):
     ezdxf = pytest.importorskip("ezdxf", reason="needs the Debian package python3-ezdxf")
-    assert main(["export", str(one_block), "--to", "dxf", "--revenue-factor", "1.00"]) == 0
+    assert main(["export", str(one_block.parent / "plan"), "--to", "dxf", "--revenue-factor", "1.00"]) == 0
     drawing = ezdxf.readfile(one_block.parent / "plan" / "pit-1.00.dxf")
     lines = {
         line.dxf.layer: {(round(p.x, 1), round(p.y, 1), p.z) for p in line.points()}
@@ -190,12 +192,12 @@ def test_a_drawing_stands_in_the_planners_coordinates(one_block):
 
 
 def test_strings_and_lines_stand_in_the_planners_coordinates(one_block):
-    assert main(["export", str(one_block), "--to", "str", "--revenue-factor", "1.00"]) == 0
+    assert main(["export", str(one_block.parent / "plan"), "--to", "str", "--revenue-factor", "1.00"]) == 0
     rows = [line.split(",") for line in (one_block.parent / "plan" / "lines-1.00.str").read_text().splitlines()]
     # A row is number, y, x, z; heads, breaks and the end have the number or the place 0.
     points = {(round(float(x), 1), round(float(y), 1), float(z)) for number, y, x, z, *_ in rows[2:] if float(number)}
     assert points == {(x, y, z) for x, y in CORNERS for z in (10, 20)}
-    assert main(["export", str(one_block), "--to", "lines", "--revenue-factor", "1.00"]) == 0
+    assert main(["export", str(one_block.parent / "plan"), "--to", "lines", "--revenue-factor", "1.00"]) == 0
     table = pd.read_csv(one_block.parent / "plan" / "lines-1.00.csv")
     assert set(zip(table["x"].round(1), table["y"].round(1))) == CORNERS
 
@@ -203,7 +205,12 @@ def test_strings_and_lines_stand_in_the_planners_coordinates(one_block):
 def test_the_ground_stands_in_the_planners_coordinates(one_block):
     """The grid's sides are 50 m along 4, -3 and 40 m along 3, 4, of 5, and the pit is one block deep."""
     pytest.importorskip("vtk", reason="needs the Debian package python3-vtk9")
-    assert main(["export", str(one_block), "--to", "obj", "--surface", "ground", "--revenue-factor", "1.00"]) == 0
+    assert (
+        main(
+            ["export", str(one_block.parent / "plan"), "--to", "obj", "--surface", "ground", "--revenue-factor", "1.00"]
+        )
+        == 0
+    )
     (path,) = (one_block.parent / "plan").glob("*.obj")
     points = np.array(re.findall(r"^v (\S+) (\S+) (\S+)", path.read_text(), re.MULTILINE), dtype=float).round(1)
     sides = {(1000, 5000), (1040, 4970), (1064, 5002), (1024, 5032)}
@@ -213,7 +220,7 @@ def test_the_ground_stands_in_the_planners_coordinates(one_block):
 def test_cells_of_vtk_stand_in_the_planners_coordinates(one_block):
     vtk = pytest.importorskip("vtk", reason="needs the Debian package python3-vtk9")
     for kind, reader in (("vtu", vtk.vtkXMLUnstructuredGridReader()), ("vti", vtk.vtkXMLImageDataReader())):
-        assert main(["export", str(one_block), "--to", kind]) == 0
+        assert main(["export", str(one_block.parent / "plan"), "--to", kind]) == 0
         reader.SetFileName(str(one_block.parent / "plan" / f"pit.{kind}"))
         reader.Update()
         data = reader.GetOutput()
@@ -236,7 +243,7 @@ def test_the_page_knows_where_north_is(one_block):
 
 
 def test_the_planners_table_comes_back(one_block):
-    assert main(["export", str(one_block), "--to", "table"]) == 0
+    assert main(["export", str(one_block.parent / "plan"), "--to", "table"]) == 0
     table = pd.read_csv(one_block.parent / "plan" / "table.csv").set_index("name")
     assert table.index[table["revenue_factor"] > 0.0].tolist() == ["b2-1-1"]
     # 25, 15 along the axes: 1000 + 20 + 9, 5000 - 15 + 12.
@@ -312,11 +319,14 @@ def test_pushbacks_widths_and_schedules_are_those_of_the_straight_model(plan_fol
         path = plan_folder(turned(ore, degrees), text, walls_at(degrees), NO_SIZE)
         folder = path.parent / f"schedule{degrees}"
         pitplan.write_schedule(path, folder)
-        blocks = pd.read_csv(folder / "blocks.csv").set_index("name")[["pushback", "year", "revenue_factor"]]
+        blocks = pd.read_csv(folder / "tables/blocks.csv").set_index("name")[["pushback", "year", "revenue_factor"]]
         tables.append(
             [
                 blocks,
-                *(pd.read_csv(folder / name) for name in ("shells.csv", "pushbacks.csv", "schedule.csv", "years.csv")),
+                *(
+                    pd.read_csv(folder / name)
+                    for name in ("tables/shells.csv", "tables/pushbacks.csv", "tables/schedule.csv", "tables/years.csv")
+                ),
             ]
         )
     assert tables[0][0]["pushback"].nunique() == 3
@@ -328,11 +338,11 @@ def test_rows_are_put_together_along_the_grids_axes(plan_folder, one_block):
     """Two by two by one: the first block's centre is 10, 10 along the axes: 1000 + 8 + 6, 5000 - 6 + 8; and sub-blocks from a corner."""
     table = pd.read_csv(one_block.parent / "blocks.csv")
     table = table[~table["name"].str.startswith("b4")]
-    counts = pitplan.prepare(
+    counts = pitplan.Plan.from_project(
         plan_folder(table, PROJECT, ('domain = "region"', 'domain = "region"\nreblock = [2, 2, 1]'))
     )
     rules = f"reblock = {{ size = [20, 20, 10], corner = [1000, 5000, 0] }}\n[grid]\nazimuth = {THREE_FOUR_FIVE:.6f}"
-    corner = pitplan.prepare(
+    corner = pitplan.Plan.from_project(
         plan_folder(table, PROJECT, ('domain = "region"\n[grid]\nsize = [10, 10, 10]', 'domain = "region"\n' + rules))
     )
     for plan in (counts, corner):
@@ -347,7 +357,7 @@ def test_blocks_of_cells_without_a_row_have_the_planners_centres(plan_folder, on
     rock = 'domain = "region"\nmissing_blocks = { tonnes = 90, rock_type = "R", domain = "1" }'
     path = plan_folder(table[table["name"] != "b3-2-0"], PROJECT, ('domain = "region"', rock))
     pitplan.write_shells(path)
-    blocks = pd.read_csv(path.parent / "plan" / "blocks.csv").set_index("name")
+    blocks = pd.read_csv(path.parent / "plan" / "tables/blocks.csv").set_index("name")
     added = blocks.loc[[name for name in blocks.index if name.startswith("absent-")]]
     assert added["tonnes"].tolist() == [90] and np.allclose(added[["x", "y", "z"]], [[1043, 4999, 5]], atol=0.002)
 
@@ -367,7 +377,7 @@ def test_the_second_look_sees_a_wrong_azimuth(plan_folder, tmp_path, capsys):
     pitplan.write_shells(path)
     for azimuth in (-30, 30.02):
         shutil.copytree(path.parent / "plan", tmp_path / "other", dirs_exist_ok=True)
-        told = tmp_path / "other" / "prepare.json"
+        told = tmp_path / "other" / "plan.json"
         record = json.loads(told.read_text())
         record["grid"]["azimuth"] = azimuth
         told.write_text(json.dumps(record))
@@ -384,13 +394,13 @@ def test_a_turned_table_has_a_project_to_begin_with(tmp_path):
     said = wizard.write(tmp_path / "model.csv", tmp_path / "project.toml")
     assert any("azimuth 30" in line for line in said)
     assert "size = [10.0, 10.0, 10.0]" in (tmp_path / "project.toml").read_text()
-    plan = pitplan.prepare(tmp_path / "project.toml")
+    plan = pitplan.Plan.from_project(tmp_path / "project.toml")
     assert plan.grid.azimuth == 30 and plan.grid.shape == (3, 11, 12) and set(plan.table["tonnes"]) == {2500.0}
 
 
 def test_no_file_of_the_answer_has_other_coordinates(one_block):
     """All that the folder says in numbers of x and y is near 1000 and 5000; nothing counts from a corner but pictures."""
-    blocks = pd.read_csv(Path(one_block.parent / "plan" / "blocks.csv"))
+    blocks = pd.read_csv(Path(one_block.parent / "plan" / "tables/blocks.csv"))
     assert blocks["x"].between(1000, 1064).all() and blocks["y"].between(4970, 5032).all()
 
 

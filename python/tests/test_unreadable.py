@@ -50,14 +50,14 @@ def in_both_heads(data, offset, number):
 
 def test_a_locked_table_is_named(packed):
     path = packed(bend=lambda data: in_both_heads(data, 6, 1))
-    assert refused(pitplan.prepare, path).endswith(
+    assert refused(pitplan.Plan.from_project, path).endswith(
         "blocks.zip: is locked by a password: unpack it, and name the table that it packs"
     )
 
 
 @pytest.mark.parametrize("method", [9, 99])
 def test_a_table_that_is_packed_otherwise_is_named(packed, method):
-    said = refused(pitplan.prepare, packed(bend=lambda data: in_both_heads(data, 8, method)))
+    said = refused(pitplan.Plan.from_project, packed(bend=lambda data: in_both_heads(data, 8, method)))
     assert "blocks.zip: is packed in a way that is not read here (" in said and said.endswith(
         "): pack it by deflate, or unpack it"
     )
@@ -80,7 +80,7 @@ def test_a_bent_packed_table_is_named(packed, method):
 def test_a_header_of_too_long_a_field_is_named(plan_folder):
     path = plan_folder(rows(2, 2, 2).rename(columns={"name": "n" * 200_000}).to_csv(index=False))
     assert "blocks.csv row 1: is not a table header: field larger than field limit (131072)" in refused(
-        pitplan.prepare, path
+        pitplan.Plan.from_project, path
     )
 
 
@@ -89,7 +89,7 @@ def test_a_header_of_too_long_a_field_is_named(plan_folder):
 def test_a_centre_where_no_ground_is_is_named(plan_folder, column, place):
     table = rows(3, 2, 2)
     table.loc[4, column] = place
-    said = refused(pitplan.prepare, plan_folder(table))
+    said = refused(pitplan.Plan.from_project, plan_folder(table))
     assert said.endswith(
         f"blocks.csv row 6 column {column}: {place:g} is not a coordinate in metres: expected at most 1,000,000,000"
     )
@@ -98,19 +98,19 @@ def test_a_centre_where_no_ground_is_is_named(plan_folder, column, place):
 def test_the_name_of_a_column_with_a_line_s_end_stays_on_the_line(plan_folder, capsys):
     table = rows(3, 2, 2).rename(columns={"cu": "cu\npct"}).astype(object)
     path = plan_folder(table, PROJECT, ('column = "cu"', 'column = "cu\\npct"'))
-    assert len(pitplan.prepare(path).blocks) == 12
+    assert len(pitplan.Plan.from_project(path).blocks) == 12
     table.loc[2, "cu\npct"] = "n/a"
-    assert refused(pitplan.prepare, plan_folder(table, path.read_text())).endswith(
+    assert refused(pitplan.Plan.from_project, plan_folder(table, path.read_text())).endswith(
         'row 4 column cu\\npct: "n/a" is not a number'
     )
-    assert refused(pitplan.prepare, plan_folder(table.drop(columns="rock"), path.read_text())).endswith(
+    assert refused(pitplan.Plan.from_project, plan_folder(table.drop(columns="rock"), path.read_text())).endswith(
         "are name, x, y, z, tonnes, cu\\npct, region"
     )
     assert pitplan.errors.on_one_line("a\nb\r\nc\x85d\u2028e") == "a\\nb\\r\\nc\\x85d\\u2028e"
 
 
 def test_what_a_run_says_of_a_column_stays_on_its_line(plan_folder, capsys):
-    pitplan.prepare(
+    pitplan.Plan.from_project(
         plan_folder(rows(3, 2, 2).assign(**{"a\nb": 1})), progress=pitplan.core.progress.on_standard_error()
     )
     assert "unused columns: a\\nb\n" in capsys.readouterr().err

@@ -3,6 +3,7 @@
 import json
 import shutil
 from decimal import Decimal
+from pathlib import Path
 
 import numpy as np
 import pandas as pd
@@ -11,11 +12,12 @@ from conftest import PROJECT, rows
 from hypothesis import HealthCheck, given, settings, strategies as st
 
 import pitplan
-from pitplan import PlanError, constraints, load, prepare, solve
+from pitplan import Plan, PlanError, constraints, load
 from pitplan.blockmodel import missing_blocks, reader
 from pitplan.cli import main
 from pitplan.commands.answers import Answered, write_tables
 from pitplan.config.slopes import Wall
+from pitplan.core.layout import FOLDERS, SOLVER
 from pitplan.economics import block_values
 from pitplan.pits import best_worst_case
 from pitplan.results.folder import read_record
@@ -99,7 +101,7 @@ def test_what_is_right_is_told_rule_by_rule(answered, copied, capsys):
 def test_a_run_may_leave_it_out_and_says_so(plan_folder):
     path = plan_folder(deposit(), TEXT)
     assert main(["shells", str(path), "--quiet", "--no-verify"]) == 0
-    assert json.loads((path.parent / "plan" / "prepare.json").read_text())["verified"] == []
+    assert json.loads((path.parent / "plan" / "plan.json").read_text())["verified"] == []
     assert "were not verified" in (path.parent / "plan" / "report.html").read_text()
     assert main(["verify", str(path.parent / "plan")]) == 0
 
@@ -110,11 +112,11 @@ SHELLS = "blocks tonnes feed_tonnes waste_tonnes strip_ratio processed_at_revenu
 @pytest.mark.parametrize(
     ("file", "column", "rule"),
     [
-        *(("shells.csv", name, "shells") for name in SHELLS.split()),
-        *(("shells.csv", name, "years") for name in ("npv_best", "npv_worst", "years")),
-        ("shells.csv", "value_at_revenue_factor", "values"),
+        *(("tables/shells.csv", name, "shells") for name in SHELLS.split()),
+        *(("tables/shells.csv", name, "years") for name in ("npv_best", "npv_worst", "years")),
+        ("tables/shells.csv", "value_at_revenue_factor", "values"),
         *(
-            ("years.csv", name, "years")
+            ("tables/years.csv", name, "years")
             for name in (
                 "total_tonnes",
                 "feed_tonnes",
@@ -124,8 +126,8 @@ SHELLS = "blocks tonnes feed_tonnes waste_tonnes strip_ratio processed_at_revenu
                 "discounted_cash_flow",
             )
         ),
-        *(("blocks.csv", name, "money") for name in ("mining_cost", "revenue", "processing_cost")),
-        ("blocks.csv", "id", "blocks"),
+        *(("tables/blocks.csv", name, "money") for name in ("mining_cost", "revenue", "processing_cost")),
+        ("tables/blocks.csv", "id", "blocks"),
     ],
 )
 def test_each_number_that_is_bent_is_found(copied, file, column, rule):
@@ -148,36 +150,36 @@ def test_each_number_that_is_bent_is_found(copied, file, column, rule):
     ],
 )
 def test_a_block_at_another_factor_is_found(copied, column, rule):
-    table = pd.read_csv(copied / "blocks.csv")
+    table = pd.read_csv(copied / "tables/blocks.csv")
     at = table.index[table[column] == 0.5][0]
     table.loc[at, column] = 1.0
-    table.to_csv(copied / "blocks.csv", index=False)
+    table.to_csv(copied / "tables/blocks.csv", index=False)
     assert rule in wrong(copied)
 
 
 def test_a_block_that_is_left_standing_is_found(copied):
     """A block of the highest level under which others are dug."""
-    table = pd.read_csv(copied / "blocks.csv")
+    table = pd.read_csv(copied / "tables/blocks.csv")
     dug = table[(table["revenue_factor"] > 0.0) & (table["must"] == 0)]
     table.loc[dug.index[0], ["revenue_factor", "process_revenue_factor"]] = 0
-    table.to_csv(copied / "blocks.csv", index=False)
+    table.to_csv(copied / "tables/blocks.csv", index=False)
     assert {"walls", "shells"} <= wrong(copied)
 
 
 def test_a_barred_block_that_is_dug_is_found(copied):
-    table = pd.read_csv(copied / "blocks.csv")
+    table = pd.read_csv(copied / "tables/blocks.csv")
     table.loc[table.index[table["never"] == 1][0], "revenue_factor"] = 0.5
-    table.to_csv(copied / "blocks.csv", index=False)
+    table.to_csv(copied / "tables/blocks.csv", index=False)
     assert "fixed" in wrong(copied)
 
 
 def test_a_year_above_its_capacity_is_found(copied):
     """Half a tonne is dug a year earlier, so that all sums stay."""
-    years = pd.read_csv(copied / "years.csv")
+    years = pd.read_csv(copied / "tables/years.csv")
     full = years.index[(years["total_tonnes"] > 999.99) & years.duplicated(["case", "revenue_factor"], keep="last")][0]
     years.loc[full, "total_tonnes"] += 0.5
     years.loc[full + 1, "total_tonnes"] -= 0.5
-    years.to_csv(copied / "years.csv", index=False)
+    years.to_csv(copied / "tables/years.csv", index=False)
     (rule,) = [rule for rule in verify(copied) if rule.differences]
     case, factor, year = years.loc[full, ["case", "revenue_factor", "year"]]
     last = years.loc[full + 1, "total_tonnes"]
@@ -203,12 +205,12 @@ YEARLY = [
 @pytest.mark.parametrize(("column", "less"), YEARLY)
 def test_what_flows_a_year_later_is_found(copied, case, column, less):
     """All sums stay, and no capacity is exceeded."""
-    years = pd.read_csv(copied / "years.csv")
+    years = pd.read_csv(copied / "tables/years.csv")
     mine = years[(years["case"] == case) & (years["revenue_factor"] == 1.5) & (years[column] > less)].index
     years.loc[mine[0], column] -= less
     years.loc[mine[-1], column] += less
     assert mine[0] < mine[-1]
-    years.to_csv(copied / "years.csv", index=False)
+    years.to_csv(copied / "tables/years.csv", index=False)
     assert wrong(copied) == {"years"}
 
 
@@ -221,14 +223,14 @@ def test_what_flows_a_year_later_is_found(copied, case, column, less):
         ),
         (
             lambda it: it.assign(revenue_factor=it["revenue_factor"].where(it["case"] == "best", 1.4)),
-            "years of the worst case of revenue factor 1.40, which is none",
+            "worst case of revenue factor 1.40: has years, but no such shell",
         ),
         (lambda it: it[it["case"] == "best"], "worst case of revenue factor 1.50: has no years"),
         (lambda it: it.drop(columns="recovered_gold"), "recovered_gold nan for"),
     ],
 )
 def test_years_that_are_missing_or_too_many_are_found(copied, bend, said):
-    bend(pd.read_csv(copied / "years.csv")).to_csv(copied / "years.csv", index=False)
+    bend(pd.read_csv(copied / "tables/years.csv")).to_csv(copied / "tables/years.csv", index=False)
     (rule,) = [rule for rule in verify(copied) if rule.differences]
     assert rule.name == "years" and any(said in difference for difference in rule.differences)
 
@@ -247,10 +249,10 @@ def test_years_that_are_missing_or_too_many_are_found(copied, bend, said):
     ],
 )
 def test_a_field_of_the_planners_that_is_another_is_found(copied, column, value):
-    table = pd.read_csv(copied / "blocks.csv", dtype={"region": str}, float_precision="round_trip")
+    table = pd.read_csv(copied / "tables/blocks.csv", dtype={"region": str}, float_precision="round_trip")
     at = table.index[table["name"] == "b0-0-0"][0]
     table[column] = table[column].where(table.index != at, value)
-    table.to_csv(copied / "blocks.csv", index=False)
+    table.to_csv(copied / "tables/blocks.csv", index=False)
     (rule,) = [rule for rule in verify(copied) if rule.differences]
     assert rule.name == "blocks" and len(rule.differences) == 1
     assert rule.differences[0].startswith(f"block b0-0-0: {column} {value} for ")
@@ -258,7 +260,12 @@ def test_a_field_of_the_planners_that_is_another_is_found(copied, column, value)
 
 @pytest.mark.parametrize(
     ("file", "column"),
-    [("blocks.csv", "revenue"), ("blocks.csv", "cu"), ("shells.csv", "npv_best"), ("years.csv", "cash_flow")],
+    [
+        ("tables/blocks.csv", "revenue"),
+        ("tables/blocks.csv", "cu"),
+        ("tables/shells.csv", "npv_best"),
+        ("tables/years.csv", "cash_flow"),
+    ],
 )
 @pytest.mark.parametrize(("field", "said"), [("", "is empty"), ("n/a", '"n/a" is not a number')])
 def test_a_field_that_is_no_number_is_named(copied, capsys, file, column, field, said):
@@ -266,13 +273,13 @@ def test_a_field_that_is_no_number_is_named(copied, capsys, file, column, field,
     table.loc[1, column] = field
     table.to_csv(copied / file, index=False)
     assert main(["verify", str(copied)]) == 1
-    assert capsys.readouterr().err.splitlines()[-1].endswith(f"{file} row 3 column {column}: {said}")
+    assert capsys.readouterr().err.splitlines()[-1].endswith(f"{Path(file).name} row 3 column {column}: {said}")
 
 
 def test_shells_that_are_missing_or_too_many_are_named(copied):
-    table = pd.read_csv(copied / "shells.csv")
+    table = pd.read_csv(copied / "tables/shells.csv")
     for rows_of, there in ((table.iloc[[0, 2]], "0.50, 1.50"), (table.iloc[[0, 1, 1, 2]], "0.50, 1.00, 1.00, 1.50")):
-        rows_of.to_csv(copied / "shells.csv", index=False)
+        rows_of.to_csv(copied / "tables/shells.csv", index=False)
         with pytest.raises(
             PlanError, match=f"shells.csv: has rows of the revenue factors {there} for 0.50, 1.00, 1.50"
         ):
@@ -310,8 +317,8 @@ def plus_one(table, column):
 )
 def test_all_that_is_bent_is_counted_and_ten_told(copied, name, bend, count, told):
     """Of 459 blocks: by much, by less than a rounding, and by the revenue factor 0.50 alone."""
-    table = pd.read_csv(copied / "blocks.csv")
-    bend(table).to_csv(copied / "blocks.csv", index=False)
+    table = pd.read_csv(copied / "tables/blocks.csv")
+    bend(table).to_csv(copied / "tables/blocks.csv", index=False)
     (rule,) = [rule for rule in verify(copied) if rule.name == name]
     assert rule.count == (count or (table["revenue_factor"] == 0.5).sum()) and len(rule.differences) == 10
     assert told in rule.differences[0]
@@ -383,11 +390,12 @@ def test_a_run_reads_its_table_once_and_a_later_look_reads_it_again(plan_folder,
 def looked_at(plan):
     """What is said of the plan's numbers, without pictures and report."""
     folder = plan.project.folder
-    folder.mkdir(exist_ok=True)
-    record = plan.record(mine_files.write(plan, folder))
-    write_tables(Answered(plan, solve(plan)), folder)
-    record["shells"] = {"revenue_factors": list(plan.project.schedule.revenue_factors)}
-    (folder / "prepare.json").write_text(json.dumps(record))
+    for name in FOLDERS:
+        (folder / name).mkdir(parents=True, exist_ok=True)
+    record = plan.record(mine_files.write(plan, folder / SOLVER))
+    write_tables(Answered(plan, plan.shells().solution), folder)
+    record["shells"] = {"revenue_factors": list(plan.project.shells.revenue_factors)}
+    (folder / "plan.json").write_text(json.dumps(record))
     return verify(folder, plan.project)
 
 
@@ -407,16 +415,16 @@ def test_cost_by_elevation_is_looked_at(plan_folder, monkeypatch):
     """Levels with centres 5, 15, .., 45 m, of which the lowest and the highest lie beyond the elevations that are named."""
     change = ("mining_cost_per_bench = 0.25", "mining_cost_by_elevation = [[10, 0.7], [20, 0.3], [40, 0.1]]")
     path = plan_folder(deposit(), TEXT, change)
-    assert [rule.differences for rule in looked_at(prepare(path))] == [()] * 10
+    assert [rule.differences for rule in looked_at(Plan.from_project(path))] == [()] * 10
     monkeypatch.setattr("pitplan.economics.weighing.added_cost", lambda *_: Decimal(0))
-    differences = {rule.name: rule.differences for rule in looked_at(prepare(path)) if rule.differences}
+    differences = {rule.name: rule.differences for rule in looked_at(Plan.from_project(path)) if rule.differences}
     # 99.7 t, of which each costs 0.7 more.
     assert differences["money"][0] == "block b0-0-0: mining_cost 199.4 for 269.19"
 
 
 @pytest.mark.parametrize("discounting", ["continuous", "mid_year", "end_of_year"])
 def test_a_mine_in_which_nothing_pays_is_right(plan_folder, discounting):
-    plan = prepare(
+    plan = Plan.from_project(
         plan_folder(
             rows(3, 3, 2), PROJECT, ("discount_rate = 0.1", f'discount_rate = 0.1\ndiscounting = "{discounting}"')
         )
@@ -431,25 +439,25 @@ def test_waste_that_takes_no_time_is_the_first_years(plan_folder, discounting, n
     """The mill alone has a capacity: a block of waste that must be dug, which costs 200, and a deposit under waste."""
     changes = ("discount_rate = 0.1", f'discount_rate = 0.1\ndiscounting = "{discounting}"')
     table = rows(3, 3, 2, must=lambda i, j, k: int((i, j, k) == (1, 1, 1)))
-    plan = prepare(plan_folder(table, PROJECT + '\n[constraints]\nmust_mine = "must"\n', changes))
+    plan = Plan.from_project(plan_folder(table, PROJECT + '\n[constraints]\nmust_mine = "must"\n', changes))
     assert [rule.differences for rule in looked_at(plan)] == [()] * 10
-    shells = pd.read_csv(plan.project.folder / "shells.csv")
+    shells = pd.read_csv(plan.project.folder / "tables/shells.csv")
     assert shells["npv_best"].tolist() == shells["npv_worst"].tolist() == [pytest.approx(npv, abs=1e-3)] * 3
-    plan = prepare(plan_folder(deposit(), TEXT, changes, ("mining_capacity = 1000\n", "")))
+    plan = Plan.from_project(plan_folder(deposit(), TEXT, changes, ("mining_capacity = 1000\n", "")))
     assert [rule.differences for rule in looked_at(plan)] == [()] * 10
 
 
 def test_a_block_without_an_id_is_called_by_its_centre(plan_folder):
-    plan = prepare(plan_folder(ore_everywhere().drop(columns="name"), PROJECT, ('id = "name"\n', "")))
+    plan = Plan.from_project(plan_folder(ore_everywhere().drop(columns="name"), PROJECT, ('id = "name"\n', "")))
     assert [rule.differences for rule in looked_at(plan)] == [()] * 10
-    path = plan.project.folder / "blocks.csv"
+    path = plan.project.folder / "tables/blocks.csv"
     plus_one(pd.read_csv(path), "mining_cost").to_csv(path, index=False)
     (rule,) = [rule for rule in verify(plan.project.folder, plan.project) if rule.name == "money"]
     assert rule.differences[0] == "the block at 600005, 6512005, 5: mining_cost 201 for 200"
 
 
 def test_a_folder_without_an_answer_is_named(copied, tmp_path):
-    with pytest.raises(PlanError, match="nowhere/prepare.json: cannot be read: run pitplan shells first"):
+    with pytest.raises(PlanError, match="nowhere/plan.json: cannot be read: run pitplan shells first"):
         verify(tmp_path / "nowhere")
     path = copied.parent / "blocks.csv"
     whole = path.read_text()
@@ -458,17 +466,17 @@ def test_a_folder_without_an_answer_is_named(copied, tmp_path):
     )
     with pytest.raises(PlanError, match="1 blocks of the table are not in it: has the table changed since?"):
         verify(copied)
-    (copied / "prepare.json").write_text("{}")
-    with pytest.raises(PlanError, match="prepare.json: grid: is missing: run pitplan shells again"):
+    (copied / "plan.json").write_text("{}")
+    with pytest.raises(PlanError, match="plan.json: grid: is missing: run pitplan shells again"):
         verify(copied)
 
 
 def test_rows_without_rock_are_no_blocks_that_are_left_standing(plan_folder):
     """Ore below rock, and over it two levels of rows that hold nothing."""
     table = rows(9, 9, 5, tonnes=lambda i, j, k: 100 * (k < 3), cu=lambda i, j, k: 9 * ((i, j, k) == (4, 4, 0)))
-    plan = prepare(plan_folder(table, PROJECT))
+    plan = Plan.from_project(plan_folder(table, PROJECT))
     assert [rule.differences for rule in looked_at(plan)] == [()] * 10
-    blocks = pd.read_csv(plan.project.folder / "blocks.csv")
+    blocks = pd.read_csv(plan.project.folder / "tables/blocks.csv")
     assert (blocks.loc[blocks["tonnes"] == 0, "revenue_factor"] == 0).any() and (
         blocks["revenue_factor"] == 0.5
     ).sum() > 13
@@ -521,7 +529,7 @@ def test_amounts_with_more_digits_than_floats_have_are_no_difference(plan_folder
         ("processing_cost = 10", "processing_cost = 9_999_999.777"),
         ("decimals = 2", f"decimals = {decimals}"),
     ]
-    plan = prepare(plan_folder(deposit(), TEXT, *changes))
+    plan = Plan.from_project(plan_folder(deposit(), TEXT, *changes))
     assert [rule.differences for rule in looked_at(plan)] == [()] * 10
 
 
@@ -533,9 +541,9 @@ def test_what_is_left_of_great_amounts_is_as_uncertain_as_they_are(plan_folder, 
         ("price = 8000", "price = 20_000_000_000"),
         ("mining_cost = 2", "mining_cost = { R = 2, S = 99_999_987.99 }"),
     ]
-    plan = prepare(plan_folder(table, PROJECT + '\n[constraints]\nmust_mine = "must"\n', *changes))
+    plan = Plan.from_project(plan_folder(table, PROJECT + '\n[constraints]\nmust_mine = "must"\n', *changes))
     assert {rule.name for rule in looked_at(plan) if rule.differences} == set()
-    path = plan.project.folder / "shells.csv"
+    path = plan.project.folder / "tables/shells.csv"
     shells = pd.read_csv(path, dtype={"value_at_revenue_factor": str})
     assert shells["undiscounted_cash_flow"].tolist() == [1.0] * 3
     shells.assign(undiscounted_cash_flow=shells["undiscounted_cash_flow"] + float(more)).to_csv(path, index=False)
@@ -582,9 +590,9 @@ AREA = '[[constraints.areas]]\npolygon = "map.csv"\nexclude = '
 def test_areas_that_are_passed_over_are_found(plan_folder, tmp_path, monkeypatch, section, corners, first, count):
     pd.DataFrame(np.array(corners) + [600_000, 6_512_000], columns=["x", "y"]).to_csv(tmp_path / "map.csv", index=False)
     path = plan_folder(ore_everywhere(), PROJECT + "\n" + section)
-    assert [rule.differences for rule in looked_at(prepare(path))] == [()] * 10
+    assert [rule.differences for rule in looked_at(Plan.from_project(path))] == [()] * 10
     monkeypatch.setattr(constraints, "of_table", lambda *_: constraints.NOTHING)
-    (rule,) = [rule for rule in looked_at(prepare(path)) if rule.differences]
+    (rule,) = [rule for rule in looked_at(Plan.from_project(path)) if rule.differences]
     assert (rule.name, rule.count, len(rule.differences)) == ("fixed", count, min(count, 10))
     assert rule.differences[0] == f"block {first} is excluded, and is mined from revenue factor 0.50"
 
@@ -603,12 +611,12 @@ def test_a_surface_that_is_passed_over_is_found(plan_folder, tmp_path, monkeypat
     path = plan_folder(
         ore_everywhere().assign(cu=0), PROJECT + '\n[constraints]\nas_mined = "mined.csv"\ntopography = "blocks"\n'
     )
-    plan = prepare(path)
+    plan = Plan.from_project(path)
     assert len(plan.fixed.forced) == 7 + 2 * 7
     # With the rule of the surface itself.
     assert [rule.differences for rule in looked_at(plan)] == [()] * 11
     monkeypatch.setattr(constraints, "of_table", lambda *_: constraints.NOTHING)
-    (rule,) = [rule for rule in looked_at(prepare(path)) if rule.differences]
+    (rule,) = [rule for rule in looked_at(Plan.from_project(path)) if rule.differences]
     assert (rule.name, rule.count, len(rule.differences)) == ("fixed", 7 + 2 * 7, 10)
     assert rule.differences[0] == "block b0-2-0 is must-mine, and is mined from revenue factor 0.00"
 
@@ -660,7 +668,7 @@ def test_random_plans_are_right(plan_folder, seed, cutoff, discounting, shovels)
         ("discount_rate = 0.1", f'discount_rate = 0.1\ndiscounting = "{discounting}"'),
         ("mining_capacity = 1000\n", shovels),
     ]
-    plan = prepare(plan_folder(table, TEXT, *changes))
+    plan = Plan.from_project(plan_folder(table, TEXT, *changes))
     assert [rule.differences for rule in looked_at(plan)] == [()] * 10
 
 

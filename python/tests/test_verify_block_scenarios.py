@@ -56,7 +56,7 @@ def test_what_is_right_is_told_rule_by_rule(copied, capsys):
     assert [line.split(":")[0] for line in lines] == RULES
     said = json.loads((copied / "gathered.json").read_text())
     assert said["answers"] == [1, 2, 3, 4, 5, 6] and said["verified"] == lines
-    table = pd.read_csv(copied / "schedules.csv")
+    table = pd.read_csv(copied / "tables/schedules.csv")
     assert (table["common_unprocessed_tonnes"] > 0).all() and (table["npv"] > 0).sum() == 4
     assert "in the common schedule and 6 of 6 others no block is mined before its slope cone" in lines[4]
 
@@ -86,9 +86,9 @@ def first_amount(by):
 def test_each_wrong_answer_is_found_and_not_gathered(copied, capsys, number, changed, found):
     bend(answer_of(copied, number), **changed)
     assert found <= wrong(copied)
-    before = (copied / "schedules.csv").read_bytes()
+    before = (copied / "tables/schedules.csv").read_bytes()
     assert main(["gather", str(copied), "--quiet"]) == 1
-    assert "pitplan: " in capsys.readouterr().err and (copied / "schedules.csv").read_bytes() == before
+    assert "pitplan: " in capsys.readouterr().err and (copied / "tables/schedules.csv").read_bytes() == before
 
 
 def test_a_bound_below_what_is_earned_is_found(copied):
@@ -134,7 +134,7 @@ def test_a_fixed_block_that_is_not_kept_is_found(copied, column, year):
     bend(one_of(copied), year=lambda it: np.where(np.arange(len(it)) == row, year, it).astype(it.dtype))
     (rule,) = [rule for rule in verify_folder(copied) if rule.name == "block order"]
     assert rule.differences == (
-        f"the common schedule: block {simulated()['name'].iloc[row]}: year {year}, of which 0 is milled",
+        f"the common schedule: block {simulated()['name'].iloc[row]}: year {year}, share milled 0",
     )
 
 
@@ -149,29 +149,29 @@ def test_the_schedule_of_another_scenario_is_found(copied):
 @pytest.mark.parametrize(
     ("file", "column", "rule"),
     [
-        ("common_schedule.csv", "id", "blocks"),
-        ("common_schedule.csv", "year", "tables"),
-        ("common_schedule.csv", "share_mill", "tables"),
+        ("tables/common_schedule.csv", "id", "blocks"),
+        ("tables/common_schedule.csv", "year", "tables"),
+        ("tables/common_schedule.csv", "share_mill", "tables"),
         *(
-            ("schedules.csv", name, "tables")
+            ("tables/schedules.csv", name, "tables")
             for name in ("price_gold", "npv", "upper_bound", "optimality_gap", "years", "blocks", "tonnes")
         ),
         *(
-            ("schedules.csv", name, "tables")
+            ("tables/schedules.csv", name, "tables")
             for name in ("feed_tonnes", "recovered_gold", "common_npv", "common_feed_tonnes", "common_years_short")
         ),
-        ("schedules.csv", "common_unprocessed_tonnes", "tables"),
+        ("tables/schedules.csv", "common_unprocessed_tonnes", "tables"),
         *(
-            ("common_schedule_years.csv", name, "one schedule")
+            ("tables/common_schedule_years.csv", name, "one schedule")
             for name in ("total_tonnes", "feed_tonnes", "planned_feed_tonnes", "cash_flow")
         ),
-        ("common_schedule_years.csv", "discounted_cash_flow", "one schedule"),
-        ("common_schedule_years.csv", "price_copper", "tables"),
+        ("tables/common_schedule_years.csv", "discounted_cash_flow", "one schedule"),
+        ("tables/common_schedule_years.csv", "price_copper", "tables"),
         *(
-            ("quantiles.csv", name, "tables")
+            ("tables/quantiles.csv", name, "tables")
             for name in ("realisations", "npv_mean", "upper_bound_least", "common_npv_greatest")
         ),
-        *(("quantiles.csv", f"common_npv_quantile_{share}", "tables") for share in (0.1, 0.5, 0.9)),
+        *(("tables/quantiles.csv", f"common_npv_quantile_{share}", "tables") for share in (0.1, 0.5, 0.9)),
     ],
 )
 def test_each_number_that_is_bent_is_found(copied, file, column, rule):
@@ -187,17 +187,17 @@ def test_each_number_that_is_bent_is_found(copied, file, column, rule):
 
 
 def test_statuses_none_of_which_is_so_are_found(copied):
-    pd.read_csv(copied / "schedules.csv", dtype=str).assign(status="killed").to_csv(
-        copied / "schedules.csv", index=False
+    pd.read_csv(copied / "tables/schedules.csv", dtype=str).assign(status="killed").to_csv(
+        copied / "tables/schedules.csv", index=False
     )
     assert "tables" in wrong(copied)
 
 
 def test_a_status_and_a_model_that_are_not_so_are_found(copied):
-    table = pd.read_csv(copied / "schedules.csv", dtype=str)
+    table = pd.read_csv(copied / "tables/schedules.csv", dtype=str)
     for column in ("status", "realisation"):
         table.assign(**{column: table[column].where(table.index != 2, "other")}).to_csv(
-            copied / "schedules.csv", index=False
+            copied / "tables/schedules.csv", index=False
         )
         assert "tables" in wrong(copied)
 
@@ -251,7 +251,7 @@ def test_a_mean_of_something_else_is_found(plan_folder, monkeypatch):
     folder = solved(plan_folder, pillars(RICH, POOR))
     with pytest.raises(PlanError, match="block value: the common schedule, as planned: value "):
         gather(folder)
-    assert not (folder / "schedules.csv").exists()
+    assert not (folder / "tables/schedules.csv").exists()
 
 
 block_work_mean = worker.mean_of
@@ -287,7 +287,7 @@ def test_amounts_in_the_middle_of_two_are_rounded_as_they_are_written(plan_folde
         plan_folder, pillars(RICH, POOR), TWO_YEARS.replace("mining_cost = 2\n", "mining_cost = 2.135\ndecimals = 0\n")
     )
     gather(folder)
-    years = pd.read_csv(folder / "common_schedule_years.csv")
+    years = pd.read_csv(folder / "tables/common_schedule_years.csv")
     assert years[years["realisation"] == "sim_2"]["cash_flow"].tolist() == [-4 * 214, 1000 - 2 * 214]
 
 
@@ -335,5 +335,5 @@ def test_schedules_of_random_projects_are_right(plan_folder, seed):
     sets = pick(rng, "", "[[scenarios.prices]]\ncopper = 6500\n[[scenarios.prices]]\ngold = 75\n")
     text += '[scenarios]\ncolumns = { copper = "cu_*" }\n' + sets
     folder = solved_in_turn(prepared(plan_folder(table.drop(columns="cu"), text)))
-    rows = pd.read_csv(folder / "schedules.csv")
+    rows = pd.read_csv(folder / "tables/schedules.csv")
     assert (rows["common_npv"] <= rows["upper_bound"] + 0.01).all() and rows["blocks"].max() > 0

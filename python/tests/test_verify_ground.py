@@ -16,7 +16,7 @@ from test_scenarios import COLUMNS, UPRIGHT, pillar, prepared, solved_in_turn
 from test_verify import looked_at, ore_everywhere, wrong
 
 import pitplan
-from pitplan import PlanError, constraints, load, prepare
+from pitplan import Plan, PlanError, constraints, load
 from pitplan.blockmodel import missing_blocks, tin
 from pitplan.results.folder import read_record
 from pitplan.solver import problem
@@ -35,15 +35,15 @@ CELLS = [4, 8, 11, 18, 19]
 
 
 def absent_rule(path):
-    (rule,) = [rule for rule in looked_at(prepare(path)) if rule.name == "absent"]
+    (rule,) = [rule for rule in looked_at(Plan.from_project(path)) if rule.name == "absent"]
     return rule
 
 
 def test_rock_of_cells_without_rows_is_that_of_the_project(plan_folder):
     path = plan_folder(holed(), PROJECT, ROCK)
-    assert [rule.differences for rule in looked_at(prepare(path))] == [()] * 10
+    assert [rule.differences for rule in looked_at(Plan.from_project(path))] == [()] * 10
     assert "is filled with 100 t and codes of the project" in absent_rule(path).holds
-    assert prepare(path).blocks.query("name.str.startswith('absent')")["id"].tolist() == CELLS
+    assert Plan.from_project(path).blocks.query("name.str.startswith('absent')")["id"].tolist() == CELLS
 
 
 @pytest.mark.parametrize(
@@ -120,7 +120,7 @@ def surfaced(plan_folder, tmp_path, points):
 
 
 def fixed_rule(path):
-    (rule,) = [rule for rule in looked_at(prepare(path)) if rule.name == "fixed"]
+    (rule,) = [rule for rule in looked_at(Plan.from_project(path)) if rule.name == "fixed"]
     return rule
 
 
@@ -152,7 +152,7 @@ def test_any_triangles_of_a_regular_grid_of_points_are_right(plan_folder, tmp_pa
     places = [(x, y) for x in np.arange(-20, 100, 20.0) for y in np.arange(-20, 60, 20.0)]
     places += places[:: seed + 2] if seed % 2 else rng.uniform([-20, -20], [90, 50], (20, 2)).tolist()
     path = surfaced(plan_folder, tmp_path, [(x, y, rng.uniform(-5, 25)) for x, y in places])
-    plan = prepare(path)
+    plan = Plan.from_project(path)
     assert 0 < len(plan.fixed.forced) < 42
     assert fixed_rule(path).differences == ()
 
@@ -200,7 +200,7 @@ def test_demanded_is_what_lies_above_the_points_and_their_triangles(plan_folder,
 @pytest.mark.parametrize("points", [[(3, 4, 0)], [(3, 4, 0), (3, 4, 2)], [(0, 0, 0), (10, 5, 0), (40, 20, 0)]])
 def test_points_that_make_no_triangle_demand_nothing_beside_them(plan_folder, tmp_path, points):
     path = surfaced(plan_folder, tmp_path, points)
-    assert len(prepare(path).fixed.forced) > 0
+    assert len(Plan.from_project(path).fixed.forced) > 0
     assert fixed_rule(path).differences == ()
 
 
@@ -216,7 +216,7 @@ def pits(plan_folder):
 
 def test_both_pits_are_right(pits):
     assert wrong(pits) == set()
-    blocks = pd.read_csv(pits / "blocks.csv").set_index("name")
+    blocks = pd.read_csv(pits / "tables/blocks.csv").set_index("name")
     # The ore of 6 % pays for its pit from the first factor on, that of 0.5 % from 1.0 on: 2000 less 1000 and four blocks of 200.
     assert blocks.loc[["b2-0-0", "b5-0-0", "b6-0-0", "b0-0-1"], "free_revenue_factor"].tolist() == [0.5, 1.0, 0, 0]
     assert blocks.loc[["b2-0-0", "b5-0-0", "b6-0-0", "b0-0-1"], "free_process_revenue_factor"].tolist() == [
@@ -234,29 +234,29 @@ SUMS = "blocks tonnes feed_tonnes waste_tonnes strip_ratio processed_at_revenue_
 @pytest.mark.parametrize("pit", ["kept", "free"])
 def test_each_number_of_either_pit_that_is_bent_is_found(pits, column, pit):
     """A hundredth more."""
-    table = pd.read_csv(pits / "pits.csv", dtype={"value_at_revenue_factor": str})
+    table = pd.read_csv(pits / "tables/pits.csv", dtype={"value_at_revenue_factor": str})
     at = table.index[table["fixed_blocks"] == pit][0]
     bent = float(table.loc[at, column]) + (1 if column == "blocks" else 0.02)
     table.loc[at, column] = f"{bent:.6f}" if column == "value_at_revenue_factor" else bent
-    table.to_csv(pits / "pits.csv", index=False)
+    table.to_csv(pits / "tables/pits.csv", index=False)
     assert ("free" in wrong(pits)) == (pit == "free") and wrong(pits) != set()
 
 
 @pytest.mark.parametrize("column", ["free_revenue_factor", "free_process_revenue_factor"])
 def test_a_block_of_the_pit_without_fixed_blocks_at_another_factor_is_found(pits, column):
-    blocks = pd.read_csv(pits / "blocks.csv")
+    blocks = pd.read_csv(pits / "tables/blocks.csv")
     blocks.loc[blocks.index[blocks[column] == 0.5][-1], column] = 0
-    blocks.to_csv(pits / "blocks.csv", index=False)
+    blocks.to_csv(pits / "tables/blocks.csv", index=False)
     assert wrong(pits) == {"free"}
 
 
 def test_a_pit_without_fixed_blocks_that_is_worth_less_is_found(pits):
     """What keeping to the fixed blocks would gain: no pit of all is worth less than one that keeps to some."""
-    table = pd.read_csv(pits / "pits.csv", dtype={"value_at_revenue_factor": str})
+    table = pd.read_csv(pits / "tables/pits.csv", dtype={"value_at_revenue_factor": str})
     worth = table.set_index("fixed_blocks")["value_at_revenue_factor"].map(Decimal)
     assert worth["free"] > worth["kept"]
     table.assign(value_at_revenue_factor=["999999.0", table["value_at_revenue_factor"][1]]).to_csv(
-        pits / "pits.csv", index=False
+        pits / "tables/pits.csv", index=False
     )
     (rule,) = [rule for rule in verify(pits) if rule.name == "free"]
     assert rule.differences == (
@@ -275,7 +275,7 @@ def test_a_pit_without_fixed_blocks_that_leaves_a_block_standing_is_refused(plan
             found.entry[np.flatnonzero(found.entry > 0)[0]] = 0
             return found
 
-        kept = {name: getattr(made, name) for name in ("plan", "solver", "pairs", "files", "shells", "pit")}
+        kept = {name: getattr(made, name) for name in ("plan", "solver", "pairs", "shells", "pit")}
         return SimpleNamespace(**kept, free_shells=free_shells)
 
     project = load(plan_folder(ores_and_fixed(), with_section(FIXED_SECTION)))

@@ -26,7 +26,7 @@ KEPT = Path(__file__).parent / "expected" / "view.png"
 def page(solved_once, tmp_path_factory):
     """A page of the solved hill, and the blocks that it shows."""
     folder = shutil.copytree(solved_once.place / "plan", tmp_path_factory.mktemp("view") / "plan")
-    return pitplan.view(folder, silent), pd.read_csv(folder / "blocks.csv")
+    return pitplan.view(folder, silent), pd.read_csv(folder / "tables/blocks.csv")
 
 
 @pytest.fixture(scope="module")
@@ -103,8 +103,8 @@ def scheduled(folder, place):
         "year": np.where(dug, 1 + (result.blocks["revenue_factor"] // 0.5).astype(int), 0),
     }
     blocks = result.blocks.assign(**more)
-    place.mkdir()
-    blocks.to_csv(place / "blocks.csv", index=False)
+    (place / "tables").mkdir(parents=True)
+    blocks.to_csv(place / "tables/blocks.csv", index=False)
     made = replace(result, path=place, blocks=blocks, record=result.record | {"schedule": "lp"})
     viewer3d.write(place / "view.html", made)
     return place / "view.html", blocks, made
@@ -145,7 +145,11 @@ def test_a_click_on_a_block_shows_its_row(page, browser):
         shown = browser.ask(
             "Array.from(document.querySelectorAll('#picked tr'), it => Array.from(it.cells, cell => cell.textContent))"
         )
-        text = pd.read_csv(path.parent / "blocks.csv", dtype=str, keep_default_na=False).set_index("id").loc[str(cell)]
+        text = (
+            pd.read_csv(path.parent / "tables/blocks.csv", dtype=str, keep_default_na=False)
+            .set_index("id")
+            .loc[str(cell)]
+        )
         assert dict(shown) == {
             "id": str(cell),
             **text,
@@ -210,6 +214,13 @@ def test_the_picture_is_the_one_that_was_kept(page, tmp_path_factory):
 
 
 @needs_chromium
+def test_a_folder_of_shells_alone_has_no_choice_of_stages(page, browser):
+    browser.open(page[0])
+    shown = [browser.ask(f"document.getElementById('{name}').offsetParent !== null") for name in ("by", "show")]
+    assert shown == [False, True]
+
+
+@needs_chromium
 def test_on_a_telephone_the_panel_begins_closed(page, browser, tmp_path_factory):
     browser.open(page[0])
     assert browser.ask("document.getElementById('panel').open")
@@ -233,7 +244,7 @@ def bytes_of(text):
 def test_the_model_of_the_page_by_hand(solved):
     """Grades of 6, 0.9 and 0.8 per cent: a hundredth of these lie above 5.898, and 0.8 is 34.6 of 255 parts of it."""
     model = viewer3d.model_of(read_folder(solved[1]))
-    blocks = pd.read_csv(solved[1] / "blocks.csv")
+    blocks = pd.read_csv(solved[1] / "tables/blocks.csv")
     (metal,) = model["metals"]
     shell, tint = bytes_of(model["shell"]), bytes_of(metal["grade"])
     assert (model["shape"], model["size"], model["corner"], model["top"]) == ([5, 9, 10], [10, 10, 10], [0, 0, 0], 50)

@@ -149,7 +149,7 @@ def test_pairs_lead_to_all_that_the_walls_need_and_to_no_more(
 ):
     named = [{**entry, "domain": str(number)} for number, entry in enumerate(entries)]
     table = table_of(np.random.default_rng(seed), kind, shape, size)
-    plan = pitplan.prepare(project_of(named, levels, size, never_steeper), table=table)
+    plan = pitplan.Plan.from_project(project_of(named, levels, size, never_steeper), table=table)
     plan.used[:] = True
     written = needs_written(plan, tmp_path_factory.mktemp("walls"))
     needed = needs_of_walls(plan)
@@ -169,7 +169,7 @@ def test_a_block_that_pays_has_all_that_its_walls_need_written(tmp_path_factory,
     table = table_of(rng, kind, (6, 7, 7), CUBE)
     ore = int(rng.integers(0, len(table)))
     table.loc[ore, "cu"] = 100.0
-    plan = pitplan.prepare(project_of(named, 5, CUBE), table=table)
+    plan = pitplan.Plan.from_project(project_of(named, 5, CUBE), table=table)
     block = int(plan.grid.rows[ore])
     needed = closures(needs_of_walls(plan))[block]
     assert set(np.flatnonzero(plan.used)) == {block, *(k for k in range(plan.grid.count) if needed >> k & 1)}
@@ -182,7 +182,7 @@ def test_a_flat_layer_under_steep_rock_digs_its_whole_cone(tmp_path):
     table = rows(61, 61, 10, region=lambda i, j, k: "weak" if k == 0 else "strong")
     table.loc[(table["x"] == 305) & (table["y"] == 305) & (table["z"] == 5), "cu"] = 100.0
     entries = [{"domain": "weak", "angle": 30}, {"domain": "strong", "angle": 60}]
-    plan = pitplan.prepare(project_of(entries, 9, CUBE), table=table)
+    plan = pitplan.Plan.from_project(project_of(entries, 9, CUBE), table=table)
     far = [up / math.tan(math.radians(30)) for up in range(10)]
     cells = sum(math.hypot(x, y) <= reach for reach in far for x in range(-20, 21) for y in range(-20, 21))
     assert cells == 2682 and plan.used.sum() == 2682

@@ -3,12 +3,12 @@
 import pytest
 from conftest import PROJECT, rows
 
-from pitplan import prepare
+from pitplan import Plan
 from pitplan.cli import main
 
 
 def warnings_of(path):
-    return [note for note in prepare(path).notes if note.startswith("WARNING")]
+    return [note for note in Plan.from_project(path).notes if note.startswith("WARNING")]
 
 
 def ore(**more):

@@ -42,7 +42,7 @@ def test_three_pillars_by_hand(plan_folder):
     assert table["tonnes"].tolist() == [600] * len(table) and table["unmined_tonnes"].tolist() == [0] * len(table)
     told = json.loads((folder / "schedule.json").read_text())
     assert told["methods"]["rule"] == {"npv": pytest.approx(value, abs=1e-3), "years": 3, "unmined_tonnes": 0}
-    rows_of = pd.read_csv(folder / "schedule.csv").groupby("method")
+    rows_of = pd.read_csv(folder / "tables/schedule.csv").groupby("method")
     for _, found in rows_of:
         assert found["year"].tolist() == [1, 1, 2, 2, 3, 3] and found["pushback"].tolist() == [1, 1, 2, 2, 3, 3]
         assert found["bench"].tolist() == [15, 5] * 3 and found["share"].tolist() == [1] * 6
@@ -52,14 +52,14 @@ def test_three_pillars_by_hand(plan_folder):
         assert found["discounted_cash_flow"].tolist() == pytest.approx(
             [cash / 1.1 ** (1 + k // 2) for k, cash in enumerate(found["cash_flow"])], abs=1e-3
         )
-    years = pd.read_csv(folder / "years.csv").set_index("case").loc["rule"]
+    years = pd.read_csv(folder / "tables/years.csv").set_index("case").loc["rule"]
     assert (
         years["revenue_factor"].tolist() == [1.0] * 3
         and years["year"].tolist() == [1, 2, 3]
         and years["cash_flow"].tolist() == WORTHS
     )
     assert years["discounted_cash_flow"].tolist() == pytest.approx([2600 / 1.1, 1400 / 1.21, 600 / 1.331], abs=1e-3)
-    blocks = pd.read_csv(folder / "blocks.csv").set_index("name")
+    blocks = pd.read_csv(folder / "tables/blocks.csv").set_index("name")
     assert blocks["year"].to_dict() == {f"b{i}-0-{k}": i + 1 for i in range(3) for k in range(2)}
 
 
@@ -78,7 +78,7 @@ def test_three_pillars_by_hand(plan_folder):
 )
 def test_the_rule_keeps_each_limit(plan_folder, words, cash):
     table, folder = scheduled(plan_folder, f"[schedule]\n{words}\n")
-    years = pd.read_csv(folder / "years.csv").set_index("case").loc["rule"]
+    years = pd.read_csv(folder / "tables/years.csv").set_index("case").loc["rule"]
     assert years["cash_flow"].tolist() == cash
     assert table["unmined_tonnes"]["rule"] == (200 if words == "years = 2" else 0)
 
@@ -98,10 +98,10 @@ def test_the_rule_keeps_each_limit(plan_folder, words, cash):
         ("max_metal_per_year = { copper = 0 }", "[schedule.max_metal_per_year] copper: must be above 0"),
         (
             "max_metal_per_year = { tin = 1 }",
-            "[schedule] max_metal_per_year names tin, which is none of the [[metals]] copper",
+            "[schedule] max_metal_per_year: found tin, expected one of the [[metals]]: copper",
         ),
         ("years = 0", "[schedule] years: must be a whole number from 1 to 200"),
-        ("bench_lags = 3", "[schedule] bench_lags: is no key here; bench_lag is"),
+        ("bench_lags = 3", "[schedule] bench_lags: unknown key: did you mean bench_lag"),
     ],
 )
 def test_what_is_refused(plan_folder, words, said):
@@ -189,7 +189,7 @@ def test_what_is_right_passes(copied, capsys):
     told = capsys.readouterr().out.splitlines()
     assert [line.split(":")[0] for line in told][-5:] == RULES
     record = read_record(copied)
-    named = ["schedule.csv", "methods.csv", "schedule.json", "schedule.xlsx"]
+    named = ["tables/schedule.csv", "tables/methods.csv", "schedule.json", "tables/schedule.xlsx"]
     assert set(named) <= set(record["files"])
     assert any(line.startswith("schedule order") for line in record["verified"])
 
@@ -197,15 +197,15 @@ def test_what_is_right_passes(copied, capsys):
 def test_the_report_and_the_workbook_have_the_schedule(copied):
     page = (copied / "report.html").read_text()
     assert (
-        "methods.csv" in page
+        "tables/methods.csv" in page
         and "data:image/png" not in page
         and "the schedule and its upper bound, the other numbers" in page
     )
-    book = pd.read_excel(copied / "schedule.xlsx", sheet_name=None)
+    book = pd.read_excel(copied / "tables/schedule.xlsx", sheet_name=None)
     assert list(book) == ["methods", "schedule", "years", "pushbacks", "shells"]
     for name in ("schedule", "pushbacks", "shells"):
-        pd.testing.assert_frame_equal(book[name], pd.read_csv(copied / f"{name}.csv"), check_dtype=False)
-    years = pd.read_csv(copied / "years.csv")
+        pd.testing.assert_frame_equal(book[name], pd.read_csv(copied / "tables" / f"{name}.csv"), check_dtype=False)
+    years = pd.read_csv(copied / "tables/years.csv")
     pd.testing.assert_frame_equal(
         book["years"],
         years[years["revenue_factor"] == years["revenue_factor"].max()].reset_index(drop=True),
@@ -231,18 +231,18 @@ def with_more(name, by):
 
 @pytest.mark.parametrize("name", ["total_tonnes", "feed_tonnes", "recovered_copper", "cash_flow", "share"])
 def test_an_amount_that_is_not_of_its_bench_is_found(copied, name):
-    rewrite(copied / "schedule.csv", with_more(name, 0.01 if name in ("recovered_copper", "share") else 1))
+    rewrite(copied / "tables/schedule.csv", with_more(name, 0.01 if name in ("recovered_copper", "share") else 1))
     assert "schedule amounts" in wrong(copied)
 
 
 @pytest.mark.parametrize(("name", "by"), [("pushback", 7), ("bench", 3), ("bench", 5000), ("year", -9)])
 def test_a_row_of_no_bench_is_found(copied, name, by):
-    rewrite(copied / "schedule.csv", with_more(name, by))
+    rewrite(copied / "tables/schedule.csv", with_more(name, by))
     assert "schedule amounts" in wrong(copied)
 
 
 def test_a_bench_that_is_dug_twice_is_found(copied):
-    rewrite(copied / "schedule.csv", lambda table: pd.concat([table, table.head(1)]))
+    rewrite(copied / "tables/schedule.csv", lambda table: pd.concat([table, table.head(1)]))
     assert "schedule amounts" in wrong(copied)
 
 
@@ -253,7 +253,7 @@ def test_a_bench_before_its_time_is_found(copied):
         table.loc[table["year"] == table["year"].max(), "year"] = 1
         return table
 
-    rewrite(copied / "schedule.csv", change)
+    rewrite(copied / "tables/schedule.csv", change)
     assert "schedule order" in wrong(copied)
 
 
@@ -319,7 +319,7 @@ def test_a_way_above_a_bound_is_found(copied, name):
 
 def test_what_the_rule_leaves_is_found(copied):
     """It digs all there is, unless so many years are given; a linear programme may leave what does not pay."""
-    rewrite(copied / "schedule.csv", lambda table: table[table.duplicated("method", keep="last")])
+    rewrite(copied / "tables/schedule.csv", lambda table: table[table.duplicated("method", keep="last")])
     said = [text for rule in verify(copied) if rule.name == "schedule value" for text in rule.differences]
     assert sum(" leaves " in text for text in said) == 1 and any(text.startswith("rule leaves ") for text in said)
     project = copied.parents[1] / "project.toml"
@@ -328,7 +328,7 @@ def test_what_the_rule_leaves_is_found(copied):
 
 
 def test_cash_that_is_discounted_otherwise_is_found(copied):
-    rewrite(copied / "schedule.csv", with_more("discounted_cash_flow", 1))
+    rewrite(copied / "tables/schedule.csv", with_more("discounted_cash_flow", 1))
     assert "schedule value" in wrong(copied)
 
 
@@ -341,17 +341,17 @@ def test_years_that_do_not_follow_are_found(copied, name):
         table.loc[table.index[table["case"] == "rule"][-1], name] += 1
         return table
 
-    rewrite(copied / "years.csv", change)
+    rewrite(copied / "tables/years.csv", change)
     assert "schedule value" in wrong(copied)
 
 
 def test_a_year_of_a_block_is_found(copied):
     rewrite(
-        copied / "blocks.csv",
+        copied / "tables/blocks.csv",
         lambda table: table.assign(year=table["year"].where(table.index != table["year"].idxmax(), 1)),
     )
     assert wrong(copied) == {"years of blocks"}
-    rewrite(copied / "blocks.csv", lambda table: table.assign(year=0))
+    rewrite(copied / "tables/blocks.csv", lambda table: table.assign(year=0))
     assert wrong(copied) == {"years of blocks"}
 
 
@@ -376,11 +376,11 @@ def test_blocks_of_half_a_tonne_are_dug_and_counted(plan_folder):
     project = load(plan_folder(pillars(tonnes=lambda i, j, k: 0.5), PUSHBACKS))
     table, folder = pitplan.write_schedule(project).set_index("method"), project.folder / "schedule"
     assert table["tonnes"].tolist() == [3.0] * len(table) and table["unmined_tonnes"].tolist() == [0.0] * len(table)
-    assert pd.read_csv(folder / "pushbacks.csv")["blocks"].tolist() == [2, 2, 2] and wrong(folder) == set()
+    assert pd.read_csv(folder / "tables/pushbacks.csv")["blocks"].tolist() == [2, 2, 2] and wrong(folder) == set()
 
 
 def test_a_case_of_no_way_is_found(copied):
-    rewrite(copied / "years.csv", lambda table: table.assign(case=table["case"].replace("rule", "hand")))
+    rewrite(copied / "tables/years.csv", lambda table: table.assign(case=table["case"].replace("rule", "hand")))
     assert wrong(copied) == {"years", "schedule value"}
 
 

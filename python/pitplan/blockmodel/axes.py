@@ -1,4 +1,4 @@
-"""The axes along which a grid lies: the planner's own, or those of a grid that is turned about the vertical."""
+"""The axes of a grid: those of the planner's coordinates, or those of a rotated grid."""
 
 from __future__ import annotations
 
@@ -12,17 +12,22 @@ PLACES = 6
 
 
 def turn_of(azimuth: float) -> complex:
-    """By what a vector east + north j along a grid's own axes is multiplied to be along the planner's; of the grid's north the azimuth is
-    given, in degrees clockwise from the planner's."""
+    """Returns the complex factor that turns a vector east + north j along a grid's axes into the planner's axes; `azimuth` is that of the grid's
+    north, in degrees clockwise from the planner's north.
+    """
     return complex(math.cos(math.radians(azimuth)), -math.sin(math.radians(azimuth)))
 
 
 @dataclass(frozen=True)
 class Frame:
-    """Where metres along a grid's axes are counted from, and where its north is.
+    """The origin and direction of a grid's axes.
 
-    x, y     the planner's coordinates of the place from which a turned grid counts
-    azimuth  degrees clockwise from the planner's north to the grid's; 0: the grid's axes are the planner's, and so are its coordinates
+    Attributes
+    ----------
+    x, y : float
+        The planner's coordinates of the origin of a rotated grid.
+    azimuth : float
+        Degrees clockwise from the planner's north to the grid's; 0: axes and coordinates are the planner's.
     """
 
     x: float
@@ -30,14 +35,14 @@ class Frame:
     azimuth: float = 0.0
 
     def along(self, x: np.ndarray, y: np.ndarray) -> tuple[np.ndarray, np.ndarray]:
-        """Metres east and north along the grid's axes of places x, y of the planner's."""
+        """Returns metres east and north along the grid's axes of the planner's x and y."""
         if not self.azimuth:
             return x, y
         turned = (np.subtract(x, self.x) + 1j * np.subtract(y, self.y)) / turn_of(self.azimuth)
         return turned.real, turned.imag
 
     def back(self, east: np.ndarray, north: np.ndarray) -> tuple[np.ndarray, np.ndarray]:
-        """The planner's x, y of metres east and north along the grid's axes, to a micrometre where it is turned."""
+        """Returns the planner's x and y of metres east and north along the grid's axes, to a micrometre if the grid is rotated."""
         if not self.azimuth:
             return east, north
         place = (np.asarray(east) + 1j * np.asarray(north)) * turn_of(self.azimuth)
@@ -45,7 +50,7 @@ class Frame:
 
     @property
     def names(self) -> tuple[str, str]:
-        """What the two axes are called."""
+        """The names of the two axes."""
         if not self.azimuth:
             return "east", "north"
         east, north = (f"{round(angle % 360, 4):.10g}" for angle in (self.azimuth + 90, self.azimuth))

@@ -1,4 +1,4 @@
-"""What the columns of a table seem to say, by the names that mine planning programs give them, and by their values."""
+"""Guesses what the columns of a table hold, by the names that mine planning packages use, and by their values."""
 
 from __future__ import annotations
 
@@ -45,7 +45,7 @@ RICHEST = 40.0
 
 @dataclass(frozen=True)
 class Guess:
-    """A column and why it is taken."""
+    """A column, and the reason for the guess."""
 
     column: str
     why: str
@@ -53,7 +53,7 @@ class Guess:
 
 @dataclass(frozen=True)
 class MetalGuess:
-    """A metal, its grade column, the unit that the grades seem to have, and why."""
+    """A metal, its grade column, the probable unit, and the reason."""
 
     metal: str
     column: str
@@ -63,8 +63,11 @@ class MetalGuess:
 
 @dataclass(frozen=True)
 class Columns:
-    """What the columns of a table seem to say. sizes holds x, y and z, or nothing; named has ids, tonnes, codes by their keys; texts are
-    columns that are called like amounts, and hold something else too."""
+    """The guessed columns of a table.
+
+    `sizes` has x, y and z, or nothing; `named` has id, tonnes and codes by their keys; `texts` are columns named like amounts that also hold
+    text.
+    """
 
     centres: dict[str, Guess]
     sizes: dict[str, Guess]
@@ -74,7 +77,7 @@ class Columns:
 
 
 def columns_of(frame: pd.DataFrame) -> Columns:
-    """The columns of a table as it was read: numbers as numbers, all else as texts."""
+    """Returns the guessed columns of a table as it was read: numbers as numbers, everything else as text."""
     plain = {plain_of(name): name for name in reversed(list(map(str, frame.columns)))}
     centres = {axis: found for axis, names in CENTRES.items() if (found := by_name(plain, names))}
     if len(centres) < 3:
@@ -95,7 +98,7 @@ def columns_of(frame: pd.DataFrame) -> Columns:
 
 
 def is_called_like_an_amount(name: str) -> bool:
-    """Whether a column's name is one of tonnes, a density, a volume or a metal's grades."""
+    """Returns whether a column is named like tonnes, density, volume or grades."""
     amounts = " ".join(OTHERS[key] for key in ("tonnes", "density", "volume")).split()
     return plain_of(name) in amounts or sign_of(name) is not None
 
@@ -113,7 +116,7 @@ def by_name(plain: dict[str, str], names: str) -> Optional[Guess]:
 
 
 def by_values(frame: pd.DataFrame, known: dict[str, Guess]) -> dict[str, Guess]:
-    """For the centres that no name tells, the first columns of numbers, in order, that lie at equal steps."""
+    """Returns for centroids without a known name the first columns of numbers, in order, with equal steps."""
     taken = {guess.column for guess in known.values()}
     lattices = [name for name in map(str, frame.columns) if name not in taken and is_lattice(frame, name)]
     missing = [axis for axis in CENTRES if axis not in known]
@@ -121,7 +124,7 @@ def by_values(frame: pd.DataFrame, known: dict[str, Guess]) -> dict[str, Guess]:
 
 
 def is_lattice(frame: pd.DataFrame, name: str) -> bool:
-    """Whether a column has few numbers, each many times, with gaps that are multiples of the least."""
+    """Returns whether a column has few distinct numbers, each many times, with gaps that are multiples of the smallest."""
     if not is_number(frame, name) or frame[name].isna().any():
         return False
     values = np.unique(frame[name].to_numpy(dtype=np.float64))
@@ -133,7 +136,7 @@ def is_lattice(frame: pd.DataFrame, name: str) -> bool:
 
 
 def sign_of(name: str) -> Optional[tuple[str, list[str]]]:
-    """The sign of a metal that stands first in a name, and the words behind it, perhaps a unit; None where there is none."""
+    """Returns the symbol of a metal at the start of a name, and the words after it, perhaps a unit; None without one."""
     words = re.findall(r"[a-z]+|%", name.lower())
     if not words or words[0] in METALS:
         return (words[0], words[1:]) if words else None
@@ -142,7 +145,7 @@ def sign_of(name: str) -> Optional[tuple[str, list[str]]]:
 
 
 def metal_of(frame: pd.DataFrame, name: str) -> Optional[MetalGuess]:
-    """The metal of a column of grades, by its name, and their unit, by it or by the values."""
+    """Returns the metal of a grade column by its name, and the unit by the name or the values."""
     signed = sign_of(name)
     if signed is None or not is_number(frame, name):
         return None
@@ -163,5 +166,5 @@ def metal_of(frame: pd.DataFrame, name: str) -> Optional[MetalGuess]:
 
 
 def first_of_each(found: list[MetalGuess]) -> tuple[MetalGuess, ...]:
-    """One column for each metal, the first."""
+    """Returns the first column of each metal."""
     return tuple({guess.metal: guess for guess in reversed(found)}.values())[::-1]

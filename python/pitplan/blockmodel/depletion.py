@@ -46,7 +46,7 @@ def depleted(frame: pd.DataFrame, grid: Grid, project: Project) -> tuple[pd.Data
 
     Raises PlanError if a file is not usable or lies over no block; MissingPackage if what reads it is not installed.
     """
-    rules = project.fixed
+    rules = project.constraints
     if rules is None or rules.as_mined is None:
         return frame, []
     original = project.table.topography or rules.topography

@@ -2,7 +2,7 @@
 
 from __future__ import annotations
 
-from pitplan.config.figures import PictureRules
+from pitplan.config.figures import FigureRules
 from pitplan.config.project import Project
 from pitplan.errors import PlanError
 
@@ -11,7 +11,7 @@ from .grid import Grid, metres
 
 def demand_within(project: Project, grid: Grid) -> None:
     """Raises PlanError if `[figures]` names a level or a section beyond the model."""
-    rules = project.pictures or PictureRules()
+    rules = project.figures or FigureRules()
     west, east, south, north, floor, top = grid.extent()
     asked = (
         ("levels", rules.levels, floor, top),

@@ -1,4 +1,4 @@
-"""A table of blocks as a regular grid: blocks are numbered from the top level down, row by row from the south-west."""
+"""A table of blocks as a regular grid. Cells are numbered from the top level down, row by row from the south-west."""
 
 from __future__ import annotations
 
@@ -24,19 +24,26 @@ FEW = 0.01
 
 
 def metres(value: float) -> str:
-    """A coordinate with all its digits, to a tenth of a millimetre: 6512640, not 6.51264e+06, and 0 without a sign."""
+    """Returns a coordinate with all its digits, to a tenth of a millimetre: 6512640, not 6.51264e+06, and 0 without a sign."""
     return f"{round(float(value), 4) + 0.0:.15g}"
 
 
 @dataclass(frozen=True)
 class Grid:
-    """All cells of the box round the table's blocks.
+    """All cells of the bounding box of the blocks.
 
-    shape   levels (from the top), rows (from the south), columns (from the west)
-    origin  x, y, z in metres of the centre of block 0: west, south, top
-    size    a block's size in metres, east, north and up
-    rows    for each row of the table the number of its cell
-    azimuth degrees clockwise from the planner's north to the grid's: south, west and the like are the grid's own, x and y the planner's
+    Attributes
+    ----------
+    shape : tuple of int
+        Levels (from the top), rows (from the south) and columns (from the west).
+    origin : tuple of float
+        x, y, z in metres of the centre of cell 0: west, south, top.
+    size : tuple of float
+        Block size in metres: east, north and up.
+    rows : int array
+        The cell of each row of the table.
+    azimuth : float
+        Degrees clockwise from the planner's north to the grid's. South, west etc. are the grid's own, x and y the planner's.
     """
 
     shape: tuple[int, int, int]
@@ -47,7 +54,7 @@ class Grid:
 
     @property
     def count(self) -> int:
-        """How many cells there are."""
+        """The number of cells."""
         return self.shape[0] * self.shape[1] * self.shape[2]
 
     @property
@@ -55,30 +62,30 @@ class Grid:
         return self.shape[1] * self.shape[2]
 
     def spread(self, values: np.ndarray, fill: float = 0) -> np.ndarray:
-        """One value a cell from one a row of the table; `fill` where the table has no row."""
+        """Returns values by cell from values by row; `fill` for cells without a row."""
         result = np.full(self.count, fill, dtype=np.asarray(values).dtype)
         result[self.rows] = values
         return result
 
     def cube(self, values: np.ndarray) -> np.ndarray:
-        """One value a cell as an array of levels, rows and columns."""
+        """Returns values by cell as an array of shape (levels, rows, columns)."""
         return np.asarray(values).reshape(self.shape)
 
     def indices(self, ids: np.ndarray) -> tuple[np.ndarray, np.ndarray, np.ndarray]:
-        """Column from the west, row from the south and level from the top, of each id."""
+        """Returns column from the west, row from the south and level from the top of each cell."""
         level, rest = np.divmod(ids, self.per_level)
         row, column = np.divmod(rest, self.shape[2])
         return column, row, level
 
     @property
     def frame(self) -> Frame:
-        """The axes that `extent` and `middles` are along: the planner's, or of a turned grid its own from its corner at the south-west."""
+        """The axes of `extent` and `middles`: the planner's, or those of a rotated grid from its south-west corner."""
         x, y, _ = self.origin
         corner = complex(x, y) - complex(self.size[0], self.size[1]) / 2 * turn_of(self.azimuth)
         return Frame(corner.real, corner.imag, self.azimuth)
 
     def middles(self, ids: np.ndarray) -> tuple[np.ndarray, np.ndarray, np.ndarray]:
-        """Metres east, north and up of the centre of each id along the frame's axes."""
+        """Returns metres east, north and up of the centres of cells, along the axes of `frame`."""
         column, row, level = self.indices(ids)
         (x, y, z), (dx, dy, dz) = self.origin, self.size
         if self.azimuth:
@@ -86,22 +93,22 @@ class Grid:
         return x + column * dx, y + row * dy, z - level * dz
 
     def centres(self, ids: np.ndarray) -> tuple[np.ndarray, np.ndarray, np.ndarray]:
-        """The planner's x, y, z in metres of the centre of each id."""
+        """Returns the planner's x, y, z in metres of the centres of cells."""
         east, north, up = self.middles(ids)
         return *self.frame.back(east, north), up
 
     def steps(self, x: np.ndarray, y: np.ndarray) -> tuple[np.ndarray, np.ndarray]:
-        """How many columns and rows places x, y of the planner's lie from the centre of block 0, with fractions."""
+        """Returns how many columns and rows the planner's x and y lie from the centre of cell 0, with fractions."""
         east, north = self.frame.along(x, y)
         first = (self.size[0] / 2, self.size[1] / 2) if self.azimuth else self.origin
         return (east - first[0]) / self.size[0], (north - first[1]) / self.size[1]
 
     def elevations(self) -> np.ndarray:
-        """Metres of the centres of each level, from the top."""
+        """Returns the elevations of the centres of the levels in metres, from the top."""
         return self.origin[2] - np.arange(self.shape[0]) * self.size[2]
 
     def extent(self) -> tuple[float, float, float, float, float, float]:
-        """West, east, south, north, floor and top of the box in metres, along the frame's axes."""
+        """Returns west, east, south, north, floor and top of the grid in metres, along the axes of `frame`."""
         (x, y, z), (dx, dy, dz), (levels, rows, columns) = self.origin, self.size, self.shape
         west, south, top = x - dx / 2, y - dy / 2, z + dz / 2
         if self.azimuth:
@@ -109,14 +116,14 @@ class Grid:
         return west, west + columns * dx, south, south + rows * dy, top - levels * dz, top
 
     def as_json(self) -> dict[str, Any]:
-        """What tells the cells: shape, origin, size, and of a turned grid its azimuth."""
+        """Returns shape, origin, size, and the azimuth of a rotated grid."""
         told = {"shape": list(self.shape), "origin": list(self.origin), "size": list(self.size)}
         return told | ({"azimuth": self.azimuth} if self.azimuth else {})
 
 
 @dataclass(frozen=True)
 class Axis:
-    """One axis of the grid: least centre, block size, number of blocks, and each row's place."""
+    """One axis of the grid: least centre, block size, number of blocks, and the place of each row."""
 
     first: float
     size: float
@@ -125,10 +132,21 @@ class Axis:
 
 
 def of_table(frame: pd.DataFrame, project: Project, source: str = "table", any_size: bool = False) -> Grid:
-    """The grid of a checked table, whose north has the azimuth that the project gives, or else that which the centres tell.
+    """Returns the grid of a checked table, with the azimuth of the project or otherwise that of the centroids.
 
-    Raises PlanError where a centre lies off it, a cell stands twice, the azimuth is not that of the centres, or the grid is too large for
-    the program, or where it may have any size for this computer.
+    Parameters
+    ----------
+    frame : DataFrame
+    project : Project
+    source : str
+        How errors name the table.
+    any_size : bool
+        Whether the grid may have more cells than the solver takes.
+
+    Raises
+    ------
+    PlanError
+        If a centroid lies off the grid, a cell occurs twice, the azimuth is not that of the centroids, or the grid is too large.
     """
     rules = project.grid
     if rules.azimuth:
@@ -175,7 +193,7 @@ def laid(frame: pd.DataFrame, project: Project, source: str, any_size: bool, azi
 
 
 def turned_axes(frame: pd.DataFrame, project: Project, source: str, azimuth: float) -> tuple[Axis, Axis]:
-    """The two axes of a turned grid; `first` of both are the planner's x and y of one block."""
+    """Returns the two axes of a rotated grid; `first` of both are the planner's x and y of one block."""
     columns = project.table
     centres = frame[[columns.x, columns.y]].to_numpy()
     found = rotated_grid.of_centres(centres, azimuth, project.grid, (source, f"{columns.x}, {columns.y}"))
@@ -212,7 +230,7 @@ def axis_of(frame: pd.DataFrame, name: str, k: int, rules: GridRules, source: st
 
 
 def step_of(values: np.ndarray, gaps: np.ndarray, tolerance: float) -> float:
-    """The step between centres: the smallest gap, or the most common one where but a few centres are off it, which are mistakes then."""
+    """Returns the step between centres: the smallest gap, or the most common one if only a few centres lie off it, by mistake."""
     steps, counts = np.unique(gaps.round(6), return_counts=True)
     usual = float(steps[counts.argmax()])
     first = most_common_lattice(values, float(values.min()), usual, tolerance)
@@ -221,7 +239,7 @@ def step_of(values: np.ndarray, gaps: np.ndarray, tolerance: float) -> float:
 
 
 def most_common_lattice(values: np.ndarray, first: float, size: float, tolerance: float) -> float:
-    """A centre of the lattice on which most values lie, so that what is off it are the few."""
+    """Returns a centre of the lattice on which most values lie, so that the few others are those off it."""
     shift = values - first
     shift = shift - np.rint(shift / size) * size
     group = np.rint(shift / max(tolerance, 1e-6))
@@ -240,7 +258,7 @@ def demand_once(cells: np.ndarray, frame: pd.DataFrame, columns: TableColumns, s
 
 
 def demand_neighbours(grid: Grid, columns: TableColumns, source: str) -> None:
-    """Refuses a size found from coordinates at which hardly any two blocks touch: the mark of sub-blocks."""
+    """Rejects a block size found from coordinates at which hardly any two blocks touch, a sign of sub-blocks."""
     filled = np.zeros(grid.count, dtype=bool)
     filled[grid.rows] = True
     cube = grid.cube(filled)
@@ -258,6 +276,6 @@ def demand_neighbours(grid: Grid, columns: TableColumns, source: str) -> None:
 
 
 def grid_of(box: dict[str, Any], rows: np.ndarray) -> Grid:
-    """A grid from its record, with the cells of the table's rows."""
+    """Returns the grid of a record, with the cells of the table's rows."""
     (levels, north, east), (x, y, z), (dx, dy, dz) = box["shape"], box["origin"], box["size"]
     return Grid((levels, north, east), (x, y, z), (dx, dy, dz), rows, box.get("azimuth", 0.0))

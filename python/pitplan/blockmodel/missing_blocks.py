@@ -1,8 +1,8 @@
-"""Cells of the grid that have no row in the planner's table: air above the ground, and ground of which nothing is known.
+"""Cells of the grid without a row in the table: air above the ground, and missing blocks.
 
-A cell above the highest row of its column is air. One below or between rows, or in a column without any, may be rock that was
-left out of the table, and what it costs to dig is not known. Where the planner gives it tonnes it becomes a block like others;
-where not, a pit that reaches it is refused, unless it is said to be air.
+A cell above the highest row of its column is air. A cell below or between rows, or in a column without rows, may be rock that was left out
+of the table, at an unknown mining cost: a missing block. If the project gives it tonnes, it becomes a block. Otherwise a shell that
+reaches it is rejected, unless the project defines it as air.
 """
 
 from __future__ import annotations
@@ -21,7 +21,7 @@ from .grid import Grid
 
 
 def unknown_cells(grid: Grid) -> np.ndarray:
-    """The cells without a row that are not air, rising."""
+    """Returns the missing blocks: cells without a row that are not air, rising."""
     filled = np.zeros(grid.count, dtype=bool)
     filled[grid.rows] = True
     cube = grid.cube(filled)
@@ -30,7 +30,7 @@ def unknown_cells(grid: Grid) -> np.ndarray:
 
 
 def with_rows(frame: pd.DataFrame, grid: Grid, project: Project) -> tuple[pd.DataFrame, Grid]:
-    """The table and its grid with a row for each cell that is not known, where the project says what rock it is."""
+    """Returns the table and its grid with a row for each missing block, if the project says what rock it is."""
     rock, cells = project.table.missing_blocks, unknown_cells(grid)
     if not isinstance(rock, MissingRock) or not len(cells):
         return frame, grid
@@ -52,7 +52,7 @@ def with_rows(frame: pd.DataFrame, grid: Grid, project: Project) -> tuple[pd.Dat
 
 
 def notes(frame: pd.DataFrame, grid: Grid, project: Project) -> list[str]:
-    """What a planner should know of the cells that had no row, of a table as `with_rows` gives it."""
+    """Returns notes on cells without a row, of a table that `with_rows` returned."""
     absent, left = project.table.missing_blocks, unknown_cells(grid)
     air = grid.count - len(frame) - len(left)
     found = [f"{air:,} cells lie above the highest row of their column and are air"] if air else []
@@ -72,10 +72,10 @@ def notes(frame: pd.DataFrame, grid: Grid, project: Project) -> list[str]:
 
 
 def demand_known(entry: np.ndarray, grid: Grid, project: Project, source: str) -> None:
-    """Raises PlanError where a shell reaches a cell that is not known, naming how many and the first.
+    """Raises PlanError, with the number and the first, if a shell reaches a missing block.
 
-    `entry` has for each cell the least factor whose pit holds it, 0 where none does. Cells that are not known cost nothing while
-    the shells are found; so where none is reached, none would be, whatever it cost.
+    `entry` has for each cell the least revenue factor whose shell holds it; 0: none. Missing blocks cost nothing while the shells are solved, so
+    if no shell reaches one, none would at any cost.
     """
     if project.table.missing_blocks == "air":
         return

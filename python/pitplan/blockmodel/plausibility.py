@@ -7,10 +7,10 @@ from typing import Sequence
 import numpy as np
 
 from pitplan.config.economics import Metal
+from pitplan.errors import WARNING
 
 from .grid import Grid
 
-WARNING = "WARNING: "
 # Tonnes a cubic metre between which blocks of rock lie, cut ones among them: lighter than pumice, heavier than massive sulphide ore.
 LIGHT, HEAVY = 0.1, 10.0
 # By what a metal that is counted in t or g is sold otherwise.

@@ -1,6 +1,6 @@
-"""The planner's table of blocks: read from a CSV file or taken from pandas, and checked whole.
+"""Reads the table of blocks from a file or from pandas, and checks it completely.
 
-A row is counted as a spreadsheet counts it: the header is row 1, the first block row 2.
+Rows are counted as in a spreadsheet: the header is row 1, the first block row 2.
 """
 
 from __future__ import annotations
@@ -33,12 +33,20 @@ TONNES_PLACES = 6
 class Table:
     """A checked table.
 
-    frame   one row a block, in the file's order: numbers as float64, codes (id, rock, region) as texts
-    source  the file, or "table" where it came from pandas
-    filled  how many empty fields were taken as 0
-    notes   what was told of the text by looking at it
-    unused  columns that the project does not name
-    warned  what spreadsheets may take for formulas
+    Attributes
+    ----------
+    frame : DataFrame
+        One row per block, in the order of the file: numbers as float64, codes (id, rock type, domain) as text.
+    source : str
+        The file, or "table" if it came from pandas.
+    filled : int
+        Number of empty fields that were read as 0.
+    notes : tuple of str
+        Notes on the format of the text.
+    unused : tuple of str
+        Columns that the project does not name.
+    warned : tuple of str
+        Warnings about texts that spreadsheets may take for formulas.
     """
 
     frame: pd.DataFrame
@@ -50,10 +58,14 @@ class Table:
 
 
 def read(project: Project) -> Table:
-    """The table of `project.table.file` (.csv, also .csv.gz or .zip; or .parquet), with the columns that the project names.
+    """Returns the table of `project.table.file` (.csv, .csv.gz, .zip or .parquet), with the columns that the project names.
 
-    Raises PlanError, with file, row and column, where a column is missing or a field is not usable, and MissingPackage where Parquet cannot
-    be read here.
+    Raises
+    ------
+    PlanError
+        With file, row and column, if a column is missing or a field is not usable.
+    MissingPackage
+        If the package that reads Parquet is not installed.
     """
     columns = project.table
     codes = [name for name in (columns.id, columns.rock_type, columns.domain) if name]
@@ -70,8 +82,7 @@ def read(project: Project) -> Table:
 
 
 def format_of(file: Path, columns: TableColumns) -> TableFormat:
-    """The format that the project names; what it does not name is told by the header. Raises PlanError where the file cannot be
-    read."""
+    """Returns the text format of the project; the header decides what it leaves open. Raises PlanError if the file cannot be read."""
     separator = columns.separator or guessed_separator(file, columns.encoding)
     return TableFormat(separator, columns.decimal or ".", columns.encoding)
 
@@ -79,7 +90,7 @@ def format_of(file: Path, columns: TableColumns) -> TableFormat:
 def read_as_written(
     file: Path, columns: TableColumns, codes: list[str], wanted: list[str]
 ) -> tuple[pd.DataFrame, TableFormat]:
-    """The file as `read_columns` gives it, in the format that the project names, or else that of the text itself."""
+    """Returns the file as `read_columns` reads it, and its format: that of the project, otherwise that of the text."""
     form = format_of(file, columns)
     # The reader would give the second of two columns of one name another.
     demand_each_once([name for name in names_in_header(file, form) if name in wanted], str(file))
@@ -93,7 +104,7 @@ def read_as_written(
 
 
 def notes_of(form: TableFormat, columns: TableColumns) -> list[str]:
-    """What was told by looking at the table, where it is not what one expects."""
+    """Returns notes on an unusual separator or decimal mark that was detected."""
     found = []
     if columns.separator is None and form.separator != ",":
         found.append(f"the fields are separated by {NAMES[form.separator]}; [table] separator sets another separator")
@@ -103,7 +114,7 @@ def notes_of(form: TableFormat, columns: TableColumns) -> list[str]:
 
 
 def has_decimal_commas(frame: pd.DataFrame, names: list[str]) -> bool:
-    """Whether some column is no numbers as it stands, and numbers once its commas are points."""
+    """Returns whether some column is no numbers as it is, but is if commas are decimal marks."""
     for name in names:
         if name in frame and holds_texts(frame[name]):
             # A piece that was read as numbers has whole ones as 5.0 where a field is empty.
@@ -115,16 +126,16 @@ def has_decimal_commas(frame: pd.DataFrame, names: list[str]) -> bool:
 
 
 def names_of(project: Project) -> list[str]:
-    """The columns that the project names, each once."""
+    """Returns the columns that the project names, each once."""
     return list(dict.fromkeys(named(project)))
 
 
 def named(project: Project) -> list[str]:
-    """The columns that the project names, each as often as it does."""
+    """Returns the columns that the project names, as often as it names them."""
     t = project.table
-    fixed = [project.fixed.must_mine, project.fixed.exclude] if project.fixed else []
+    fixed = [project.constraints.must_mine, project.constraints.exclude] if project.constraints else []
     rock = [t.density, t.volume] if t.density else [t.tonnes]
-    sums = project.schedule_rules.columns if project.schedule_rules else ()
+    sums = project.schedule.columns if project.schedule else ()
     columns = [
         t.id,
         t.x,
@@ -141,7 +152,7 @@ def named(project: Project) -> list[str]:
 
 
 def demand_codes_apart(project: Project) -> None:
-    """Refuses a column of codes that would be read as numbers too."""
+    """Rejects a column that is both a code and a number."""
     codes = {"id": project.table.id, "rock_type": project.table.rock_type, "domain": project.table.domain}
     for key, name in codes.items():
         if name and named(project).count(name) > list(codes.values()).count(name):
@@ -150,9 +161,9 @@ def demand_codes_apart(project: Project) -> None:
 
 
 def checked(frame: pd.DataFrame, project: Project, source: str = "table") -> Table:
-    """The named columns alone. Raises PlanError as `read` does.
+    """Returns the named columns of a frame, checked. Raises PlanError as `read` does.
 
-    Empty tonnes and grades are refused, or taken as 0 where the project says `empty = "zero"`.
+    Empty tonnes and grades are rejected, or read as 0 with `empty = "zero"`.
     """
     columns = project.table
     demand_codes_apart(project)
@@ -184,8 +195,7 @@ def checked(frame: pd.DataFrame, project: Project, source: str = "table") -> Tab
 
 
 def stripped(codes: pd.Series) -> np.ndarray:
-    """Codes as texts without blanks at either end, empty where none is; by Python's own strip, since that of pandas takes several times as
-    long."""
+    """Returns codes as text without blanks at either end; missing ones are empty. Python's own strip is several times as fast as that of pandas."""
     if codes.isna().any() or pd.api.types.infer_dtype(codes, skipna=False) != "string":
         # A missing one would be called nan, None or <NA>.
         codes = codes.astype(object).where(codes.notna(), "").astype(str)
@@ -193,14 +203,14 @@ def stripped(codes: pd.Series) -> np.ndarray:
 
 
 def demand_no_nul(codes: pd.Series, source: str, name: str) -> None:
-    """Raises PlanError where a code holds a NUL byte, at which it would end where the answer is read."""
+    """Raises PlanError if a code contains a NUL byte, at which it would end when the results are read."""
     if "\0" in "".join(codes):
         row = next(row for row, code in enumerate(codes) if "\0" in code)
         raise at_row(source, row, name, "contains a NUL byte")
 
 
 def filled_numbers(column: pd.Series, source: str, name: str, may_fill: bool) -> tuple[np.ndarray, int]:
-    """A column's numbers, with 0 where it is empty, and how many fields were. Raises PlanError where it may not be."""
+    """Returns the numbers of a column with 0 for empty fields, and their number. Raises PlanError if empty fields are not allowed."""
     numbers = numbers_of(column, source, name)
     empty = np.isnan(numbers)
     if empty.any() and not may_fill:
@@ -209,7 +219,7 @@ def filled_numbers(column: pd.Series, source: str, name: str, may_fill: bool) ->
 
 
 def demand_codes(frame: pd.DataFrame, project: Project, source: str) -> None:
-    """Every block has an id of its own, and every block of rock its rock and region, where these are named."""
+    """Requires an id of its own for each block, and a rock type and domain for each block with tonnes, if the project names these columns."""
     columns = project.table
     demand_ids(frame, columns.id, source)
     for name in (columns.rock_type, columns.domain):
@@ -220,7 +230,7 @@ def demand_codes(frame: pd.DataFrame, project: Project, source: str) -> None:
 
 
 def tonnes_by_density(frame: pd.DataFrame, project: Project) -> np.ndarray:
-    """The density of each block times its volume, or that of the grid's blocks: the exact product of the decimals, to a gram."""
+    """Returns density times volume, or times the volume of the grid's blocks: the exact product of the decimals, to a gram."""
     density = Exact.of_floats(frame[project.table.density].to_numpy())
     if project.table.volume:
         volume = Exact.of_floats(frame[project.table.volume].to_numpy())
@@ -231,7 +241,7 @@ def tonnes_by_density(frame: pd.DataFrame, project: Project) -> np.ndarray:
 
 
 def demand_near(frame: pd.DataFrame, project: Project, source: str) -> None:
-    """Raises PlanError where a centre lies where no ground is."""
+    """Raises PlanError if a centroid lies farther away than any ground."""
     for name in (project.table.x, project.table.y, project.table.z):
         far = np.abs(frame[name].to_numpy()) > FARTHEST
         if far.any():
@@ -247,7 +257,7 @@ def demand_near(frame: pd.DataFrame, project: Project, source: str) -> None:
 def demand_not_negative(frame: pd.DataFrame, project: Project, source: str) -> None:
     columns = project.table
     rock = [name for name in (columns.density, columns.volume) if name] or [columns.tonnes]
-    sums = project.schedule_rules.columns if project.schedule_rules else ()
+    sums = project.schedule.columns if project.schedule else ()
     for name in [*rock, *(metal.column for metal in project.metals), *sums]:
         demand_none_below_0(frame[name].to_numpy(), source, name)
 
@@ -266,12 +276,16 @@ def demand_ids(frame: pd.DataFrame, name: Optional[str], source: str) -> None:
     if twice.any():
         row = int(twice.argmax())
         first = int((frame[name] == frame[name].iloc[row]).to_numpy().argmax())
-        raise at_row(source, row, name, f"{frame[name].iloc[row]} stands in row {first + HEADER_ROWS} too")
+        raise at_row(
+            source,
+            row,
+            name,
+            f"{frame[name].iloc[row]} is the id of row {first + HEADER_ROWS} too: expected a different id in each row",
+        )
 
 
 def called(frame: pd.DataFrame, project: Project, row: int) -> str:
-    """What a planner calls the block of a row, counted from 0: by its id, where there is one, and the file's row, or where rows are put
-    together by its centre."""
+    """Returns the name of the block of a row, from 0: its id, if there is one, with the row of the file; of a reblocked table its centroid."""
     name, place = project.table.id, row + HEADER_ROWS
     if project.table.reblock:
         x, y, z = (f"{frame[axis].iloc[row]:.10g}" for axis in (project.table.x, project.table.y, project.table.z))

@@ -1,8 +1,8 @@
-"""Makes blocks of one size of a table's rows: whole blocks put together, or sub-blocks of uneven sizes put into their parents.
+"""Reblocks a table: whole blocks are combined, or sub-blocks of several sizes are combined into their parent blocks.
 
-Tonnes are summed, grades are means by tonnes, rock and region those of most tonnes; a block is forced or barred where a part of it is. Of
-columns that a schedule sums those that are of a tonne are means too, and others are summed. What is of another rock or region than its
-block is told in tonnes.
+Tonnes are summed, grades are tonnage-weighted means, and rock type and domain are those of the most tonnes. A block is must-mine or excluded if
+a part of it is. Columns that a schedule limits are weighted means if they are per tonne, otherwise sums. A note gives the tonnes with
+another rock type or domain than their block.
 """
 
 from __future__ import annotations
@@ -31,12 +31,18 @@ GRADE_PLACES = 9
 
 @dataclass(frozen=True)
 class Lattice:
-    """Where the rows lie among the new blocks.
+    """The places of rows among the new blocks.
 
-    first   centre of the block at the west, the south and the floor, in metres along the frame's axes
-    size    of a block, in metres
-    places  for each row the column, the row and the level of its block, from there
-    frame   the axes
+    Attributes
+    ----------
+    first : tuple of float
+        Centre of the block at the west, the south and the floor, in metres along the frame's axes.
+    size : tuple of float
+        Block size in metres.
+    places : int array, shape (rows, 3)
+        Column, row and level of the block of each row.
+    frame : Frame
+        The axes.
     """
 
     first: tuple[float, float, float]
@@ -45,18 +51,23 @@ class Lattice:
     frame: Frame
 
     def centres(self, places: np.ndarray) -> list[np.ndarray]:
-        """x, y, z of blocks by their column, row and level, an array of blocks and these."""
+        """Returns x, y, z of blocks by column, row and level, shape (blocks, 3)."""
         east, north, up = (self.first[k] + places[:, k] * self.size[k] for k in range(3))
         return [*self.frame.back(east, north), up]
 
 
 @dataclass(frozen=True)
 class Reblocked:
-    """A table with one row for each block.
+    """A table with one row per block.
 
-    table    the rows of the blocks, by level, row and column
-    project  the project with the blocks' size and azimuth as its [grid]
-    parts    which rows of the table each block is made of; None if each row is a block
+    Attributes
+    ----------
+    table : Table
+        The rows of the blocks, by level, row and column.
+    project : Project
+        The project with size and azimuth of the blocks as its [grid].
+    parts : Parts, optional
+        The rows that make up each block; None if each row is a block.
     """
 
     table: Table
@@ -65,9 +76,8 @@ class Reblocked:
 
 
 def of_table(table: Table, project: Project) -> Reblocked:
-    """The blocks of a table's rows; the rows themselves if the project does not reblock them.
-
-    Raises PlanError where a row lies between two blocks, or two rows in one place.
+    """Returns the blocks of a table, or its own rows if the project does not reblock. Raises PlanError if a row lies between two blocks, or two
+    rows have one centroid.
     """
     rules = project.table.reblock
     if rules is None:
@@ -83,7 +93,7 @@ def of_table(table: Table, project: Project) -> Reblocked:
 
 
 def of_counts(table: Table, project: Project, rules: Reblock) -> Lattice:
-    """So many whole blocks in one, from the west, the south and the floor on."""
+    """Combines a number of whole blocks in each direction, from the west, the south and the floor."""
     assert rules.counts is not None
     grid = grids.of_table(table.frame, project, table.source, any_size=True)
     column, row, level = grid.indices(grid.rows)
@@ -95,7 +105,7 @@ def of_counts(table: Table, project: Project, rules: Reblock) -> Lattice:
 
 
 def of_corner(table: Table, project: Project, rules: Reblock) -> Lattice:
-    """Blocks of a size from a corner on, in which the rows' centres lie."""
+    """Combines the rows whose centroids lie in blocks of a size from a corner."""
     assert rules.size is not None and rules.corner is not None
     columns, places = project.table, []
     demand_apart(table, project)
@@ -117,13 +127,13 @@ def of_corner(table: Table, project: Project, rules: Reblock) -> Lattice:
 
 
 def lattice_of(edge: Sequence[float], size: Sequence[float], places: Sequence[np.ndarray], frame: Frame) -> Lattice:
-    """From the edge at the west, the south and the floor."""
+    """Returns the lattice from its edge at the west, the south and the floor."""
     (x, y, z), (east, north, up), (column, row, level) = edge, size, places
     return Lattice((x + east / 2, y + north / 2, z + up / 2), (east, north, up), (column, row, level), frame)
 
 
 def demand_apart(table: Table, project: Project) -> None:
-    """Refuses two rows of one centre."""
+    """Rejects two rows with one centroid."""
     columns = [project.table.x, project.table.y, project.table.z]
     twice = table.frame.duplicated(columns).to_numpy()
     if twice.any():
@@ -132,7 +142,7 @@ def demand_apart(table: Table, project: Project) -> None:
 
 
 def parts_of(tonnes: np.ndarray, lattice: Lattice) -> tuple[np.ndarray, Parts]:
-    """Column, row and level of each block that holds rows, an array of blocks and these; and the rows as parts of the blocks."""
+    """Returns column, row and level of each block with rows, shape (blocks, 3), and the rows as parts of the blocks."""
     column, row, level = lattice.places
     shape = [int(place.max()) + 1 for place in lattice.places]
     used, block = np.unique((level * shape[1] + row) * shape[0] + column, return_inverse=True)
@@ -143,8 +153,8 @@ def parts_of(tonnes: np.ndarray, lattice: Lattice) -> tuple[np.ndarray, Parts]:
 def put_together(
     frame: pd.DataFrame, centres: list[np.ndarray], places: np.ndarray, parts: Parts, project: Project
 ) -> tuple[pd.DataFrame, list[str]]:
-    """A row a block, and what is mixed in them."""
-    columns, fixed = project.table, project.fixed
+    """Returns a row per block, and notes on mixed rock types and domains."""
+    columns, fixed = project.table, project.constraints
     result, mixed = pd.DataFrame(index=pd.RangeIndex(parts.count)), []
     if columns.id:
         result[columns.id] = [f"{east + 1}-{north + 1}-{up + 1}" for east, north, up in places.tolist()]
@@ -162,8 +172,8 @@ def put_together(
 
 
 def amounts(frame: pd.DataFrame, parts: Parts, project: Project) -> dict[str, np.ndarray]:
-    """Of each block the means of what is of a tonne, and the sums of what else a schedule sums."""
-    rules = project.schedule_rules or ScheduleRules()
+    """Returns for each block the means of columns per tonne, and the sums of other columns that a schedule limits."""
+    rules = project.schedule or ScheduleRules()
     means = {*(metal.column for metal in project.metals), *rules.columns_of(per_tonne=True)}
     whole = rules.columns_of(per_tonne=False)
     found = {name: parts.means if name in means else parts.sums for name in frame.columns if name in (*means, *whole)}
@@ -172,7 +182,7 @@ def amounts(frame: pd.DataFrame, parts: Parts, project: Project) -> dict[str, np
 
 @dataclass(frozen=True)
 class Parts:
-    """Rows as parts of blocks: the number of each row's block, how many blocks there are, and the tonnes of each row."""
+    """Rows as parts of blocks: the block of each row, the number of blocks, and the tonnes of each row."""
 
     block: np.ndarray
     count: int
@@ -180,26 +190,26 @@ class Parts:
 
     @cached_property
     def whole(self) -> np.ndarray:
-        """Tonnes of each block, as floats."""
+        """Tonnes of each block."""
         return np.bincount(self.block, self.tonnes, minlength=self.count)
 
     @cached_property
     def order(self) -> np.ndarray:
-        """The rows block by block."""
+        """The rows, block by block."""
         return np.argsort(self.block, kind="stable")
 
     def total(self, values: Exact) -> Exact:
-        """The exact sum over the rows of each block. Every block has a row."""
+        """Returns the exact sum over the rows of each block. Every block has a row."""
         rows, starts = values.whole[self.order], np.searchsorted(self.block[self.order], np.arange(self.count))
         rows = rows if greatest(rows) * len(rows) <= MOST_WHOLE else rows.astype(object)
         return Exact(np.add.reduceat(rows, starts), values.places)
 
     def sums(self, values: np.ndarray, places: int) -> np.ndarray:
-        """The sum of each block, rounded once to `places` decimals."""
+        """Returns the sum of each block, rounded once to `places` decimals."""
         return Exact(self.total(Exact.of_floats(values)).rounded(places)[0], places).floats()
 
     def means(self, values: np.ndarray, places: int) -> np.ndarray:
-        """The tonnage-weighted mean of each block, rounded once to `places` decimals; 0 for a block without tonnes."""
+        """Returns the tonnage-weighted mean of each block, rounded once to `places` decimals; 0 for a block without tonnes."""
         tonnes, values_of = Exact.of_floats(self.tonnes), Exact.of_floats(values)
         content, whole = self.total(tonnes.times(values_of)), self.total(tonnes).whole
         some = np.array(whole > 0, dtype=bool)
@@ -208,12 +218,13 @@ class Parts:
         return Exact(np.where(some, means, 0), places).floats()
 
     def grades(self, values: np.ndarray) -> np.ndarray:
-        """The grades of blocks, from an array of rows and metals to one of blocks and metals: means as those of the table's own."""
+        """Returns the grades of blocks, shape (blocks, metals), from those of rows: means, as those of the table."""
         return np.column_stack([self.means(column, GRADE_PLACES) for column in values.T])
 
     def most(self, codes: np.ndarray) -> tuple[np.ndarray, float]:
-        """The code of most tonnes of each block, of several the first by name, and how many tonnes are of another. In a block that weighs
-        nothing all rows count alike."""
+        """Returns the code with the most tonnes in each block, of several the first by name, and the tonnes of other codes. In a block without tonnes
+        all rows count alike.
+        """
         names, code = np.unique(codes, return_inverse=True)
         weights = np.where(self.whole[self.block] > 0, self.tonnes, 1.0)
         sums = np.bincount(self.block * len(names) + code, weights, minlength=self.count * len(names)).reshape(

@@ -3,16 +3,19 @@
 from __future__ import annotations
 
 import argparse
+import warnings
 from importlib.util import find_spec
 from typing import Optional, Sequence
 
 import minelib
 from minelib.ending import ended
 
-from ..errors import MissingPackage, PlanError
+from ..errors import MissingPackage, PlanError, PlanWarning
 from .parser import parser
 
-# Packages of Python that every subcommand but `convert` requires, with those of Debian.
+# The subcommands that require Python alone.
+PLAIN = ("convert", "completion")
+# Packages of Python that all others require, with those of Debian.
 REQUIRED = {
     "numpy": "python3-numpy",
     "pandas": "python3-pandas",
@@ -37,10 +40,13 @@ def main(arguments: Optional[Sequence[str]] = None) -> int:
 
 def run(options: argparse.Namespace) -> int:
     """Runs the subcommand of these options; returns its status. Raises MissingPackage if a required package cannot be imported."""
-    if options.command != "convert":
+    if options.command not in PLAIN:
         demand_packages()
     try:
-        status: int = options.run(options)
+        # Subcommands print warnings with the notes.
+        with warnings.catch_warnings():
+            warnings.simplefilter("ignore", PlanWarning)
+            status: int = options.run(options)
     except ImportError as error:
         again = f"apt-get install --reinstall {' '.join(REQUIRED.values())}"
         raise MissingPackage(f"{error}: a required package cannot be imported: {again}") from error

@@ -7,8 +7,9 @@ from __future__ import annotations
 
 import argparse
 from decimal import Decimal, InvalidOperation
+from difflib import get_close_matches
 from pathlib import Path
-from typing import Callable
+from typing import Any, Callable
 
 from minelib.__main__ import add_arguments as add_minelib
 from pitplan.core.revenue_factors import BASE_PRICE, factor_text, of_decimal
@@ -23,13 +24,36 @@ FORMATS = ("table", "csv", "xlsx", "vti", "vtu", "dxf", "stl", "obj", "gpkg", "s
 STAGES = ("revenue_factor", "pushback", "year")
 SURFACES = ("pit", "ground")
 SOLVERS = ("library", "program")
+SHELLS = ("bash", "zsh", "fish")
+PLAN_FOLDER = "output folder of shells, pushbacks or schedule"
 # The option that names a shell.
 REVENUE_FACTOR = ("--revenue-factor", "--rf")
 # The column at which the words on a subcommand begin.
 INDENT = 15
 
-Parser = argparse.ArgumentParser
 Run = Callable[[argparse.Namespace], int]
+
+
+class Parser(argparse.ArgumentParser):
+    """A parser whose errors name the subcommand, and the word that was probably meant."""
+
+    def parse_args(self, args: Any = None, namespace: Any = None) -> Any:
+        """Parses all arguments. An unknown one is an error of its subcommand."""
+        options, unknown = self.parse_known_args(args, namespace)
+        if unknown:
+            sub: Parser = getattr(options, "parser", self)
+            near = get_close_matches(unknown[0].partition("=")[0], sub._option_string_actions, 1)
+            meant = f": did you mean {near[0]}?" if near else f" (see {sub.prog} -h)"
+            sub.error(f"unknown argument {unknown[0]}{meant}")
+        return options
+
+    def _check_value(self, action: argparse.Action, value: Any) -> None:
+        """Refuses a word that is none of the choices, with the one that is most like it."""
+        choices = [str(it) for it in action.choices or ()]
+        near = get_close_matches(str(value), choices, 1)
+        if near and value not in choices:
+            raise argparse.ArgumentError(action, f"unknown choice {value}: did you mean {near[0]}?")
+        super()._check_value(action, value)
 
 
 class Subparsers:
@@ -55,7 +79,7 @@ class Subparsers:
         sub: Parser = self.actions.add_parser(
             name, description=f"{does[0].upper()}{does[1:]}.{f' {more}' if more else ''}"
         )
-        sub.set_defaults(run=run)
+        sub.set_defaults(run=run, parser=sub)
         return sub
 
 
@@ -67,7 +91,7 @@ def parser() -> Parser:
     )
     top.add_argument("--version", action="version", version=f"pitplan {__version__}", help="print the version and exit")
     subs = Subparsers(top)
-    subs.group("set up", add_init, add_check)
+    subs.group("set up", add_init, add_check, add_completion)
     subs.group("plan", add_prepare, add_shells, add_pit, add_pushbacks, add_schedule)
     subs.group("studies", add_sensitivity, add_scenarios, add_gather, add_scenario)
     subs.group("outputs", add_report, add_view, add_export, add_audit, add_verify)
@@ -91,10 +115,16 @@ def add_check(subs: Subparsers) -> None:
     add_quiet(sub)
 
 
+def add_completion(subs: Subparsers) -> None:
+    more = 'For bash: eval "$(pitplan completion bash)".'
+    sub = subs.add("completion", "print the script by which a shell completes pitplan", subcommands.completion, more)
+    sub.add_argument("shell", choices=SHELLS, help="shell that completes")
+
+
 def add_prepare(subs: Subparsers) -> None:
     more = "It lists what was rounded, dropped and clipped."
     sub = subs.add(
-        "prepare", "write the solver's input files and prepare.json, without solving", subcommands.prepare, more
+        "prepare", "write the solver's input files and plan.json, without solving", subcommands.prepare, more
     )
     add_project(sub)
     add_set(sub)
@@ -209,8 +239,7 @@ def add_scenario(subs: Subparsers) -> None:
 
 def add_report(subs: Subparsers) -> None:
     sub = subs.add("report", "write the report again, with the sensitivity that was run since", subcommands.report)
-    add_project(sub)
-    add_plan_folder(sub)
+    add_folder(sub, PLAN_FOLDER)
     add_quiet(sub)
     text = "folder of the sensitivity that the report shows (default: sensitivity in the project's output folder, if its inputs are the same)"
     sub.add_argument("--sensitivity", type=Path, metavar="FOLDER", help=text)
@@ -218,15 +247,18 @@ def add_report(subs: Subparsers) -> None:
 
 def add_view(subs: Subparsers) -> None:
     sub = subs.add("view", "write a page that shows the shells in 3D (requires libjs-three)", subcommands.view)
-    add_project(sub)
-    add_plan_folder(sub)
+    add_folder(sub, PLAN_FOLDER)
+    sub.add_argument("--out", type=Path, metavar="FILE", help="page to write (default: view.html in FOLDER)")
     add_quiet(sub)
 
 
 def add_export(subs: Subparsers) -> None:
     sub = subs.add("export", "write the shells for other programs", subcommands.export)
-    add_project(sub)
-    add_plan_folder(sub)
+    add_folder(sub, PLAN_FOLDER)
+    text = (
+        "file to write, or the folder for stl and obj of pushbacks or years (default: in FOLDER, named by the format)"
+    )
+    sub.add_argument("--out", type=Path, metavar="PLACE", help=text)
     add_quiet(sub)
     text = "format; table is the planner's own table with the revenue factor, pushback and year of each block"
     sub.add_argument("--to", required=True, choices=FORMATS, help=text)
@@ -240,8 +272,9 @@ def add_export(subs: Subparsers) -> None:
 
 def add_audit(subs: Subparsers) -> None:
     sub = subs.add("audit", "write a folder by which others can check one shell", subcommands.audit)
-    add_project(sub)
-    add_plan_folder(sub)
+    add_folder(sub, PLAN_FOLDER)
+    text = "folder to write (default: audit-FACTOR in FOLDER)"
+    sub.add_argument("--out", type=Path, metavar="TARGET", help=text)
     add_quiet(sub)
     sub.add_argument(
         *REVENUE_FACTOR, type=factor_of, required=True, metavar="FACTOR", help="revenue factor of the shell"
@@ -271,12 +304,6 @@ def add_folder(sub: Parser, text: str) -> None:
 
 def add_out(sub: Parser, default: str) -> None:
     sub.add_argument("--out", type=Path, metavar="FOLDER", help=f"output folder (default: {default})")
-
-
-def add_plan_folder(sub: Parser) -> None:
-    sub.add_argument(
-        "--out", type=Path, metavar="FOLDER", help="folder of the plan (default: the project's output folder)"
-    )
 
 
 def add_quiet(sub: Parser) -> None:
@@ -329,7 +356,7 @@ def add_workers(sub: Parser) -> None:
 def add_gathering(sub: Parser) -> None:
     text = "revenue factor of the shell whose probabilities are drawn (default: the project's selected one, otherwise 1.00)"
     sub.add_argument(*REVENUE_FACTOR, type=factor_of, metavar="FACTOR", help=text)
-    sub.add_argument("--partial", action="store_true", help="gather although scenarios have no answer")
+    sub.add_argument("--partial", action="store_true", help="gather even if scenarios have no result")
 
 
 def where_of(text: str) -> str:

@@ -12,12 +12,12 @@ import numpy as np
 import pandas as pd
 
 from minelib.ending import tell
-from pitplan.blockmodel.plausibility import WARNING
 from pitplan.core.noted_path import NotedPath
+from pitplan.errors import WARNING
 from pitplan.report.columns import Columns, cells_of
 from pitplan.results.folder import read_record
 
-from ..commands.writing import REPORT
+from ..results.names import REPORT
 
 
 def print_answer(table: pd.DataFrame, columns: Columns, folder: Path, as_json: bool = False) -> None:

@@ -6,7 +6,6 @@ Each imports its command itself, so that a subcommand loads only the libraries t
 from __future__ import annotations
 
 from argparse import Namespace
-from pathlib import Path
 from typing import TYPE_CHECKING
 
 from minelib.ending import tell
@@ -31,12 +30,6 @@ def project_of(options: Namespace) -> Project:
 
     overrides = getattr(options, "set", [])
     return replace(load(options.project, overrides=overrides), solver=getattr(options, "solver", None))
-
-
-def folder_of(options: Namespace) -> Path:
-    """The folder of the plan that is read. Raises PlanError if the project is not usable."""
-    project = project_of(options)
-    return options.out or project.folder
 
 
 def writing_of(options: Namespace) -> Writing:
@@ -78,7 +71,7 @@ def prepare(options: Namespace) -> int:
 
 
 def shells(options: Namespace) -> int:
-    from pitplan.report.columns import columns_of
+    from pitplan.report.columns import OF_SHELLS
 
     from ..commands.shells import write_shells
     from .printing import print_answer
@@ -86,16 +79,16 @@ def shells(options: Namespace) -> int:
     project = project_of(options)
     folder = options.out or project.folder
     table = write_shells(project, folder, writing_of(options))
-    print_answer(table, columns_of(table, project), folder, options.json)
+    print_answer(table, OF_SHELLS.of(table, project), folder, options.json)
     return 0
 
 
 def pit(options: Namespace) -> int:
-    from pitplan.report.columns import cells_of, columns_of
+    from pitplan.report.columns import OF_SHELLS, cells_of
     from pitplan.results.folder import read_record
 
     from ..commands.pit import write_pit
-    from ..commands.writing import PITS
+    from ..results import names
     from .printing import print_json, print_notes, print_table
 
     project = project_of(options)
@@ -103,17 +96,17 @@ def pit(options: Namespace) -> int:
     table = write_pit(project, options.revenue_factor, folder, writing_of(options))
     print_notes(read_record(folder)["notes"])
     if options.json:
-        print_json(table, folder / PITS)
+        print_json(table, folder / names.PITS)
         return 0
-    columns = columns_of(table, project)
+    columns = OF_SHELLS.of(table, project)
     lines = [[name, *row] for name, row in zip(table["fixed_blocks"], cells_of(table, columns))]
     print_table(["fixed, blocks", *(heading for _, heading, _, _ in columns)], lines)
-    print(folder / PITS)
+    print(folder / names.PITS)
     return 0
 
 
 def pushbacks(options: Namespace) -> int:
-    from pitplan.report.columns import columns_of_pushbacks
+    from pitplan.report.columns import OF_PUSHBACKS
 
     from ..commands.pushbacks import write_pushbacks
     from .printing import print_answer
@@ -121,14 +114,14 @@ def pushbacks(options: Namespace) -> int:
     project = project_of(options)
     folder = options.out or project.folder / "pushbacks"
     table = write_pushbacks(project, folder, writing_of(options))
-    print_answer(table, columns_of_pushbacks(table, project), folder, options.json)
+    print_answer(table, OF_PUSHBACKS.of(table, project), folder, options.json)
     return 0
 
 
 def schedule(options: Namespace) -> int:
     """Raises KeyboardInterrupt after the best schedule is written if the search was interrupted."""
     from pitplan.core.atomic_files import read_json
-    from pitplan.report.columns import columns_by_block, columns_of_ways
+    from pitplan.report.columns import OF_BLOCKS, OF_METHODS
     from pitplan.results import names
 
     from ..commands.schedule import write_block_schedule, write_schedule
@@ -137,7 +130,7 @@ def schedule(options: Namespace) -> int:
     project, by_block = project_of(options), options.by == "block"
     folder = options.out or project.folder / ("block_schedule" if by_block else "schedule")
     table = (write_block_schedule if by_block else write_schedule)(project, folder, writing_of(options))
-    columns = (columns_by_block if by_block else columns_of_ways)(table, project)
+    columns = (OF_BLOCKS if by_block else OF_METHODS).of(table, project)
     print_answer(table, columns, folder, options.json)
     if read_json(folder / (names.BLOCK_SCHEDULE if by_block else names.SCHEDULE_RECORD))["interrupted"]:
         raise KeyboardInterrupt
@@ -162,7 +155,7 @@ def sensitivity(options: Namespace) -> int:
         print_json(cases, folder / store.TABLE)
         return 0
     table = report.of_cases(cases)
-    columns = report.columns_of_cases(table, project)
+    columns = report.OF_CASES.of(table, project)
     print_table([heading for _, heading, _, _ in columns], report.cells_of(table, columns))
     print(folder / store.TABLE)
     return 0
@@ -207,14 +200,14 @@ def scenario(options: Namespace) -> int:
 def report(options: Namespace) -> int:
     from ..commands.report import write_report
 
-    print(write_report(folder_of(options), options.sensitivity, progress_of(options)))
+    print(write_report(options.folder, options.sensitivity, progress_of(options)))
     return 0
 
 
 def view(options: Namespace) -> int:
     from ..commands.view import view as write_view
 
-    print(write_view(folder_of(options), progress_of(options)))
+    print(write_view(options.folder, progress_of(options), options.out))
     return 0
 
 
@@ -224,9 +217,8 @@ def export(options: Namespace) -> int:
     from ..commands.export import write_export
     from .printing import print_path
 
-    shape = Shape(options.of, options.surface, options.smooth)
-    folder = folder_of(options)
-    print_path(write_export(folder, options.to, options.revenue_factor, progress_of(options), shape))
+    shape = Shape(options.of, options.surface, options.smooth, options.revenue_factor)
+    print_path(write_export(options.folder, options.to, shape, progress_of(options), options.out))
     return 0
 
 
@@ -234,7 +226,7 @@ def audit(options: Namespace) -> int:
     from ..commands.audit import audit as write_audit
     from .printing import print_path
 
-    print_path(write_audit(folder_of(options), options.revenue_factor, progress_of(options)))
+    print_path(write_audit(options.folder, options.revenue_factor, progress_of(options), options.out))
     return 0
 
 
@@ -247,6 +239,13 @@ def verify(options: Namespace) -> int:
     demand(rules)
     for rule in rules:
         print(f"{rule.name}: {rule.holds}")
+    return 0
+
+
+def completion(options: Namespace) -> int:
+    from .completions import script
+
+    print(script(options.shell), end="")
     return 0
 
 

@@ -8,6 +8,7 @@ from typing import TYPE_CHECKING, Optional
 
 import pandas as pd
 
+from pitplan.core import layout
 from pitplan.core.atomic_files import write_json
 from pitplan.core.progress import Progress
 from pitplan.core.revenue_factors import factor_text
@@ -27,7 +28,7 @@ from pitplan.solver.program import Solution
 
 from ..plan import Plan
 from .drawing import draw
-from .writing import REPORT, WORKBOOK, Run, finish, note_verified, write_table
+from .writing import Run, finish, note_verified, write_table
 
 if TYPE_CHECKING:
     from pitplan.scheduling.blocks.tables import ScheduledBlocks
@@ -61,7 +62,7 @@ def write_answer(answered: Answered, run: Run) -> pd.DataFrame:
     with progress.step("computing the tables of shells"):
         table, years = write_tables(answered, stage)
         run.record["notes"] += shell_tables.edge_notes(plan, answered.solution)
-    factor = shell_tables.selected_factor(table, plan.project.schedule)
+    factor = shell_tables.selected_factor(table, plan.project.shells)
     check_fixed(run.mine, answered.solution, factor, progress)
     note_answer(answered, factor, run)
     run.record["figures"] = run.writing.figures
@@ -72,9 +73,9 @@ def write_answer(answered: Answered, run: Run) -> pd.DataFrame:
             drawn = draw(answered, table, years, factor, stage)
     if answered.schedule is not None:
         with progress.step("writing the workbook"):
-            xlsx.write(stage / WORKBOOK, sheets_of(answered, table, years))
-    finish(plan, run.record, [*run.mine.files, *tables_of(answered), *drawn], stage)
-    html.write(stage / REPORT, stage, run.project)
+            xlsx.write(stage / names.WORKBOOK, sheets_of(answered, table, years))
+    finish(plan, run.record, [*mine_files.of_program(stage), *tables_of(answered), *drawn], stage)
+    html.write(stage / names.REPORT, stage, run.project)
     return table
 
 
@@ -82,7 +83,7 @@ def note_answer(answered: Answered, factor: float, run: Run) -> None:
     """Adds the parts of the answer to the record; `factor` is that of the chosen shell."""
     record = run.record
     record["shells"] = {
-        "revenue_factors": list(answered.plan.project.schedule.revenue_factors),
+        "revenue_factors": list(answered.plan.project.shells.revenue_factors),
         "selected": factor,
         "solver": record.pop("solver"),
     }
@@ -106,9 +107,9 @@ def check_fixed(mine: Mine, solution: Solution, factor: float, progress: Progres
 def tables_of(answered: Answered) -> list[str]:
     """The names of the tables that an answer has."""
     found = [names.TABLE, names.SHELLS, names.YEARS, *([names.PUSHBACKS] if answered.pushbacks else [])]
-    found += [names.SCHEDULE, names.SCHEDULE_RECORD, WORKBOOK] if answered.schedule else []
+    found += [names.SCHEDULE, names.SCHEDULE_RECORD, names.WORKBOOK] if answered.schedule else []
     found += [names.BLOCK_SCHEDULE] if answered.blocks else []
-    found += [names.WAYS] if answered.schedule or answered.blocks else []
+    found += [names.METHODS] if answered.schedule or answered.blocks else []
     return [*found, names.MILLING] if answered.schedule and answered.schedule.milling else found
 
 
@@ -118,7 +119,7 @@ def sheets_of(answered: Answered, table: pd.DataFrame, years: pd.DataFrame) -> d
     project = answered.plan.project
     bins = {"milling": shown(pushback_schedule.milling(answered.schedule))} if answered.schedule.milling else {}
     sheets = {
-        "methods": pushback_schedule.ways(answered.schedule),
+        "methods": pushback_schedule.methods(answered.schedule),
         "schedule": shown(pushback_schedule.table(answered.schedule)),
         "years": shown(with_outline(years[years["revenue_factor"] == answered.schedule.factor], project)),
         "pushbacks": shown(nested.table(answered.pushbacks)),
@@ -134,7 +135,7 @@ def write_tables(answered: Answered, stage: Path) -> tuple[pd.DataFrame, pd.Data
     more = None if pushbacks is None else pushbacks.mining_cost_added
     table, years = shell_tables.shells(plan, solution, more), shell_tables.years(plan, solution, more)
     if solution.answer is not None:
-        (stage / mine_files.ANSWER).write_bytes(solution.answer)
+        (stage / layout.SOLVER / mine_files.ANSWER).write_bytes(solution.answer)
     blocks = shell_tables.blocks(plan, solution) if pushbacks is None else nested.blocks(pushbacks)
     if answered.schedule is not None:
         blocks["year"] = pushback_schedule.blocks_year(answered.schedule)[blocks["id"].to_numpy()]
@@ -143,7 +144,7 @@ def write_tables(answered: Answered, stage: Path) -> tuple[pd.DataFrame, pd.Data
     if answered.blocks is not None:
         blocks, years = answered.blocks.beside(blocks), pd.concat([years, answered.blocks.years], ignore_index=True)
         write_json(stage / names.BLOCK_SCHEDULE, answered.blocks.record)
-        write_csv(shown(answered.blocks.ways), stage / names.WAYS, plan.project)
+        write_csv(shown(answered.blocks.methods), stage / names.METHODS, plan.project)
     write_table(blocks, stage)
     for found, name in ((table, names.SHELLS), (years, names.YEARS)):
         write_csv(shown(found if pushbacks is None else with_outline(found, plan.project)), stage / name, plan.project)
@@ -155,7 +156,7 @@ def write_tables(answered: Answered, stage: Path) -> tuple[pd.DataFrame, pd.Data
 def write_schedule_tables(schedule: YearlySchedule, plan: Plan, stage: Path) -> None:
     """Writes schedule.csv, methods.csv, schedule.json, and mill_feed.csv if ore is divided into bins."""
     write_csv(shown(pushback_schedule.table(schedule)), stage / names.SCHEDULE, plan.project)
-    write_csv(shown(pushback_schedule.ways(schedule)), stage / names.WAYS, plan.project)
+    write_csv(shown(pushback_schedule.methods(schedule)), stage / names.METHODS, plan.project)
     write_json(stage / names.SCHEDULE_RECORD, pushback_schedule.record(schedule))
     if schedule.milling:
         shown(pushback_schedule.milling(schedule)).to_csv(stage / names.MILLING, index=False)

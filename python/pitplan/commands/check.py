@@ -4,6 +4,8 @@ from __future__ import annotations
 
 from pitplan.blockmodel.figure_bounds import demand_within
 from pitplan.core.progress import Progress, silent
+from pitplan.core.warned import warn
+from pitplan.errors import InputWarning
 from pitplan.solver.problem import counted_rows
 
 from ..plan import prepared
@@ -35,4 +37,6 @@ def check(project: Source, progress: Progress = silent) -> list[str]:
     demand_within(project, plan.grid)
     with progress.step("counting the precedences"):
         _, pairs = counted_rows(plan.needs, plan)
-    return list(plan.record(pairs)["notes"])
+    notes = list(plan.record(pairs)["notes"])
+    warn(notes, InputWarning)
+    return notes

@@ -37,7 +37,7 @@ def draw(answered: Answered, table: pd.DataFrame, years: pd.DataFrame, chosen: f
         The names of the written files, in each format.
     """
     project = answered.plan.project
-    formats = project.pictures.formats if project.pictures else ()
+    formats = project.figures.formats if project.figures else ()
     with also_as(formats):
         draw_shells(answered, table, chosen, stage)
         annual.write_years(years, project, chosen, stage / PICTURES["years"])
@@ -48,7 +48,7 @@ def draw(answered: Answered, table: pd.DataFrame, years: pd.DataFrame, chosen: f
 def draw_shells(answered: Answered, table: pd.DataFrame, chosen: float, stage: Path) -> None:
     plan = answered.plan
     scene = plans_sections.scene_of(plan, answered.solution, chosen)
-    write_pit_by_pit(table, plan.project.money.currency, chosen, stage / PICTURES["pit_by_pit"])
+    write_pit_by_pit(table, plan.project.economics.currency, chosen, stage / PICTURES["pit_by_pit"])
     plans_sections.write_plans(scene, stage / PICTURES["plans"])
     plans_sections.write_sections(scene, stage / PICTURES["sections"])
 

@@ -14,11 +14,11 @@ from pitplan.core.revenue_factors import BASE_PRICE
 from pitplan.pits import shell_tables
 from pitplan.results import names
 from pitplan.results.rounding import shown, write_csv
-from pitplan.solver import problem
+from pitplan.solver import mine_files, problem
 
 from ..errors import PlanError
 from .answers import check_fixed
-from .writing import PITS, Place, Run, Source, Writing, begun, finish, note_verified, read, write_table
+from .writing import Place, Run, Source, Writing, begun, finish, note_verified, read, write_table
 
 
 def write_pit(
@@ -26,7 +26,7 @@ def write_pit(
 ) -> pd.DataFrame:
     """Solves the pit of one revenue factor with the project's fixed blocks and without them, as `pitplan pit` does.
 
-    The folder gets this table, blocks.csv and prepare.json. blocks.csv has the pit with the fixed blocks, and the shells of the project's
+    The folder gets this table, blocks.csv and plan.json. blocks.csv has the pit with the fixed blocks, and the shells of the project's
     lower factors, which the best case mines in turn; free_revenue_factor and free_process_revenue_factor are the same without the fixed blocks.
 
     Parameters
@@ -42,7 +42,7 @@ def write_pit(
     Returns
     -------
     DataFrame
-        Two rows, in which `fixed_blocks` is "kept" or "free", with the columns of `pitplan.shells`.
+        Two rows, in which `fixed_blocks` is "kept" or "free", with the columns of `Shells.table`.
 
     Raises
     ------
@@ -51,14 +51,14 @@ def write_pit(
     """
     project = read(project)
     target = project.folder / "pit" if folder is None else Path(folder)
-    if project.fixed is None:
+    if project.constraints is None:
         raise PlanError(f"{project.path}: [constraints] is missing: it defines must-mine and excluded blocks")
     with begun(project, target, writing, with_lower_factors(project, revenue_factor)) as run:
         table, blocks = compared(run, revenue_factor)
         write_table(blocks, run.stage)
-        write_csv(shown(table), run.stage / PITS, project)
+        write_csv(shown(table), run.stage / names.PITS, project)
         note_verified(run.mine.plan, run)
-        finish(run.mine.plan, run.record, [*run.mine.files, names.TABLE, PITS], run.stage)
+        finish(run.mine.plan, run.record, [*mine_files.of_program(run.stage), names.TABLE, names.PITS], run.stage)
     return table
 
 
@@ -74,7 +74,7 @@ def compared(run: Run, factor: float) -> tuple[pd.DataFrame, pd.DataFrame]:
     """
     plan, progress = run.mine.plan, run.writing.progress
     keeping = problem.solve(plan, run.mine, progress)
-    free = replace(run.mine.free_shells(plan.project.schedule.revenue_factors), of=plan.key)
+    free = replace(run.mine.free_shells(plan.project.shells.revenue_factors), of=plan.key)
     missing_blocks.demand_known(free.entry, plan.grid, run.project, plan.source)
     check_fixed(run.mine, keeping, factor, progress)
     both = [shell_tables.shells(plan, solution).tail(1) for solution in (keeping, free)]
@@ -86,7 +86,7 @@ def compared(run: Run, factor: float) -> tuple[pd.DataFrame, pd.DataFrame]:
 
 def with_lower_factors(project: Project, factor: float) -> Project:
     """The project with one factor, and those of its own that are lower."""
-    within = tuple(sorted({factor, *(inner for inner in project.schedule.revenue_factors if inner < factor)}))
+    within = tuple(sorted({factor, *(inner for inner in project.shells.revenue_factors if inner < factor)}))
     return replace(
-        project, schedule=replace(project.schedule, revenue_factors=within, selected=None, base_price_added=False)
+        project, shells=replace(project.shells, revenue_factors=within, selected=None, base_price_added=False)
     )

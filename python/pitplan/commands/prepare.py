@@ -8,23 +8,23 @@ from typing import Any
 from pitplan.blockmodel.figure_bounds import demand_within
 from pitplan.config import project_writer
 from pitplan.config.project import Project
-from pitplan.core import staging
+from pitplan.core import layout, staging
 from pitplan.core.atomic_files import staged
 from pitplan.core.progress import Progress, silent
 from pitplan.results import names
 from pitplan.solver import mine_files
 
 from ..plan import prepared
-from .writing import demand_apart, finish, read, write_table
+from .writing import demand_apart, finish, of_earlier_run, read, write_table
 
 
 def write_plan(project: Project, folder: Path, progress: Progress = silent) -> dict[str, Any]:
-    """Writes the program's files, blocks.csv and prepare.json.
+    """Writes the program's files, blocks.csv and plan.json.
 
     Returns
     -------
     dict
-        The record prepare.json.
+        The record plan.json.
 
     Raises
     ------
@@ -35,10 +35,10 @@ def write_plan(project: Project, folder: Path, progress: Progress = silent) -> d
     demand_apart(project, folder)
     with staging.alone(folder):
         plan = prepared(project, progress=progress)
-        with staged(folder, names.RECORD) as stage:
+        with staged(folder, names.RECORD, (*mine_files.IN_FOLDER, *of_earlier_run(folder)), layout.FOLDERS) as stage:
             demand_within(project, plan.grid)
             with progress.step("writing blocks and precedences"):
-                pairs = mine_files.write(plan, stage)
+                pairs = mine_files.write(plan, stage / layout.SOLVER)
             project_writer.write(project, stage / project_writer.AS_RUN, folder)
             write_table(plan.blocks, stage)
             return finish(plan, plan.record(pairs), [*mine_files.of_program(stage), names.TABLE], stage)

@@ -10,8 +10,10 @@ from pitplan.core.progress import Progress, silent
 from pitplan.export import planner_table
 from pitplan.report import html
 from pitplan.results.folder import read_folder
+from pitplan.results.names import REPORT
 
-from .writing import REPORT, Place
+from .targets import plan_folder
+from .writing import Place
 
 
 def write_report(folder: Place, sensitivity: Optional[Place] = None, progress: Progress = silent) -> Path:
@@ -20,7 +22,7 @@ def write_report(folder: Place, sensitivity: Optional[Place] = None, progress: P
     Parameters
     ----------
     folder : str or Path
-        The folder of the plan.
+        The output folder of the plan.
     sensitivity : str or Path, optional
         The folder of the sensitivity that the report shows. Default: sensitivity in the project's output folder, if all its inputs are
         the same.
@@ -37,7 +39,7 @@ def write_report(folder: Place, sensitivity: Optional[Place] = None, progress: P
     PlanError
         If the folder has no shells, it or an input has changed since the run, or `sensitivity` is no sensitivity of these inputs.
     """
-    result = read_folder(Path(folder))
+    result = read_folder(plan_folder(folder))
     project = planner_table.project_of(result)
     with progress.step("writing the report"), staged_file(result.path / REPORT) as path:
         html.write(path, result.path, project, None if sensitivity is None else Path(sensitivity))

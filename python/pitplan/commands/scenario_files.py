@@ -9,14 +9,16 @@ import numpy as np
 import pandas as pd
 
 from pitplan import verification
-from pitplan.config.figures import PictureRules
+from pitplan.config.figures import FigureRules
 from pitplan.core import csv_writer
 from pitplan.core.atomic_files import staged, write_json
+from pitplan.core.layout import FIGURES, FOLDERS
 from pitplan.core.optional_packages import load_library
 from pitplan.core.revenue_factors import factor_text
 from pitplan.export.vtk import write_image as write_vti
 from pitplan.figures import scenario_values, scenarios
 from pitplan.figures.style import also_as
+from pitplan.results import columns
 from pitplan.results.conventions import with_discounting
 from pitplan.studies.scenarios import pit_probability, run
 from pitplan.studies.scenarios.inclusion import Likely
@@ -27,14 +29,18 @@ from pitplan.studies.scenarios.store import Shared
 
 from ..errors import MissingPackage
 from ..plan import codes_of
-from .writing import Writing
+from .writing import Writing, in_all_formats
 
 if TYPE_CHECKING:
     from pitplan.studies.scenarios.blocks.tables import Schedules
 
 GATHERED = "gathered.json"
-PICTURES = {"plans": "probability_plans.png", "sections": "probability_sections.png", "spread": "spread.png"}
-PICTURE_OF_VALUES = "schedule_values.png"
+PICTURES = {
+    "plans": f"{FIGURES}/probability_plans.png",
+    "sections": f"{FIGURES}/probability_sections.png",
+    "spread": f"{FIGURES}/spread.png",
+}
+PICTURE_OF_VALUES = f"{FIGURES}/schedule_values.png"
 
 
 def write_pits(shared: Shared, request: Request, writing: Writing) -> list[str]:
@@ -51,7 +57,8 @@ def write_pits(shared: Shared, request: Request, writing: Writing) -> list[str]:
         If an answer is missing, or a result differs from its independent recalculation.
     """
     progress, factor = writing.progress, run.shown_factor(shared, request)
-    with staged(shared.folder, whole=writing.removed(shared.folder, PICTURES.values())) as stage:
+    removed = in_all_formats(PICTURES.values())
+    with staged(shared.folder, whole=removed, subfolders=FOLDERS) as stage:
         with progress.step("gathering the results"):
             gathered = pit_probability.gather(shared, request.partial)
             write_tables(shared, gathered, stage)
@@ -80,19 +87,20 @@ def write_schedules(shared: Shared, request: Request, writing: Writing) -> list[
     from pitplan.studies.scenarios.blocks import tables as block_answers
 
     progress = writing.progress
-    with staged(shared.folder, whole=writing.removed(shared.folder, [PICTURE_OF_VALUES])) as stage:
+    removed = in_all_formats([PICTURE_OF_VALUES])
+    with staged(shared.folder, whole=removed, subfolders=FOLDERS) as stage:
         with progress.step(f"applying the common schedule to {len(shared.scenarios):,} scenarios"):
             schedules = block_answers.gather(shared, request.partial)
             write_schedule_tables(schedules, block_answers.quantiles(schedules), shared, stage)
         notes = block_answers.notes(schedules, shared) + note_verified(shared, schedules.missing, writing, stage)
         if writing.figures:
             with progress.step("drawing"), also_as(rules_of(shared).formats):
-                scenario_values.write(schedules.answered, shared.project.money.currency, stage / PICTURE_OF_VALUES)
+                scenario_values.write(schedules.answered, shared.project.economics.currency, stage / PICTURE_OF_VALUES)
     return [*notes, *notes_of_missing(schedules.missing)]
 
 
-def rules_of(shared: Shared) -> PictureRules:
-    return shared.project.pictures or PictureRules()
+def rules_of(shared: Shared) -> FigureRules:
+    return shared.project.figures or FigureRules()
 
 
 def notes_of_missing(missing: dict[int, str]) -> list[str]:
@@ -130,18 +138,26 @@ def note_verified(shared: Shared, missing: dict[int, str], writing: Writing, sta
 def write_tables(shared: Shared, gathered: Gathered, stage: Path) -> None:
     """Writes the probability of each block, the pits of each scenario, and their quantiles."""
     blocks = pit_probability.read_blocks(shared.folder, codes_of(shared.project))
-    pit_probability.by_block(shared, gathered, blocks).to_csv(stage / PROBABILITY, index=False, float_format="%.6g")
-    gathered.table.to_csv(stage / TABLE, index=False, float_format="%.10g")
-    pit_probability.quantiles(gathered.table).to_csv(stage / QUANTILES, index=False, float_format="%.10g")
+    tables = {
+        PROBABILITY: (pit_probability.by_block(shared, gathered, blocks), columns.PROBABILITY),
+        TABLE: (gathered.table, columns.SCENARIOS),
+        QUANTILES: (pit_probability.quantiles(gathered.table), columns.QUANTILES),
+    }
+    for name, (table, of) in tables.items():
+        table.to_csv(stage / name, index=False, float_format=of.number_format)
 
 
 def write_schedule_tables(schedules: Schedules, quantiles: pd.DataFrame, shared: Shared, stage: Path) -> None:
     """Writes the tables of schedules and of the one for all, and common_schedule.json."""
     blocks = pit_probability.read_blocks(shared.folder, codes_of(shared.project))
     csv_writer.write(stage / ONE, schedules.by_block(shared, blocks))
-    tables = {SCHEDULES: schedules.table, ONE_YEARS: schedules.years, QUANTILES: quantiles}
-    for name, table in tables.items():
-        with_discounting(table, shared.project).to_csv(stage / name, index=False, float_format="%.12g")
+    tables = {
+        SCHEDULES: (schedules.table, columns.SCHEDULES),
+        ONE_YEARS: (schedules.years, columns.COMMON_YEARS),
+        QUANTILES: (quantiles, columns.BLOCK_QUANTILES),
+    }
+    for name, (table, of) in tables.items():
+        with_discounting(table, shared.project).to_csv(stage / name, index=False, float_format=of.number_format)
     write_json(stage / ONE_RECORD, schedules.record(shared))
 
 
@@ -170,4 +186,4 @@ def draw(shared: Shared, gathered: Gathered, factor: float, stage: Path) -> None
     with also_as(rules.formats):
         scenarios.write_plans(likely, stage / PICTURES["plans"])
         scenarios.write_sections(likely, stage / PICTURES["sections"])
-        scenarios.write_spread(gathered.table, shared.project.money.currency, stage / PICTURES["spread"])
+        scenarios.write_spread(gathered.table, shared.project.economics.currency, stage / PICTURES["spread"])

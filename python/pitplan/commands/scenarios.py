@@ -6,6 +6,8 @@ from pathlib import Path
 from typing import Optional
 
 from pitplan.core import staging
+from pitplan.core.warned import warn
+from pitplan.errors import PlanWarning
 from pitplan.studies.scenarios import run
 from pitplan.studies.scenarios.request import Request
 from pitplan.studies.scenarios.result import ScenarioResult
@@ -53,7 +55,9 @@ def write_scenarios(
         solved = run.solve(project, target, request, writing.progress)
         if solved.start is not None:
             return ScenarioResult(target, solved.notes, solved.start)
-        return ScenarioResult(target, (*solved.notes, *gathered(target, request, writing)))
+        notes = (*solved.notes, *gathered(target, request, writing))
+    warn(notes, PlanWarning)
+    return ScenarioResult(target, notes)
 
 
 def gather(folder: Place, request: Request = Request(), writing: Writing = Writing()) -> ScenarioResult:
@@ -79,7 +83,9 @@ def gather(folder: Place, request: Request = Request(), writing: Writing = Writi
         If an answer is missing, unless the request is for part of them, or a result differs from its independent recalculation.
     """
     with staging.alone(Path(folder), *FOLDERS):
-        return ScenarioResult(Path(folder), tuple(gathered(Path(folder), request, writing)))
+        notes = tuple(gathered(Path(folder), request, writing))
+    warn(notes, PlanWarning)
+    return ScenarioResult(Path(folder), notes)
 
 
 def gathered(folder: Path, request: Request, writing: Writing) -> list[str]:

@@ -54,7 +54,7 @@ def write_schedule(project: Source, folder: Optional[Place] = None, writing: Wri
         schedule = pushback_schedule.make(pushbacks, writing.progress)
         run.record["notes"] += [*pushbacks.notes, *pushback_schedule.notes(schedule)]
         write_answer(Answered(pushbacks.plan, pushbacks.solution, pushbacks, schedule), run)
-    return pushback_schedule.ways(schedule)
+    return pushback_schedule.methods(schedule)
 
 
 def write_block_schedule(project: Source, folder: Optional[Place] = None, writing: Writing = Writing()) -> pd.DataFrame:

@@ -10,18 +10,20 @@ import pandas as pd
 
 from pitplan import verification
 from pitplan.config import project_writer
-from pitplan.core import csv_writer, staging
+from pitplan.core import csv_writer, layout, staging
 from pitplan.core.atomic_files import staged, write_json
+from pitplan.core.warned import warn
+from pitplan.errors import InputWarning
 from pitplan.figures import sensitivity
 from pitplan.figures.style import also_as
 from pitplan.results import names
-from pitplan.results.conventions import with_discounting
+from pitplan.results.rounding import shown, write_csv
 from pitplan.studies.dask_pool import Where
 from pitplan.studies.sensitivity import cases as varied_cases, store
 from pitplan.studies.sensitivity.cases import Case, Sensitivity
 from pitplan.studies.sensitivity.store import RECORD, TABLE
 
-from .writing import Place, Source, Writing, demand_apart, read
+from .writing import Place, Source, Writing, demand_apart, in_all_formats, read
 
 
 def write_sensitivity(
@@ -57,7 +59,10 @@ def write_sensitivity(
     target = project.folder / "sensitivity" if folder is None else Path(folder)
     demand_apart(project, target)
     with staging.alone(target, varied_cases.CASES):
-        return write_cases(varied_cases.solve(project, target, where, writing.progress), target, writing)
+        found = varied_cases.solve(project, target, where, writing.progress)
+        table = write_cases(found, target, writing)
+    warn(found.plan.notes, InputWarning)
+    return table
 
 
 def write_cases(found: Sensitivity, folder: Path, writing: Writing) -> pd.DataFrame:
@@ -76,7 +81,7 @@ def write_cases(found: Sensitivity, folder: Path, writing: Writing) -> pd.DataFr
     cases, project, progress = varied_cases.table(found), found.project, writing.progress
     pairs = varied_cases.rules_of(project).pairs
     figures = [*sensitivity.WRITTEN, *map(sensitivity.grid_name, pairs)]
-    with staged(folder, RECORD, writing.removed(folder, figures)) as stage:
+    with staged(folder, RECORD, in_all_formats(figures), layout.FOLDERS) as stage:
         record = store.record(found, os.path.relpath(project.path, folder)) | {"figures": writing.figures}
         write_tables(found, cases, stage)
         project_writer.write(found.asked, stage / project_writer.AS_RUN, folder)
@@ -87,8 +92,8 @@ def write_cases(found: Sensitivity, folder: Path, writing: Writing) -> pd.DataFr
             verification.demand(rules)
             record["verified"] = [f"{rule.name}: {rule.holds}" for rule in rules]
         if writing.figures:
-            with progress.step("drawing"), also_as(project.pictures.formats if project.pictures else ()):
-                sensitivity.write_all(cases, pairs, project.money.currency, stage)
+            with progress.step("drawing"), also_as(project.figures.formats if project.figures else ()):
+                sensitivity.write_all(cases, pairs, project.economics.currency, stage)
         write_json(stage / RECORD, record)
     return cases
 
@@ -98,4 +103,4 @@ def write_tables(found: Sensitivity, cases: pd.DataFrame, stage: Path) -> None:
     blocks = found.plan.blocks
     blocks["revenue_factor"] = found.answers[Case()].entry[blocks["id"].to_numpy()]
     csv_writer.write(stage / names.TABLE, blocks)
-    with_discounting(store.shown(cases), found.project).to_csv(stage / TABLE, index=False)
+    write_csv(shown(cases), stage / TABLE, found.project)

@@ -14,7 +14,7 @@ from .writing import Place, Source, Writing, begun, read
 
 
 def write_shells(project: Source, folder: Optional[Place] = None, writing: Writing = Writing()) -> pd.DataFrame:
-    """Finds the shells, and writes tables, pictures, the report and the record prepare.json, as `pitplan shells` does.
+    """Finds the shells, and writes tables, pictures, the report and the record plan.json, as `pitplan shells` does.
 
     Parameters
     ----------
@@ -28,7 +28,7 @@ def write_shells(project: Source, folder: Optional[Place] = None, writing: Writi
     Returns
     -------
     DataFrame
-        The table that `pitplan.shells` returns, one row for each shell.
+        One row for each shell; see `pitplan.pits.shell_tables.shells`.
 
     Raises
     ------

@@ -15,52 +15,44 @@ from pitplan.blockmodel.figure_bounds import demand_within
 from pitplan.config import project_writer
 from pitplan.config.figures import FORMATS
 from pitplan.config.project import Project, inputs_beside, load, validated
-from pitplan.core import csv_writer, staging
+from pitplan.core import csv_writer, layout, staging
 from pitplan.core.atomic_files import demand_no_folders, hashes, hashes_of, staged, write_json
 from pitplan.core.progress import Progress, silent
+from pitplan.core.warned import warn
 from pitplan.export import registry
-from pitplan.figures import block_schedule, sensitivity
+from pitplan.figures import sensitivity
 from pitplan.results import names
 from pitplan.solver import mine_files, problem
-from pitplan.solver.choice import PROGRAM, chosen
+from pitplan.solver.choice import PROGRAM, Solver, chosen
 from pitplan.solver.problem import Mine
 from pitplan.studies.sensitivity import store
 
-from ..errors import PlanError
+from ..errors import InputWarning, PlanError, ResultWarning
 from ..plan import Plan, prepared
 
 # A project, or the path of its project.toml; and a folder.
 Source = Union[str, Path, Project]
 Place = Union[str, Path]
-PITS = "pits.csv"
-PICTURES = {
-    "pit_by_pit": "pit_by_pit.png",
-    "years": "years.png",
-    "plans": "plans.png",
-    "sections": "sections.png",
-}
-PUSHBACK_PICTURES = {"pushback_plans": "pushback_plans.png", "pushback_sections": "pushback_sections.png"}
-SCHEDULE_PICTURES = {
-    "schedule_gantt": "schedule_gantt.png",
-    "schedule_tonnes": "schedule_tonnes.png",
-    "schedule_value": "schedule_value.png",
-}
-BLOCK_PICTURES = {"block_schedule": block_schedule.NAME}
+
+
+def figures(*stems: str) -> dict[str, str]:
+    """The files of figures by their names."""
+    return {stem: f"{layout.FIGURES}/{stem}.png" for stem in stems}
+
+
+PICTURES = figures("pit_by_pit", "years", "plans", "sections")
+PUSHBACK_PICTURES = figures("pushback_plans", "pushback_sections")
+SCHEDULE_PICTURES = figures("schedule_gantt", "schedule_tonnes", "schedule_value")
+BLOCK_PICTURES = figures("block_schedule")
 FIGURES = tuple((PICTURES | PUSHBACK_PICTURES | SCHEDULE_PICTURES | BLOCK_PICTURES).values())
-REPORT, VIEW, WORKBOOK = "report.html", "view.html", "schedule.xlsx"
 # The files that every run writes or removes.
-ALWAYS = (*mine_files.OF_PROGRAM, names.RECORD, names.TABLE, project_writer.AS_RUN)
+ALWAYS = (*mine_files.IN_FOLDER, names.RECORD, names.TABLE, project_writer.AS_RUN)
 WRITTEN = {
     *ALWAYS,
-    names.SHELLS,
-    names.YEARS,
-    names.PUSHBACKS,
-    *(names.SCHEDULE, names.SCHEDULE_RECORD, names.MILLING, WORKBOOK),
-    *(names.BLOCK_SCHEDULE, names.WAYS),
-    *(REPORT, VIEW),
+    *names.OF_SOME,
     *FIGURES,
 }
-WRITTEN |= {PITS, *store.WRITTEN, *sensitivity.WRITTEN, *registry.WRITTEN}
+WRITTEN |= {*store.WRITTEN, *sensitivity.WRITTEN, *registry.WRITTEN}
 
 
 @dataclass(frozen=True)
@@ -74,26 +66,22 @@ class Writing:
     verifies : bool
         Recalculate all results independently before they are kept.
     figures : bool
-        Draw figures. Without them those of an earlier run in the folder are removed, since they show other results.
+        Draw figures. In any case those of an earlier run in the folder are removed, since they show other results.
     """
 
     progress: Progress = silent
     verifies: bool = True
     figures: bool = True
 
-    def removed(self, folder: Path, names: Iterable[str]) -> tuple[str, ...]:
-        """The figures of an earlier run that are in the folder and go, in all formats.
 
-        Parameters
-        ----------
-        folder : Path
-            The output folder.
-        names : iterable of str
-            The names of figures, such as plans.png.
-        """
-        places = [folder / name for name in names if not self.figures]
-        each = (place.with_suffix(f".{kind}") for place in places for kind in ("png", *FORMATS))
-        return tuple(place.name for place in each if place.is_file())
+def in_all_formats(figures: Iterable[str]) -> tuple[str, ...]:
+    """The paths of figures such as figures/plans.png in an output folder, in each format that they may have."""
+    return tuple(str(Path(name).with_suffix(f".{kind}")) for name in figures for kind in ("png", *FORMATS))
+
+
+def of_earlier_run(folder: Path) -> tuple[str, ...]:
+    """What an earlier run may have written that others do not. A folder without a record has none: such files there are the planner's own."""
+    return (*names.OF_SOME, *in_all_formats(FIGURES)) if (folder / names.RECORD).is_file() else ()
 
 
 @dataclass(frozen=True)
@@ -107,7 +95,7 @@ class Run:
     mine : Mine
         The mine of the plan, ready for its solver.
     record : dict
-        The record prepare.json as far as it is known. Commands add to it.
+        The record plan.json as far as it is known. Commands add to it.
     stage : Path
         The folder in which files are written before they are moved to their place.
     writing : Writing
@@ -129,8 +117,9 @@ def read(project: Source) -> Project:
 def demand_apart(project: Project, folder: Path) -> None:
     """Refuses a folder in which a file of the plan would replace an input, also of another mine, or has a folder in its place."""
     demand_no_folders(folder, ALWAYS)
+    written = {(folder / name).parent.resolve() / Path(name).name for name in WRITTEN}
     for path in (*project.inputs, *inputs_beside(folder)):
-        if path.parent.resolve() == folder.resolve() and path.name in WRITTEN:
+        if path.parent.resolve() / path.name in written:
             raise PlanError(f"{path}: the run would overwrite it: give another folder with --out")
 
 
@@ -158,16 +147,26 @@ def begun(project: Project, folder: Path, writing: Writing, planned: Optional[Pr
         If there is no solver.
     """
     demand_apart(project, folder)
-    progress = writing.progress
     with staging.alone(folder):
         solver = chosen(project.solver)
-        plan = prepared(planned or project, progress=progress)
-        with staged(folder, names.RECORD, (*mine_files.OF_PROGRAM, *writing.removed(folder, FIGURES))) as stage:
-            project_writer.write(project, stage / project_writer.AS_RUN, folder)
-            demand_within(project, plan.grid)
-            with progress.step("writing blocks and precedences" if solver.by == PROGRAM else "listing precedences"):
-                mine = problem.ready(plan, solver, stage)
-            yield Run(project, mine, plan.record(mine.pairs) | {"solver": asdict(solver)}, stage, writing)
+        plan = prepared(planned or project, progress=writing.progress)
+        with staged_run(project, plan, solver, folder, writing) as run:
+            yield run
+    warn(plan.notes, InputWarning)
+    warn([note for note in run.record["notes"] if note not in plan.notes], ResultWarning)
+
+
+@contextmanager
+def staged_run(project: Project, plan: Plan, solver: Solver, folder: Path, writing: Writing) -> Iterator[Run]:
+    """Yields the run of a plan into a folder; see `begun`. `solver` is the one that solves or has solved the plan."""
+    progress = writing.progress
+    removed = (*mine_files.IN_FOLDER, *of_earlier_run(folder))
+    with staged(folder, names.RECORD, removed, (*layout.FOLDERS, layout.INPUTS)) as stage:
+        project_writer.write(project, stage / project_writer.AS_RUN, folder)
+        demand_within(project, plan.grid)
+        with progress.step("writing blocks and precedences" if solver.by == PROGRAM else "listing precedences"):
+            mine = problem.ready(plan, solver, stage / layout.SOLVER)
+        yield Run(project, mine, plan.record(mine.pairs) | {"solver": asdict(solver)}, stage, writing)
 
 
 def note_verified(plan: Plan, run: Run) -> None:
@@ -183,6 +182,12 @@ def note_verified(plan: Plan, run: Run) -> None:
         record["verified"] = [f"{rule.name}: {rule.holds}" for rule in rules]
 
 
+def staged_input(path: Path, stage: Path) -> Path:
+    """The place of an input while a run goes on: in the stage if the run writes it, otherwise its own."""
+    place = stage / os.path.relpath(path, stage.parent)
+    return place if place.is_file() else path
+
+
 def write_table(blocks: pd.DataFrame, stage: Path) -> None:
     """Writes blocks.csv."""
     csv_writer.write(stage / names.TABLE, blocks)
@@ -190,7 +195,7 @@ def write_table(blocks: pd.DataFrame, stage: Path) -> None:
 
 def finish(plan: Plan, record: dict[str, Any], files: list[str], stage: Path) -> dict[str, Any]:
     """Writes the record with the hashes of the inputs, by their place relative to the project, and of the written files; returns it."""
-    record["inputs"] = hashes_of(plan.project.named_inputs)
+    record["inputs"] = hashes_of({name: staged_input(path, stage) for name, path in plan.project.named_inputs.items()})
     record["files"] = hashes(stage, [project_writer.AS_RUN, *files])
     write_json(stage / names.RECORD, record)
     return record

@@ -14,19 +14,9 @@ if TYPE_CHECKING:
 
 
 def demand_agreement(project: Project) -> None:
-    """Refuses sections that each are right and do not fit together."""
+    """Raises PlanError if sections that are valid each do not fit together."""
     path = project.path
-    money = project.money
-    priced: list[Any] = [money.mining_cost, money.mining_recovery, money.dilution]
-    for way in project.ways:
-        priced += [
-            way.money.processing_cost,
-            *(share for metal in way.metals for share in (metal.recovery, metal.tail_grade)),
-        ]
-    if project.table.rock_type is None and any(isinstance(price, dict) for price in priced):
-        raise PlanError(f"{path}: [table] rock_type: is missing, and prices or recoveries are given by rock type")
-    if project.table.domain is None and any(isinstance(price, ByDomain) for price in priced):
-        raise PlanError(f"{path}: [table] domain: is missing, and mining recovery or dilution is given by domain")
+    demand_codes(project)
     if project.table.density and not project.table.volume and project.grid.size is None:
         raise PlanError(
             f"{path}: [grid] size: is missing, by which a density gives tonnes, unless [table] names a volume"
@@ -44,21 +34,38 @@ def demand_agreement(project: Project) -> None:
         and "haulage" in {*varied.parameters, *(name for pair in varied.pairs for name in pair)}
     ):
         raise PlanError(f"{path}: [sensitivity] varies haulage, and there is no section [haulage]")
-    for name in project.schedule_rules.max_metal_per_year if project.schedule_rules else ():
+    for name in project.schedule.max_metal_per_year if project.schedule else ():
         if name not in names:
             raise PlanError(
-                f"{path}: [schedule] max_metal_per_year names {name}, which is none of the [[metals]] {', '.join(names)}"
+                f"{path}: [schedule] max_metal_per_year: found {name}, expected one of the [[metals]]: {', '.join(names)}"
             )
     if project.scenarios is not None:
         named = [*project.scenarios.columns, *(name for prices in project.scenarios.prices for name in prices)]
         for name in named:
             if name not in names:
-                raise PlanError(f"{path}: [scenarios] names {name}, which is none of the [[metals]] {', '.join(names)}")
+                raise PlanError(
+                    f"{path}: [scenarios]: found {name}, expected one of the [[metals]]: {', '.join(names)}"
+                )
+
+
+def demand_codes(project: Project) -> None:
+    """Requires a column of rock types or domains if numbers are given by these."""
+    path, money = project.path, project.economics
+    priced: list[Any] = [money.mining_cost, money.mining_recovery, money.dilution]
+    for way in project.by_process:
+        priced += [
+            way.economics.processing_cost,
+            *(share for metal in way.metals for share in (metal.recovery, metal.tail_grade)),
+        ]
+    if project.table.rock_type is None and any(isinstance(price, dict) for price in priced):
+        raise PlanError(f"{path}: [table] rock_type: is missing, and prices or recoveries are given by rock type")
+    if project.table.domain is None and any(isinstance(price, ByDomain) for price in priced):
+        raise PlanError(f"{path}: [table] domain: is missing, and mining recovery or dilution is given by domain")
 
 
 def demand_ground(project: Project) -> None:
     """Refuses an as-mined surface if the original ground is unknown or is given twice."""
-    rules, path = project.fixed, project.path
+    rules, path = project.constraints, project.path
     if rules is None or rules.as_mined is None:
         return
     named = bool(rules.topography or rules.by_blocks)
@@ -75,10 +82,10 @@ def demand_ground(project: Project) -> None:
 
 def demand_sums_agree(project: Project) -> None:
     """Refuses least amounts and sums of what there is not, or of a name that stands for several things; and a least above the most."""
-    rules, names = project.schedule_rules, [process.name for process in project.processes]
+    rules, names = project.schedule, [process.name for process in project.processes]
     if rules is None:
         return
-    shells, metals = project.schedule, [metal.name for metal in project.metals]
+    shells, metals = project.shells, [metal.name for metal in project.metals]
     most = {
         FEED: rules.processing_capacity or shells.processing_capacity,
         TOTAL: rules.mining_capacity or shells.mining_capacity,
@@ -88,7 +95,7 @@ def demand_sums_agree(project: Project) -> None:
     for name, least in rules.minimum.items():
         if name not in (FEED, TOTAL, *metals, *names):
             raise PlanError(
-                f"{project.path}: [schedule.minimum] {name}: is none of {', '.join((FEED, TOTAL, *metals, *names))}"
+                f"{project.path}: [schedule.minimum]: found {name}, expected one of {', '.join((FEED, TOTAL, *metals, *names))}"
             )
         if (FEED, TOTAL, *metals, *names).count(name) > 1:
             raise PlanError(f"{project.path}: [schedule.minimum] {name}: {several}")
@@ -99,7 +106,7 @@ def demand_sums_agree(project: Project) -> None:
     for it in rules.limits:
         if it.of not in (FEED, TOTAL, *names):
             raise PlanError(
-                f"{project.path}: [schedule.limits] {it.name}: of {it.of} is none of {', '.join((TOTAL, FEED, *names))}"
+                f"{project.path}: [schedule.limits] {it.name}: of: found {it.of}, expected one of {', '.join((TOTAL, FEED, *names))}"
             )
         if (FEED, TOTAL, *names).count(it.of) > 1:
             raise PlanError(f"{project.path}: [schedule.limits] {it.name}: of {it.of} {several}")
@@ -128,9 +135,9 @@ def demand_processes_agree(project: Project) -> None:
         for name in process.recovery:
             if name not in metals:
                 raise PlanError(
-                    f"{path}: [[processes]] {process.name} recovers {name}, which is none of the [[metals]] {', '.join(metals)}"
+                    f"{path}: [[processes]] {process.name} recovery: found {name}, expected one of the [[metals]]: {', '.join(metals)}"
                 )
-    rules = project.schedule_rules
+    rules = project.schedule
     if names and rules and (rules.bins is not None or rules.processing_capacity is not None):
         raise PlanError(
             f"{path}: [schedule] bins and processing_capacity are of one process: leave them out, or [[processes]]"

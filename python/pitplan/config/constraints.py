@@ -23,7 +23,7 @@ class Area:
 
 
 @dataclass(frozen=True)
-class FixedRules:
+class ConstraintRules:
     """What must be dug, and what may not be.
 
     must_mine   a column of the table: blocks with a number above 0 are in every shell
@@ -42,8 +42,8 @@ class FixedRules:
     by_blocks: bool = False
 
 
-def read_fixed(section: Section, folder: Path) -> FixedRules:
-    rules = FixedRules(
+def read_constraints(section: Section, folder: Path) -> ConstraintRules:
+    rules = ConstraintRules(
         must_mine=section.optional_text("must_mine"),
         exclude=section.optional_text("exclude"),
         as_mined=read_survey(section, "as_mined", folder) if section.has("as_mined") else None,

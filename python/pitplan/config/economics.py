@@ -107,7 +107,7 @@ class Process:
 
 
 @dataclass(frozen=True)
-class Money:
+class Economics:
     """Costs a tonne, how many decimals of the currency are kept, and whether the cut-off moves with the price.
 
     mining_cost_per_bench     more a tonne for each level below the one that holds the reference
@@ -137,10 +137,10 @@ class Money:
     capex: tuple[tuple[int, Decimal], ...] = ()
 
 
-def read_economics(section: Section, has_processes: bool = False) -> Money:
+def read_economics(section: Section, has_processes: bool = False) -> Economics:
     if has_processes and section.has("processing_cost"):
         raise section.wrong("processing_cost", "give the cost of each of the [[processes]], not this")
-    money = Money(
+    money = Economics(
         currency=section.text("currency", "USD"),
         mining_cost=section.by_rock("mining_cost"),
         mining_cost_per_bench=section.number("mining_cost_per_bench", Decimal(0), least=0),

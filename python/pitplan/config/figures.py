@@ -12,7 +12,7 @@ FORMATS = ("pdf", "svg")
 
 
 @dataclass(frozen=True)
-class PictureRules:
+class FigureRules:
     """What plans and sections show; what is left out is chosen by the pit.
 
     levels  elevations in metres, each within a level that is drawn
@@ -28,9 +28,9 @@ class PictureRules:
     formats: tuple[str, ...] = ()
 
 
-def read_pictures(section: Section, metals: tuple[str, ...]) -> PictureRules:
+def read_figures(section: Section, metals: tuple[str, ...]) -> FigureRules:
     """The section's rules; `metals` are the names that there are. Raises PlanError, with the key, where one is wrong."""
-    rules = PictureRules(
+    rules = FigureRules(
         levels=read_levels(section),
         north=float(section.number("north")) if section.has("north") else None,
         east=float(section.number("east")) if section.has("east") else None,
@@ -40,7 +40,7 @@ def read_pictures(section: Section, metals: tuple[str, ...]) -> PictureRules:
     section.finish()
     for name in rules.formats:
         if name not in FORMATS:
-            raise section.wrong("formats", f'"{name}" is none of {", ".join(FORMATS)}')
+            raise section.wrong("formats", f'found "{name}", expected one of {", ".join(FORMATS)}')
     return rules
 
 

@@ -6,22 +6,23 @@ import os
 from dataclasses import dataclass, replace
 from decimal import Decimal
 from pathlib import Path
-from typing import Any, Iterable, Optional, Union
+from typing import Any, Iterable, Mapping, Optional, Union
 
 from pitplan.errors import PlanError
 
 from . import toml_text
 from .agreement import demand_agreement
-from .constraints import FixedRules, read_fixed
-from .economics import Metal, Money, Process, read_economics, read_metal, read_process
-from .figures import PictureRules, read_pictures
+from .constraints import ConstraintRules, read_constraints
+from .economics import Economics, Metal, Process, read_economics, read_metal, read_process
+from .figures import FigureRules, read_figures
 from .haulage import Haulage, read_haulage
 from .overrides import overridden
 from .pushbacks import PushbackRules, read_pushbacks
+from .python_values import as_toml
 from .scenarios import Scenarios, read_scenarios
-from .schedule import ScheduleRules, read_schedule_rules
+from .schedule import ScheduleRules, read_schedule
 from .sensitivity import SensitivityRules, read_sensitivity
-from .shells import Schedule, read_schedule
+from .shells import ShellRules, read_shells
 from .slopes import Slopes, read_slopes
 from .table import GridRules, TableColumns, read_grid, read_table
 from .toml_section import Section
@@ -38,30 +39,30 @@ class Project:
     title: str
     table: TableColumns
     grid: GridRules
-    money: Money
+    economics: Economics
     metals: tuple[Metal, ...]
     slopes: Slopes
-    schedule: Schedule
+    shells: ShellRules
     folder: Path
     scenarios: Optional[Scenarios] = None
-    fixed: Optional[FixedRules] = None
+    constraints: Optional[ConstraintRules] = None
     pushbacks: Optional[PushbackRules] = None
-    schedule_rules: Optional[ScheduleRules] = None
+    schedule: Optional[ScheduleRules] = None
     processes: tuple[Process, ...] = ()
     sensitivity: Optional[SensitivityRules] = None
-    pictures: Optional[PictureRules] = None
+    figures: Optional[FigureRules] = None
     haulage: Optional[Haulage] = None
     solver: Optional[str] = None
 
     @property
-    def ways(self) -> tuple[Project, ...]:
+    def by_process(self) -> tuple[Project, ...]:
         """The project with each of its processes alone, as if it were the only one; itself where it names none."""
         return tuple(self.of_process(process) for process in self.processes) or (self,)
 
     @property
     def inputs(self) -> tuple[Path, ...]:
         """The project's own file, and those that a plan is made of: its table, a topography, a surface as mined, and areas."""
-        rules = self.fixed
+        rules = self.constraints
         surfaces = (self.table.topography, *((rules.topography, rules.as_mined) if rules else ()))
         areas = () if rules is None else (area.polygon for area in rules.areas)
         return (self.path, self.table.file, *(path for file in (*surfaces, *areas) if file for path in file.parts))
@@ -74,7 +75,7 @@ class Project:
     @property
     def cuts_blocks(self) -> bool:
         """Whether blocks have less than the table's tonnes, by a topography or an as-mined surface."""
-        return bool(self.table.topography or self.fixed and self.fixed.as_mined)
+        return bool(self.table.topography or self.constraints and self.constraints.as_mined)
 
     def to_toml(self, folder: Optional[Path] = None) -> str:
         """The text of a project.toml in a folder, by default that of the project's own file. It reads back as this project, but for `path`
@@ -83,9 +84,58 @@ class Project:
 
         return of_project(self, self.path.parent if folder is None else folder)
 
+    @classmethod
+    def from_dict(cls, sections: Mapping[str, Any], folder: Union[str, Path] = ".") -> Project:
+        """A project from its sections, checked as a project.toml is.
+
+        Parameters
+        ----------
+        sections : mapping
+            The sections of a project.toml by name, such as `{"table": {"file": "blocks.csv"}, "economics": {..}, "metals": [{..}]}`.
+        folder : str or Path
+            Paths in the sections are relative to it.
+
+        Raises
+        ------
+        PlanError
+            If a section is missing or wrong, with the section and the key.
+        """
+        return of_data(as_toml(sections, "project"), Path(folder) / "project.toml", "project")
+
+    def changed(self, section: str, keys: Mapping[str, Any], keeps_others: bool = False) -> Project:
+        """The project with other keys in a section, checked as a whole.
+
+        Parameters
+        ----------
+        section : str
+            The name of the section, such as "pushbacks".
+        keys : mapping
+            Its keys and values.
+        keeps_others : bool
+            Whether the section keeps its other keys. Otherwise it has these keys only.
+
+        Raises
+        ------
+        PlanError
+            If a key or value is wrong, with the section and the key.
+        """
+        data = toml_text.parsed(self.to_toml(), str(self.path))
+        before = data.get(section, {}) if keeps_others else {}
+        data[section] = before | as_toml(keys, section)
+        found = of_data(data, self.path, f"{self.path} as changed in Python")
+        if section != "shells":
+            found = replace(found, shells=self.shells)
+        elif "revenue_factors" not in data[section] or data[section]["revenue_factors"] == before.get(
+            "revenue_factors"
+        ):
+            found = replace(found, shells=replace(found.shells, base_price_added=self.shells.base_price_added))
+        return replace(found, folder=self.folder, solver=self.solver)
+
     def of_process(self, process: Process) -> Project:
         metals = tuple(replace(metal, recovery=process.recovery.get(metal.name, Decimal(0))) for metal in self.metals)
-        return replace(self, money=replace(self.money, processing_cost=process.cost), metals=metals, processes=())
+        return replace(
+            self, economics=replace(self.economics, processing_cost=process.cost), metals=metals, processes=()
+        )
 
 
 def load(path: Union[str, Path], original: Optional[Path] = None, overrides: Iterable[str] = ()) -> Project:
@@ -131,13 +181,13 @@ def validated(project: Project) -> Project:
     """
     source = f"{project.path} as changed in Python"
     found = of_data(toml_text.parsed(project.to_toml(), source), project.path, source)
-    kept, factors = project.schedule, tuple(
-        it for it in found.schedule.revenue_factors if it in project.schedule.revenue_factors
+    kept, factors = project.shells, tuple(
+        it for it in found.shells.revenue_factors if it in project.shells.revenue_factors
     )
-    schedule = replace(
-        found.schedule, revenue_factors=factors, selected=kept.selected, base_price_added=kept.base_price_added
+    shells = replace(
+        found.shells, revenue_factors=factors, selected=kept.selected, base_price_added=kept.base_price_added
     )
-    return replace(found, schedule=schedule, folder=project.folder, solver=project.solver)
+    return replace(found, shells=shells, folder=project.folder, solver=project.solver)
 
 
 def of_data(data: dict[str, Any], path: Path, source: Optional[str] = None) -> Project:
@@ -150,15 +200,15 @@ def of_data(data: dict[str, Any], path: Path, source: Optional[str] = None) -> P
         title=read_title(top, path.parent.name or "plan"),
         table=read_table(top.section("table"), path.parent),
         grid=read_grid(top.section("grid", optional=True)),
-        money=read_economics(top.section("economics"), bool(processes)),
+        economics=read_economics(top.section("economics"), bool(processes)),
         metals=tuple(read_metal(section, bool(processes)) for section in top.sections("metals")),
         slopes=read_slopes(top.section("slopes")),
-        schedule=read_schedule(top.section("shells"), processes),
+        shells=read_shells(top.section("shells"), processes),
         folder=path.parent / output.text("folder", "plan"),
         scenarios=read_scenarios(top.section("scenarios"), path.parent) if top.has("scenarios") else None,
-        fixed=read_fixed(top.section("constraints"), path.parent) if top.has("constraints") else None,
+        constraints=read_constraints(top.section("constraints"), path.parent) if top.has("constraints") else None,
         pushbacks=read_pushbacks(top.section("pushbacks")) if top.has("pushbacks") else None,
-        schedule_rules=read_schedule_rules(top.section("schedule")) if top.has("schedule") else None,
+        schedule=read_schedule(top.section("schedule")) if top.has("schedule") else None,
         processes=processes,
         haulage=read_haulage(top.section("haulage")) if top.has("haulage") else None,
     )
@@ -166,7 +216,7 @@ def of_data(data: dict[str, Any], path: Path, source: Optional[str] = None) -> P
     if top.has("sensitivity"):
         project = replace(project, sensitivity=read_sensitivity(top.section("sensitivity"), metals))
     if top.has("figures"):
-        project = replace(project, pictures=read_pictures(top.section("figures"), metals))
+        project = replace(project, figures=read_figures(top.section("figures"), metals))
     output.finish()
     top.finish()
     demand_agreement(project)

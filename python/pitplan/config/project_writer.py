@@ -10,14 +10,14 @@ from typing import Any, Optional, Union
 
 from pitplan.config.project import Project, load
 from pitplan.config.scenarios import Scenarios
-from pitplan.config.shells import Schedule
+from pitplan.config.shells import ShellRules
 from pitplan.config.table import GridRules, MissingRock, Reblock, TableColumns
 from pitplan.core.atomic_files import hash_of
 from pitplan.core.revenue_factors import BASE_PRICE
 
-from .constraints import BLOCKS, FixedRules
-from .economics import ByDomain, Curve, Metal, Money, Process
-from .figures import PictureRules
+from .constraints import BLOCKS, ConstraintRules
+from .economics import ByDomain, Curve, Economics, Metal, Process
+from .figures import FigureRules
 from .haulage import KINDS, Haulage
 from .pushbacks import PushbackRules
 from .schedule import ScheduleRules, Sum
@@ -39,18 +39,18 @@ def of_project(project: Project, folder: Path) -> str:
         "output": {"folder": place(project.folder, folder)},
         "table": of_table(project.table, folder),
         "grid": of_grid(project.grid),
-        "economics": of_money(project.money, has_processes),
+        "economics": of_money(project.economics, has_processes),
         "metals": [of_metal(metal, has_processes) for metal in project.metals],
         "processes": [of_process(process) for process in project.processes],
         "slopes": of_slopes(project.slopes),
-        "shells": of_shells(project.schedule),
+        "shells": of_shells(project.shells),
         "haulage": project.haulage and of_haulage(project.haulage),
-        "constraints": project.fixed and of_fixed(project.fixed, folder),
+        "constraints": project.constraints and of_fixed(project.constraints, folder),
         "pushbacks": project.pushbacks and of_pushbacks(project.pushbacks),
-        "schedule": project.schedule_rules and of_schedule(project.schedule_rules),
+        "schedule": project.schedule and of_schedule(project.schedule),
         "sensitivity": project.sensitivity and of_sensitivity(project.sensitivity),
         "scenarios": project.scenarios and of_scenarios(project.scenarios, folder),
-        "figures": project.pictures and of_pictures(project.pictures),
+        "figures": project.figures and of_pictures(project.figures),
     }
     lines = [f"title = {shown(project.title)}"]
     for name, values in sections.items():
@@ -171,9 +171,9 @@ def of_grid(grid: GridRules) -> Values:
     return {"size": grid.size, "tolerance": grid.tolerance, "azimuth": grid.azimuth}
 
 
-def of_money(money: Money, has_processes: bool) -> Values:
+def of_money(money: Economics, has_processes: bool) -> Values:
     """`mining_cost_per_bench` is left out where it is 0 and no elevation refers to it, since it does not go with costs by elevation."""
-    values = {name: getattr(money, name) for name in Money.__dataclass_fields__}
+    values = {name: getattr(money, name) for name in Economics.__dataclass_fields__}
     by_level = money.mining_cost_per_bench or money.mining_cost_reference is not None
     return {
         **values,
@@ -227,7 +227,7 @@ def of_wall(wall: Wall) -> Values:
     return {**found, "azimuths": wall.angles, "azimuth_of": wall.azimuth_of if wall.azimuth_of != WALL else None}
 
 
-def of_shells(schedule: Schedule) -> Values:
+def of_shells(schedule: ShellRules) -> Values:
     """The base price, 1.0, is left out if it was added: a reader adds it."""
     left = {BASE_PRICE} if schedule.base_price_added else set()
     return {
@@ -249,7 +249,7 @@ def of_haulage(haulage: Haulage) -> Values:
     return {"pit_exit": haulage.pit_exit, "ramp_gradient": haulage.ramp_gradient, **by_kind}
 
 
-def of_fixed(fixed: FixedRules, folder: Path) -> Values:
+def of_fixed(fixed: ConstraintRules, folder: Path) -> Values:
     areas = [{"polygon": of_survey(area.polygon, folder), "exclude": area.exclude} for area in fixed.areas]
     ground = of_survey(fixed.topography, folder)
     # A file of that name, which is not the word.
@@ -299,6 +299,6 @@ def of_scenarios(scenarios: Scenarios, folder: Path) -> Values:
     return {"columns": scenarios.columns, "prices": prices or None}
 
 
-def of_pictures(rules: PictureRules) -> Values:
+def of_pictures(rules: FigureRules) -> Values:
     values = {"levels": rules.levels or None, "north": rules.north, "east": rules.east}
     return {**values, "metal": rules.metal, "formats": rules.formats or None}

@@ -86,7 +86,7 @@ class ScheduleRules:
         return bool(self.minimum) or any(it.min for it in self.limits)
 
 
-def read_schedule_rules(section: Section) -> ScheduleRules:
+def read_schedule(section: Section) -> ScheduleRules:
     """The section's rules. Raises PlanError, with the key, where one is wrong."""
     rules = ScheduleRules(
         processing_capacity=read_tonnes(section, "processing_capacity"),

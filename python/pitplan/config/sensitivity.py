@@ -86,4 +86,4 @@ def named(section: Section, key: str, name: object, metals: tuple[str, ...]) -> 
     if kind in NAMES and (not metal or (kind in OF_METALS and metal in metals)):
         return str(name)
     of_metals = " or of one metal, as ".join((", ".join(OF_METALS), f'"price {metals[0]}"'))
-    raise section.wrong(key, f'"{name}" is none of {", ".join(NAMES)}; {of_metals}')
+    raise section.wrong(key, f'found "{name}", expected one of {", ".join(NAMES)}; {of_metals}')

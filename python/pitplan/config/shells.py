@@ -24,7 +24,7 @@ DISCOUNTINGS = tuple(IN_WORDS)
 
 
 @dataclass(frozen=True)
-class Schedule:
+class ShellRules:
     """Revenue factors, and the terms of discounting: a yearly rate, yearly capacities in tonnes, and when the cash of a year flows.
 
     revenue_factors   rising; 1.0 is the base price
@@ -43,7 +43,7 @@ class Schedule:
     per_process: tuple[float, ...] = ()
 
 
-def read_schedule(section: Section, processes: tuple[Process, ...] = ()) -> Schedule:
+def read_shells(section: Section, processes: tuple[Process, ...] = ()) -> ShellRules:
     given = section.revenue_factors("revenue_factors")
     factors = tuple(sorted({*given, BASE_PRICE}))
     if len(factors) > MOST_FACTORS:
@@ -53,7 +53,7 @@ def read_schedule(section: Section, processes: tuple[Process, ...] = ()) -> Sche
     selected = section.revenue_factor("selected") if section.has("selected") else None
     if selected is not None and selected not in factors:
         raise section.wrong("selected", f"{factor_text(selected)} is not among the revenue_factors")
-    schedule = Schedule(
+    rules = ShellRules(
         revenue_factors=factors,
         selected=selected,
         discount_rate=read_rate(section),
@@ -66,7 +66,7 @@ def read_schedule(section: Section, processes: tuple[Process, ...] = ()) -> Sche
         base_price_added=BASE_PRICE not in given,
     )
     section.finish()
-    return schedule
+    return rules
 
 
 def read_rate(section: Section) -> float:

@@ -37,7 +37,7 @@ class SurveyFile:
 def read_survey(section: Section, key: str, folder: Path, heights: bool = True) -> SurveyFile:
     """`KEY = "file"`, or `{ file, layer, height }`. Raises PlanError, with the key, where it is neither."""
     if section.has("layer"):
-        raise section.wrong("layer", f'stands beside its file: {key} = {{ file = "..", layer = ".." }}')
+        raise section.wrong("layer", f'must be in the table of its file: {key} = {{ file = "..", layer = ".." }}')
     if not isinstance(section.get(key), dict):
         return SurveyFile(folder / section.text(key))
     inner = section.section(key)

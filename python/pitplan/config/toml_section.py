@@ -55,11 +55,11 @@ class Section:
         return self.data[key]
 
     def finish(self) -> None:
-        """Raises PlanError where a key stands that is none of the section's, with the nearest one that is."""
+        """Raises PlanError if the section has an unknown key, with the known one that is most like it."""
         for key in self.data:
             if key not in self.asked:
                 near = difflib.get_close_matches(key, self.asked, 1)
-                raise self.wrong(key, "is no key here" + (f"; {near[0]} is" if near else ""))
+                raise self.wrong(key, "unknown key: " + (f"did you mean {near[0]}?" if near else "remove it"))
 
     def section(self, key: str, optional: bool = False) -> "Section":
         data = {} if optional and not self.has(key) else self.get(key)
@@ -90,7 +90,7 @@ class Section:
     def choice(self, key: str, options: tuple[str, ...], default: Optional[str]) -> str:
         value = self.text(key, default)
         if value not in options:
-            raise self.wrong(key, f'"{cut(value)}" is none of {", ".join(options)}')
+            raise self.wrong(key, f'found "{cut(value)}", expected one of {", ".join(options)}')
         return value
 
     def truth(self, key: str, default: bool) -> bool:

@@ -5,7 +5,7 @@ from __future__ import annotations
 import hashlib
 import json
 import os
-from contextlib import contextmanager
+from contextlib import contextmanager, suppress
 from pathlib import Path
 from typing import Any, Iterable, Iterator, Mapping
 
@@ -15,7 +15,9 @@ from . import staging
 
 
 @contextmanager
-def staged(folder: Path, last: str = "", whole: tuple[str, ...] = ()) -> Iterator[Path]:
+def staged(
+    folder: Path, last: str = "", whole: tuple[str, ...] = (), subfolders: tuple[str, ...] = ()
+) -> Iterator[Path]:
     """Yields a new folder to write into, whose files move to `folder` if no error is raised.
 
     Parameters
@@ -26,23 +28,44 @@ def staged(folder: Path, last: str = "", whole: tuple[str, ...] = ()) -> Iterato
         The file that moves last, usually the record that names the others.
     whole : tuple of str
         Files that belong together. Those of an earlier run that this run has not written are removed, since they show other results.
+    subfolders : tuple of str
+        Folders that the new folder has from the start. An empty one is not moved.
 
     Raises
     ------
     PlanError
-        If the folder cannot be made or written, or has a folder in place of a file. Then nothing in it has changed.
+        If a folder cannot be made or written, lies on another file system, or is in place of a file. Then nothing in it has changed.
     """
     try:
-        folder.mkdir(parents=True, exist_ok=True)
-        with staging.stage_in(folder) as stage:
+        with staging.made(folder), staging.stage_in(folder) as stage:
+            for name in subfolders:
+                (stage / name).mkdir()
             yield stage
-            found = sorted(stage.iterdir(), key=lambda it: it.name == last)
-            demand_no_folders(folder, [*whole, *(path.name for path in found if not path.is_dir())])
-            take_away(folder, [name for name in whole if not (stage / name).exists()])
-            for path in found:
-                os.replace(path, folder / path.name)
+            move(stage, folder, last, whole)
     except OSError as error:
         raise PlanError(f"{error.filename or folder}: cannot be written: {error.strerror or error}") from error
+
+
+def move(stage: Path, folder: Path, last: str, whole: tuple[str, ...]) -> None:
+    """Moves all files of a stage to their places in a folder, as `staged` says. Raises PlanError or OSError before anything has changed."""
+    paths = [path.relative_to(stage) for path in stage.rglob("*") if not path.is_dir()]
+    found = sorted(paths, key=lambda path: (str(path) == last, path))
+    demand_no_folders(folder, [*whole, *map(str, found)])
+    subfolders = sorted({path.parent for path in found} - {Path(".")})
+    for inner in subfolders:
+        make_folder(folder / inner, stage)
+    take_away(folder, [name for name in whole if not (stage / name).exists()], subfolders)
+    for path in found:
+        os.replace(stage / path, folder / path)
+
+
+def make_folder(place: Path, stage: Path) -> None:
+    """Makes a folder if it is missing. Raises PlanError if files of the stage cannot be moved there."""
+    place.mkdir(parents=True, exist_ok=True)
+    if place.stat().st_dev != stage.stat().st_dev:
+        raise PlanError(f"{place}: is on another file system than {place.parent}: move it there, or give another --out")
+    if not os.access(place, os.W_OK | os.X_OK):
+        raise PlanError(f"{place}: cannot be written: Permission denied")
 
 
 def demand_no_folders(folder: Path, names: Iterable[str]) -> None:
@@ -54,9 +77,14 @@ def demand_no_folders(folder: Path, names: Iterable[str]) -> None:
             )
 
 
-def take_away(folder: Path, names: list[str]) -> None:
-    for name in names:
-        (folder / name).unlink(missing_ok=True)
+def take_away(folder: Path, names: list[str], kept: list[Path]) -> None:
+    """Removes files, and the subfolders that are empty then, but not those that are kept."""
+    for path in map(Path, names):
+        with suppress(FileNotFoundError, NotADirectoryError):
+            (folder / path).unlink()
+        if path.parent not in (Path("."), *kept):
+            with suppress(OSError):
+                (folder / path.parent).rmdir()
 
 
 @contextmanager

@@ -40,9 +40,9 @@ def alone(folder: Path, *within: str) -> Iterator[None]:
         with suppress(OSError):
             os.unlink(folder / LOCK)
         os.close(descriptor)
-        for made in missing:
+        for it in missing:
             with suppress(OSError):
-                made.rmdir()
+                it.rmdir()
 
 
 def locked(folder: Path) -> int:
@@ -93,6 +93,20 @@ def is_at(descriptor: int, path: Path) -> bool:
         return os.path.samestat(os.fstat(descriptor), os.stat(path, follow_symlinks=False))
     except FileNotFoundError:
         return False
+
+
+@contextmanager
+def made(folder: Path) -> Iterator[None]:
+    """Makes a folder with its parents; if an error is raised, those that were missing and are empty are removed. Raises OSError."""
+    missing = [it for it in (folder, *folder.parents) if not os.path.lexists(it)]
+    folder.mkdir(parents=True, exist_ok=True)
+    try:
+        yield
+    except BaseException:
+        for it in missing:
+            with suppress(OSError):
+                it.rmdir()
+        raise
 
 
 @contextmanager

@@ -1,12 +1,11 @@
-"""How far each block is hauled, and what that costs.
+"""Haul distances and costs.
 
-The road of a block is as far as the pit's exit lies from the block's centre in plan, and besides a ramp for the rise from the floor of
-its bench to the exit, up or down: so long in plan as the rise divided by the gradient (the length of a ramp in Hustrulid, Kuchta and
-Martin, Open Pit Mine Planning and Design, 3rd edition, 2013, on haulage roads). A road that leads to the exit while it rises is shorter,
-down to the greater of both parts; benches, widths and curves are not looked at. So these are costs for a pit that has no roads yet.
+The haul road of a block is the horizontal distance from its centroid to the pit exit, plus a ramp for the rise from the floor of its bench to
+the exit, up or down. The horizontal length of the ramp is the rise divided by the gradient (Hustrulid, Kuchta and Martin, Open Pit Mine
+Planning and Design, 3rd edition, 2013, on haulage roads). A road that approaches the exit while it climbs is shorter, at least as long as
+the longer of the two parts. Benches, road widths and curves are ignored: these are costs for a pit without a road design.
 
-Of a block that is dug each tonne is hauled as waste. What comes to the mill of one that is processed costs besides what ore costs more than
-waste along the same road, or less: that is part of its processing.
+All material is hauled as waste. Mill feed costs more or less than waste along the same road; the difference is part of the processing cost.
 """
 
 from __future__ import annotations
@@ -25,7 +24,7 @@ LENGTH_PLACES, ELEVATION_PLACES = 3, 6
 
 @dataclass(frozen=True)
 class Roads:
-    """Roads of a table's rows: exact metres to the exit, and what a tonne costs along them."""
+    """Haul roads of the rows of a table: exact metres to the exit, and cost per tonne."""
 
     metres: Exact
     rules: Haulage
@@ -40,12 +39,12 @@ class Roads:
 
     @property
     def waste(self) -> Exact:
-        """Cost of a tonne of rock."""
+        """Cost per tonne of material."""
         return self.cost(self.rules.waste)
 
     @property
     def ore_more(self) -> Exact:
-        """What a tonne at the mill costs more than as waste; below 0 where it costs less."""
+        """What a tonne of mill feed costs more than as waste; below 0 if less."""
         return self.cost(self.rules.ore).minus(self.waste)
 
     def cost(self, road: Road) -> Exact:
@@ -55,8 +54,9 @@ class Roads:
 
 @dataclass(frozen=True)
 class Hauled:
-    """Of each cell the road in whole millimetres, and in millionths of the currency what hauling it costs: as waste, which is part of its
-    mining cost, and what comes to the mill of it more than as waste, part of its processing cost."""
+    """Haul distance of each cell in whole millimetres, and haulage costs in millionths of the currency: of the block as waste, part of its mining
+    cost; and of its mill feed beyond that, part of its processing cost.
+    """
 
     road: np.ndarray
     waste: np.ndarray
@@ -64,13 +64,13 @@ class Hauled:
 
 
 def flat_lengths(grid: Grid, rules: Haulage) -> np.ndarray:
-    """Metres in plan from the exit to the centre of each column of blocks, shape (rows x columns,)."""
+    """Returns the horizontal metres from the exit to the centre of each column of blocks, shape (rows x columns,)."""
     x, y, _ = grid.centres(np.arange(grid.per_level))
     return np.hypot(x - float(rules.pit_exit[0]), y - float(rules.pit_exit[1]))
 
 
 def ramp_lengths(grid: Grid, rules: Haulage) -> np.ndarray:
-    """Metres in plan of the ramp from each level's floor to the exit's elevation, from the top."""
+    """Returns the horizontal metres of the ramp from each level's floor to the elevation of the exit, from the top."""
     floors = Exact.of_floats((grid.elevations() - grid.size[2] / 2).round(ELEVATION_PLACES))
     rise = floors.minus(Exact.of(rules.pit_exit[2], len(floors.whole))).floats()
     return np.asarray(np.abs(rise) / float(rules.ramp_gradient))

@@ -1,4 +1,4 @@
-"""What years earn and cost besides what is dug at the price as given: prices of their own, a fixed cost, and capex."""
+"""Cash flow of years beyond block values: yearly prices, period costs and capex."""
 
 from __future__ import annotations
 
@@ -11,12 +11,16 @@ from pitplan.config.project import Project
 
 @dataclass(frozen=True)
 class YearlyMoney:
-    """What is no part of a block's worth.
+    """Cash flow that is not part of block values.
 
-    fixed_cost  of a year, in money; it flows evenly as long as the mine runs
-    capex     pairs of a year, from 1, and what is spent at its start if the mine still runs, in money
-    premiums    by the name of a metal's amount what a unit of it earns more than at the price as given, royalty taken off, for each
-                year from the first; the last one stays
+    Attributes
+    ----------
+    fixed_cost : float
+        Period cost per year in the currency, spent evenly while the mine runs.
+    capex : tuple of pairs
+        Year, from 1, and the amount that is spent at its start if the mine still runs, in the currency.
+    premiums : dict of str to tuple
+        By amount of metal, what a unit of it earns beyond the base price, less royalty, in each year from 1; the last one continues.
     """
 
     fixed_cost: float = 0.0
@@ -25,11 +29,11 @@ class YearlyMoney:
 
     @property
     def columns(self) -> tuple[str, ...]:
-        """The names of the amounts that a year has of these."""
+        """The columns that a table of years has for these."""
         return ("fixed_cost", "capex") if self.fixed_cost or self.capex else ()
 
     def premium(self, names: tuple[str, ...], years: int) -> np.ndarray:
-        """What a unit of each amount earns more: an array of years and names."""
+        """Returns the premium of a unit of each amount, shape (years, names)."""
         found = np.zeros((years, len(names)))
         for name, premiums in self.premiums.items():
             year = np.minimum(np.arange(years), len(premiums) - 1)
@@ -37,7 +41,7 @@ class YearlyMoney:
         return found
 
     def spent(self, years: int) -> np.ndarray:
-        """Capital by year."""
+        """Returns the capex of each year."""
         found = np.zeros(years)
         for year, amount in self.capex:
             if year <= years:
@@ -49,7 +53,7 @@ PLAIN = YearlyMoney()
 
 
 def of_project(project: Project) -> YearlyMoney:
-    money = project.money
+    money = project.economics
     premiums = {
         f"recovered_{metal.name}": tuple(
             float((metal.by_quantity(price) - metal.by_quantity(metal.price)) * (1 - money.royalty))
@@ -64,9 +68,9 @@ def of_project(project: Project) -> YearlyMoney:
 
 
 def notes(project: Project) -> list[str]:
-    """That years have money of their own, and which numbers have it."""
+    """Returns a note with the yearly prices, period costs and capex of the project."""
     money = of_project(project)
-    parts = [f"fixed costs of {money.fixed_cost:,.12g} {project.money.currency} a year"] if money.fixed_cost else []
+    parts = [f"fixed costs of {money.fixed_cost:,.12g} {project.economics.currency} a year"] if money.fixed_cost else []
     parts += ["capex"] if money.capex else []
     parts += ["yearly prices"] if money.premiums else []
     if not parts:

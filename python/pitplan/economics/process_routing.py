@@ -1,10 +1,9 @@
-"""Several processes: which of them a block goes to at each price, as nodes of which no block is counted twice.
+"""Several processes: the one that each block is sent to at each revenue factor, as nodes that never count a block twice.
 
-At a factor a block is worth most in the process of greatest `factor * revenue - cost`, or left as waste: the greatest of lines that rise with
-the factor. Such a greatest is a sum of steps: from waste to the first process that pays as the factor rises, and from each to the next that is
-better, each worth its own line or nothing, and each from a greater factor on than the one before. So a block has a node for each step, with the
-revenue and the cost that the step adds, which needs the node of the step before. The program takes as many steps as pay, which add up to one
-process; and as each step pays from its factor on, shells nest.
+At a revenue factor a block is sent to the process with the greatest `factor * revenue - cost`, or to waste: the upper envelope of lines in the
+factor. The envelope is a sum of steps: from waste to the first process that pays as the factor rises, and from each process to the next
+better one. So a block has a node for each step, with the revenue and cost that the step adds, which depends on the node of the step before.
+The solver takes as many steps as pay, which add up to one process. Each step pays from its own factor on, so shells nest.
 """
 
 from __future__ import annotations
@@ -19,10 +18,7 @@ from pitplan.errors import PlanError
 
 @dataclass(frozen=True)
 class Way:
-    """One process: what each cell yields and costs in it, in millionths, and the recovered quantity of each metal.
-
-    name  "" where there is one alone
-    """
+    """One process: revenue and cost of each cell in millionths, and the recovered quantity of each metal. `name` is "" if there is only one."""
 
     name: str
     revenue: np.ndarray
@@ -32,11 +28,16 @@ class Way:
 
 @dataclass(frozen=True)
 class Steps:
-    """The processing nodes, by block and there one after the other.
+    """The processing nodes, by block and step.
 
-    block    the cell of each
-    way      the number of the process to which it leads; -1 of a node without a step
-    revenue, cost  what the step adds to that of the step before, in millionths
+    Attributes
+    ----------
+    block : int array
+        The cell of each node.
+    way : int array
+        The number of the process that the step leads to; -1 for a node without a step.
+    revenue, cost : int64 array
+        What the step adds to those of the step before, in millionths.
     """
 
     block: np.ndarray
@@ -69,7 +70,9 @@ class Steps:
 
 
 def best_way(ways: tuple[Way, ...], factor: float) -> np.ndarray:
-    """By cell the number of the process that is worth most at a factor; of several that of least revenue, at which the steps end."""
+    """Returns for each cell the process with the greatest value at a revenue factor; of several the one with the least revenue, at which the steps
+    end.
+    """
     best = np.zeros(len(ways[0].revenue), dtype=np.int8)
     if len(ways) == 1:
         return best
@@ -83,12 +86,12 @@ def best_way(ways: tuple[Way, ...], factor: float) -> np.ndarray:
 
 
 def worth(way: Way, factor: float) -> np.ndarray:
-    """What each cell is worth in a process at a factor, in billionths, without its mining."""
+    """Returns the value of each cell in a process at a revenue factor, without mining, in billionths."""
     return at_factor(factor, way.revenue, way.cost)
 
 
 def most_steps(ways: tuple[Way, ...]) -> np.ndarray:
-    """The block of each node that the steps may take if no cell yields more in any process: one node for each process with a revenue.
+    """Returns the block of each node that the steps may take if no cell has more revenue in any process: one per process with a revenue.
 
     Each step has more revenue than the one before, so a block has no more steps than such processes.
     """
@@ -97,8 +100,9 @@ def most_steps(ways: tuple[Way, ...]) -> np.ndarray:
 
 
 def steps_of(ways: tuple[Way, ...]) -> Steps:
-    """The steps of each cell: from what it has, the next is the process of more revenue that is better from the least factor on; of several
-    that of most revenue."""
+    """Returns the steps of each cell. The next step leads to the process of more revenue that is better from the least factor on; of several to
+    the one with the most revenue.
+    """
     revenues, costs = (np.stack([getattr(way, name) for way in ways]).astype(object) for name in ("revenue", "cost"))
     block = np.flatnonzero((revenues > 0).any(axis=0))
     revenue, cost = np.zeros(len(block), dtype=object), np.zeros(len(block), dtype=object)
@@ -118,7 +122,7 @@ def steps_of(ways: tuple[Way, ...]) -> Steps:
 
 
 def next_way(more: np.ndarray, dearer: np.ndarray) -> np.ndarray:
-    """The process of each block to which the next step leads; -1 where none has more revenue. Arrays of processes and blocks."""
+    """Returns the process of each block to which the next step leads, -1 if none has more revenue; from arrays of shape (processes, blocks)."""
     best = np.full(more.shape[1], -1)
     for number in range(len(more)):
         rises = np.array(more[number] > 0, dtype=bool)

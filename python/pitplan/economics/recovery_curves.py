@@ -1,4 +1,4 @@
-"""The share of a metal that is recovered, by the grade of what comes to the mill."""
+"""Metallurgical recovery by head grade."""
 
 from __future__ import annotations
 
@@ -16,7 +16,7 @@ PLACES = 6
 
 @dataclass(frozen=True)
 class Head:
-    """The grade of what comes to the mill of each row: the block's own grade, and the tonnes that come with each of its tonnes."""
+    """The head grade of each row: the grade of the block, and the tonnes of feed per tonne of it."""
 
     grade: Exact
     tonnes_of: Exact
@@ -26,7 +26,7 @@ class Head:
 
 
 def of_rows(recovery: Union[Recovery, dict[str, Recovery]], rock: np.ndarray, head: Head) -> Exact:
-    """One recovery a row, by its rock and its grade; 0 where its rock has none."""
+    """Returns the recovery of each row, by rock type and head grade; 0 if its rock type has none."""
     if not isinstance(recovery, dict):
         return of_rock(recovery, head)
     parts = []
@@ -48,7 +48,7 @@ def of_rock(recovery: Recovery, head: Head) -> Exact:
 
 
 def at_grades(curve: Curve, head: Head) -> np.ndarray:
-    """Millionths that are recovered: linear between two grades, and beyond them as at the ends."""
+    """Returns recoveries in millionths: linear between two grades, constant beyond the first and the last."""
     points = [(whole_and_places(grade), whole_and_places(share)) for grade, share in curve.points]
     places = max(head.grade.places, head.tonnes_of.places, *(own for (_, own), _ in points))
     finest = max(own for _, (_, own) in points)

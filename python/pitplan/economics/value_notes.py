@@ -16,7 +16,7 @@ from .weighing import GRADES, Feed, Rows
 
 
 def grade_notes(rows: Rows) -> list[str]:
-    """Warnings of grades that a unit hardly allows: more than all of the rock, or a mean that few mines have."""
+    """Returns warnings about grades that do not fit their unit: more metal than rock, or an unusually high mean."""
     notes = []
     for metal in rows.project.metals:
         grades, (whole, usual) = rows.frame[metal.column].to_numpy(), GRADES[metal.unit]
@@ -34,18 +34,18 @@ def grade_notes(rows: Rows) -> list[str]:
 
 
 def notes_of(rows: Rows, feed: Feed) -> tuple[str, ...]:
-    """Warnings of grades, and what a planner should know of rocks, of what comes to the mill, and of recoveries."""
+    """Returns warnings about grades, and notes on rock types, mill feed and recoveries."""
     solid, project = np.array(rows.tonnes.whole > 0, dtype=bool), rows.project
     notes = [*grade_notes(rows), *feed_notes(project), *haulage_notes(rows)]
-    for process, way in zip([process.name for process in project.processes] or [""], project.ways):
+    for process, way in zip([process.name for process in project.processes] or [""], project.by_process):
         of_way = [*rock_notes(way, rows.rock, solid), *recovery_notes(replace(rows, project=way), feed)]
         notes += [f"{process}: {note}" for note in of_way] if process else of_way
     return tuple(notes)
 
 
 def feed_notes(project: Project) -> list[str]:
-    """What of a block comes to the mill, and what is owed for it, where the project says anything of it."""
-    money, notes = project.money, []
+    """Returns notes on mining recovery, dilution and royalty, if the project has any."""
+    money, notes = project.economics, []
     if money.mining_recovery != 1 or money.dilution != 0:
         recovery, dilution = said_of(money.mining_recovery), said_of(money.dilution)
         notes.append(
@@ -64,7 +64,7 @@ def feed_notes(project: Project) -> list[str]:
 
 
 def haulage_notes(rows: Rows) -> list[str]:
-    """How long roads are, and where their cost stands."""
+    """Returns the range of haul distances, and which costs include haulage."""
     if rows.roads is None:
         return []
     rules, metres = rows.roads.rules, rows.roads.metres.floats()
@@ -76,7 +76,7 @@ def haulage_notes(rows: Rows) -> list[str]:
 
 
 def recovery_notes(rows: Rows, feed: Feed) -> list[str]:
-    """How recoveries go by grade, and what is lost as a fixed tail."""
+    """Returns notes on recovery curves and constant tails grades."""
     notes = []
     for metal in rows.project.metals:
         of_rocks = metal.recovery if isinstance(metal.recovery, dict) else {"": metal.recovery}
@@ -89,7 +89,7 @@ def recovery_notes(rows: Rows, feed: Feed) -> list[str]:
 
 
 def curve_note(rows: Rows, feed: Feed, metal: Metal, rock: str) -> str:
-    """That a recovery goes by grade, of a rock or, where that has no name, of all, and how many blocks lie beyond the grades named."""
+    """Returns a note on a recovery curve, of a rock type or of all, with the number of blocks beyond its grades."""
     curve = metal.recovery[rock] if isinstance(metal.recovery, dict) else metal.recovery
     assert isinstance(curve, Curve)
     least, most = float(curve.points[0][0]), float(curve.points[-1][0])
@@ -103,7 +103,7 @@ def curve_note(rows: Rows, feed: Feed, metal: Metal, rock: str) -> str:
 
 
 def said_of(value: ByCode) -> str:
-    """One number, or those of all codes."""
+    """Returns the text of one number, or of the numbers of all codes."""
     if isinstance(value, Decimal):
         return f"{value:f}"
     by_code = value.values if isinstance(value, ByDomain) else value
@@ -111,7 +111,7 @@ def said_of(value: ByCode) -> str:
 
 
 def rock_notes(project: Project, rock: np.ndarray, solid: np.ndarray) -> list[str]:
-    """What a planner should know of codes: rocks that are never processed, and names that no block bears."""
+    """Returns notes on rock types that are never processed, and on codes that no block has."""
     notes, present = [], set(pd.unique(rock[solid]))
     for metal in project.metals:
         if isinstance(metal.recovery, dict):

@@ -1,4 +1,4 @@
-"""Rows of a block model weighed in money: mill feed, recovered metal, revenue and cost of each process."""
+"""Rows of a block model valued in the currency: mill feed, recovered metal, revenue and cost in each process."""
 
 from __future__ import annotations
 
@@ -11,7 +11,7 @@ import numpy as np
 import pandas as pd
 
 from pitplan.blockmodel.grid import Grid
-from pitplan.config.economics import GRADE_UNITS, ByCode, ByDomain, Metal, Money
+from pitplan.config.economics import GRADE_UNITS, ByCode, ByDomain, Economics, Metal
 from pitplan.config.project import Project
 from pitplan.core.decimals import Exact, Rounding
 from pitplan.core.numeric_fields import at_row
@@ -22,9 +22,8 @@ from .process_routing import Way
 from .recovery_curves import Head
 
 
-def added_cost(money: Money, elevation: float) -> Decimal:
-    """What mining a tonne costs more at an elevation, to a micrometre: linear between two that are named, kept to a millionth, and the same
-    beyond them."""
+def added_cost(money: Economics, elevation: float) -> Decimal:
+    """Returns the added mining cost per tonne at an elevation, to a millionth: linear between the given elevations, constant beyond them."""
     pairs = money.mining_cost_by_elevation
     at = Decimal(repr(round(float(elevation), 6)))
     if at <= pairs[0][0]:
@@ -46,7 +45,7 @@ GRADES = {"percent": (100.0, 10.0), "fraction": (1.0, 0.1), "gram_per_tonne": (1
 
 @dataclass(frozen=True)
 class Weighed:
-    """What each row yields and costs in one process, in millionths, with what was rounded of it, and the metals that are recovered."""
+    """Revenue and cost of each row in one process, in millionths, with what was rounded, and the recovered metals."""
 
     revenue: np.ndarray
     cost: np.ndarray
@@ -54,17 +53,21 @@ class Weighed:
     roundings: dict[str, Rounding]
 
     def way(self, name: str, grid: Grid) -> Way:
-        """From one value a row of the table to one a cell."""
+        """Returns values by cell from values by row."""
         metal = {metal: grid.spread(amounts.floats()) for metal, amounts in self.metal.items()}
         return Way(name, grid.spread(self.revenue), grid.spread(np.where(self.revenue > 0, self.cost, 0)), metal)
 
 
 @dataclass(frozen=True)
 class Feed:
-    """What comes to the mill of each row, if it is processed.
+    """Mill feed of each row, if it is processed.
 
-    undiluted  tonnes of the block itself
-    tonnes_of  tonnes that come with each of these, itself among them: 1.05 with 5 % of rock of grade 0
+    Attributes
+    ----------
+    undiluted : exact numbers
+        Tonnes of the block itself.
+    tonnes_of : exact numbers
+        Tonnes of feed per tonne of these: 1.05 with 5 % dilution.
     """
 
     undiluted: Exact
@@ -77,7 +80,7 @@ class Feed:
 
 @dataclass(frozen=True)
 class Rows:
-    """The table's rows while they are weighed, with the exact tonnes of each."""
+    """The rows of a table while they are valued, with the exact tonnes of each."""
 
     frame: pd.DataFrame
     grid: Grid
@@ -100,7 +103,7 @@ class Rows:
         return self.codes(self.project.table.rock_type)
 
     def by_code(self, price: ByCode, needed: np.ndarray, key: str) -> Exact:
-        """One number a row by its rock or its region. Raises PlanError where a row in `needed` is of one that has none."""
+        """Returns a number for each row by its rock type or domain. Raises PlanError if a row in `needed` has a code without a number."""
         if isinstance(price, Decimal):
             return self.every(price)
         name, column = "rock type", self.project.table.rock_type
@@ -117,9 +120,8 @@ class Rows:
         return Exact(table.whole[inverse], table.places)
 
     def mining(self, first_level: int) -> Exact:
-        """Cost of mining, with that of hauling as waste; it rises with each level below the first one, or goes by the elevation of the
-        block's centre."""
-        money, solid = self.project.money, np.array(self.tonnes.whole > 0, dtype=bool)
+        """Returns the mining cost with haulage as waste. It rises by level below the first one, or depends on the elevation of the centroid."""
+        money, solid = self.project.economics, np.array(self.tonnes.whole > 0, dtype=bool)
         _, _, level = self.grid.indices(self.grid.rows)
         if money.mining_cost_by_elevation:
             more = Exact.of_decimals([added_cost(money, z) for z in self.grid.elevations()])
@@ -131,8 +133,8 @@ class Rows:
         return self.tonnes.times(a_tonne.plus(self.roads.waste) if self.roads else a_tonne)
 
     def feed(self) -> Feed:
-        """What comes to the mill of each row. Raises PlanError where a row with metal is of a code without a number."""
-        money, some = self.project.money, np.zeros(len(self.frame), dtype=bool)
+        """Returns the mill feed of each row. Raises PlanError if a mineralised row has a code without a number."""
+        money, some = self.project.economics, np.zeros(len(self.frame), dtype=bool)
         for metal in self.project.metals:
             some |= self.frame[metal.column].to_numpy() > 0
         some &= np.array(self.tonnes.whole > 0, dtype=bool)
@@ -140,7 +142,7 @@ class Rows:
         return Feed(undiluted, self.every(Decimal(1)).plus(self.by_code(money.dilution, some, "dilution")))
 
     def recovered(self, metal: Metal, feed: Feed) -> Exact:
-        """The quantity of a metal that is recovered: tonnes, or grams where the grade is in grams a tonne."""
+        """Returns the recovered quantity of a metal in tonnes, or in grams if the grade is in grams per tonne."""
         grade, nowhere = Exact.of_floats(self.frame[metal.column].to_numpy()), np.zeros(len(self.frame), dtype=bool)
         share = recovery_curves.of_rows(metal.recovery, self.rock, Head(grade, feed.tonnes_of))
         if metal.tail_grade:
@@ -150,9 +152,15 @@ class Rows:
         return feed.undiluted.times(grade).times(self.every(GRADE_UNITS[metal.unit])).times(share)
 
     def weighed(self, feed: Feed) -> Weighed:
-        """What the project's own process yields and costs. Raises PlanError where a rock has no cost, an amount is 10^11 or more, or ore
-        costs so much less to haul than waste that nothing is left of its processing cost."""
-        costs, metals = self.project.money, self.project.metals
+        """Returns revenue and cost in the project's own process.
+
+        Raises
+        ------
+        PlanError
+            If a rock type has no cost, an amount is 10^11 or more, or hauling ore is so much cheaper than waste that the processing cost falls below
+            0.
+        """
+        costs, metals = self.project.economics, self.project.metals
         metal = {m.name: self.recovered(m, feed) for m in metals}
         revenue = selling = self.every(Decimal(0))
         for m in metals:
@@ -169,7 +177,7 @@ class Rows:
         return Weighed(gain, cost, metal, dict(zip(amounts, (first, second))))
 
     def with_haulage(self, a_tonne: Exact, yields: np.ndarray) -> Exact:
-        """The cost of processing a tonne with what ore costs more to haul than waste. Raises PlanError where that is below 0."""
+        """Returns the processing cost per tonne, with what ore costs more to haul than waste. Raises PlanError if it is below 0."""
         assert self.roads is not None
         found = a_tonne.plus(self.roads.ore_more)
         below = yields & np.array(found.whole < 0, dtype=bool)
@@ -181,7 +189,7 @@ class Rows:
         return found
 
     def hauled(self, feed: Feed) -> tuple[Optional[Hauled], dict[str, Rounding]]:
-        """Roads and what hauling costs, by cell, and what was rounded of that."""
+        """Returns haul distances and haulage costs by cell, and what was rounded."""
         if self.roads is None:
             return None, {}
         amounts = {
@@ -193,8 +201,8 @@ class Rows:
         return Hauled(road, waste, more), dict(zip(amounts, (first, second)))
 
     def millionths(self, value: Exact, name: str) -> tuple[np.ndarray, Rounding]:
-        """int64 millionths, rounded to the decimals that the project keeps. Raises PlanError from 10^11 on."""
-        decimals = self.project.money.decimals
+        """Returns int64 millionths, rounded to the decimals of the project. Raises PlanError from 10^11 on."""
+        decimals = self.project.economics.decimals
         rounded, rounding = value.rounded(decimals)
         millionths = Exact(rounded, decimals).at(MILLIONTHS)
         too_great = np.array(millionths >= GREATEST, dtype=bool)

@@ -1,10 +1,10 @@
 """A folder by which others can check one shell, with the program and without it.
 
-The shell of revenue factor f is the pit of the mine whose values are `f * revenue - cost`, a thousandfold. In money that has up to nine
-decimals; a model has six, so its values are written a thousandfold, exactly.
+The shell of revenue factor f is the pit of the mine whose values are `f * revenue - cost`. In money these have up to nine decimals, but a model
+has six, so they are written times 1,000, exactly.
 
-A folder that the program solved has the mine's files. Where the library solved, they are written here, of project and table, which must be
-as they were. Either way the audited pit is found by the program, and must be the shell that the folder tells of.
+A folder that the program solved has the files of the mine. If the library solved, they are written here from the project and its table, which
+must be unchanged. In both cases the program finds the audited pit, which must be the shell of the folder.
 """
 
 from __future__ import annotations
@@ -20,6 +20,7 @@ import pandas as pd
 from pitplan import constraints
 from pitplan.core import paths
 from pitplan.core.atomic_files import hashes, read_json, write_json
+from pitplan.core.layout import SOLVER
 from pitplan.core.progress import Progress
 from pitplan.core.revenue_factors import factor_text, with_exact_factors
 from pitplan.errors import PlanError
@@ -32,7 +33,9 @@ from pitplan.solver.problem import values_at
 
 CHECKER = paths.checker()
 MODEL, PREC, FIXED, CERTIFICATE = "shell.upit", "shell.prec", "shell.fixed", "shell.cert"
-PIT, RECORD, SCRIPT = "pit.txt", "audit.json", "check.sh"
+PIT, RECORD, SCRIPT, HASHES = "pit.txt", "audit.json", "check.sh", "hashes.txt"
+# All files of the folder; FIXED only if the mine has fixed blocks.
+FILES = (MODEL, PREC, FIXED, CERTIFICATE, PIT, RECORD, SCRIPT, HASHES, CHECKER.name)
 
 CHECK_SCRIPT = """#!/bin/sh
 # Checks the shell of revenue factor {factor} of "{title}": the files' hashes, then the certificate by the proved program, then by
@@ -44,7 +47,7 @@ case $program in
 */*) program=$PWD/$program ;;
 esac
 cd "$(dirname "$0")"
-sha256sum --check --quiet hashes.txt
+sha256sum --check --quiet {hashes}
 echo "hashes: yes"
 printf 'pitshell check: '
 "$program" check --model {model} --prec {prec} --certificate {certificate}{fixed}
@@ -55,27 +58,28 @@ PYTHONSAFEPATH=1 "${{PYTHON:-python3}}" check_certificate.py {model} {prec} {cer
 
 
 def read_nodes(blocks: Path) -> tuple[np.ndarray, np.ndarray]:
-    """Revenue and cost of each node, int64 millionths, of a block model's file."""
+    """Reads a block model; returns revenue and cost of each node, int64, in millionths."""
     columns = pd.read_csv(blocks, sep=" ", header=None, usecols=[4, 5], dtype=str)
     revenue, cost = (np.array([int(Decimal(text).scaleb(6)) for text in columns[k]], dtype=np.int64) for k in (4, 5))
     return revenue, cost
 
 
 def prepared_again(folder: Folder, progress: Progress) -> Plan:
-    """The plan that the library solved. Raises PlanError if an input has changed since."""
+    """Returns the plan that the library solved. Raises PlanError if an input has changed since."""
     project = project_of(folder)
-    schedule = replace(project.schedule, revenue_factors=tuple(folder.record["revenue_factors"]))
-    return prepared(replace(project, schedule=schedule), progress=progress)
+    shells = replace(project.shells, revenue_factors=tuple(folder.record["revenue_factors"]))
+    return prepared(replace(project, shells=shells), progress=progress)
 
 
 def write_mine(stage: Path, folder: Folder, factor: float, progress: Progress) -> None:
-    """Writes the mine at a factor: the model, the needs, and where blocks are fixed these. Raises PlanError where it is not that of the
-    plan any more, or a value does not fit a model."""
-    if mine_files.BLOCKS in folder.record["files"]:
-        nodes = read_nodes(folder.path / mine_files.BLOCKS)
+    """Writes model, precedences and, if there are any, fixed blocks at a revenue factor. Raises PlanError if an input has changed since, or a
+    value does not fit a model."""
+    solver = folder.path / SOLVER
+    if f"{SOLVER}/{mine_files.BLOCKS}" in folder.record["files"]:
+        nodes = read_nodes(solver / mine_files.BLOCKS)
         for name, copy in ((mine_files.PREC, PREC), (mine_files.FIXED, FIXED)):
-            if name in folder.record["files"]:
-                shutil.copyfile(folder.path / name, stage / copy)
+            if f"{SOLVER}/{name}" in folder.record["files"]:
+                shutil.copyfile(solver / name, stage / copy)
     else:
         plan = prepared_again(folder, progress)
         nodes = plan.values.nodes()
@@ -88,10 +92,24 @@ def write_mine(stage: Path, folder: Folder, factor: float, progress: Progress) -
 
 
 def write(stage: Path, folder: Folder, factor: float, progress: Progress) -> None:
-    """Writes model, precedence, certificate, pit, hashes, the identity of what solved and of the program, and the script that checks them.
+    """Writes the audit of a shell: model, precedences, certificate, pit, hashes, record, and the script that checks them.
 
-    Raises ProgramError where the program refuses, and PlanError where its pit is not the shell of the plan, or the plan cannot be made
-    again.
+    Parameters
+    ----------
+    stage : Path
+        The folder to write into.
+    folder : Folder
+        The folder of the plan.
+    factor : float
+        Revenue factor of the shell.
+    progress : Progress
+
+    Raises
+    ------
+    ProgramError
+        If the program refuses the mine.
+    PlanError
+        If the audited pit is not the shell of the plan, or an input of a plan that the library solved has changed.
     """
     write_mine(stage, folder, factor, progress)
     shutil.copyfile(CHECKER, stage / CHECKER.name)
@@ -102,11 +120,9 @@ def write(stage: Path, folder: Folder, factor: float, progress: Progress) -> Non
         options += ["--fixed", stage / name]
     (stage / PIT).write_bytes(program.call("solve", *options))
     worth = demand_same(stage, folder, factor)
-    names = [MODEL, PREC, *fixed, CERTIFICATE, PIT, CHECKER.name]
-    digests = hashes(stage, names)
-    (stage / "hashes.txt").write_text(
-        "".join(f"{digest}  {name}\n" for name, digest in digests.items()), encoding="ascii"
-    )
+    digests = hashes(stage, [MODEL, PREC, *fixed, CERTIFICATE, PIT, CHECKER.name])
+    lines = "".join(f"{digest}  {name}\n" for name, digest in digests.items())
+    (stage / HASHES).write_text(lines, encoding="ascii")
     record = {
         "title": folder.record["title"],
         "revenue_factor": factor,
@@ -119,20 +135,26 @@ def write(stage: Path, folder: Folder, factor: float, progress: Progress) -> Non
         "not_proved": "how the mine was made from the table",
     }
     write_json(stage / RECORD, record)
+    write_script(stage / SCRIPT, folder.record["title"], factor, fixed)
+
+
+def write_script(path: Path, title: str, factor: float, fixed: list[str]) -> None:
+    """Writes the script that checks the folder; `fixed` is the name of the file of fixed blocks, if there is one."""
     words = {
         "factor": factor_text(factor),
-        "title": folder.record["title"],
+        "title": title,
+        "hashes": HASHES,
         "model": MODEL,
         "prec": PREC,
         "certificate": CERTIFICATE,
         "fixed": "".join(f" --fixed {name}" for name in fixed),
     }
-    (stage / SCRIPT).write_text(CHECK_SCRIPT.format(**words), encoding="utf-8")
-    (stage / SCRIPT).chmod(0o755)
+    path.write_text(CHECK_SCRIPT.format(**words), encoding="utf-8")
+    path.chmod(0o755)
 
 
 def notes(folder: Path) -> list[str]:
-    """That the shells were found by another release than that of the program which audits, where it is so."""
+    """Returns a warning if another release found the shells than the one that audits them."""
     record = read_json(folder / RECORD)
     found, audited = (record[name]["version"] for name in ("solver", "program"))
     return (
@@ -143,8 +165,7 @@ def notes(folder: Path) -> list[str]:
 
 
 def demand_same(stage: Path, folder: Folder, factor: float) -> Decimal:
-    """The shell's worth, once the audited pit holds the same of the table's blocks, and is worth the same, as blocks.csv and shells.csv
-    say of the shell. Raises PlanError where it does not."""
+    """Returns the value of the shell. Raises PlanError if the audited pit has other blocks than blocks.csv, or another value than shells.csv."""
     lines = (stage / PIT).read_text(encoding="ascii").split("\n")
     pit = np.array(lines[4:-1], dtype=np.int64)
     worth = Decimal(lines[3].split()[1]) / 1000

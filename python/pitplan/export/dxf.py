@@ -1,5 +1,4 @@
-"""Pits as drawings (DXF, by ezdxf): toes and crests as closed lines, or the ground as faces, in metres; a layer a bench, and of pushbacks and years
-of each."""
+"""Pits as DXF drawings, by ezdxf: toes and crests as closed polylines, or the ground as faces, in metres. Each bench is a layer."""
 
 from __future__ import annotations
 
@@ -18,10 +17,22 @@ from .toes_and_crests import lines_of
 
 
 def write_dxf(path: Path, folder: Folder, shape: Shape) -> list[str]:
-    """The toes and crests of the pits that are asked for (layers TOE_z and CREST_z, z being the bench's floor), or the ground with them in it
-    (BENCH_z, and GROUND where nothing is dug); before these names stands the pushback or year. Gives a sentence on each surface.
+    """Writes toes and crests of the pits of a shape, or the ground with the pits in it.
 
-    Raises MissingPackage without ezdxf, and PlanError as `stages_of` and `ground.of_stage` do.
+    Toes and crests are in the layers TOE_z and CREST_z, where z is the floor of the bench in metres. The ground is in BENCH_z, and in GROUND
+    where nothing is mined. The pushback or year precedes these names.
+
+    Returns
+    -------
+    list of str
+        A sentence on the volume of each surface.
+
+    Raises
+    ------
+    MissingPackage
+        Without ezdxf.
+    PlanError
+        As `stages_of` and `pit_topography.of_stage`.
     """
     ezdxf = load("ezdxf", "python3-ezdxf", "export --to dxf")
     drawing = ezdxf.new("R2010", units=6)
@@ -40,7 +51,7 @@ def write_dxf(path: Path, folder: Folder, shape: Shape) -> list[str]:
 
 
 def add_ground(space: Any, folder: Folder, stage: Stage, shape: Shape) -> str:
-    """The triangles of a stage's ground; gives what is to be told of it."""
+    """Adds the triangles of the ground at a stage to the modelspace; returns a sentence on its volume."""
     grid = folder.grid
     surface, said = pit_topography.of_stage(rock(folder), stage, grid, shape.smooth)
     places = places_of(grid, surface.corners)

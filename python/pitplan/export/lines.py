@@ -2,6 +2,7 @@
 
 from __future__ import annotations
 
+import re
 from collections.abc import Iterator
 from contextlib import contextmanager
 from pathlib import Path
@@ -13,24 +14,29 @@ from pitplan.blockmodel.grid import metres
 from pitplan.core.optional_packages import load
 from pitplan.errors import PlanError
 from pitplan.results.folder import Folder
-from pitplan.results.pit_states import Shape
+from pitplan.results.pit_states import FACTOR, Shape
 
 from .toes_and_crests import TOE, Line, lines_of
 
 GDAL = "python3-gdal"
-# GDAL puts the time of writing into the file; with a time of its own the same plan gives the same bytes.
+# GDAL writes the time into the file. With a fixed time the same plan gives the same bytes.
 DATE = {"OGR_CURRENT_DATE": "2000-01-01T00:00:00.000Z"}
-# What Surpac's numbers of strings go up to.
+# The largest number of a string in Surpac.
 MOST_STRINGS = 32_000
 AXIS = ", ".join(["0", *["0.000"] * 6])
 BREAK, END = "0, 0.000, 0.000, 0.000,", "0, 0.000, 0.000, 0.000, END"
 
 
 def write_gpkg(path: Path, folder: Folder, shape: Shape) -> None:
-    """A GeoPackage with a layer `lines`: closed lines with heights, `kind` (toe or crest), `bench` (metres of its floor) and the factor,
-    pushback or year. Its coordinates are those of the table, of no named system.
+    """Writes a GeoPackage with a layer `lines`: closed 3D lines with `kind` (toe or crest), `bench` (elevation of its floor, metres) and the
+    revenue factor, pushback or year. Coordinates are those of the table; the layer names no coordinate system.
 
-    Raises MissingPackage without GDAL, and PlanError as `stages_of` does and where it cannot be written.
+    Raises
+    ------
+    MissingPackage
+        Without GDAL.
+    PlanError
+        As `stages_of`, or if the file cannot be written.
     """
     ogr, gdal = (load(f"osgeo.{name}", GDAL, "export --to gpkg") for name in ("ogr", "gdal"))
     with options(gdal, DATE):
@@ -38,7 +44,8 @@ def write_gpkg(path: Path, folder: Folder, shape: Shape) -> None:
         try:
             source = ogr.GetDriverByName("GPKG").CreateDataSource(str(path))
             layer = source.CreateLayer("lines", None, ogr.wkbLineString25D)
-            for name, kind in (("kind", ogr.OFTString), ("bench", ogr.OFTReal), (shape.of, ogr.OFTInteger)):
+            number = ogr.OFTReal if shape.of == FACTOR else ogr.OFTInteger
+            for name, kind in (("kind", ogr.OFTString), ("bench", ogr.OFTReal), (shape.of, number)):
                 layer.CreateField(ogr.FieldDefn(name, kind))
             source.StartTransaction()
             for line in lines_of(folder, shape):
@@ -50,7 +57,7 @@ def write_gpkg(path: Path, folder: Folder, shape: Shape) -> None:
                 feature.SetGeometry(geometry)
                 layer.CreateFeature(feature)
             source.CommitTransaction()
-            # The file is whole once GDAL lets go of it.
+            # GDAL completes the file when its last reference goes.
             del layer, source
         except RuntimeError as error:
             raise PlanError(f"{path}: cannot be written: {error}") from error
@@ -58,7 +65,7 @@ def write_gpkg(path: Path, folder: Folder, shape: Shape) -> None:
 
 @contextmanager
 def options(gdal: Any, given: dict[str, str]) -> Iterator[None]:
-    """Options of GDAL for the time being."""
+    """Sets options of GDAL within a block."""
     before = {name: gdal.GetConfigOption(name) for name in given}
     for name, value in given.items():
         gdal.SetConfigOption(name, value)
@@ -70,19 +77,23 @@ def options(gdal: Any, given: dict[str, str]) -> Iterator[None]:
 
 
 def closed(line: Line) -> list[list[float]]:
-    """Its points with the first behind the last."""
+    """Returns the points of a line with the first one repeated at the end."""
     points: list[list[float]] = line.points.tolist()
     return [*points, points[0]]
 
 
 def write_str(path: Path, folder: Folder, shape: Shape) -> None:
-    """A string file of Surpac: a line of its name and one of its axis, then for each point the string's number, north, east, height, and as
-    descriptions toe or crest, the bench's floor, and the factor, pushback or year.
+    """Writes a Surpac string file: name, axis, then per point the number of its string, north, east, elevation, and as descriptions the kind of
+    line, the floor of the bench, and the revenue factor, pushback or year.
 
-    Toes have the numbers 1, 3, 5 and so on, one a factor, pushback or year, and crests the next. Raises PlanError as `stages_of` does, and where
-    there are more numbers than Surpac knows.
+    Toes have odd numbers from 1, one per revenue factor, pushback or year; crests have the next even number.
+
+    Raises
+    ------
+    PlanError
+        As `stages_of`, or if more than MOST_STRINGS numbers are needed.
     """
-    lines, numbers = [f"{path.stem},,toes and crests,", AXIS], dict[float, int]()
+    lines, numbers = [f"{plain(path.stem)},,toes and crests,", AXIS], dict[float, int]()
     for line in lines_of(folder, shape):
         number = 2 * numbers.setdefault(line.stage.number, len(numbers)) + (1 if line.kind == TOE else 2)
         if number > MOST_STRINGS:
@@ -93,9 +104,14 @@ def write_str(path: Path, folder: Folder, shape: Shape) -> None:
     path.write_text("\n".join([*lines, END, ""]), encoding="ascii")
 
 
+def plain(name: str) -> str:
+    """Returns a name with every character replaced that the first field of a string file may not have."""
+    return re.sub(r"[^A-Za-z0-9._-]", "_", name)
+
+
 def write_lines(path: Path, folder: Folder, shape: Shape) -> None:
-    """A table with a row a point: the factor, pushback or year, `line` from 1, `kind`, `bench`, and x, y and z in metres; the first point of a line
-    is its last one too. Raises PlanError as `stages_of` does."""
+    """Writes a table with a row per point: the revenue factor, pushback or year, `line` from 1, `kind`, `bench`, and x, y and z in metres. The
+    last point of a line is its first. Raises PlanError as `stages_of`."""
     rows = [
         (line.stage.number, number, line.kind, metres(line.bench), *(metres(axis) for axis in point))
         for number, line in enumerate(lines_of(folder, shape), 1)

@@ -1,7 +1,7 @@
-"""The rock of a pit as a closed surface round its blocks, or the ground with the pit in it as an open one, of triangles, for programs that read
-STL or OBJ; by VTK.
+"""Pits as triangle meshes in STL and OBJ, by VTK: the closed surface around the mined blocks, or the ground with the pit in it, which is open.
 
-Both are written as text, since STL in bytes has 24 bits a coordinate: half a metre where that has seven digits."""
+Both are text: binary STL has 24 bits per coordinate, which is half a metre for a coordinate of seven digits.
+"""
 
 from __future__ import annotations
 
@@ -18,22 +18,31 @@ from pitplan.results.pit_states import FACTOR, GROUND, Shape, Stage, places_of, 
 from . import pit_topography
 from .vtk import PACKAGE, image_of, save
 
-# By what part the volume within the triangles may differ from that of the blocks.
+# Relative difference that is allowed between the volume of the mesh and that of the blocks.
 TOLERANCE = 1e-3
 
 
 def write_stl(path: Path, folder: Folder, shape: Shape) -> list[str]:
-    """The surface of a factor's pit as STL, in metres, or into the folder `path` that of each pushback or year; gives a sentence on the volume of
-    each.
+    """Writes the surface of a pit as STL, in metres, or of each pushback or year into the folder `path`.
 
-    Raises MissingPackage without VTK, and PlanError where the pit is empty, or the surface does not hold what its blocks do.
+    Returns
+    -------
+    list of str
+        A sentence on the volume of each surface.
+
+    Raises
+    ------
+    MissingPackage
+        Without VTK.
+    PlanError
+        If the pit is empty, or the volume of a surface differs from that of its blocks.
     """
     vtk = load("vtk", PACKAGE, "export --to stl")
     return write_each(path, folder, shape, "stl", lambda: ascii_writer(vtk))
 
 
 def write_obj(path: Path, folder: Folder, shape: Shape) -> list[str]:
-    """The same as Wavefront OBJ."""
+    """Writes the same as Wavefront OBJ."""
     vtk = load("vtk", PACKAGE, "export --to obj")
     return write_each(path, folder, shape, "obj", vtk.vtkOBJWriter)
 
@@ -45,7 +54,7 @@ def ascii_writer(vtk: Any) -> Any:
 
 
 def write_each(path: Path, folder: Folder, shape: Shape, kind: str, writer_of: Any) -> list[str]:
-    """A file for each stage; of one that digs nothing the pit has none, which is told."""
+    """Writes a file per stage; returns a sentence on each. The pit of a stage in which nothing is mined has no file."""
     said = []
     for stage in stages_of(folder, shape):
         place = path if shape.of == FACTOR else path / f"{stage.name}.{kind}"
@@ -61,7 +70,7 @@ def write_each(path: Path, folder: Folder, shape: Shape, kind: str, writer_of: A
 
 
 def of_ground(folder: Folder, stage: Stage, shape: Shape) -> tuple[Any, str]:
-    """The open surface of the ground at a stage, and a sentence with its volume. Raises PlanError as `ground.of_stage` does."""
+    """Returns the ground at a stage as vtkPolyData, and a sentence on its volume. Raises PlanError as `pit_topography.of_stage`."""
     vtk, numpy_support = load("vtk", PACKAGE, "a surface"), load("vtk.util.numpy_support", PACKAGE, "a surface")
     surface, said = pit_topography.of_stage(rock(folder), stage, folder.grid, shape.smooth)
     points, triangles, mesh = vtk.vtkPoints(), vtk.vtkCellArray(), vtk.vtkPolyData()
@@ -78,8 +87,7 @@ def of_ground(folder: Folder, stage: Stage, shape: Shape) -> tuple[Any, str]:
 
 
 def of_pit(name: str, folder: Folder, stage: Stage) -> tuple[Any, str]:
-    """The closed surface round the blocks of a stage, and a sentence with its volume and that of its blocks. Raises PlanError as `write_stl`
-    does."""
+    """Returns the closed surface around the blocks of a stage as vtkPolyData, and a sentence on both volumes. Raises PlanError as `write_stl`."""
     vtk, grid = load("vtk", PACKAGE, "a surface"), folder.grid
     surface = round_cells(vtk, image_of(grid, {"dug": stage.dug.astype(np.uint8).ravel()}, "a surface"))
     measured = vtk.vtkMassProperties()
@@ -95,7 +103,7 @@ def of_pit(name: str, folder: Folder, stage: Stage) -> tuple[Any, str]:
 
 
 def round_cells(vtk: Any, image: Any) -> Any:
-    """The faces between cells of image data that are dug and all others, as triangles that face outwards."""
+    """Returns the faces between mined cells of image data and all others, as triangles that face outwards."""
     cells, faces, triangles = vtk.vtkThreshold(), vtk.vtkGeometryFilter(), vtk.vtkTriangleFilter()
     cells.SetInputData(image)
     cells.SetInputArrayToProcess(0, 0, 0, vtk.vtkDataObject.FIELD_ASSOCIATION_CELLS, "dug")

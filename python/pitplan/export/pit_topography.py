@@ -1,7 +1,7 @@
-"""The ground with a pit in it, as an open surface of triangles: the tops of the blocks that stay, and the faces between them.
+"""The topography with a pit in it, as an open triangle mesh: the tops of the remaining blocks, and the faces between them.
 
-It has no lid over the pit and no walls at the model's sides. Smoothed no corner of a face, and so no point of it, is moved by more than half a
-block along an axis. Ground of which the table has no rock has no surface.
+The mesh has no lid over the pit, no walls at the sides of the model, and no faces where the table has no rock. Smoothing moves each corner by
+at most half a block along each axis.
 """
 
 from __future__ import annotations
@@ -14,21 +14,23 @@ from pitplan.blockmodel.grid import Grid, metres
 from pitplan.errors import PlanError
 from pitplan.results.pit_states import Stage
 
-# By what part the volume under the surface may differ from that of the cells.
+# Relative difference that is allowed between the volume under the mesh and that of the cells.
 TOLERANCE = 1e-3
 NONE = -1
-# Shares of the way to the mean of those beside it that a corner goes, and how often it goes both.
+# Taubin smoothing: the two weights of the Laplacian, and how often both steps are taken.
 SHRINK, GROW, TURNS = 0.5, -0.53, 10
-# Blocks by which it moves at most along an axis.
+# The largest displacement of a corner along an axis, in blocks.
 MOST = 0.5
 
 
 @dataclass(frozen=True)
 class Heights:
-    """Of each row and column how many levels, from the model's floor, the ground has; NONE where it has no rock.
+    """Heights of the ground, in levels from the floor of the model; NONE without rock.
 
-    before  as it was
-    after   once it is dug
+    Attributes
+    ----------
+    before, after : array of int, shape (rows, columns)
+        Before and after mining.
     """
 
     before: np.ndarray
@@ -36,17 +38,22 @@ class Heights:
 
     @property
     def cells(self) -> int:
-        """How many lie between the two."""
+        """The number of cells between the two."""
         return int((self.before - self.after).sum())
 
 
 @dataclass(frozen=True)
 class Surface:
-    """A surface of triangles that look upwards or into the pit.
+    """A mesh of triangles that face upwards or into the pit.
 
-    corners  one row a corner: steps from the west, the south and the floor of the grid
-    faces    three numbers of corners a triangle
-    bench    of each triangle the level, from the floor, of the bench that it belongs to; NONE where nothing was dug
+    Attributes
+    ----------
+    corners : array, shape (corners, 3)
+        Steps from the west, the south and the floor of the grid.
+    faces : array of int, shape (triangles, 3)
+        Corners of each triangle.
+    bench : array of int, shape (triangles,)
+        Level of the bench of each triangle, from the floor; NONE where nothing is mined.
     """
 
     corners: np.ndarray
@@ -55,7 +62,18 @@ class Surface:
 
 
 def heights_of(rock: np.ndarray, stage: Stage, grid: Grid) -> Heights:
-    """`rock` and what is dug are truths for each level (from the top), row and column. Raises PlanError where rock stays over what is dug."""
+    """Returns the heights before and after a stage.
+
+    Parameters
+    ----------
+    rock : array of bool, shape (levels, rows, columns)
+        Whether a cell holds rock; levels from the top.
+
+    Raises
+    ------
+    PlanError
+        If rock remains above a mined cell.
+    """
     levels = rock.shape[0]
     before = np.where(rock.any(axis=0), levels - rock.argmax(axis=0), NONE)
     floor = stage.dug[::-1].argmax(axis=0)
@@ -73,7 +91,7 @@ def heights_of(rock: np.ndarray, stage: Stage, grid: Grid) -> Heights:
 
 
 def stepped(heights: Heights) -> Surface:
-    """The faces of blocks, each wall in pieces of one bench."""
+    """Returns the faces of the blocks; walls are divided by benches."""
     high = heights.after
     rows, columns = np.nonzero(high != NONE)
     tops = np.stack([columns, rows, high[rows, columns]], axis=1)
@@ -89,8 +107,18 @@ def stepped(heights: Heights) -> Surface:
 
 
 def walls(heights: Heights, axis: int, step: int) -> tuple[np.ndarray, np.ndarray, np.ndarray]:
-    """The walls that look to the east (axis 1, step 1), west, north (axis 0, step 1) or south, from a higher column to a lower one beside it:
-    the lower corner of each, its four corners from there, and its bench."""
+    """Returns the walls between a higher column and a lower one next to it.
+
+    Parameters
+    ----------
+    axis, step : int
+        Where the walls face: east (1, 1), west (1, -1), north (0, 1) or south (0, -1).
+
+    Returns
+    -------
+    tuple of array
+        The lower corner of each wall, its four corners from there, and its bench.
+    """
     of_here, of_there = (slice(None, -1), slice(1, None))[::step]
     here, there = (np.moveaxis(heights.after, axis, 0)[part] for part in (of_here, of_there))
     was = np.moveaxis(heights.before, axis, 0)[of_there]
@@ -98,7 +126,7 @@ def walls(heights: Heights, axis: int, step: int) -> tuple[np.ndarray, np.ndarra
     low, count = there[first, second], (here - there)[first, second]
     line, other, bottom, least = (np.repeat(part, count) for part in (first, second, low, was[first, second]))
     level = bottom + np.arange(len(bottom)) - np.repeat(np.cumsum(count) - count, count)
-    # The wall stands where the two columns meet.
+    # The wall lies where the two columns meet.
     at, bench = line + 1, np.where(level < least, level, NONE)
     if axis == 1:
         corners = [[0, 0, 0], [0, 1, 0], [0, 1, 1], [0, 0, 1]]
@@ -110,8 +138,8 @@ def walls(heights: Heights, axis: int, step: int) -> tuple[np.ndarray, np.ndarra
 
 
 def smoothed(surface: Surface) -> Surface:
-    """The same faces with corners that have given way to those beside them, by turns inwards and outwards (Taubin 1995), so that volumes stay
-    near; by at most half a block along each axis, and not at all at the rims of the surface, which are the model's sides.
+    """Returns the mesh smoothed by Taubin's method (1995), which nearly preserves volumes. Corners move by at most MOST along each axis; those at
+    the rim of the mesh, which are the sides of the model, stay.
     """
     sides = sides_of(surface.faces)
     edges, uses = np.unique(np.sort(sides, axis=1), axis=0, return_counts=True)
@@ -128,22 +156,33 @@ def smoothed(surface: Surface) -> Surface:
 
 
 def sides_of(faces: np.ndarray) -> np.ndarray:
-    """The sides of the faces of blocks, each of which is two triangles that follow each other, without what divides them."""
+    """Returns the sides of block faces, which are pairs of consecutive triangles, without their diagonals."""
     first, second = faces[::2], faces[1::2]
     return np.concatenate([first[:, [0, 1]], first[:, [1, 2]], second[:, [1, 2]], second[:, [2, 0]]])
 
 
 def volume_under(surface: Surface) -> float:
-    """What lies between a surface and the model's floor, in cells; faces that stand upright hold nothing."""
+    """Returns the volume between a mesh and the floor of the model, in cells. Vertical faces add none."""
     a, b, c = (surface.corners[surface.faces[:, k]] for k in range(3))
     area = ((b - a)[:, 0] * (c - a)[:, 1] - (b - a)[:, 1] * (c - a)[:, 0]) / 2
     return float((area * (a + b + c)[:, 2] / 3).sum())
 
 
 def of_stage(rock: np.ndarray, stage: Stage, grid: Grid, smooth: bool) -> tuple[Surface, str]:
-    """The surface of a stage, and a sentence with the volume between it and the ground as it was beside that of the cells that are dug.
+    """Returns the mesh of a stage, and a sentence on the volume between it and the original ground and on that of the mined cells.
 
-    Raises PlanError where rock stays over what is dug, and where the volumes of faces differ.
+    Parameters
+    ----------
+    rock : array of bool, shape (levels, rows, columns)
+    stage : Stage
+    grid : Grid
+    smooth : bool
+        Smooth the steps of blocks.
+
+    Raises
+    ------
+    PlanError
+        If rock remains above a mined cell, or the two volumes differ by more than TOLERANCE.
     """
     heights = heights_of(rock, stage, grid)
     untouched = Heights(heights.before, heights.before)

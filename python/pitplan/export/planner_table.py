@@ -1,4 +1,4 @@
-"""The planner's own table with what was found of each block beside it: the same rows in the same order, each field as it stands there."""
+"""The planner's own table with results after its columns: the same rows in the same order, with unchanged fields."""
 
 from __future__ import annotations
 
@@ -19,17 +19,20 @@ from pitplan.errors import PlanError
 from pitplan.plan import shown_name
 from pitplan.results.folder import Folder
 
-# What blocks.csv has of a block's pits, pushback and year, in this order; each where the folder has it.
+# The columns of results, in this order, if blocks.csv has them.
 FOUND = ("revenue_factor", "process_revenue_factor", "pushback", "year")
-# What is read as UTF-8, with a byte-order mark or without, is written without.
+# Encodings that are written as another: UTF-8 without a byte-order mark.
 WRITTEN_AS = {"utf-8-sig": "utf-8"}
 
 
 def write(path: Path, folder: Folder) -> None:
-    """The table in its own format, with the columns FOUND of its blocks behind the planner's.
+    """Writes the table in its own text format, with the columns FOUND after the planner's. A planner's column of such a name becomes
+    planner_NAME, as in blocks.csv.
 
-    A column of the planner's with such a name is called planner_NAME, as in blocks.csv. Raises PlanError where the project or its table
-    cannot be read or has changed since the folder was written, and where the table is no text.
+    Raises
+    ------
+    PlanError
+        If the project or its table cannot be read or has changed since the folder was written, or the table is not a text file.
     """
     project = project_of(folder)
     demand_text(project.table.file, "export --to table")
@@ -43,7 +46,7 @@ def write(path: Path, folder: Folder) -> None:
 
 
 def cells_of(frame: pd.DataFrame, project: Project, grid: Grid) -> np.ndarray:
-    """For each row the number of the cell in which its centre lies, or -1 beyond the grid."""
+    """Returns the cell of each row's centroid, array of int, shape (rows,); -1 outside the grid."""
     columns = project.table
     west, _, south, _, _, top = grid.extent()
     x, y, z = (frame[name].to_numpy() for name in (columns.x, columns.y, columns.z))
@@ -56,7 +59,7 @@ def cells_of(frame: pd.DataFrame, project: Project, grid: Grid) -> np.ndarray:
 
 
 def project_of(folder: Folder) -> Project:
-    """The project that the folder was made of. Raises PlanError if it, its table or another of its inputs has changed since."""
+    """Returns the project of the folder. Raises PlanError if it or one of its inputs has changed since the run."""
     project = project_writer.as_run(folder.path, folder.record["project"])
     for name, path in project.named_inputs.items():
         try:
@@ -69,7 +72,7 @@ def project_of(folder: Folder) -> Project:
 
 
 def as_text(file: Path, project: Project) -> tuple[pd.DataFrame, TableFormat]:
-    """Every column of the table as texts, by the names that a plan gives them, and the table's format."""
+    """Returns every column of the table as text, named as in blocks.csv, and the format of the table."""
     form = format_of(file, project.table)
     frame = read_columns(file, form, read_header(file, form), [])
     frame.columns = pd.Index([shown_name(name) if name in FOUND else name for name in names_in_header(file, form)])

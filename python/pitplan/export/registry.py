@@ -1,5 +1,4 @@
-"""The shells for other programs: the planner's own table or CSV for any, a workbook of all tables for spreadsheets, VTK image data or cells
-for ParaView, DXF for drawing programs, surfaces for any that knows triangles, and lines for others."""
+"""The export formats: the planner's table, CSV, workbook, VTK for ParaView, DXF drawings, triangle meshes, and lines."""
 
 from __future__ import annotations
 
@@ -22,23 +21,24 @@ from pitplan.results.pit_states import FACTOR, GROUND, Shape, places_of
 from . import dxf, lines, mesh as surfaces, planner_table, xlsx
 from .vtk import PACKAGE, save, write_image
 
-# Writes the shells of a folder, or some of its pits; gives what is to be told of it, where that is anything.
+# Writes the shells of a folder, or the pits of a shape; returns notes, if any.
 Writer = Callable[[Path, Folder, Shape], Optional[list[str]]]
 PLANNED = "table.csv"
-# What holds the pit of one factor, or those of pushbacks or years.
+# The formats that hold the pit of one revenue factor, or those of pushbacks or years.
 OF_ONE = ("dxf", "stl", "obj", "gpkg", "str", "lines")
-# Those of them that hold surfaces, and in which each stage has a file of its own.
+# Those of them with surfaces, and those with a file per stage.
 SURFACES, SINGLE = ("dxf", "stl", "obj"), ("stl", "obj")
-# Those that hold toes and crests alone, with the ending of their files.
+# Those with toes and crests only, with the suffix of their files.
 LINES = {"gpkg": "gpkg", "str": "str", "lines": "csv"}
-# The tables of a folder, each a sheet of the workbook by its name.
+# The tables of a folder that become sheets of the workbook.
 SHEETS = (names.SHELLS, names.YEARS, names.PUSHBACKS, names.SCHEDULE, names.MILLING)
-# The corners of a cell as VTK counts them in a voxel: steps east, north and up.
+# The corners of a cell in the order of a VTK voxel: steps east, north and up.
 CORNERS = np.array([(x, y, z) for z in (0, 1) for y in (0, 1) for x in (0, 1)])
 
 
 def name_of(kind: str, shape: Shape) -> str:
-    """The file's name: a table and image data hold all factors, a drawing or a surface one, or all pushbacks or years."""
+    """Returns the default name of the file or folder. Tables and VTK files hold all revenue factors, the others one pit, or all pushbacks or
+    years."""
     if kind not in OF_ONE:
         return PLANNED if kind == "table" else f"pit.{kind}"
     of_what = factor_text(shape.revenue_factor) if shape.of == FACTOR else f"{shape.of}s"
@@ -48,56 +48,59 @@ def name_of(kind: str, shape: Shape) -> str:
 
 
 def is_folder(kind: str, shape: Shape) -> bool:
-    """Whether a folder is written, with a file for each pushback or year."""
+    """Returns whether a folder is written, with a file per pushback or year."""
     return kind in SINGLE and shape.of != FACTOR
 
 
 def staged(target: Path, kind: str, shape: Shape) -> AbstractContextManager[Path]:
-    """A name to write to, or a folder, whose files come to the target where no error comes, and those of an earlier run go."""
+    """Returns a context with a file or folder to write, which is moved to the target if no error is raised."""
     if not is_folder(kind, shape):
         return staged_file(target)
-    return staged_folder(target, f"{shape.of}-*.{kind}")
+    return staged_folder(target, shape.of, kind)
 
 
 @contextmanager
-def staged_folder(target: Path, pattern: str) -> Iterator[Path]:
-    """A folder whose files come to the target where no error comes, in place of those of an earlier run, which have such names."""
+def staged_folder(target: Path, stage: str, kind: str) -> Iterator[Path]:
+    """Yields a folder whose files move to the target if no error is raised. Those of an earlier export go: its pushbacks or years by number,
+    and the surface before them."""
     with staging.alone(target):
-        with staged_files(target, whole=tuple(path.name for path in target.glob(pattern))) as stage:
-            yield stage
+        numbered = (it for it in target.glob(f"{stage}-*.{kind}") if it.stem.removeprefix(f"{stage}-").isdigit())
+        with staged_files(target, whole=(*(it.name for it in numbered), f"before.{kind}")) as folder:
+            yield folder
 
 
 def demand_apt(kind: str, shape: Shape) -> None:
-    """Raises PlanError where a kind is none, or cannot be what is asked for."""
+    """Raises PlanError if there is no such format, or it has no such shape."""
     if kind not in WRITERS:
-        raise PlanError(f"{kind} is none of {', '.join(WRITERS)}")
+        raise PlanError(f"{kind}: is not a format, expected one of {', '.join(WRITERS)}")
     if shape.of != FACTOR and kind not in OF_ONE:
-        raise PlanError(f"{kind} holds all factors, pushbacks and years: of one kind of them are {', '.join(OF_ONE)}")
+        held = "all revenue factors, pushbacks and years"
+        raise PlanError(f"{kind}: holds {held}, so {shape.of} cannot be selected: use one of {', '.join(OF_ONE)}")
     if shape.surface == GROUND and kind not in SURFACES:
-        raise PlanError(f"{kind} has no surface of the ground: {', '.join(SURFACES)} have")
+        raise PlanError(f"{kind}: has no surface of the ground: use one of {', '.join(SURFACES)}")
     if shape.smooth and shape.surface != GROUND:
-        raise PlanError("the surface round blocks is never smoothed: that of the ground may be")
+        raise PlanError("smooth: applies to the surface of the ground, not to that around blocks: add --surface ground")
 
 
 def write_table(path: Path, folder: Folder, shape: Shape) -> None:
-    """The planner's table, row by row, with what was found of each block behind it; `shape` is not looked at."""
+    """Writes the planner's own table with the results of each block. `shape` is not used."""
     planner_table.write(path, folder)
 
 
 def write_csv(path: Path, folder: Folder, shape: Shape) -> None:
-    """The blocks of the greatest pit by id, with the least factor of each; `shape` is not looked at."""
+    """Writes the blocks of the largest pit by id, with their revenue factors. `shape` is not used."""
     blocks = folder.blocks
     csv_writer.write(path, blocks[blocks["revenue_factor"] > 0])
 
 
 def write_vti(path: Path, folder: Folder, shape: Shape) -> None:
-    """All cells as VTK image data: `revenue_factor`, `process_revenue_factor`, and the numbers of the planner's table, for all factors."""
+    """Writes all cells as VTK image data, with the numeric columns of blocks.csv. `shape` is not used."""
     numbers = folder.blocks.select_dtypes("number").columns
     write_image(path, folder.grid, {name: folder.grid.spread(folder.blocks[name].to_numpy()) for name in numbers})
 
 
 def write_vtu(path: Path, folder: Folder, shape: Shape) -> None:
-    """The blocks with rock as VTK cells, in metres, with `revenue_factor` and all numbers of blocks.csv; for all factors."""
+    """Writes the blocks with tonnes as VTK voxels, in metres, with the numeric columns of blocks.csv. `shape` is not used."""
     vtk, numpy_support = load("vtk", PACKAGE, "a .vtu file"), load("vtk.util.numpy_support", PACKAGE, "a .vtu file")
     grid, blocks = folder.grid, folder.blocks[folder.blocks[folder.record["tonnes"]] > 0]
     levels, rows, columns = grid.shape
@@ -126,7 +129,7 @@ def write_vtu(path: Path, folder: Folder, shape: Shape) -> None:
 
 
 def write_xlsx(path: Path, folder: Folder, shape: Shape) -> None:
-    """The tables of the folder as a workbook, a sheet each; `shape` is not looked at."""
+    """Writes the tables of the folder as sheets of a workbook. `shape` is not used."""
     there = [folder.path / name for name in SHEETS if name in folder.record["files"]]
     xlsx.write(path, {table.stem: with_exact_factors(pd.read_csv(table)) for table in there})
 
@@ -144,5 +147,5 @@ WRITERS: dict[str, Writer] = {
     "str": lines.write_str,
     "lines": lines.write_lines,
 }
-# Those that hold all factors.
+# The files that hold all revenue factors.
 WRITTEN = tuple(name_of(kind, Shape()) for kind in WRITERS if kind not in OF_ONE)

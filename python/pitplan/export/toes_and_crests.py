@@ -1,7 +1,7 @@
-"""Toes and crests of a pit's benches, as closed lines in metres.
+"""Toes and crests of benches, as closed lines in metres.
 
-A bench's faces are those of blocks, upright, so that its toe, at its floor, and its crest, at its top, are the same outline at two heights: that
-of what is dug on its level."""
+The faces of blocks are vertical. So the toe at the floor of a bench and the crest at its top have one outline, that of the mined blocks.
+"""
 
 from __future__ import annotations
 
@@ -20,11 +20,17 @@ TOE, CREST = "toe", "crest"
 
 @dataclass(frozen=True)
 class Line:
-    """A closed line, the dug side on its left.
+    """A closed line with the mined side on its left.
 
-    kind    toe or crest
-    bench   metres of the bench's floor
-    points  x, y, z of its corners, in metres, each once
+    Attributes
+    ----------
+    stage : Stage
+    kind : str
+        TOE or CREST.
+    bench : float
+        Elevation of the floor of the bench, metres.
+    points : array, shape (corners, 3)
+        x, y and z in metres, each corner once.
     """
 
     stage: Stage
@@ -34,8 +40,7 @@ class Line:
 
 
 def lines_of(folder: Folder, shape: Shape) -> Iterator[Line]:
-    """All lines of the pits that are asked for: stage by stage, bench by bench from the top, toes before crests. Raises PlanError as
-    `stages_of` does."""
+    """Yields the lines of all pits of a shape: by stage, then by bench from the top, toes before crests. Raises PlanError as `stages_of`."""
     for stage in stages_of(folder, shape):
         yield from lines_of_stage(stage, folder.grid)
 

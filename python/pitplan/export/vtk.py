@@ -1,4 +1,4 @@
-"""Cells of a grid as VTK's image data, and the files of VTK's writers."""
+"""Grids as VTK image data, and files by VTK's writers."""
 
 from __future__ import annotations
 
@@ -16,8 +16,13 @@ PACKAGE = "python3-vtk9"
 
 
 def image_of(grid: Grid, cells: dict[str, np.ndarray], purpose: str) -> Any:
-    """Named arrays of one value a cell as VTK image data, in metres; that of a turned grid has its directions. Raises MissingPackage
-    without VTK."""
+    """Returns vtkImageData in metres with named arrays, shape (cells,). A rotated grid has its direction matrix.
+
+    Raises
+    ------
+    MissingPackage
+        Without VTK; `purpose` is what needs it.
+    """
     vtk, numpy_support = load("vtk", PACKAGE, purpose), load("vtk.util.numpy_support", PACKAGE, purpose)
     levels, rows, columns = grid.shape
     west, _, south, _, floor, _ = grid.extent()
@@ -37,13 +42,13 @@ def image_of(grid: Grid, cells: dict[str, np.ndarray], purpose: str) -> Any:
 
 
 def write_image(path: Path, grid: Grid, cells: dict[str, np.ndarray]) -> None:
-    """Named arrays of one value a cell as a .vti file. Raises MissingPackage without VTK, and PlanError where it cannot be written."""
+    """Writes named arrays, shape (cells,), as a .vti file. Raises MissingPackage without VTK, and PlanError if it cannot be written."""
     image = image_of(grid, cells, "a .vti file")
     save(load("vtk", PACKAGE, "a .vti file").vtkXMLImageDataWriter(), path, image)
 
 
 def save(writer: Any, path: Path, data: Any) -> None:
-    """The file of one of VTK's writers. Raises PlanError where it cannot be written."""
+    """Writes a file with one of VTK's writers. Raises PlanError if it cannot be written."""
     writer.SetFileName(str(path))
     writer.SetInputData(data)
     if not writer.Write():

@@ -1,25 +1,22 @@
-"""Tables as one workbook (.xlsx) for spreadsheets, by openpyxl."""
+"""Tables as sheets of a workbook (.xlsx), by openpyxl."""
 
 from __future__ import annotations
 
+import io
+import re
+import zipfile
 from pathlib import Path
 
 import numpy as np
 import pandas as pd
 
 from pitplan.core.optional_packages import load
+from pitplan.results.columns import THOUSANDS, unit_of
 
 WIDEST = 24
-# By the beginning of a column's name how its numbers are shown; others have thousands and no decimals.
-SHOWN = {
-    "share": "0.0000",
-    "head_grade_": "0.000",
-    "strip_ratio": "0.00",
-    "optimality_gap": "0.0000",
-    "recovered_": "#,##0.00",
-    "years": "0.0",
-}
-PLAIN = ("revenue_factor", "year", "pushback", "bench", "pieces", "min_width", "process_revenue_factor")
+# The part of a workbook that has the times at which it was made and saved.
+PROPERTIES = "docProps/core.xml"
+DATES = re.compile(rb"<dcterms:(created|modified)[^>]*>[^<]*</dcterms:\1>")
 
 
 def demand_library() -> None:
@@ -28,7 +25,7 @@ def demand_library() -> None:
 
 
 def write(path: Path, sheets: dict[str, pd.DataFrame]) -> None:
-    """One sheet a table, by its name, with a header that stays in view. Raises MissingPackage without openpyxl."""
+    """Writes a sheet per table, by its name, with a frozen header. Raises MissingPackage without openpyxl."""
     openpyxl = load("openpyxl", "python3-openpyxl", "a workbook")
     styles = load("openpyxl.styles", "python3-openpyxl", "a workbook")
     book = openpyxl.Workbook()
@@ -39,7 +36,7 @@ def write(path: Path, sheets: dict[str, pd.DataFrame]) -> None:
         for row in table.itertuples(index=False):
             sheet.append([cell(value) for value in row])
         for text in (it for row in sheet.iter_rows() for it in row if isinstance(it.value, str)):
-            # openpyxl takes a text that begins with = for a formula, and one such as #N/A for an error.
+            # Otherwise openpyxl reads text that begins with = as a formula, and text such as #N/A as an error.
             text.data_type = "s"
         for number, column in enumerate(table.columns, 1):
             letter = sheet.cell(1, number).column_letter
@@ -48,17 +45,29 @@ def write(path: Path, sheets: dict[str, pd.DataFrame]) -> None:
             for line in range(2, sheet.max_row + 1):
                 sheet.cell(line, number).number_format = format_of(column)
         sheet.freeze_panes = "A2"
-    book.save(path)
+    saved = io.BytesIO()
+    book.save(saved)
+    write_undated(path, saved)
+
+
+def write_undated(path: Path, saved: io.BytesIO) -> None:
+    """Writes a workbook without the times at which it was made, so that the same tables give the same bytes."""
+    with zipfile.ZipFile(saved) as dated, zipfile.ZipFile(path, "w", zipfile.ZIP_DEFLATED) as undated:
+        for name in dated.namelist():
+            content = dated.read(name)
+            if name == PROPERTIES:
+                content = DATES.sub(b"", content)
+            undated.writestr(zipfile.ZipInfo(name), content, zipfile.ZIP_DEFLATED)
 
 
 def cell(value: object) -> object:
-    """A value as openpyxl takes it; what is not defined is empty."""
+    """Returns a value of a type that openpyxl takes; nan becomes an empty cell."""
     if isinstance(value, (float, np.floating)):
         return None if np.isnan(value) else float(value)
     return int(value) if isinstance(value, np.integer) else str(value) if not isinstance(value, (int, str)) else value
 
 
 def format_of(column: str) -> str:
-    if column in PLAIN:
-        return "General"
-    return next((shown for beginning, shown in SHOWN.items() if column.startswith(beginning)), "#,##0")
+    """The number format of a column by its name: that of its unit, otherwise thousands without decimals."""
+    unit = unit_of(column)
+    return THOUSANDS if unit is None else unit.sheet

@@ -1,4 +1,4 @@
-"""The picture of a pit's years: rock and ore beside the yearly capacities, and cash, best case and worst case."""
+"""The annual figure of a pit: total material, ore, capacities and cash flow, in the best and the worst case."""
 
 from __future__ import annotations
 
@@ -13,22 +13,22 @@ from matplotlib.figure import Figure
 from matplotlib.ticker import MaxNLocator
 
 from pitplan.config.project import Project
-from pitplan.config.shells import Schedule
+from pitplan.config.shells import ShellRules
 from pitplan.core.revenue_factors import factor_text
 from pitplan.figures.style import ORE, PLAIN, STYLE, WASTE, finish, list_of, scaled
 
 CASES = {"best": "Best case", "worst": "Worst case"}
 MILL, SHOVELS = "#1f3f6e", "#8a7f6a"
-# A capacity that is further above all bars than this would make them small, and is told in words alone.
+# A capacity that exceeds all bars by more than this factor is in the legend only, so that bars stay legible.
 FAR_ABOVE = 2.0
 MARGIN = 1.12
-# The share of the height that may lie below nothing, where cash is spent and hardly any comes in.
+# The largest share of the height below zero, for years that spend far more than they earn.
 MOST_BELOW = 0.8
 
 
 @dataclass(frozen=True)
 class Scale:
-    """One scale for both cases: units of tonnes and of money with their signs, and the limits of the axes in these."""
+    """The common scale of both cases: size and sign of the units of tonnes and money, and the limits of the axes in these units."""
 
     tonnes: tuple[float, str]
     money: tuple[float, str]
@@ -36,8 +36,8 @@ class Scale:
     cash: tuple[float, float]
 
 
-def capacities_of(settings: Schedule) -> list[tuple[str, float, str]]:
-    """Name, tonnes a year and colour of each capacity."""
+def capacities_of(settings: ShellRules) -> list[tuple[str, float, str]]:
+    """Returns name, tonnes per year and colour of each capacity."""
     capacity = "processing capacity (all processes)" if settings.per_process else "processing capacity"
     found = [(capacity, settings.processing_capacity, MILL)]
     return (
@@ -45,8 +45,8 @@ def capacities_of(settings: Schedule) -> list[tuple[str, float, str]]:
     )
 
 
-def scale_of(years: pd.DataFrame, settings: Schedule) -> Scale:
-    """Limits that hold all years, with nothing at the same height on both axes."""
+def scale_of(years: pd.DataFrame, settings: ShellRules) -> Scale:
+    """Returns limits that hold all years, with zero at the same height on both axes."""
     most = max(float(years["total_tonnes"].max()), 1.0)
     near = [capacity for _, capacity, _ in capacities_of(settings) if capacity <= FAR_ABOVE * most]
     tonnes = scaled(max(most, *near, 0.0))
@@ -69,9 +69,20 @@ def write_years(table: pd.DataFrame, project: Project, chosen: float, path: Path
 
 
 def plot_years(table: pd.DataFrame, project: Project, chosen: float, axes: Any) -> list[Axes]:
-    """The years of the pit of a factor, the best case and the worst case on axes of its own, which it gives.
+    """Draws the years of one pit, the best case and the worst case. The axes of an empty pit stay empty, under a title that says so.
 
-    The table is as `pitplan.years` gives it. A pit without rock has empty axes, under a title that says so.
+    Parameters
+    ----------
+    table : DataFrame
+        As `Shells.years`.
+    project : Project
+    chosen : float
+        Revenue factor of the pit.
+    axes : array or list of two Axes
+
+    Returns
+    -------
+    list of Axes
     """
     found, years = list_of(axes, 2), table[table["revenue_factor"] == chosen]
     if years.empty:
@@ -84,30 +95,30 @@ def plot_years(table: pd.DataFrame, project: Project, chosen: float, axes: Any) 
 
 
 def draw(axes: list[Axes], years: pd.DataFrame, project: Project) -> None:
-    """A panel a case, and one legend for both."""
-    scale = scale_of(years, project.schedule)
-    currency = project.money.currency
+    """Draws a panel per case, and one legend for both."""
+    scale = scale_of(years, project.shells)
+    currency = project.economics.currency
     rights = [axis.twinx() for axis in axes]
     for left, right, (case, title) in zip(axes, rights, CASES.items()):
         shown = years[years["case"] == case]
-        draw_tonnes(left, shown, scale, project.schedule)
+        draw_tonnes(left, shown, scale, project.shells)
         draw_cash(right, shown, scale)
         size, sign = scale.money
         npv = f"{shown['discounted_cash_flow'].sum() / size:,.1f} {sign} {currency}".replace("  ", " ")
         left.set_title(f"{title}: NPV {npv}")
     axes[0].set_ylabel(f"total material, {scale.tonnes[1]}t")
     rights[1].set_ylabel(f"undiscounted cash flow, {scale.money[1]} {currency}".replace(",  ", ", "))
-    # Bars first: matplotlib has lines before them.
+    # Bars first in the legend; matplotlib puts lines first.
     drawn = [axes[0].containers, axes[0].lines, rights[0].lines[:1]]
     handles = [handle for handles in drawn for handle in handles]
     names = [str(handle.get_label()) for handle in handles]
     axes[0].figure.legend(handles, names, ncol=len(names), loc="upper center", frameon=False)
 
 
-def draw_tonnes(axis: Axes, years: pd.DataFrame, scale: Scale, settings: Schedule) -> None:
-    """A bar a year of ore with waste on it, and a line across for each capacity."""
+def draw_tonnes(axis: Axes, years: pd.DataFrame, scale: Scale, settings: ShellRules) -> None:
+    """Draws a bar of ore and waste per year, and a horizontal line per capacity."""
     size, sign = scale.tonnes
-    # Feed that holds more of dilution than ore was lost may be more than all that is mined.
+    # With much dilution the feed may exceed the total material.
     ore, waste = years["feed_tonnes"] / size, (years["total_tonnes"] - years["feed_tonnes"]).clip(lower=0) / size
     axis.bar(years["year"], ore, 0.8, color=ORE, label="ore", linewidth=0)
     axis.bar(years["year"], waste, 0.8, bottom=ore, color=WASTE, label="waste", linewidth=0)
@@ -122,7 +133,7 @@ def draw_tonnes(axis: Axes, years: pd.DataFrame, scale: Scale, settings: Schedul
 
 
 def draw_cash(axis: Axes, years: pd.DataFrame, scale: Scale) -> None:
-    """A line of each year's cash, and one at nothing."""
+    """Draws the cash flow of each year, and a line at zero."""
     marks = {"marker": "o", "markersize": 3.5, "linewidth": 1.5}
     axis.plot(years["year"], years["cash_flow"] / scale.money[0], color=PLAIN, label="undiscounted cash flow", **marks)
     axis.axhline(0, color="black", linewidth=0.8)

@@ -1,4 +1,4 @@
-"""The picture of a schedule by block: what its years hold beside their limits, and what they earn beside the bound."""
+"""The figure of a schedule by block: annual tonnes with their limits, and cumulative discounted cash flow with the upper bound."""
 
 from __future__ import annotations
 
@@ -19,8 +19,6 @@ from .schedule import draw_bars
 if TYPE_CHECKING:
     from pitplan.scheduling.blocks.tables import ScheduledBlocks
 
-NAME = "block_schedule.png"
-
 
 def write(made: ScheduledBlocks, path: Path) -> None:
     with matplotlib.rc_context(STYLE):
@@ -30,8 +28,17 @@ def write(made: ScheduledBlocks, path: Path) -> None:
 
 
 def plot(made: ScheduledBlocks, axes: Any) -> list[Axes]:
-    """Ore and waste of each year with the limits of mill and shovels, and what is earned by the end of each year, discounted, with the
-    bound, on two axes, which it gives."""
+    """Draws ore and waste of each year with the capacities, and the cumulative discounted cash flow with the upper bound.
+
+    Parameters
+    ----------
+    made : ScheduledBlocks
+    axes : array or list of two Axes
+
+    Returns
+    -------
+    list of Axes
+    """
     tonnes, money = list_of(axes, 2)
     plot_tonnes(made, tonnes)
     plot_value(made, money)
@@ -69,7 +76,7 @@ def plot_tonnes(made: ScheduledBlocks, ax: Axes) -> None:
 def plot_value(made: ScheduledBlocks, ax: Axes) -> None:
     earned = np.append(0.0, made.years["discounted_cash_flow"].cumsum())
     size, sign = scaled(max(float(np.abs(earned).max()), made.found.bound))
-    currency = made.planned.plan.project.money.currency
+    currency = made.planned.plan.project.economics.currency
     marks = {"color": ORE, "marker": "o", "markersize": 3, "linewidth": 1.4}
     ax.plot(np.arange(len(earned)), earned / size, label=f"schedule: {earned[-1] / size:,.2f}", **marks)
     ax.axhline(

@@ -1,4 +1,4 @@
-"""What makes a map of a picture: where north is, how long so many metres are, where sections go, and contours of benches with elevations."""
+"""Marks of maps: north arrow, scale bar, lines of sections, and contours of benches with their elevations."""
 
 from __future__ import annotations
 
@@ -14,14 +14,14 @@ from pitplan.blockmodel.grid import Grid, metres
 from pitplan.core.cell_outlines import edges
 
 MOST_CONTOURS, MOST_CONTOURS_NAMED = 20, 6
-# The share of a map's width that a scale bar has at most.
+# The longest scale bar, as a share of the width of the map.
 MOST_OF_MAP = 0.25
 HALO = [withStroke(linewidth=2.2, foreground="white")]
 SECTION = "#b03060"
 
 
 def mark_map(ax: Axes, grid: Grid) -> None:
-    """An arrow to the north and a scale bar."""
+    """Draws a north arrow and a scale bar."""
     west, east, south, north, _, _ = grid.extent()
     arrow = {"arrowstyle": "-|>", "color": "black", "linewidth": 1.3, "shrinkA": 0, "shrinkB": 0}
     at = {
@@ -44,10 +44,10 @@ def mark_map(ax: Axes, grid: Grid) -> None:
 
 
 def turned_arrow(ax: Axes, grid: Grid, arrow: dict[str, Any], at: dict[str, Any]) -> None:
-    """The arrow to the planner's north over a map that lies along a turned grid's axes, as long as that over others."""
+    """Draws an arrow to true north over the map of a rotated grid, as long as that of other maps."""
     west, east, south, north, _, _ = grid.extent()
     towards = 1j / turn_of(grid.azimuth)
-    # Of a map's height; the share across is that of its width.
+    # A share of the height of the map; across it is one of the width.
     step = 0.05 * np.array([towards.real * (north - south) / (east - west), towards.imag])
     middle = np.array([0.955 - abs(step[0]), 0.925])
     ends = {"xy": middle + step, "xytext": middle - step, "xycoords": at["xycoords"], "textcoords": at["textcoords"]}
@@ -56,7 +56,7 @@ def turned_arrow(ax: Axes, grid: Grid, arrow: dict[str, Any], at: dict[str, Any]
 
 
 def section_titles(grid: Grid, row: int, column: int) -> tuple[str, str]:
-    """What the sections along a row from the south and a column from the west are called."""
+    """Returns the titles of the sections along a row from the south and a column from the west."""
     east, north = (float(axis) for axis in grid.middles(np.array(row * grid.shape[2] + column))[:2])
     if not grid.azimuth:
         return f"west to east (A) at north {metres(north)}", f"south to north (B) at east {metres(east)}"
@@ -65,7 +65,7 @@ def section_titles(grid: Grid, row: int, column: int) -> tuple[str, str]:
 
 
 def axes_of_map(grid: Grid) -> tuple[str, str]:
-    """What a map's axes are called; of a turned grid with the planner's place of its corner, from which they count."""
+    """Returns the labels of a map's axes. Those of a rotated grid count from its corner, and name the coordinates of that."""
     east, north = grid.frame.names
     if not grid.azimuth:
         return east, north
@@ -74,13 +74,13 @@ def axes_of_map(grid: Grid) -> tuple[str, str]:
 
 
 def nice_length(most: float) -> float:
-    """The greatest of 1, 2 and 5 times a power of ten that is not above the most."""
+    """Returns the largest of 1, 2 and 5 times a power of ten that is at most `most`."""
     power = 10.0 ** np.floor(np.log10(most))
     return float(max(step * power for step in (1, 2, 5) if step * power <= most * (1 + 1e-9)))
 
 
 def mark_sections(ax: Axes, grid: Grid, north_of: float, east_of: float) -> None:
-    """Lines along which sections go, with letters at their ends: A from west to east, B from south to north."""
+    """Draws the lines of sections with letters at their ends: A from west to east, B from south to north."""
     west, east, south, north, _, _ = grid.extent()
     look = {"color": SECTION, "linewidth": 1.1, "linestyle": (0, (6, 3))}
     ax.plot([west, east], [north_of, north_of], **look)
@@ -96,24 +96,36 @@ def mark_sections(ax: Axes, grid: Grid, north_of: float, east_of: float) -> None
 
 
 def mark_section_cells(ax: Axes, grid: Grid, row: int, column: int) -> None:
-    """The lines of sections through the middles of a row from the south and of a column from the west."""
+    """Draws the lines of sections through the centres of a row from the south and a column from the west."""
     east, north = (float(axis) for axis in grid.middles(np.array(row * grid.shape[2] + column))[:2])
     mark_sections(ax, grid, float(north), float(east))
 
 
 def floor_of(grid: Grid, dug: np.ndarray) -> np.ndarray:
-    """For each row and column the elevation in metres of the floor of what is dug; nan where nothing is. `dug` is a truth for each level
-    (from the top), row and column."""
+    """Returns the elevation of the pit floor in metres, shape (rows, columns); nan where nothing is mined.
+
+    Parameters
+    ----------
+    grid : Grid
+    dug : array of bool, shape (levels, rows, columns)
+        Whether a cell is mined; levels from the top.
+    """
     level = np.arange(grid.shape[0])[:, None, None]
     deepest = np.where(dug, level, -1).max(axis=0)
     return np.where(deepest >= 0, grid.extent()[5] - (deepest + 1) * grid.size[2], np.nan)
 
 
 def contours(ax: Axes, grid: Grid, floor: np.ndarray, over: bool = False) -> int:
-    """Lines round all that is dug down to a bench's floor or deeper, some with their elevation; gives how many benches are between two.
+    """Draws contours of the pit floor by benches, some with their elevation; returns the number of benches between two contours.
 
-    floor  for each row and column the elevation of the pit's floor in metres, nan where there is none
-    over   whether they lie over other lines, from which they are told apart by being dotted then
+    Parameters
+    ----------
+    ax : Axes
+    grid : Grid
+    floor : array of float, shape (rows, columns)
+        Elevation of the pit floor in metres; nan outside the pit.
+    over : bool
+        Whether they are drawn over other lines; then they are dotted.
     """
     west, _, south, _, _, _ = grid.extent()
     size = np.array(grid.size[:2])
@@ -127,7 +139,7 @@ def contours(ax: Axes, grid: Grid, floor: np.ndarray, over: bool = False) -> int
         look = {"linewidths": 0.9, "linestyles": [(0, (1, 1.4))]} if over else {"linewidths": 0.5 if number else 1.3}
         ax.add_collection(LineCollection(lines, colors="black", **look))
         if number % named == 0:
-            # To the north-east and the south-west by turns, where names keep apart and off the sections.
+            # In the north-east and the south-west by turns: there labels are apart, and off the sections.
             middles = lines.mean(axis=1)
             x, y = middles[(middles.sum(axis=1) * (1 if number // named % 2 else -1)).argmax()]
             ax.text(x, y, metres(height), ha="center", va="center", fontsize=7, path_effects=HALO)

@@ -25,10 +25,21 @@ def write_pit_by_pit(table: pd.DataFrame, currency: str, chosen: float, path: Pa
 
 
 def plot_pit_by_pit(table: pd.DataFrame, currency: str, chosen: float, ax: Axes) -> Axes:
-    """Tonnes of ore and waste of each shell, and on a second scale to the right worth and NPV at the price as given; gives `ax`.
+    """Draws ore and waste of each shell, and on a second axis undiscounted cash flow and NPV at the base price.
 
-    table   as `pitplan.shells` gives it
-    chosen  the revenue factor that is marked
+    Parameters
+    ----------
+    table : DataFrame
+        As `Shells.table`.
+    currency : str
+    chosen : float
+        The revenue factor that is marked.
+    ax : Axes
+
+    Returns
+    -------
+    Axes
+        `ax`, with tonnes.
     """
     right = ax.twinx()
     draw_tonnes(ax, table, chosen)
@@ -40,7 +51,7 @@ def plot_pit_by_pit(table: pd.DataFrame, currency: str, chosen: float, ax: Axes)
 
 
 def draw_tonnes(axis: Axes, table: pd.DataFrame, chosen: float) -> None:
-    """A bar a factor, and a band behind that of the chosen one."""
+    """Draws a bar per revenue factor, and a band behind that of the selected one."""
     factors = table["revenue_factor"].to_numpy()
     wide = 0.75 * float(np.diff(factors).min()) if len(factors) > 1 else 0.02
     size, sign = scaled(float(table["tonnes"].max()))
@@ -55,7 +66,7 @@ def draw_tonnes(axis: Axes, table: pd.DataFrame, chosen: float) -> None:
 
 
 def draw_worth(axis: Axes, table: pd.DataFrame, currency: str) -> None:
-    """A line each for worth and both NPVs, with a ring round its greatest."""
+    """Draws undiscounted cash flow and both NPVs, with a ring around the maximum of each."""
     curves = (
         ("undiscounted_cash_flow", "undiscounted", PLAIN, "--o"),
         ("npv_best", "NPV, best case", BEST, f"-{BEST_MARK}"),

@@ -1,8 +1,8 @@
-"""The pictures of a plan, by matplotlib: the pit-by-pit plot, plans of levels, and sections.
+"""Plans and sections of shells, by matplotlib.
 
-Each `plot_` function draws on axes that it is given, and gives them back; a legend or a title for several axes stands on the figure of the
-first. Each `write_` function writes a file by it. Figures are made without pyplot, so that a notebook keeps its backend and shows none that
-it did not ask for."""
+Each `plot_` function draws on the axes that it is given, and returns them. A legend or title for several axes is on the figure of the first.
+Each `write_` function writes a file by it. Figures are made without pyplot, so that a notebook keeps its backend and shows no figure twice.
+"""
 
 from __future__ import annotations
 
@@ -20,7 +20,7 @@ from matplotlib.image import AxesImage
 
 from pitplan.blockmodel.grid import Grid, metres
 from pitplan.config.economics import Metal
-from pitplan.config.figures import PictureRules
+from pitplan.config.figures import FigureRules
 from pitplan.core.cell_outlines import edges
 from pitplan.core.revenue_factors import factor_text
 from pitplan.figures.style import GROUND, MAP
@@ -34,7 +34,15 @@ from .style import MOST_TICKS, STYLE, finish, list_of, name_axes, panels, write_
 
 @dataclass(frozen=True)
 class Plane:
-    """A level or a section; arrays of rows from the south or the bottom, and where its sides lie in metres."""
+    """A level or a section.
+
+    Attributes
+    ----------
+    factor, solid, grade, dug : array, shape (rows, columns)
+        As those of `Scene`; rows from the south or from the bottom.
+    extent : tuple of float
+        The sides in metres: left, right, bottom, top.
+    """
 
     factor: np.ndarray
     solid: np.ndarray
@@ -45,12 +53,22 @@ class Plane:
 
 @dataclass(frozen=True)
 class Scene:
-    """What plans and sections show; arrays are of levels (from the top), rows and columns.
+    """Contents of plans and sections; arrays have shape (levels, rows, columns), with levels from the top.
 
-    factor  the least factor whose pit holds the cell; 0: none
-    solid   whether there is rock
-    grade   the metal's
-    rules   which levels and sections are shown
+    Attributes
+    ----------
+    grid : Grid
+    factor : array of float
+        The least revenue factor whose shell holds the cell; 0: none.
+    solid : array of bool
+        Whether a cell has tonnes.
+    grade : array of float
+        Grade of `metal`.
+    metal : Metal
+    selected : float
+        Revenue factor of the selected shell.
+    rules : FigureRules
+        Which levels and sections are drawn.
     """
 
     grid: Grid
@@ -59,11 +77,11 @@ class Scene:
     grade: np.ndarray
     metal: Metal
     selected: float
-    rules: PictureRules = PictureRules()
+    rules: FigureRules = FigureRules()
 
     @property
     def section_row(self) -> int:
-        """The row of blocks along which a section goes."""
+        """The row of blocks of the section from west to east."""
         return section_row(self.rules, self.grid, self.dug)
 
     @property
@@ -72,7 +90,7 @@ class Scene:
 
     @property
     def dug(self) -> np.ndarray:
-        """The cells of the chosen pit that hold rock."""
+        """The cells of the selected pit that have tonnes, a boolean mask."""
         return (self.factor > 0) & (self.factor <= self.selected) & self.solid
 
     def level(self, number: int) -> Plane:
@@ -92,7 +110,7 @@ class Scene:
 
     @property
     def shades(self) -> tuple[ListedColormap, BoundaryNorm, list[float]]:
-        """A colour for each factor at which cells come in, from the first shells to the last."""
+        """Colour map, norm and values of the revenue factors at which cells are first mined, from the innermost shell to the outermost."""
         used = [float(factor) for factor in np.unique(self.factor[self.solid]) if factor > 0] or [self.selected]
         colours = ListedColormap(matplotlib.colormaps["viridis_r"](np.linspace(0.02, 1, len(used))))
         middles = [(a + b) / 2 for a, b in zip(used, used[1:])]
@@ -100,8 +118,17 @@ class Scene:
 
 
 def scene_of(plan: Plan, solution: Solution, selected: Optional[float] = None) -> Scene:
-    """What plans and sections of a plan's shells show; the selected factor is by default that of the report."""
-    rules, grid = plan.project.pictures or PictureRules(), plan.grid
+    """Returns the contents of plans and sections of a plan's shells.
+
+    Parameters
+    ----------
+    plan : Plan
+    solution : Solution
+        The solution of this plan.
+    selected : float, optional
+        Revenue factor of the selected shell. Default: that of the report.
+    """
+    rules, grid = plan.project.figures or FigureRules(), plan.grid
     first = next(metal for metal in plan.project.metals if rules.metal in (None, metal.name))
     cells = shell_tables.cells_of(plan, solution)
     return Scene(
@@ -110,7 +137,7 @@ def scene_of(plan: Plan, solution: Solution, selected: Optional[float] = None) -
         solid=grid.cube(cells.tonnes > 0),
         grade=grid.cube(grid.spread(plan.table[first.column].to_numpy())),
         metal=first,
-        selected=shell_tables.selected_factor(shell_tables.shells(plan, solution), plan.project.schedule)
+        selected=shell_tables.selected_factor(shell_tables.shells(plan, solution), plan.project.shells)
         if selected is None
         else selected,
         rules=rules,
@@ -118,8 +145,8 @@ def scene_of(plan: Plan, solution: Solution, selected: Optional[float] = None) -
 
 
 def place_of(coordinate: float, grid: Grid, axis: int) -> int:
-    """The column from the west (axis 0), row from the south (1) or level from the top (2) that holds a coordinate in metres; of two that
-    meet there the second."""
+    """Returns the column from the west (axis 0), row from the south (1) or level from the top (2) that holds a coordinate in metres; between
+    two of them the second."""
     west, _, south, _, _, top = grid.extent()
     steps = (
         (coordinate - west) / grid.size[0],
@@ -134,7 +161,18 @@ def write_plans(scene: Scene, path: Path) -> None:
 
 
 def plot_plans(scene: Scene, axes: Any) -> list[Axes]:
-    """The depth of the chosen pit, and the shells on some of its levels, by default three, on axes for each, which it gives."""
+    """Draws the floor of the selected pit, and the shells on some of its levels, by default three.
+
+    Parameters
+    ----------
+    scene : Scene
+    axes : array or list of Axes
+        One more than levels.
+
+    Returns
+    -------
+    list of Axes
+    """
     levels = levels_to_show(scene)
     first, *others = found = list_of(axes, 1 + len(levels))
     plot_floor(scene, first)
@@ -152,8 +190,17 @@ def write_sections(scene: Scene, path: Path) -> None:
 
 
 def plot_sections(scene: Scene, axes: Any) -> list[Axes]:
-    """A section from west to east and one from south to north through the chosen pit, on four axes, which it gives: of each the shells,
-    and the grades."""
+    """Draws a section from west to east and one from south to north through the selected pit, each with shells and with grades.
+
+    Parameters
+    ----------
+    scene : Scene
+    axes : array or list of four Axes
+
+    Returns
+    -------
+    list of Axes
+    """
     found = list_of(axes, 4)
     row, column = scene.section_row, scene.section_column
     (first, second), (east, north) = section_titles(scene.grid, row, column), scene.grid.frame.names
@@ -168,8 +215,7 @@ def plot_sections(scene: Scene, axes: Any) -> list[Axes]:
 
 
 def plot_floor(scene: Scene, ax: Axes) -> Axes:
-    """The elevation of the chosen pit's floor, in metres, on the map, with contours of its benches and the lines of the sections; gives
-    `ax`."""
+    """Draws the floor of the selected pit in metres, with contours of its benches and the lines of the sections; returns `ax`."""
     west, east, south, north, _, _ = scene.grid.extent()
     floor = floor_of(scene.grid, scene.dug)
     image = ax.imshow(floor, extent=(west, east, south, north), cmap="cividis", **MAP)
@@ -183,7 +229,7 @@ def plot_floor(scene: Scene, ax: Axes) -> Axes:
 
 
 def plot_level(scene: Scene, number: int, ax: Axes) -> Axes:
-    """The shells on a level, counted from 0 at the top; gives `ax`."""
+    """Draws the shells on a level, counted from 0 at the top; returns `ax`."""
     top, height = scene.grid.extent()[5], scene.grid.size[2]
     plot_shells(scene, scene.level(number), ax)
     ax.set_title(f"Shells on the level {metres(top - (number + 1) * height)} to {metres(top - number * height)} m")
@@ -193,7 +239,7 @@ def plot_level(scene: Scene, number: int, ax: Axes) -> Axes:
 
 
 def plot_shells(scene: Scene, plane: Plane, ax: Axes) -> Axes:
-    """The first factors of a plane's cells over the ground, and the chosen pit's outline; gives `ax`."""
+    """Draws the revenue factor of each cell of a plane, and the outline of the selected pit; returns `ax`."""
     colours, norm, _ = scene.shades
     draw_ground(ax, plane)
     shown = np.ma.masked_where((plane.factor == 0) | ~plane.solid, plane.factor)
@@ -204,8 +250,8 @@ def plot_shells(scene: Scene, plane: Plane, ax: Axes) -> Axes:
 
 
 def plot_grades(scene: Scene, plane: Plane, ax: Axes, most: Optional[float] = None) -> Axes:
-    """The first metal's grades of a plane's cells over the ground, and the chosen pit's outline; gives `ax`. The colours end at `most`, by
-    default at the plane's greatest grade."""
+    """Draws the grades of a plane, and the outline of the selected pit; returns `ax`. Colours end at `most`, by default the largest grade of
+    the plane."""
     draw_ground(ax, plane)
     shown = np.ma.masked_where(~plane.solid | (plane.grade <= 0), plane.grade)
     image = ax.imshow(shown, extent=plane.extent, cmap="YlOrRd", vmin=0, vmax=most or None, **MAP)
@@ -224,7 +270,7 @@ def draw_ground(axis: Axes, plane: Plane) -> None:
 
 
 def draw_outline(axis: Axes, plane: Plane) -> None:
-    """The edges of the chosen pit's cells as a black line."""
+    """Draws the outline of the selected pit as a black line."""
     left, right, low, high = plane.extent
     rows, columns = plane.dug.shape
     size = np.array([(right - left) / columns, (high - low) / rows])
@@ -232,7 +278,7 @@ def draw_outline(axis: Axes, plane: Plane) -> None:
 
 
 def colour_bar(image: AxesImage, axis: Axes, scene: Scene) -> None:
-    """A step of colour a factor, with as many of the factors written as are legible."""
+    """Draws a colour bar with a step per revenue factor, and labels as many as are legible."""
     _, norm, used = scene.shades
     step = -(-len(used) // MOST_TICKS)
     middles = [(a + b) / 2 for a, b in zip(norm.boundaries, norm.boundaries[1:])]
@@ -245,8 +291,8 @@ def levels_to_show(scene: Scene) -> list[int]:
     return section_levels(scene.rules, scene.grid, scene.dug)
 
 
-def section_levels(rules: PictureRules, grid: Grid, dug: np.ndarray) -> list[int]:
-    """The levels that are asked for, else three of what is dug: near its top, in its middle and near its floor."""
+def section_levels(rules: FigureRules, grid: Grid, dug: np.ndarray) -> list[int]:
+    """Returns the levels of `[figures]`, otherwise three of the mined levels: near the top, in the middle and near the floor."""
     if rules.levels:
         return [place_of(elevation, grid, 2) for elevation in rules.levels]
     used = np.flatnonzero(dug.any(axis=(1, 2)))
@@ -255,17 +301,17 @@ def section_levels(rules: PictureRules, grid: Grid, dug: np.ndarray) -> list[int
     return [int(used[int(share * (len(used) - 1))]) for share in (0.2, 0.5, 0.8)]
 
 
-def section_row(rules: PictureRules, grid: Grid, dug: np.ndarray) -> int:
-    """The row of blocks along which a section goes: that of the asked northing, else that in which most of what is dug lies."""
+def section_row(rules: FigureRules, grid: Grid, dug: np.ndarray) -> int:
+    """Returns the row of blocks of the section from west to east: that of `[figures] north`, otherwise the one with most mined blocks."""
     return busiest(dug, 1) if rules.north is None else place_of(rules.north, grid, 1)
 
 
-def section_column(rules: PictureRules, grid: Grid, dug: np.ndarray) -> int:
-    """As `section_row`, of the asked easting."""
+def section_column(rules: FigureRules, grid: Grid, dug: np.ndarray) -> int:
+    """Returns the column of blocks of the section from south to north, as `section_row` by `[figures] east`."""
     return busiest(dug, 2) if rules.east is None else place_of(rules.east, grid, 0)
 
 
 def busiest(dug: np.ndarray, axis: int) -> int:
-    """The row or column in which most of the pit lies."""
+    """Returns the row or column with most blocks of the pit."""
     others = tuple(k for k in range(3) if k != axis)
     return int(dug.sum(axis=others).argmax()) if dug.any() else dug.shape[axis] // 2

@@ -1,4 +1,4 @@
-"""Plans and sections of a pit coloured by pushback, by matplotlib; `pictures` says how its functions are called."""
+"""Plans and sections of a pit coloured by pushback, by matplotlib. Functions are called as those of `plans_sections`."""
 
 from __future__ import annotations
 
@@ -15,7 +15,7 @@ from matplotlib.colors import BoundaryNorm, ListedColormap
 from matplotlib.figure import Figure
 
 from pitplan.blockmodel.grid import Grid, metres
-from pitplan.config.figures import PictureRules
+from pitplan.config.figures import FigureRules
 from pitplan.core.cell_outlines import edges
 from pitplan.figures.plans_sections import section_column, section_levels, section_row
 from pitplan.figures.style import GROUND, MAP, MOST_TICKS, STYLE, finish, list_of, name_axes, write_maps
@@ -25,34 +25,41 @@ from .map_marks import axes_of_map, contours, floor_of, mark_map, mark_section_c
 
 Extent = tuple[float, float, float, float]
 LEAST_SHARE, GREATEST_SHARE = 0.18, 0.9
-# So many times as wide as high a map is wide.
+# Ratio of width to height from which a map counts as wide.
 WIDE = 1.5
 
 
 @dataclass(frozen=True)
 class PushbackScene:
-    """What plans and sections of pushbacks show; arrays are of levels (from the top), rows and columns.
+    """Contents of plans and sections of pushbacks; arrays have shape (levels, rows, columns), with levels from the top.
 
-    pushback  from 1; 0 where the cell is in none
-    solid  whether there is rock
-    count  how many pushbacks there are
-    rules  which levels and sections are shown
+    Attributes
+    ----------
+    grid : Grid
+    pushback : array of int
+        From 1; 0 if the cell is in none.
+    solid : array of bool
+        Whether a cell has tonnes.
+    count : int
+        The number of pushbacks.
+    rules : FigureRules
+        Which levels and sections are drawn.
     """
 
     grid: Grid
     pushback: np.ndarray
     solid: np.ndarray
     count: int
-    rules: PictureRules = PictureRules()
+    rules: FigureRules = FigureRules()
 
     @property
     def dug(self) -> np.ndarray:
-        """The cells of all pushbacks that hold rock."""
+        """The cells of all pushbacks that have tonnes, a boolean mask."""
         return (self.pushback > 0) & self.solid
 
     @property
     def section_row(self) -> int:
-        """The row of blocks along which a section goes."""
+        """The row of blocks of the section from west to east."""
         return section_row(self.rules, self.grid, self.dug)
 
     @property
@@ -61,7 +68,7 @@ class PushbackScene:
 
 
 def scene_of(pushbacks: Pushbacks) -> PushbackScene:
-    grid, rules = pushbacks.plan.grid, pushbacks.plan.project.pictures or PictureRules()
+    grid, rules = pushbacks.plan.grid, pushbacks.plan.project.figures or FigureRules()
     solid = grid.cube(pushbacks.plan.values.tonnes > 0)
     return PushbackScene(grid, grid.cube(pushbacks.pushback), solid, len(pushbacks.factors), rules)
 
@@ -71,7 +78,18 @@ def write_plans(scene: PushbackScene, path: Path) -> None:
 
 
 def plot_plans(scene: PushbackScene, axes: Any) -> list[Axes]:
-    """The pushbacks at the surface with contours of the floor, and on some levels, by default three, on axes for each, which it gives."""
+    """Draws the pushbacks at the surface with contours of the floor, and on some levels, by default three.
+
+    Parameters
+    ----------
+    scene : PushbackScene
+    axes : array or list of Axes
+        One more than levels.
+
+    Returns
+    -------
+    list of Axes
+    """
     levels = levels_to_show(scene)
     first, *others = found = list_of(axes, 1 + len(levels))
     plot_surface(scene, first)
@@ -90,7 +108,7 @@ def write_sections(scene: PushbackScene, path: Path) -> None:
 
 
 def plot_sections(scene: PushbackScene, axes: Any) -> list[Axes]:
-    """A section from west to east and one from south to north, on two axes, which it gives."""
+    """Draws a section from west to east and one from south to north on two axes; returns them."""
     across, along = found = list_of(axes, 2)
     plot_from_west_to_east(scene, scene.section_row, across)
     plot_from_south_to_north(scene, scene.section_column, along)
@@ -98,8 +116,8 @@ def plot_sections(scene: PushbackScene, axes: Any) -> list[Axes]:
 
 
 def plot_surface(scene: PushbackScene, ax: Axes) -> Axes:
-    """On the map the pushback of the highest block of rock in each column, contours of the floor when all pushbacks are dug, and the lines of the
-    sections; gives `ax`."""
+    """Draws the pushback of the highest block with tonnes in each column, contours of the final floor, and the lines of the sections; returns
+    `ax`."""
     west, east, south, north, _, _ = scene.grid.extent()
     highest = scene.solid.argmax(axis=0)[None]
     pushback, solid = (np.take_along_axis(cube, highest, axis=0)[0] for cube in (scene.pushback, scene.solid))
@@ -113,7 +131,7 @@ def plot_surface(scene: PushbackScene, ax: Axes) -> Axes:
 
 
 def plot_level(scene: PushbackScene, number: int, ax: Axes) -> Axes:
-    """The pushbacks on a level, counted from 0 at the top; gives `ax`."""
+    """Draws the pushbacks on a level, counted from 0 at the top; returns `ax`."""
     west, east, south, north, _, top = scene.grid.extent()
     height = scene.grid.size[2]
     draw(scene, (scene.pushback[number], scene.solid[number]), (west, east, south, north), ax)
@@ -124,7 +142,7 @@ def plot_level(scene: PushbackScene, number: int, ax: Axes) -> Axes:
 
 
 def plot_from_west_to_east(scene: PushbackScene, row: int, ax: Axes) -> Axes:
-    """The pushbacks along a row of blocks, counted from 0 in the south; gives `ax`."""
+    """Draws the pushbacks along a row of blocks, counted from 0 in the south; returns `ax`."""
     west, east, _, _, bottom, top = scene.grid.extent()
     cut = (slice(None, None, -1), row)
     draw(scene, (scene.pushback[cut], scene.solid[cut]), (west, east, bottom, top), ax)
@@ -134,7 +152,7 @@ def plot_from_west_to_east(scene: PushbackScene, row: int, ax: Axes) -> Axes:
 
 
 def plot_from_south_to_north(scene: PushbackScene, column: int, ax: Axes) -> Axes:
-    """The pushbacks along a column of blocks, counted from 0 in the west; gives `ax`."""
+    """Draws the pushbacks along a column of blocks, counted from 0 in the west; returns `ax`."""
     _, _, south, north, bottom, top = scene.grid.extent()
     cut = (slice(None, None, -1), slice(None), column)
     draw(scene, (scene.pushback[cut], scene.solid[cut]), (south, north, bottom, top), ax)
@@ -144,7 +162,7 @@ def plot_from_south_to_north(scene: PushbackScene, column: int, ax: Axes) -> Axe
 
 
 def draw(scene: PushbackScene, plane: tuple[np.ndarray, np.ndarray], extent: Extent, ax: Axes) -> Axes:
-    """Pushbacks and rock of a plane over the ground, with a line round each pushback and all before it."""
+    """Draws the pushbacks of a plane, with an outline around each pushback and all before it."""
     pushback, solid = plane
     colours = ListedColormap(matplotlib.colormaps["viridis_r"](np.linspace(0.08, 0.95, scene.count)))
     norm = BoundaryNorm(np.arange(0.5, scene.count + 1), scene.count)
@@ -158,7 +176,7 @@ def draw(scene: PushbackScene, plane: tuple[np.ndarray, np.ndarray], extent: Ext
     for number in range(1, scene.count + 1):
         lines = edges((pushback > 0) & (pushback <= number) & solid) * size + (left, low)
         ax.add_collection(LineCollection(lines, colors="black", linewidths=1.3 if number == scene.count else 0.6))
-    # Beside a map that is wide and low a bar would be higher than the map.
+    # Next to a wide map a vertical bar would be higher than the map.
     place = (
         {"location": "bottom", "shrink": 0.6, "aspect": 30} if right - left > WIDE * (high - low) else {"shrink": 0.85}
     )

@@ -1,4 +1,4 @@
-"""The picture of schedules over scenarios: what the one for all earns in each, beside a schedule of each one's own and its bound."""
+"""The figure of schedules over scenarios: NPV of the common schedule, NPV of each scenario's own, and upper bound."""
 
 from __future__ import annotations
 
@@ -14,13 +14,13 @@ from matplotlib.figure import Figure
 from pitplan.figures.style import STYLE, finish, list_of, scaled
 from pitplan.studies.scenarios.pit_probability import QUANTILES
 
-# By the name of an amount what it is called, and its colour.
+# Label and colour of each column.
 LOOKS = {
     "common_npv": ("common\nschedule", "#d55e00"),
     "npv": ("own schedule of\neach scenario", "#0072b2"),
     "upper_bound": ("upper bound of\neach scenario", "#555555"),
 }
-# So many scenarios have marks that can be told apart.
+# Up to this number of scenarios marks are large.
 MANY = 60
 
 
@@ -32,8 +32,18 @@ def write(table: pd.DataFrame, currency: str, path: Path) -> None:
 
 
 def plot(table: pd.DataFrame, currency: str, axes: Any) -> list[Axes]:
-    """The value of the one schedule in each scenario, of the scenario's own, and its bound, by rising bounds; and how each of these three
-    is spread; on two axes, which it gives. The table has the columns of schedules.csv, of the scenarios that have a schedule.
+    """Draws the three values of each scenario, by ascending upper bound, and their distributions.
+
+    Parameters
+    ----------
+    table : DataFrame
+        The rows of schedules.csv of scenarios that have a schedule.
+    currency : str
+    axes : array or list of two Axes
+
+    Returns
+    -------
+    list of Axes
     """
     each, spread = found = list_of(axes, 2)
     size, sign = scaled(float(table[list(LOOKS)].abs().max().max()))
@@ -60,7 +70,7 @@ def plot_each(rising: pd.DataFrame, ax: Axes) -> None:
 
 
 def plot_spread(rising: pd.DataFrame, unit: str, ax: Axes) -> None:
-    """From least to greatest, between the quantiles, the median, and the mean in words."""
+    """Draws minimum to maximum, the range between the quantiles, the median, and the labelled mean."""
     low, middle, high = QUANTILES
     for place, (name, (_, colour)) in enumerate(LOOKS.items()):
         values, mean = rising[name], float(rising[name].mean())

@@ -1,6 +1,7 @@
-"""The pictures of a set of scenarios: plans and sections of probability, and worth and tonnes with their spread.
+"""Figures of scenarios: plans and sections of the inclusion probability, and the spread of tonnes and value.
 
-As those of a plan: each `plot_` function draws on axes that it is given, and each `write_` function writes a file by it."""
+Each `plot_` function draws on the axes that it is given, and returns them; each `write_` function writes a file by it.
+"""
 
 from __future__ import annotations
 
@@ -34,7 +35,7 @@ LINES: dict[float, dict[str, Any]] = {
     0.9: {"colors": "white", "linestyles": "solid", "linewidths": 1.4},
 }
 
-# So many sets of prices have bands that can be told apart, and so many names a legend that can be read.
+# The most price decks that are drawn with bands, and the most entries of a legend.
 MOST_BANDS, MOST_NAMES = 6, 12
 SET_COLOURS = ("#0072b2", "#d55e00", "#009e73", "#aa4499", "#b58900", "#555555")
 SET_MARKS = ("o", "s", "^", "D", "v", "P")
@@ -45,8 +46,19 @@ def write_plans(likely: Likely, path: Path) -> None:
 
 
 def plot_plans(likely: Likely, axes: Any) -> list[Axes]:
-    """The probability of the most probable block of each column, and of the blocks of some levels, by default three, on axes for each, which
-    it gives."""
+    """Draws the highest inclusion probability of each column, and those of some levels, by default three.
+
+    Parameters
+    ----------
+    likely : Likely
+        As `ScenarioResult.likely`.
+    axes : array or list of Axes
+        One more than levels.
+
+    Returns
+    -------
+    list of Axes
+    """
     levels = levels_to_show(likely)
     first, *others = found = list_of(axes, 1 + len(levels))
     west, east, south, north, _, top = likely.grid.extent()
@@ -74,8 +86,8 @@ def write_sections(likely: Likely, path: Path) -> None:
 
 
 def plot_sections(likely: Likely, axes: Any) -> list[Axes]:
-    """A section from west to east and one from south to north through the pit that half of the scenarios hold, on two axes, which it
-    gives."""
+    """Draws a section from west to east and one from south to north through the blocks that half of the scenarios mine, on two axes; returns
+    them."""
     found = list_of(axes, 2)
     west, east, south, north, bottom, top = likely.grid.extent()
     row, column = row_of_section(likely), column_of_section(likely)
@@ -94,7 +106,7 @@ def plot_sections(likely: Likely, axes: Any) -> list[Axes]:
 
 
 def draw(axis: Axes, share: np.ndarray, solid: np.ndarray, extent: tuple[float, float, float, float]) -> None:
-    """Shares above 0 over the ground, and the outlines of those that reach a tenth, a half and nine tenths."""
+    """Draws probabilities above 0, and the outlines of 10 %, 50 % and 90 %."""
     axis.imshow(np.where(solid, 1.0, np.nan), extent=extent, cmap=ListedColormap([GROUND]), **MAP)
     shown = np.ma.masked_where(share <= 0, share)
     axis.imshow(shown, extent=extent, cmap=COLOURS, norm=BoundaryNorm(STEPS, len(STEPS) - 1), **MAP)
@@ -102,12 +114,12 @@ def draw(axis: Axes, share: np.ndarray, solid: np.ndarray, extent: tuple[float, 
     left, right, low, high = extent
     size = np.array([(right - left) / share.shape[1], (high - low) / share.shape[0]])
     for least, style in LINES.items():
-        # A share of nine in ten may lie a hair below 0.9.
+        # A share of nine in ten may be below 0.9 by rounding.
         axis.add_collection(LineCollection(edges(share >= least - 1e-9) * size + (left, low), **style))
 
 
 def explain(axes: list[Axes], likely: Likely) -> None:
-    """One bar of colours and one legend for all panels."""
+    """Draws one colour bar and one legend for all panels."""
     figure = axes[0].figure
     bar = figure.colorbar(axes[0].images[-1], ax=axes, shrink=0.6, ticks=STEPS[::2])
     bar.set_label(f"share of {likely.count:,} scenarios with the block in the pit")
@@ -122,17 +134,17 @@ def explain(axes: list[Axes], likely: Likely) -> None:
 
 
 def row_of_section(likely: Likely) -> int:
-    """The row of blocks of the section from west to east; the pit is the cells that half of the scenarios hold."""
+    """Returns the row of blocks of the section from west to east, by the blocks that half of the scenarios mine."""
     return section_row(likely.rules, likely.grid, likely.shown >= 0.5)
 
 
 def column_of_section(likely: Likely) -> int:
-    """As `row_of_section`, of the section from south to north."""
+    """Returns the column of blocks of the section from south to north, as `row_of_section`."""
     return section_column(likely.rules, likely.grid, likely.shown >= 0.5)
 
 
 def levels_to_show(likely: Likely) -> list[int]:
-    """Those that are asked for, else three of what any scenario digs."""
+    """Returns the levels of `[figures]`, otherwise three of those that a scenario mines."""
     return section_levels(likely.rules, likely.grid, likely.shown > 0)
 
 
@@ -145,8 +157,19 @@ def write_spread(table: pd.DataFrame, currency: str, path: Path) -> None:
 
 
 def plot_spread(table: pd.DataFrame, currency: str, axes: Any) -> list[Axes]:
-    """Tonnes, and worth, by factor at each scenario's own prices, on two axes, which it gives: for each set of prices the median of its
-    models, and of up to six sets the band in which eight in ten of them lie. The table has the columns of scenarios.csv.
+    """Draws tonnes and value by revenue factor at the prices of each scenario: the median of each price deck, and for up to six decks the band
+    from 10 % to 90 % of the realisations.
+
+    Parameters
+    ----------
+    table : DataFrame
+        As scenarios.csv.
+    currency : str
+    axes : array or list of two Axes
+
+    Returns
+    -------
+    list of Axes
     """
     found = list_of(axes, 2)
     sets = sets_of(table.assign(value_at_revenue_factor=table["value_at_revenue_factor"].astype(float)))
@@ -172,7 +195,7 @@ def plot_spread(table: pd.DataFrame, currency: str, axes: Any) -> list[Axes]:
 
 
 def sets_of(table: pd.DataFrame) -> list[tuple[str, pd.DataFrame]]:
-    """The rows of each set of prices, by rising prices, with these in words; no words where all have the project's prices."""
+    """Returns label and rows of each price deck, by ascending prices; the label is "" if there are no decks."""
     named = [name for name in table.columns if name.startswith("price_")]
     if not named:
         return [("", table)]
@@ -184,25 +207,25 @@ def sets_of(table: pd.DataFrame) -> list[tuple[str, pd.DataFrame]]:
 
 
 def looks(count: int) -> list[tuple[Any, str]]:
-    """A colour and a mark for each set: far apart for a few, and a scale from light to dark for many."""
+    """Returns colour and marker of each price deck: distinct ones for a few, a scale from light to dark for many."""
     if count <= MOST_BANDS:
         return list(zip(SET_COLOURS, SET_MARKS))[:count]
     return [(colour, "") for colour in matplotlib.colormaps["viridis_r"](np.linspace(0.1, 1, count))]
 
 
 def band(axis: Axes, groups: Any, colour: str, count: int) -> None:
-    """Between which eight in ten of a set's models lie, and, where the set is alone, between which all do."""
+    """Draws the band from 10 % to 90 % of the realisations of a price deck, and of a single deck the band of all."""
     factors, alone = list(groups.groups), count == 1
     if alone:
         axis.fill_between(factors, groups.min(), groups.max(), color=colour, alpha=0.15, linewidth=0, label="all")
-    # Bands that lie over one another are the lighter the more there are.
+    # The more bands overlap, the lighter they are.
     colours = {"facecolor": to_rgba(colour, 0.45 / (count + 1)), "edgecolor": to_rgba(colour, 0.6)}
     label = "10 % to 90 %" if alone else None
     axis.fill_between(factors, groups.quantile(0.1), groups.quantile(0.9), label=label, **colours)
 
 
 def explain_sets(axis: Axes, count: int) -> None:
-    """The legend: every set's prices, or so many of them that it can be read."""
+    """Draws the legend of price decks, with at most MOST_NAMES of them."""
     handles, names = axis.get_legend_handles_labels()
     step = -(-len(names) // MOST_NAMES)
     handles, names = handles[::step], names[::step]
@@ -212,7 +235,7 @@ def explain_sets(axis: Axes, count: int) -> None:
 
 
 def leave_room(figure: Figure) -> None:
-    """Lifts the panels over the lines of the legend."""
+    """Moves the panels above the legend."""
     (legend,) = figure.legends
     lines = -(-len(legend.get_texts()) // 4) + bool(legend.get_title().get_text())
     figure.tight_layout(rect=(0, 0.055 * lines, 1, 1))

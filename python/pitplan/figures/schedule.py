@@ -1,4 +1,4 @@
-"""Pictures of a yearly schedule, by matplotlib; `pictures` says how its functions are called."""
+"""Figures of a schedule of pushbacks, by matplotlib. Functions are called as those of `plans_sections`."""
 
 from __future__ import annotations
 
@@ -32,7 +32,7 @@ NAMES = {
     "upper_bound": "upper bound, these pushbacks",
 }
 MARKED = {"marker": "o", "markersize": 3, "linewidth": 1.4}
-# The rule's line is seen where the other lies on it.
+# The line of the rule is broad, so that it stays visible below another.
 LINES = {
     "worst": MARKED | {"marker": WORST_MARK, "markersize": 4},
     RULE: {"linewidth": 5, "alpha": 0.5},
@@ -42,9 +42,9 @@ LINES = {
     "upper_bound": {"linestyle": "--", "linewidth": 1.2},
 }
 GRADE, STOCKED = "#a23b8f", "#8fb3d9"
-# The palest part of a bench is still seen.
+# The least opacity, for the smallest part of a bench.
 PALEST = 0.25
-# So many benches are named at most.
+# The most benches with a label.
 MOST_NAMES = 28
 
 
@@ -57,7 +57,18 @@ def write_gantt(schedule: YearlySchedule, path: Path) -> None:
 
 
 def plot_gantt(schedule: YearlySchedule, axes: Any) -> list[Axes]:
-    """The years in which benches are dug, pushback by pushback from the top, on an axis a way, which it gives."""
+    """Draws the years in which benches are mined, by pushback from the top.
+
+    Parameters
+    ----------
+    schedule : YearlySchedule
+    axes : array or list of Axes
+        One per method.
+
+    Returns
+    -------
+    list of Axes
+    """
     found = list_of(axes, len(schedule.shares))
     for ax, way in zip(found, schedule.shares):
         draw_gantt(schedule, way, ax)
@@ -66,7 +77,7 @@ def plot_gantt(schedule: YearlySchedule, axes: Any) -> list[Axes]:
 
 
 def draw_gantt(schedule: YearlySchedule, way: str, ax: Axes) -> None:
-    """A bar a bench and year, the darker the more of the bench is dug."""
+    """Draws a bar per bench and year, darker the larger the share of the bench."""
     shares, benches = schedule.shares[way], schedule.benches
     row = rows_of(schedule)
     bench, year = np.nonzero(shares)
@@ -87,13 +98,13 @@ def draw_gantt(schedule: YearlySchedule, way: str, ax: Axes) -> None:
 
 
 def rows_of(schedule: YearlySchedule) -> np.ndarray:
-    """Where each bench stands from the top of the picture, with room for a pushback's name above its first."""
+    """Returns the row of each bench from the top of the figure, with space for the label of a pushback above its first."""
     pushback = schedule.benches.pushback
     return np.arange(len(pushback)) + 2.0 * (pushback - 1) + 1
 
 
 def pushback_tints(count: int) -> np.ndarray:
-    """A colour a pushback, as plans of pushbacks have it."""
+    """Returns a colour per pushback, as in plans of pushbacks; shape (count, 4)."""
     return matplotlib.colormaps["viridis_r"](np.linspace(0.08, 0.95, count))
 
 
@@ -110,7 +121,7 @@ def name_benches(schedule: YearlySchedule, row: np.ndarray, longest: int, ax: Ax
 
 def money(amount: float, schedule: YearlySchedule) -> str:
     size, sign = scaled(abs(amount))
-    return f"{amount / size:,.2f} {sign} {schedule.pushbacks.plan.project.money.currency}".replace("  ", " ")
+    return f"{amount / size:,.2f} {sign} {schedule.pushbacks.plan.project.economics.currency}".replace("  ", " ")
 
 
 def write_tonnes(schedule: YearlySchedule, path: Path) -> None:
@@ -122,8 +133,18 @@ def write_tonnes(schedule: YearlySchedule, path: Path) -> None:
 
 
 def plot_tonnes(schedule: YearlySchedule, axes: Any) -> list[Axes]:
-    """Ore and waste of each year with its limits, and what of the first metal is recovered of a tonne of ore, on an axis a way, which it
-    gives."""
+    """Draws ore and waste of each year with the capacities, and on a second axis the recovered metal per tonne of feed, for the first metal.
+
+    Parameters
+    ----------
+    schedule : YearlySchedule
+    axes : array or list of Axes
+        One per method.
+
+    Returns
+    -------
+    list of Axes
+    """
     found, table = list_of(axes, len(schedule.shares)), years_of(schedule)
     metal = schedule.pushbacks.plan.project.metals[0]
     size, sign = scaled(float(table["total_tonnes"].max()))
@@ -152,7 +173,7 @@ def plot_tonnes(schedule: YearlySchedule, axes: Any) -> list[Axes]:
     what = "total material" if not schedule.milling else "total material and reclaimed ore"
     found[0].set_ylabel(f"{what}, {sign}t")
     rights[-1].set_ylabel(f"{metal.name} recovered per tonne of feed, {metal.sign}")
-    # The bars of the last way that mines anything name a stockpile where there is one.
+    # The last method that mines anything has a stockpile if any has.
     last = max((place for place, ax in enumerate(found) if ax.containers), default=-1)
     drawn = [*found[last].containers, *found[last].lines, *rights[last].lines]
     names = [str(handle.get_label()) for handle in drawn]
@@ -161,19 +182,19 @@ def plot_tonnes(schedule: YearlySchedule, axes: Any) -> list[Axes]:
 
 
 def recovered(table: pd.DataFrame, metal: Metal) -> pd.Series:
-    """What is recovered of a metal in the unit of its grade, of each year's ore; nan where there is none."""
+    """Returns the recovered metal per tonne of feed of each year, in the unit of its grade; nan without feed."""
     ore = table["feed_tonnes"].where(table["feed_tonnes"] > 0)
     return table[f"recovered_{metal.name}"] / ore * (100.0 if metal.unit == "percent" else 1.0)
 
 
 def reclaimed_of(schedule: YearlySchedule, way: str) -> Optional[np.ndarray]:
-    """Tonnes of ore that come from the stockpile in each year; None of a way that has none."""
+    """Returns the tonnes that are reclaimed from the stockpile in each year; None if the method has no stockpile."""
     milling = schedule.milling.get(way)
     return None if milling is None or not milling.is_stocked else milling.parcels.of("feed_tonnes") @ milling.reclaimed
 
 
 def draw_bars(ax: Axes, shown: pd.DataFrame, reclaimed: Optional[np.ndarray], size: float) -> None:
-    """Ore that is milled as it is mined, that from the stockpile, and what else is mined; a sentence where nothing is."""
+    """Draws ore that is milled directly, ore from the stockpile, and the other material; a text if nothing is mined."""
     ax.set_xlabel("year")
     if shown.empty:
         ax.text(0.5, 0.5, "nothing is mined", transform=ax.transAxes, ha="center", va="center")
@@ -209,7 +230,7 @@ def draw_bars(ax: Axes, shown: pd.DataFrame, reclaimed: Optional[np.ndarray], si
 
 
 def draw_limits(ax: Axes, schedule: YearlySchedule, count: int, unit: tuple[float, str]) -> None:
-    """A line for each limit of tonnes; that of the mill with its ramp-up."""
+    """Draws a line per capacity; that of the mill with its ramp-up."""
     size, sign = unit
     limits = schedule.problem.limits
     edges = np.arange(max(count, 1) + 1) + 0.5
@@ -239,8 +260,19 @@ def write_cumulative(schedule: YearlySchedule, years: pd.DataFrame, path: Path) 
 
 
 def plot_cumulative(schedule: YearlySchedule, years: pd.DataFrame, ax: Axes) -> Axes:
-    """What has been earned by the end of each year, discounted, by the cases of a table of years as years.csv has it, and by the optimum of
-    the linear programme, which ends at the bound; gives `ax`."""
+    """Draws the cumulative discounted cash flow of each case and method, and of the optimum of the linear programme, which ends at the bound.
+
+    Parameters
+    ----------
+    schedule : YearlySchedule
+    years : DataFrame
+        As years.csv.
+    ax : Axes
+
+    Returns
+    -------
+    Axes
+    """
     shown = years[years["revenue_factor"] == schedule.factor]
     curves = {
         case: np.append(0.0, shown["discounted_cash_flow"][shown["case"] == case].cumsum())
@@ -265,7 +297,9 @@ def plot_cumulative(schedule: YearlySchedule, years: pd.DataFrame, ax: Axes) -> 
     ax.axhline(0, color="black", linewidth=0.8)
     ax.set_xlabel("end of year")
     ax.set_ylabel(
-        f"cumulative discounted cash flow, {sign} {schedule.pushbacks.plan.project.money.currency}".replace(",  ", ", ")
+        f"cumulative discounted cash flow, {sign} {schedule.pushbacks.plan.project.economics.currency}".replace(
+            ",  ", ", "
+        )
     )
     ax.xaxis.set_major_locator(MaxNLocator(integer=True))
     ax.legend(loc="lower right", facecolor="white", edgecolor="none", framealpha=0.9)

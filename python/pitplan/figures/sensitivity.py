@@ -1,7 +1,7 @@
-"""The pictures of a sensitivity: what each number moves at its outermost shares, and share by share, and pairs of numbers as grids.
+"""Figures of a sensitivity: tornado, spider plot, and a grid per pair of parameters.
 
-Each `plot_` function draws on axes that it is given, which it gives back, and each `write_` function writes a file by it. All take a table
-as `pitplan.sensitivity` gives it.
+Each `plot_` function draws on the axes that it is given, and returns them; each `write_` function writes a file by it. All take the table of
+`pitplan.write_sensitivity`.
 """
 
 from __future__ import annotations
@@ -15,9 +15,10 @@ from matplotlib.axes import Axes
 from matplotlib.figure import Figure
 from matplotlib.ticker import FuncFormatter
 
+from pitplan.core.layout import FIGURES
 from pitplan.figures.style import STYLE, finish, scaled
 
-WRITTEN = TORNADO, SPIDER = "tornado.png", "spider.png"
+WRITTEN = TORNADO, SPIDER = f"{FIGURES}/tornado.png", f"{FIGURES}/spider.png"
 LESS, MORE = "#c0504d", "#1f3f6e"
 COLOURS = ("#0072b2", "#d55e00", "#009e73", "#aa4499", "#b58900", "#555555", "#56b4e9", "#8b0000", "#6b8e23", "#000000")
 MARKS = ("o", "s", "^", "D", "v", "P", "X", "<", ">", "*")
@@ -25,7 +26,7 @@ PER_CENT = FuncFormatter(lambda share, _: f"{100 * share:+.0f} %" if share else 
 
 
 def write_all(table: pd.DataFrame, pairs: tuple[tuple[str, str], ...], currency: str, folder: Path) -> None:
-    """The tornado, the spider, and a grid a pair."""
+    """Writes the tornado, the spider plot, and a grid per pair."""
     write_tornado(table, currency, folder / TORNADO)
     write_spider(table, currency, folder / SPIDER)
     for pair in pairs:
@@ -33,12 +34,12 @@ def write_all(table: pd.DataFrame, pairs: tuple[tuple[str, str], ...], currency:
 
 
 def grid_name(pair: tuple[str, str]) -> str:
-    """The file of a pair's grid."""
-    return f"grid-{pair[0]}-{pair[1]}.png".replace(" ", "-")
+    """Returns the file of the grid of a pair."""
+    return f"{FIGURES}/grid-{pair[0]}-{pair[1]}.png".replace(" ", "-")
 
 
 def singles(table: pd.DataFrame) -> dict[str, pd.Series]:
-    """By number its net present values by share, rising, the project as given at share 0 among them."""
+    """Returns for each parameter its NPVs, indexed by the change, ascending, with the base case at 0."""
     alone, as_given = table[(table["parameter"] != "") & (table["second_parameter"] == "")], float(table["npv"].iloc[0])
     return {
         str(name): pd.concat([rows.set_index("change")["npv"], pd.Series({0.0: as_given})]).sort_index()
@@ -47,7 +48,7 @@ def singles(table: pd.DataFrame) -> dict[str, pd.Series]:
 
 
 def spoken(name: str) -> str:
-    """A number's name in words."""
+    """Returns the name of a parameter in words."""
     return name.replace("_", " ")
 
 
@@ -59,7 +60,7 @@ def write_tornado(table: pd.DataFrame, currency: str, path: Path) -> None:
 
 
 def plot_tornado(table: pd.DataFrame, currency: str, axes: Axes) -> Axes:
-    """A bar to each side for the least and the greatest share of each number, the one that moves most on top."""
+    """Draws the NPV at the smallest and the largest change of each parameter, the most sensitive one on top; returns `axes`."""
     curves, base = singles(table), float(table["npv"].iloc[0])
     size, sign = scaled(float(table["npv"].abs().max()))
     order = sorted(curves, key=lambda name: np.ptp([curves[name].iloc[0], base, curves[name].iloc[-1]]))
@@ -90,7 +91,7 @@ def write_spider(table: pd.DataFrame, currency: str, path: Path) -> None:
 
 
 def plot_spider(table: pd.DataFrame, currency: str, axes: Axes) -> Axes:
-    """A curve of net present value by share for each number, through the project as given."""
+    """Draws the NPV of each parameter by its change, through the base case; returns `axes`."""
     curves, (size, sign) = singles(table), scaled(float(table["npv"].abs().max()))
     for number, (name, curve) in enumerate(curves.items()):
         look = {
@@ -110,7 +111,7 @@ def plot_spider(table: pd.DataFrame, currency: str, axes: Axes) -> Axes:
 
 
 def grid_of(table: pd.DataFrame, one: str, other: str) -> pd.DataFrame:
-    """The net present values of a pair: a row a share of the first, rising, a column a share of the second, and both as given among them."""
+    """Returns the NPVs of a pair: a row per change of the first, a column per change of the second, both ascending and with 0."""
     pair = table[(table["parameter"] == one) & (table["second_parameter"] == other)]
     grid = pair.pivot(index="change", columns="second_change", values="npv")
     curves = singles(table)
@@ -127,7 +128,7 @@ def write_grid(table: pd.DataFrame, pair: tuple[str, str], currency: str, path: 
 
 
 def plot_grid(table: pd.DataFrame, pair: tuple[str, str], currency: str, axes: Axes) -> Axes:
-    """The net present value for each share of two numbers, written and as colours; the project as given has a frame."""
+    """Draws the NPV at each change of two parameters, as number and colour, with a frame around the base case; returns `axes`."""
     grid = grid_of(table, *pair)
     size, sign = scaled(float(grid.abs().max().max()))
     amounts, base = grid.to_numpy() / size, float(table["npv"].iloc[0]) / size

@@ -1,4 +1,4 @@
-"""What all figures share: style, formats, axes and files."""
+"""Style, formats, axes and files of all figures."""
 
 from __future__ import annotations
 
@@ -21,7 +21,7 @@ ORE, WASTE, GROUND = "#3b6ea5", "#cfc9bd", "#ece8df"
 BEST, WORST, PLAIN, CHOSEN = "#1b7f4b", "#c0392b", "#444444", "#ffe9a6"
 # Red and green are alike to many: the best case points upward.
 BEST_MARK, WORST_MARK = "^", "v"
-# Rows are shown from the bottom of the picture up, each cell as it is.
+# Rows go from the bottom of the figure up, and cells are not interpolated.
 MAP: dict[str, Any] = {"origin": "lower", "interpolation": "nearest"}
 
 
@@ -31,12 +31,12 @@ STYLE = {
     "axes.titlesize": 10,
     "axes.titlelocation": "left",
     "savefig.dpi": 120,
-    # Coordinates of seven digits stand in full beside the axes.
+    # Coordinates of seven digits are written in full.
     "axes.formatter.useoffset": False,
     "axes.formatter.limits": (-6, 9),
 }
 
-# In what formats pictures are written besides PNG, and what these would tell of the library and the day.
+# Formats of figures besides PNG, and their metadata without library and date.
 ALSO: ContextVar[tuple[str, ...]] = ContextVar("ALSO", default=())
 
 UNDATED: dict[str, dict[str, None]] = {
@@ -50,7 +50,7 @@ MOST_COORDINATES = 6
 
 
 def list_of(axes: Any, count: int) -> list[Axes]:
-    """So many axes, given as a list or as an array of any shape. Raises PlanError where there are more or fewer."""
+    """Returns axes, a list or an array of any shape, as a list. Raises PlanError if their number is not `count`."""
     found = list(np.ravel(axes))
     if len(found) != count:
         raise PlanError(f"{len(found)} axes are given, and the picture has {count}")
@@ -58,7 +58,7 @@ def list_of(axes: Any, count: int) -> list[Axes]:
 
 
 def scaled(most: float) -> tuple[float, str]:
-    """A unit in which numbers up to `most` have two digits before the point or more: its size and its sign."""
+    """Returns size and sign of a unit, such as (1e6, "M"), in which `most` has at least two digits before the point."""
     for size, sign in ((1e6, "M"), (1e3, "k")):
         if most >= 10 * size:
             return size, sign
@@ -66,7 +66,7 @@ def scaled(most: float) -> tuple[float, str]:
 
 
 def name_axes(axis: Axes, across: str, up: str) -> None:
-    """Labels in metres, coordinates in full, and so few ticks below that those of seven digits keep apart."""
+    """Labels axes in metres, with coordinates in full, and few enough ticks for seven digits."""
     axis.set_xlabel(f"{across}, m")
     axis.set_ylabel(f"{up}, m")
     axis.ticklabel_format(style="plain", useOffset=False)
@@ -74,7 +74,7 @@ def name_axes(axis: Axes, across: str, up: str) -> None:
 
 
 def write_maps(grid: Grid, plot: Callable[[list[Axes]], object], path: Path, count: int = 4) -> None:
-    """Writes a picture of so many maps of the grid, which `plot` draws on their axes."""
+    """Writes a figure with a number of maps of the grid, which `plot` draws on their axes."""
     with matplotlib.rc_context(STYLE):
         west, east, south, north, _, _ = grid.extent()
         figure, axes = panels(east - west, north - south, count)
@@ -83,7 +83,7 @@ def write_maps(grid: Grid, plot: Callable[[list[Axes]], object], path: Path, cou
 
 
 def panels(wide: float, high: float, count: int = 4) -> tuple[Figure, list[Axes]]:
-    """A figure of maps in the ground's proportions, two beside each other, and its axes."""
+    """Returns a figure for maps in true proportions, two in a row, and its axes."""
     share, lines = min(max(high / wide, 0.3), 1.3), -(-count // 2)
     figure = Figure(figsize=(12, lines * (4.7 * share + 0.75)), constrained_layout=True)
     axes = list(figure.subplots(lines, 2, squeeze=False).flat)
@@ -94,7 +94,7 @@ def panels(wide: float, high: float, count: int = 4) -> tuple[Figure, list[Axes]
 
 @contextmanager
 def also_as(formats: tuple[str, ...]) -> Iterator[None]:
-    """Pictures that are written meanwhile are written in these formats too, beside the PNG."""
+    """Figures that are written within the block are written in these formats too, next to the PNG."""
     before = ALSO.set(formats)
     try:
         yield
@@ -103,12 +103,12 @@ def also_as(formats: tuple[str, ...]) -> Iterator[None]:
 
 
 def files_of(drawn: dict[str, str], formats: tuple[str, ...]) -> list[str]:
-    """The names of pictures, in every format that they are written in."""
+    """Returns the names of figures in each of their formats."""
     return [str(Path(name).with_suffix(f".{kind}")) for name in drawn.values() for kind in ("png", *formats)]
 
 
 def finish(figure: Figure, path: Path) -> None:
-    # Without the library's version and the day in it, the same plan gives the same bytes.
+    # Without version and date in the metadata the same plan gives the same bytes.
     figure.savefig(path, metadata={"Software": None})
     with matplotlib.rc_context({"svg.hashsalt": "pitplan"}):
         for name in ALSO.get():

@@ -17,24 +17,30 @@ import pandas as pd
 
 from pitplan.config.economics import MOST_YEARS
 from pitplan.config.project import Project
-from pitplan.config.shells import Schedule
+from pitplan.config.shells import ShellRules
 from pitplan.economics.period_costs import PLAIN, YearlyMoney
 from pitplan.errors import PlanError
 
 ROCK, ORE, CASH = 0, 1, -1
-# Capacities are compared to this part of a year's, since sums of fractions miss them by a hair.
+# Relative tolerance of capacities, since sums of floats differ from them by rounding.
 HAIR = 1e-9
-# By how many years before a year's end its cash is taken to flow, where it does not flow evenly through the year.
+# How many years before the end of its year a cash flow is discounted from, if not continuously.
 BEFORE_THE_END = {"end_of_year": 0.0, "mid_year": 0.5}
 
 
 @dataclass(frozen=True)
 class Benches:
-    """What each factor's shell adds to the shell before, bench by bench from the top.
+    """Amounts that each shell adds to the one before, by bench from the top.
 
-    factors  rising
-    names    of the amounts: total_tonnes, feed_tonnes, feed_tonnes_NAME of each of several processes, recovered_NAME of each metal, and last cash, in money
-    amounts  an array of factors, benches and names
+    Attributes
+    ----------
+    factors : tuple of float
+        Revenue factors, ascending.
+    names : tuple of str
+        Names of the amounts: total_tonnes, feed_tonnes, feed_tonnes_NAME of each of several processes, recovered_NAME of each metal, and the
+        cash flow last.
+    amounts : array of float, shape (factors, benches, names)
+        Tonnes, tonnes or grams of metal, and money.
     """
 
     factors: tuple[float, ...]
@@ -43,21 +49,28 @@ class Benches:
 
     @property
     def pits(self) -> np.ndarray:
-        """What each factor's whole pit has on each bench."""
+        """Amounts of whole pits by bench, shape (factors, benches, names)."""
         return np.cumsum(self.amounts, axis=0)
 
 
 @dataclass(frozen=True)
 class Years:
-    """A pit's years: its life in years, and a row a year of amounts. As a course gives them these are the benches' amounts; as terms give
-    them, the last column is discounted cash."""
+    """The years of a pit.
+
+    Attributes
+    ----------
+    end : float
+        Life in years.
+    amounts : array of float, shape (years, names)
+        By `Course.years` the amounts of benches; by `Terms.earned` those of `Terms.columns`, discounted cash flow last.
+    """
 
     end: float
     amounts: np.ndarray
 
     @property
     def npv(self) -> float:
-        """The net present value in money."""
+        """The net present value, in the currency."""
         return float(self.amounts[:, -1].sum())
 
 
@@ -65,8 +78,11 @@ class Years:
 class Course:
     """Pieces that are mined one after the other.
 
-    amounts  an array of pieces and the benches' names
-    used     years of each capacity that are used before each piece and after the last: an array of pieces + 1 and capacities
+    Attributes
+    ----------
+    amounts : array of float, shape (pieces, names)
+    used : array of float, shape (pieces + 1, capacities)
+        Years of each capacity that are used before each piece, and after the last.
     """
 
     amounts: np.ndarray
@@ -99,7 +115,7 @@ class Course:
         return until
 
     def years(self, count: int) -> Years:
-        """The years of the first `count` pieces, at least one."""
+        """Returns the years of the first `count` pieces, at least one."""
         full = self.ends[: int(np.searchsorted(self.ends, count))]
         before = at(self.used, full[-1:])[0] if len(full) else np.zeros(self.used.shape[1])
         part = float((self.used[count] - before).max())
@@ -110,21 +126,21 @@ class Course:
 
 
 def at(sums: np.ndarray, places: np.ndarray) -> np.ndarray:
-    """Running sums interpolated at places, one row a place."""
+    """Interpolates running sums, shape (pieces + 1, columns), at places between them; one row per place."""
     piece = np.minimum(places.astype(np.int64), len(sums) - 2)
     share = (places - piece)[:, None]
     return np.asarray(sums[piece] + share * (sums[piece + 1] - sums[piece]))
 
 
 def mean_discount(start: np.ndarray, end: np.ndarray, rate: float) -> np.ndarray:
-    """The mean of (1 + rate)^-t over the time from start to end, in years; at one moment its value there."""
+    """Returns the mean of (1 + rate)^-t for t from start to end, in years; if both are equal its value there."""
     force = np.log1p(rate)
     fall = force * (end - start)
     mean = np.divide(-np.expm1(-fall), fall, out=np.ones_like(fall), where=fall > 0)
     return np.exp(-force * start) * mean
 
 
-def capacity_years(amounts: np.ndarray, settings: Schedule) -> np.ndarray:
+def capacity_years(amounts: np.ndarray, settings: ShellRules) -> np.ndarray:
     """Years of each capacity that each piece uses, shape (pieces, capacities): all ore, then each process, then total material."""
     capacities = [
         (ORE, settings.processing_capacity),
@@ -134,19 +150,19 @@ def capacity_years(amounts: np.ndarray, settings: Schedule) -> np.ndarray:
     return np.stack([amounts[..., place] / capacity for place, capacity in capacities], axis=-1)
 
 
-def course_of(amounts: np.ndarray, settings: Schedule) -> Course:
-    """Pieces one after the other, from the start."""
+def course_of(amounts: np.ndarray, settings: ShellRules) -> Course:
+    """Returns the course of pieces from the start of year 1."""
     years = capacity_years(amounts, settings)
     return Course(amounts, np.concatenate([np.zeros((1, years.shape[1])), np.cumsum(years, axis=0)]))
 
 
-def year_discounts(settings: Schedule, count: int) -> np.ndarray:
+def year_discounts(settings: ShellRules, count: int) -> np.ndarray:
     """Discount factors of the years 1 to `count`: for cash at the end of the year, at its middle, or evenly through it."""
     ends = np.arange(1.0, count + 1)
     return discounts_between(ends - 1, ends, settings)
 
 
-def discounts_between(starts: np.ndarray, ends: np.ndarray, settings: Schedule) -> np.ndarray:
+def discounts_between(starts: np.ndarray, ends: np.ndarray, settings: ShellRules) -> np.ndarray:
     """Discount factors of periods that start with a year and end within it."""
     if settings.discounting in BEFORE_THE_END:
         return np.asarray(
@@ -157,10 +173,10 @@ def discounts_between(starts: np.ndarray, ends: np.ndarray, settings: Schedule) 
 
 @dataclass(frozen=True)
 class Terms:
-    """By what the years of benches with these names earn: how cash is discounted, and the money of years."""
+    """How years of benches with these names are valued: discounting and period costs."""
 
     names: tuple[str, ...]
-    settings: Schedule
+    settings: ShellRules
     money: YearlyMoney = PLAIN
 
     @property
@@ -169,7 +185,7 @@ class Terms:
         return [*self.names[:CASH], *self.money.columns, self.names[CASH], "discounted_cash_flow"]
 
     def earned(self, years: Years) -> Years:
-        """The years of a course with all the money of each, discounted as the project asks. A pit without rock has none."""
+        """Returns the years of a course with their period costs and discounted cash flow. A pit without material has no period costs."""
         amounts = years.amounts
         cash = amounts[:, CASH] + (amounts * self.money.premium(self.names, len(amounts))).sum(axis=1)
         starts = np.arange(float(len(amounts)))
@@ -183,23 +199,23 @@ class Terms:
         return Years(years.end, np.column_stack([amounts[:, :CASH], *of_years, cash - fixed - spent, worth]))
 
 
-def best_case(benches: Benches, settings: Schedule, money: YearlyMoney = PLAIN) -> list[Years]:
-    """The years of each factor's pit, shell by shell: those of a lesser pit are how every greater one begins."""
+def best_case(benches: Benches, settings: ShellRules, money: YearlyMoney = PLAIN) -> list[Years]:
+    """Returns the years of each shell, mined shell by shell, so that each larger one begins like the smaller ones."""
     factors, levels, names = benches.amounts.shape
     course = course_of(benches.amounts.reshape(factors * levels, names), settings)
     terms = Terms(benches.names, settings, money)
     return [terms.earned(course.years(levels * (k + 1))) for k in range(factors)]
 
 
-def worst_case(benches: Benches, settings: Schedule, money: YearlyMoney = PLAIN) -> list[Years]:
-    """The years of each factor's pit, bench by bench."""
+def worst_case(benches: Benches, settings: ShellRules, money: YearlyMoney = PLAIN) -> list[Years]:
+    """Returns the years of each shell, mined bench by bench."""
     terms = Terms(benches.names, settings, money)
     return [terms.earned(course_of(pit, settings).years(len(pit))) for pit in benches.pits]
 
 
-def table_of(benches: Benches, settings: Schedule, money: YearlyMoney = PLAIN) -> pd.DataFrame:
-    """One row a case, factor and year, for the factors whose pits hold rock: case, factor, year from 1, the amounts' names, fixed_cost and
-    capex where there are such, cash after them, and `discounted_cash_flow`, in money."""
+def table_of(benches: Benches, settings: ShellRules, money: YearlyMoney = PLAIN) -> pd.DataFrame:
+    """Returns the table of years, one row per case, revenue factor whose shell has material, and year from 1. Its columns are those of
+    `Terms.columns`."""
     some = np.flatnonzero(benches.pits[:, :, ROCK].sum(axis=1) > 0)
     cases = {"best": best_case(benches, settings, money), "worst": worst_case(benches, settings, money)}
     keys = [(case, benches.factors[k]) for case in cases for k in some]
@@ -216,9 +232,9 @@ def table_of(benches: Benches, settings: Schedule, money: YearlyMoney = PLAIN) -
 
 
 def demand_few_years(benches: Benches, project: Project) -> None:
-    """Refuses capacities at which the years could not be counted. The best case of the greatest pit is counted."""
+    """Raises PlanError if the best case of the largest shell takes more than MOST_YEARS."""
     factors, levels, names = benches.amounts.shape
-    course = course_of(benches.amounts.reshape(factors * levels, names), project.schedule)
+    course = course_of(benches.amounts.reshape(factors * levels, names), project.shells)
     years = max(course.used[-1].max(), float(len(course.ends)))
     if years > MOST_YEARS:
         raise PlanError(

@@ -12,7 +12,7 @@ import numpy as np
 import pandas as pd
 
 from pitplan.config.economics import PER_REVENUE_FACTOR
-from pitplan.config.shells import Schedule
+from pitplan.config.shells import ShellRules
 from pitplan.core.revenue_factors import BASE_PRICE, factor_text
 from pitplan.economics import period_costs
 from pitplan.errors import PlanError
@@ -64,7 +64,7 @@ def demand_of(plan: Plan, solution: Solution) -> None:
         why = "values, slopes, constraints or revenue factors differ"
     else:
         return
-    raise PlanError(f"{plan.source}: the solution is of another plan ({why}): use the one from pitplan.solve(plan)")
+    raise PlanError(f"{plan.source}: the solution is of another plan ({why}): use the one from plan.shells()")
 
 
 def cells_of(plan: Plan, solution: Solution) -> Cells:
@@ -156,7 +156,7 @@ def shells(plan: Plan, solution: Solution, more: Optional[np.ndarray] = None) ->
     PlanError
         If the solution is of another plan, or a shell takes too many years.
     """
-    cells, settings = cells_of(plan, solution), plan.project.schedule
+    cells, settings = cells_of(plan, solution), plan.project.shells
     benches = benches_of(plan, cells, more)
     money = period_costs.of_project(plan.project)
     best, worst = best_worst_case.best_case(benches, settings, money), best_worst_case.worst_case(
@@ -192,12 +192,12 @@ def years(plan: Plan, solution: Solution, more: Optional[np.ndarray] = None) -> 
         If the solution is of another plan, or a shell takes too many years.
     """
     money = period_costs.of_project(plan.project)
-    return best_worst_case.table_of(benches_of(plan, cells_of(plan, solution), more), plan.project.schedule, money)
+    return best_worst_case.table_of(benches_of(plan, cells_of(plan, solution), more), plan.project.shells, money)
 
 
 def benches_of(plan: Plan, cells: Cells, more: Optional[np.ndarray] = None) -> Benches:
     """Sums by shell and bench for the years, `more` as for `shells`. Raises PlanError if there are too many years."""
-    factors, levels = plan.project.schedule.revenue_factors, plan.grid.shape[0]
+    factors, levels = plan.project.shells.revenue_factors, plan.grid.shape[0]
     inside = np.flatnonzero(cells.factor > 0)
     _, _, level = plan.grid.indices(inside)
     piece = np.searchsorted(factors, cells.factor[inside]) * levels + level
@@ -248,7 +248,7 @@ def amounts(plan: Plan, cells: Cells) -> pd.DataFrame:
 
 def within(plan: Plan, first: np.ndarray, values: np.ndarray) -> np.ndarray:
     """For each revenue factor the sum of `values` over its shell; `first` is the least factor of each cell, 0: never."""
-    factors, inside = plan.project.schedule.revenue_factors, np.flatnonzero(first > 0)
+    factors, inside = plan.project.shells.revenue_factors, np.flatnonzero(first > 0)
     places = np.searchsorted(factors, first[inside])
     return np.cumsum(np.bincount(places, values[inside], minlength=len(factors)))
 
@@ -258,7 +258,7 @@ def ratio(amount: np.ndarray, whole: np.ndarray) -> np.ndarray:
     return np.divide(amount, whole, out=np.full(len(whole), np.nan), where=whole > 0)
 
 
-def selected_factor(table: pd.DataFrame, schedule: Schedule) -> float:
+def selected_factor(table: pd.DataFrame, schedule: ShellRules) -> float:
     """The revenue factor of the shell to show: the project's own, otherwise the best mean NPV of both cases up to the base price."""
     if schedule.selected is not None:
         return schedule.selected

@@ -1,4 +1,4 @@
-"""The skin of a pit: what its last shells add, which earns least a tonne and is least sure to."""
+"""The skin of a pit: the outermost shell increments, which earn least per tonne and are least certain."""
 
 from __future__ import annotations
 
@@ -17,10 +17,14 @@ from . import shell_tables
 
 @dataclass(frozen=True)
 class Skin:
-    """The part of a pit outside a lesser shell.
+    """The part of a pit outside an inner shell.
 
-    factor  that of the shell; 0 where the skin is the whole pit
-    cells   for each cell whether it is in the skin
+    Attributes
+    ----------
+    factor : float
+        Revenue factor of the inner shell; 0 if the skin is the whole pit.
+    cells : array of bool, shape (cells,)
+        Whether a cell is in the skin.
     """
 
     factor: float
@@ -28,9 +32,20 @@ class Skin:
 
 
 def of_pit(plan: Plan, share: Decimal) -> Skin:
-    """The part of the pit of the plan's last factor outside the greatest shell that leaves at least a share of its rock: more of it where the
-    shells grow by leaps. Factors are whole thousandths. Raises ProgramError where the solver refuses."""
-    last = plan.project.schedule.revenue_factors[-1]
+    """Returns the pit skin: the part of the plan's largest shell outside the largest inner shell that leaves at least a share of the tonnes.
+
+    Parameters
+    ----------
+    plan : Plan
+    share : Decimal
+        Least share of the tonnes that the skin holds. It holds more if the shells grow in large steps.
+
+    Raises
+    ------
+    ProgramError
+        If the solver refuses.
+    """
+    last = plan.project.shells.revenue_factors[-1]
     with problem.temporary(plan) as mine:
 
         def entry_at(factors: tuple[float, ...]) -> np.ndarray:

@@ -1,4 +1,4 @@
-"""The benches of each pushback, which a yearly schedule digs, and which of them must be through before another is begun."""
+"""The benches of each pushback, which a yearly schedule mines, and their precedences."""
 
 from __future__ import annotations
 
@@ -16,13 +16,19 @@ ROCK, ORE, CASH = "total_tonnes", "feed_tonnes", "cash_flow"
 
 @dataclass(frozen=True)
 class PushbackBenches:
-    """The benches with rock of each pushback, pushback by pushback and there from the top.
+    """The benches with material, by pushback and there from the top.
 
-    pushback    of each bench, from 1
-    level    of each, from 0 at the top of the grid
-    names    of the amounts: total_tonnes, feed_tonnes, recovered_NAME of each metal, and cash, in money
-    amounts  an array of benches and names
-    lag      by how many benches a pushback is behind the one before at least
+    Attributes
+    ----------
+    pushback : int array
+        The pushback of each bench, from 1.
+    level : int array
+        Its level, from 0 at the top of the grid.
+    names : tuple of str
+        Amounts: total_tonnes, feed_tonnes, recovered_NAME of each metal, and cash_flow.
+    amounts : array, shape (benches, names)
+    lag : int
+        By how many benches a pushback stays at least below the next.
     """
 
     pushback: np.ndarray
@@ -35,12 +41,12 @@ class PushbackBenches:
         return len(self.pushback)
 
     def of(self, name: str) -> np.ndarray:
-        """One amount of each bench."""
+        """Returns one amount of each bench."""
         return self.amounts[:, self.names.index(name)]
 
     @cached_property
     def before(self) -> np.ndarray:
-        """An array of truths: whether each bench needs each other one to be through before it is begun, by whatever steps."""
+        """Returns a boolean matrix: whether each bench depends on each other one, directly or indirectly."""
         needs = np.zeros((len(self), len(self)), dtype=bool)
         for bench in range(len(self)):
             for other in self.candidates(bench):
@@ -50,10 +56,10 @@ class PushbackBenches:
 
     @cached_property
     def waits(self) -> tuple[np.ndarray, ...]:
-        """For each bench those that must be through before it is begun: the bench above it in its pushback, and of each pushback before the
-        lowest that is not more than `lag` benches below it. Those that another of them waits for are left out.
+        """Returns for each bench its direct predecessors: the bench above it in its pushback, and in each earlier pushback the lowest that is at
+        most `lag` benches below it. Implied ones are omitted.
 
-        So all that lies over a bench in its pushback and those before is dug first, wherever a pushback begins or ends.
+        So everything above a bench in its pushback and the earlier ones is mined first, wherever a pushback begins or ends.
         """
         found = []
         for bench in range(len(self)):
@@ -62,8 +68,9 @@ class PushbackBenches:
         return tuple(found)
 
     def candidates(self, bench: int) -> list[int]:
-        """The lowest bench above it in its pushback, and of each pushback before the lowest that it waits for. Benches stand in an order in
-        which each is behind those that it waits for."""
+        """Returns the lowest bench above it in its pushback, and in each earlier pushback the lowest on which it depends. Benches are ordered so
+        that predecessors come first.
+        """
         pushback, level = self.pushback[bench], self.level[bench]
         deepest = np.where(self.pushback == pushback, level - 1, level + self.lag)
         open_to = np.flatnonzero((self.pushback <= pushback) & (self.level <= deepest))
@@ -72,7 +79,7 @@ class PushbackBenches:
 
 
 def of_pushbacks(pushbacks: Pushbacks, lag: int = 0) -> PushbackBenches:
-    """The benches of a pit's pushbacks, at the price as given and with the pushbacks' own mining costs."""
+    """Returns the benches of pushbacks, at the base price and with the mining costs of the pushbacks."""
     plan, cells = pushbacks.plan, shell_tables.cells_of(pushbacks.plan, pushbacks.solution)
     inside = np.flatnonzero((pushbacks.pushback > 0) & (cells.tonnes > 0))
     levels = plan.grid.shape[0]

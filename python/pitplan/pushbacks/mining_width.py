@@ -1,17 +1,16 @@
-"""Pushbacks that are wide enough to work in, by morphology on the levels of the grid.
+"""Minimum mining width of pushbacks, by morphology on the levels of the grid.
 
-A level of a pushback is wide enough where each of its blocks lies in a rectangle of blocks, of the width asked for each way, that the pushback
-digs on that level: where it is its own opening by the rectangle (Serra, Image Analysis and Mathematical Morphology, 1982). Air is room as
-well, and so is what must be dug. From the last pit inwards:
+A level of a pushback is wide enough if each of its blocks lies in a rectangle of blocks, as wide as asked in both directions, that the pushback
+mines on that level: if the level is its own opening by the rectangle (Serra, Image Analysis and Mathematical Morphology, 1982). Air counts as
+room, and so do must-mine blocks. From the last pit inwards:
 
-1. The last pit keeps the greatest part whose levels are wide enough, without waste that only what it leaves has needed, where that
-   gains. It grows first where that gains more than it costs: each narrow block gets the rectangle round it that digs least, with all that
-   this needs.
-2. Small narrow pieces of a pushback go to the pushback before, with all that they need.
-3. Beside what else is narrow the pit before shrinks: each narrow block gets the rectangle round it that takes least of that pit, and what
-   needs this goes with it. Then that pit keeps the greatest part whose levels are wide enough.
+1. The last pit keeps the largest part whose levels are wide enough, without waste on which only the removed part depended, if that gains. It
+   first grows if that gains more than it costs: each narrow block gets the rectangle around it that mines least, with its predecessors.
+2. Small narrow pieces of a pushback move to the pushback before, with their predecessors.
+3. At other narrow places the pit before shrinks: each narrow block gets the rectangle around it that takes least of that pit, with its
+   successors. Then that pit keeps the largest part whose levels are wide enough.
 
-The third alone makes the promise; none loses rock of the last pit but the first.
+Only the third step guarantees the width; only the first removes material from the last pit.
 """
 
 from __future__ import annotations
@@ -46,14 +45,22 @@ NAMED = 5
 
 @dataclass(frozen=True)
 class Ground:
-    """What may be dug and how wide; arrays are of levels (from the top), rows and columns.
+    """What may be mined, and how wide; arrays of shape (levels from the top, rows, columns).
 
-    tonnes  of rock
-    free    room for every pushback: air, and what must be dug
-    may     what may be dug: neither barred, nor ground that is not known, nor what needs such
-    worth   of each cell at the factor of the last pushback, in billionths of the currency
-    width   the rectangle of a pushback; None: any
-    bottom  that of a pit up to a pushback
+    Attributes
+    ----------
+    tonnes : float array
+        Total material.
+    free : bool array
+        Room for every pushback: air and must-mine blocks.
+    may : bool array
+        What may be mined: neither excluded nor missing blocks, nor their successors.
+    worth : int64 array
+        The value of each cell at the revenue factor of the last pushback, in billionths of the currency.
+    width : tuple, optional
+        The rectangle of a pushback in blocks; None: any.
+    bottom : tuple, optional
+        The rectangle of the pit up to a pushback.
     """
 
     plan: Plan
@@ -69,7 +76,7 @@ class Ground:
 
 
 def ground_of(plan: Plan, rules: PushbackRules) -> Ground:
-    grid, last = plan.grid, plan.project.schedule.revenue_factors[-1]
+    grid, last = plan.grid, plan.project.shells.revenue_factors[-1]
     closed = closure.users_of(grid, plan.walls, unknown(plan))
     if plan.settled is not None:
         closed |= plan.settled.left
@@ -82,7 +89,7 @@ def ground_of(plan: Plan, rules: PushbackRules) -> Ground:
 
 
 def unknown(plan: Plan) -> np.ndarray:
-    """A truth for each cell: whether nothing is known of its ground."""
+    """Returns a boolean mask of the missing blocks."""
     found = np.zeros(plan.grid.count, dtype=bool)
     if plan.project.table.missing_blocks != "air":
         found[missing_blocks.unknown_cells(plan.grid)] = True
@@ -90,28 +97,28 @@ def unknown(plan: Plan) -> np.ndarray:
 
 
 def free_of(plan: Plan) -> np.ndarray:
-    """What is room for every pushback, by level, row and column: air, and what must be dug."""
+    """Returns the mask of the room for every pushback: air and must-mine blocks; shape (levels, rows, columns)."""
     free = (plan.values.tonnes == 0) & ~unknown(plan)
     return plan.grid.cube(free if plan.settled is None else free | plan.settled.dug)
 
 
 def rectangle(wide: float, sides: tuple[float, float]) -> Rectangle:
-    """So many blocks north and east that they are so many metres wide each way; `sides` are a block's."""
+    """Returns the blocks north and east that are at least so many metres wide; `sides` are those of a block."""
     north, east = (max(1, math.ceil(wide / side - HAIR)) for side in sides)
     return north, east
 
 
 def widened(pushback: np.ndarray, plan: Plan, rules: PushbackRules) -> tuple[np.ndarray, list[str]]:
-    """Pushbacks, one number a cell, of which each is wide enough, and notes of what is left for it.
+    """Returns the pushback of each cell, with each pushback wide enough, and notes on what is lost for it.
 
-    What must be dug stays in pushback 1, however narrow. Raises PlanError where nothing of the last pit is wide enough.
+    Must-mine blocks stay in pushback 1, however narrow. Raises PlanError if no part of the last pit is wide enough.
     """
-    ground, count = ground_of(plan, rules), len(plan.project.schedule.revenue_factors)
+    ground, count = ground_of(plan, rules), len(plan.project.shells.revenue_factors)
     cube = plan.grid.cube(pushback)
     pits = [(cube > 0) & (cube <= number) for number in range(1, count + 1)]
     found = wide_pits(pits, ground)
     if not ((ground.tonnes > 0) & found[-1]).any():
-        factor = plan.project.schedule.revenue_factors[-1]
+        factor = plan.project.shells.revenue_factors[-1]
         raise PlanError(
             f"{plan.project.path}: [pushbacks] min_mining_width, min_bottom_width: no part of the pit of revenue factor {factor_text(factor)} meets the minimum width: reduce it"
         )
@@ -122,7 +129,7 @@ def widened(pushback: np.ndarray, plan: Plan, rules: PushbackRules) -> tuple[np.
 
 
 def wide_pits(pits: list[np.ndarray], ground: Ground) -> list[np.ndarray]:
-    """The pits made wide enough, each within the next: the last one by what it leaves, the others by what they leave to the next pushback."""
+    """Returns the pits made wide enough, each within the next: the last by what it leaves, the others by what they leave to the next pushback."""
     outer = best(pits[-1], ground)
     found = [outer]
     for pit in reversed(pits[:-1]):
@@ -132,7 +139,7 @@ def wide_pits(pits: list[np.ndarray], ground: Ground) -> list[np.ndarray]:
 
 
 def best(pit: np.ndarray, ground: Ground) -> np.ndarray:
-    """The last pit made wide enough: of itself, of it grown, and of it grown only in the pieces where that gains, what is worth most."""
+    """Returns the last pit made wide enough: the most valuable of itself, of it grown, and of it grown only in the pieces where that gains."""
     alone, more = lean(pit, ground), lean(grown(pit, ground), ground)
     pieces, count = ndimage.label(alone ^ more, TOUCHING)
     gains = ndimage.sum_labels(np.where(more, 1.0, -1.0) * ground.worth.astype(float), pieces, np.arange(count + 1))
@@ -141,7 +148,7 @@ def best(pit: np.ndarray, ground: Ground) -> np.ndarray:
 
 
 def lean(pit: np.ndarray, ground: Ground) -> np.ndarray:
-    """What is wide enough of a last pit, without the waste that only what it leaves has needed, where that gains."""
+    """Returns the wide part of a last pit, without waste on which only the removed part depended, if that gains."""
     nothing = np.zeros_like(pit)
     whole = shrunk(pit, nothing, ground)
     wanted = (ground.worth > 0).astype(bool) | (ground.free & (ground.tonnes > 0))
@@ -150,7 +157,7 @@ def lean(pit: np.ndarray, ground: Ground) -> np.ndarray:
 
 
 def advanced(inner: np.ndarray, outer: np.ndarray, ground: Ground) -> np.ndarray:
-    """The inner pit with the small narrow pieces of the pushback between the two, and all that these need."""
+    """Returns the inner pit with the small narrow pieces of the pushback between the two, and their predecessors."""
     between = outer & ~inner
     narrow = [pushback & ~opened(pushback, free, ground.width) for pushback, free in zip(between, ground.free)]
     more = with_needs(inner | np.stack(narrow), ground) & between
@@ -162,9 +169,9 @@ def advanced(inner: np.ndarray, outer: np.ndarray, ground: Ground) -> np.ndarray
 
 
 def shrunk(inner: np.ndarray, outer: np.ndarray, ground: Ground) -> np.ndarray:
-    """The part of the inner pit that is wide enough, and leaves room enough for a pushback between it and the outer one, if there is one.
+    """Returns the part of the inner pit that is wide enough, and leaves enough room for a pushback between it and the outer one, if any.
 
-    Level by level from the top: what needs something that is left above is left too.
+    Levels are processed from the top: successors of what is removed above are removed too.
     """
     found, left, plan = inner.copy(), np.zeros_like(inner), ground.plan
     for level in range(len(found)):
@@ -175,7 +182,7 @@ def shrunk(inner: np.ndarray, outer: np.ndarray, ground: Ground) -> np.ndarray:
 
 
 def shrunk_level(pit: np.ndarray, outer: np.ndarray, level: int, ground: Ground) -> np.ndarray:
-    """What stays of a level of the inner pit. It becomes less until nothing is too narrow; what must be dug stays, and so does air."""
+    """Returns what remains of a level of the inner pit. It shrinks until nothing is too narrow; must-mine blocks and air stay."""
     free = ground.free[level]
     while True:
         between = outer & ~pit
@@ -189,7 +196,7 @@ def shrunk_level(pit: np.ndarray, outer: np.ndarray, level: int, ground: Ground)
 
 
 def opened(mask: np.ndarray, free: np.ndarray, shape: Optional[Rectangle]) -> np.ndarray:
-    """The cells that lie in a rectangle of true and of free cells; all, where there is no rectangle."""
+    """Returns the cells that lie in a rectangle of true and free cells; all without a rectangle."""
     if shape is None or not mask.any():
         return mask
     # A line each way comes to the same as the rectangle, and is faster.
@@ -199,7 +206,7 @@ def opened(mask: np.ndarray, free: np.ndarray, shape: Optional[Rectangle]) -> np
 
 
 def grown(pit: np.ndarray, ground: Ground) -> np.ndarray:
-    """The pit with the rectangle round each of its narrow blocks that digs least, and all that these need."""
+    """Returns the pit with the rectangle around each of its narrow blocks that mines least, and all predecessors."""
     found, plan = pit.copy(), ground.plan
     for level in range(len(found) - 1, -1, -1):
         for shape in (ground.width, ground.bottom):
@@ -209,8 +216,9 @@ def grown(pit: np.ndarray, ground: Ground) -> np.ndarray:
 
 
 def grow(mask: np.ndarray, may: np.ndarray, shape: Optional[Rectangle], free: np.ndarray) -> None:
-    """Adds to a level, in place, the rectangle round each narrow cell that adds least, of those that lie in `may`; where there is none the
-    cell stays narrow. Of several the first from the south-west is taken."""
+    """Adds to a level, in place, the rectangle around each narrow cell that adds least within `may`; without one the cell stays narrow. Of several
+    the first from the south-west is taken.
+    """
     if shape is None:
         return
     north, east = shape
@@ -227,14 +235,14 @@ def grow(mask: np.ndarray, may: np.ndarray, shape: Optional[Rectangle], free: np
 
 
 def with_needs(pit: np.ndarray, ground: Ground) -> np.ndarray:
-    """The pit and all that it needs."""
+    """Returns the pit with all predecessors."""
     return ground.plan.grid.cube(closure.used_blocks(ground.plan.grid, ground.plan.walls, pit.ravel()))
 
 
 def min_width(pushback: np.ndarray, free: np.ndarray, sides: tuple[float, float]) -> float:
-    """Metres, in whole steps of a block's lesser side, that a pushback is wide on each level; nan where there is none of it.
+    """Returns the width of a pushback in metres, its minimum over the levels, in whole steps of a block's lesser side; nan if it is empty.
 
-    pushback, free  truths by level, row and column; `sides` are a block's metres north and east
+    `pushback` and `free` are masks of shape (levels, rows, columns); `sides` are a block's metres north and east.
     """
     levels = [number for number, level in enumerate(pushback & ~free) if level.any()]
     if not levels:
@@ -250,7 +258,7 @@ def is_wide(mask: np.ndarray, free: np.ndarray, shape: Rectangle) -> bool:
 
 
 def notes_of(before: np.ndarray, after: np.ndarray, ground: Ground, rules: PushbackRules) -> list[str]:
-    """What the widths moved, and the pieces that are left for them."""
+    """Returns notes on the material that the widths moved, and on the pieces that are not mined."""
     rock, tonnes = ground.tonnes > 0, ground.tonnes
     asked = [
         f"{name} {metres(wide)} m"
@@ -275,7 +283,7 @@ def notes_of(before: np.ndarray, after: np.ndarray, ground: Ground, rules: Pushb
 
 
 def left_pieces(left: np.ndarray, tonnes: np.ndarray, ground: Ground) -> list[str]:
-    """The pieces too small to mine, the heaviest first: blocks, tonnes, and the middle of each."""
+    """Returns the pieces too small to mine, the heaviest first: blocks, tonnes and centre of each."""
     pieces, count = ndimage.label(left)
     found = []
     for number in range(1, count + 1):

@@ -1,9 +1,9 @@
-"""Pushbacks: nested parts of a pit that are dug one after the other, chosen from its shells.
+"""Pushbacks: nested parts of a pit that are mined one after the other, chosen from its shells.
 
-Each pushback is what one shell adds to the one before. For even pushbacks the shells are sought whose tonnes come nearest to even shares of the
-last one's: since shells nest, their tonnes rise with the factor, and the neighbours of a share are found by trying factors between those
-that are known until two are left that follow each other. Factors are whole thousandths. Where the tonnes between two that follow each other
-jump past a share, no factor divides that rock, which is told as a gap.
+Each pushback is what one shell adds to the one before. For even pushbacks the shells are searched whose tonnes are nearest to even shares of the
+last one's. Shells nest, so their tonnes rise with the revenue factor, and a bisection finds the two adjacent factors around each share.
+Factors are whole thousandths. If the tonnes between two adjacent factors jump past a share, no factor divides that material, and a note
+reports the gap.
 """
 
 from __future__ import annotations
@@ -15,12 +15,11 @@ import numpy as np
 import pandas as pd
 from scipy import ndimage
 
-from pitplan.blockmodel.plausibility import WARNING
 from pitplan.config.project import Project
 from pitplan.config.pushbacks import LEAST_FACTOR, MOST_PUSHBACKS, PushbackRules
 from pitplan.core.progress import Progress, silent
 from pitplan.core.revenue_factors import BASE_PRICE, factor_text, factor_texts
-from pitplan.errors import PlanError
+from pitplan.errors import WARNING, PlanError
 from pitplan.pits import shell_tables
 from pitplan.pits.factor_search import between, neighbours, with_factors
 from pitplan.plan import Plan
@@ -40,10 +39,16 @@ TonnesAt = Callable[[tuple[float, ...]], dict[float, float]]
 class Pushbacks:
     """A pit in pushbacks.
 
-    plan      the plan, with the pushbacks' factors for its own
-    solution  the shells of these factors
-    pushback     for each cell its pushback, from 1; 0 where it is in none
-    notes     what a planner should know of the division
+    Attributes
+    ----------
+    plan : Plan
+        The plan, with the revenue factors of the pushbacks.
+    solution : Solution
+        The shells of these.
+    pushback : int array, shape (cells,)
+        The pushback of each cell, from 1; 0: none.
+    notes : tuple of str
+        Notes on the division.
     """
 
     plan: Plan
@@ -53,12 +58,12 @@ class Pushbacks:
 
     @property
     def factors(self) -> tuple[float, ...]:
-        """Of each pushback the factor of the shell that ends it, rising."""
-        return self.plan.project.schedule.revenue_factors
+        """The revenue factor of the shell that ends each pushback, rising."""
+        return self.plan.project.shells.revenue_factors
 
     @property
     def mining_cost_added(self) -> np.ndarray:
-        """For each cell what digging it costs more in its pushback, in money, which is no part of its worth."""
+        """The added mining cost of each cell in its pushback, in the currency; it is not part of the block values."""
         a_tonne = np.zeros(len(self.factors) + 1)
         if amounts := rules_of(self.plan.project).mining_cost_added:
             a_tonne[1:] = [float(amount) for amount in amounts]
@@ -66,37 +71,39 @@ class Pushbacks:
 
 
 def rules_of(project: Project) -> PushbackRules:
-    """Raises PlanError where the project says nothing of pushbacks."""
+    """Returns `[pushbacks]`. Raises PlanError if the project has none."""
     if project.pushbacks is None:
         raise PlanError(f"{project.path}: [pushbacks] is missing: set its count, tonnes or revenue_factors")
     return project.pushbacks
 
 
 def named_last(project: Project) -> Optional[float]:
-    """The factor of the last pushback's shell, where the project names one; None: the shell that `shells` selects."""
+    """Returns the revenue factor of the last pushback's shell if the project names one; None: the shell that `shells` selects."""
     rules = rules_of(project)
-    return rules.revenue_factors[-1] if rules.revenue_factors else rules.ultimate_pit or project.schedule.selected
+    return rules.revenue_factors[-1] if rules.revenue_factors else rules.ultimate_pit or project.shells.selected
 
 
 def ending(project: Project) -> Project:
-    """The project with the factors up to that of its last pushback, where it names that; else as it is, and `divide` selects a shell."""
+    """Returns the project with the revenue factors up to that of its last pushback if it names that. Otherwise it returns the project, and
+    `divide` selects a shell.
+    """
     last = named_last(project)
     return project if last is None else ended(project, last)
 
 
 def ended(project: Project, last: float) -> Project:
-    return with_factors(project, (*(factor for factor in project.schedule.revenue_factors if factor < last), last))
+    return with_factors(project, (*(factor for factor in project.shells.revenue_factors if factor < last), last))
 
 
 def selected(plan: Plan, mine: Mine, progress: Progress) -> tuple[Plan, list[str]]:
-    """The plan with the factors up to the shell that `shells` selects, and a note of it, unless the project names the last pushback's shell.
+    """Returns the plan with the revenue factors up to the shell that `shells` selects, and a note of it, unless the project names the last shell.
 
-    Where an empty shell is selected, since no other has a net present value above 0, that of the price as given is taken, with a warning.
+    If the selected shell is empty, since no shell has an NPV above 0, the shell of the base price takes its place, with a warning.
     """
     if named_last(plan.project) is not None:
         return plan, []
     table = shell_tables.shells(plan, problem.solve(plan, mine, progress))
-    last = shell_tables.selected_factor(table, plan.project.schedule)
+    last = shell_tables.selected_factor(table, plan.project.shells)
     note = f"the last pushback ends at the selected shell, revenue factor {factor_text(last)}; [pushbacks] ultimate_pit sets another"
     if not table["tonnes"][table["revenue_factor"] == last].any():
         last = BASE_PRICE
@@ -105,17 +112,27 @@ def selected(plan: Plan, mine: Mine, progress: Progress) -> tuple[Plan, list[str
 
 
 def divide(plan: Plan, mine: Optional[Mine] = None, progress: Progress = silent) -> Pushbacks:
-    """Divides the pit of the plan's last factor as the project asks, or of the shell that `shells` selects where the project names none; the
-    mine is that of the plan, which is else made for the time being.
+    """Divides a pit into pushbacks: that of the plan's last revenue factor if the project names one, otherwise the one that `shells` selects.
 
-    Raises PlanError where that pit is empty, more than a hundred pushbacks are asked for, or there are not as many as mining costs are given,
-    and ProgramError where the solver refuses.
+    Parameters
+    ----------
+    plan : Plan
+    mine : Mine, optional
+        The mine of the plan. Default: it is made for this call.
+    progress : Progress
+
+    Raises
+    ------
+    PlanError
+        If the pit is empty, there would be more than 100 pushbacks, or their number is not that of the added mining costs.
+    ProgramError
+        If the solver refuses.
     """
     if mine is None:
         with problem.temporary(plan) as made:
             return divide(plan, made, progress)
     plan, notes = selected(plan, mine, progress)
-    rules, last = rules_of(plan.project), plan.project.schedule.revenue_factors[-1]
+    rules, last = rules_of(plan.project), plan.project.shells.revenue_factors[-1]
 
     def solved(factors: tuple[float, ...]) -> tuple[Plan, Solution]:
         part = replace(plan, project=with_factors(plan.project, factors))
@@ -145,7 +162,7 @@ def divide(plan: Plan, mine: Optional[Mine] = None, progress: Progress = silent)
 
 
 def not_empty(tonnes: dict[float, float], project: Project) -> tuple[tuple[float, ...], list[str]]:
-    """The factors whose shells have rock that the ones before have not. Raises PlanError where the last shell is empty."""
+    """Returns the revenue factors whose shells add material. Raises PlanError if the last shell is empty."""
     kept, notes, before = [], [], 0.0
     for factor, rock in tonnes.items():
         if rock > before:
@@ -161,7 +178,7 @@ def not_empty(tonnes: dict[float, float], project: Project) -> tuple[tuple[float
 
 
 def notes_of_added(rules: PushbackRules, factors: tuple[float, ...], project: Project) -> list[str]:
-    """That pushbacks have mining costs of their own. Raises PlanError where these are not as many as the pushbacks."""
+    """Returns a note on the added mining costs. Raises PlanError if there are not as many as pushbacks."""
     amounts = rules.mining_cost_added
     if not amounts:
         return []
@@ -170,14 +187,13 @@ def notes_of_added(rules: PushbackRules, factors: tuple[float, ...], project: Pr
         raise PlanError(f"{project.path}: [pushbacks] {said} {factor_texts(factors)}: give one for each")
     told = ", ".join(f"{amount:f}" for amount in amounts)
     where = "in the annual cash flow, the NPV and schedules, but not in block values and the cash flow of shells"
-    return [f"mining cost added by pushback: {told} {project.money.currency} per tonne, {where}"]
+    return [f"mining cost added by pushback: {told} {project.economics.currency} per tonne, {where}"]
 
 
 def even_shells(
     rules: PushbackRules, last: float, tonnes_at: TonnesAt, project: Project
 ) -> tuple[dict[float, float], list[str]]:
-    """Factors and tonnes of the shells that come nearest to even shares of the last one's tonnes, and notes of the shares that none comes
-    near to."""
+    """Returns revenue factors and tonnes of the shells nearest to even shares of the last one's tonnes, and notes on shares without one."""
     known = tonnes_at(tuple(sorted({LEAST_FACTOR, last})))
     count = count_of(rules, known[last], project)
     shares = [known[last] * number / count for number in range(1, count)]
@@ -198,7 +214,7 @@ def even_shells(
 
 
 def count_of(rules: PushbackRules, whole: float, project: Project) -> int:
-    """How many pushbacks are asked for of a pit of so many tonnes."""
+    """Returns the number of pushbacks of a pit of so many tonnes."""
     if rules.count is not None:
         return rules.count
     assert rules.tonnes is not None
@@ -219,20 +235,16 @@ def gap(known: dict[float, float], low: float, high: float) -> str:
 
 
 def blocks(pushbacks: Pushbacks) -> pd.DataFrame:
-    """`pitplan.blocks` of the pushbacks' shells with `pushback`, from 1 (0: in none)."""
+    """Returns `shell_tables.blocks` of the pushbacks' shells with the column `pushback`, from 1 (0: none)."""
     frame = shell_tables.blocks(pushbacks.plan, pushbacks.solution)
     return frame.assign(pushback=pushbacks.pushback[frame["id"].to_numpy()])
 
 
 def table(pushbacks: Pushbacks) -> pd.DataFrame:
-    """One row a pushback, of what it adds to those before, at the price as given.
+    """Returns a row per pushback: what it adds to those before, at the base price. `results.columns` describes the columns.
 
-    pushback from 1; revenue_factor, of the shell that ends it; blocks (with rock); tonnes, feed_tonnes, in_situ_ore_tonnes, waste_tonnes and
-    strip_ratio as of shells;
-    head_grade_NAME of the ore in its column's unit, recovered_NAME recovered of it (tonnes, or grams); worth in money; mining_cost_added, where
-    pushbacks have mining costs of their own, which are not in the worth; deferred_value, what the shell that ends a pushback is worth more than
-    the pushbacks up to it, since blocks come in a later pushback for the sake of width; value_lost_to_width, the same of the last pushback, where it is lost;
-    pieces that do not touch by a side; min_width in metres.
+    `deferred_value` is the value of the shell that ends a pushback less that of the pushbacks up to it: blocks that a minimum width moves to a later
+    one. In the last row the same is `value_lost_to_width`.
     """
     plan, cells = pushbacks.plan, shell_tables.cells_of(pushbacks.plan, pushbacks.solution)
     ore = np.where(cells.ore, pushbacks.pushback, 0)
@@ -270,7 +282,7 @@ def table(pushbacks: Pushbacks) -> pd.DataFrame:
 
 
 def shapes(pushbacks: Pushbacks) -> dict[str, list[float]]:
-    """Of each pushback into how many pieces it falls, and its least width in metres."""
+    """Returns the number of pieces of each pushback that share no side, and its minimum width in metres."""
     grid, free = pushbacks.plan.grid, mining_width.free_of(pushbacks.plan)
     rock, cube = grid.cube(pushbacks.plan.values.tonnes > 0), grid.cube(pushbacks.pushback)
     each = [cube == number for number in range(1, len(pushbacks.factors) + 1)]
@@ -281,5 +293,5 @@ def shapes(pushbacks: Pushbacks) -> dict[str, list[float]]:
 
 
 def added(pushback: np.ndarray, values: np.ndarray, pushbacks: Pushbacks) -> np.ndarray:
-    """For each pushback the sum of the values of its cells."""
+    """Returns the sum of the values over the cells of each pushback."""
     return np.bincount(pushback, values, minlength=len(pushbacks.factors) + 1)[1:]

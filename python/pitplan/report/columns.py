@@ -1,8 +1,12 @@
-"""The tables that an answer shows, on standard output and in the report: columns with units, and numbers as text."""
+"""Tables as the command line and the report show them: which columns, in what units, and numbers as text."""
 
 from __future__ import annotations
 
+from collections.abc import Iterator
+from dataclasses import dataclass
+from itertools import groupby
 from pathlib import Path
+from typing import Optional
 
 import pandas as pd
 from jinja2 import Environment, FileSystemLoader, select_autoescape
@@ -11,6 +15,8 @@ from pitplan.config.economics import Metal
 from pitplan.config.project import Project
 from pitplan.core.revenue_factors import factor_text
 from pitplan.figures.style import scaled
+from pitplan.results import columns as schema
+from pitplan.results.columns import Column, Table
 
 TEMPLATES = Environment(
     loader=FileSystemLoader(Path(__file__).parents[1] / "templates"),
@@ -21,125 +27,119 @@ TEMPLATES = Environment(
 TEMPLATES.filters["rf"] = factor_text
 # Column, heading with unit, by what to divide, and decimals.
 Columns = list[tuple[str, str, float, int]]
+# The columns of no file: a case in words, and by how much its NPV differs from that of the base case.
+CASE, NPV_CHANGE = "case", "npv_change"
+COMPUTED = {CASE: Column(CASE, schema.TEXT, "", "case"), NPV_CHANGE: Column(NPV_CHANGE, schema.MONEY, "", "change")}
 
 
-def columns_of(table: pd.DataFrame, project: Project) -> Columns:
-    """What the page's table shows: column, heading with unit, by what to divide, and decimals."""
-    money, m_sign = scaled(float(table[["undiscounted_cash_flow", "npv_best", "npv_worst"]].abs().max().max()))
-    currency = f"{m_sign} {project.money.currency}".strip()
-    columns = [("revenue_factor", "revenue factor", 1.0, 2), *columns_of_rock(table, project)]
-    for name, heading in (
-        ("undiscounted_cash_flow", "undiscounted cash flow"),
-        ("npv_best", "NPV best"),
-        ("npv_worst", "NPV worst"),
+@dataclass(frozen=True)
+class Display:
+    """How a table is shown.
+
+    Attributes
+    ----------
+    table : Table
+        Whose columns these are.
+    names : tuple of str
+        Those that are shown, in order, if a table has them. METAL and PROCESS stand for each metal and process.
+    money : tuple of str
+        Those whose largest amount sets the unit of all money.
+    """
+
+    table: Table
+    names: tuple[str, ...]
+    money: tuple[str, ...]
+
+    @property
+    def tonnes(self) -> str:
+        """The column whose largest amount sets the unit of all tonnes."""
+        return "total_tonnes" if "total_tonnes" in self.names else "tonnes"
+
+    def column(self, name: str) -> Column:
+        """A column that is shown. Raises KeyError if the table has none of this name."""
+        found = self.table.find(name) or COMPUTED.get(name)
+        if found is None:
+            raise KeyError(
+                f"{self.table.file}: {name} is shown, but is no column: add it to pitplan/results/columns.py"
+            )
+        return found
+
+    def of(self, table: pd.DataFrame, project: Project) -> Columns:
+        """What is shown of a table: column, heading with unit, by what to divide, and decimals."""
+        # Ore loss and dilution make the mill feed another amount than the ore in situ.
+        is_diluted = IN_SITU in self.names and bool((table["feed_tonnes"] != table[IN_SITU]).any())
+        money = scaled(float(table[[it for it in self.money if it in table]].abs().max().max()))
+        units = Units(money, scaled(float(table[self.tonnes].max())), project.economics.currency)
+        metals, found = {it.name: it for it in project.metals}, list[tuple[str, str, float, int]]()
+        for name, subject in named(self.names, project):
+            if name in table and (is_diluted or name != IN_SITU):
+                column = self.column(name)
+                heading = "mill feed" if is_diluted and name == "feed_tonnes" else column.heading
+                heading = heading.replace("METAL", subject).replace("PROCESS", subject)
+                size, unit = units.of(table[name], column, metals.get(subject))
+                found.append((name, heading if unit is None else f"{heading}, {unit}", size, column.shown_places))
+        return found
+
+
+@dataclass(frozen=True)
+class Units:
+    """The units of amounts of money and tonnes that are shown: size and sign of each, and the currency."""
+
+    money: tuple[float, str]
+    tonnes: tuple[float, str]
+    currency: str
+
+    def of(self, values: pd.Series, column: Column, metal: Optional[Metal]) -> tuple[float, Optional[str]]:
+        """By what the values of a column are divided, and its unit in the heading; None if it has none. `metal` is that of its name."""
+        if column.unit is schema.MONEY:
+            return self.money[0], f"{self.money[1]} {self.currency}".strip()
+        if column.unit is schema.TONNES:
+            return self.tonnes[0], f"{self.tonnes[1]}t"
+        if column.unit is schema.METAL and metal is not None:
+            return metal_unit(float(values.max()), metal)
+        if column.unit is schema.GRADE and metal is not None:
+            return 1.0, metal.sign
+        return {schema.SHARE: (0.01, "%"), schema.METRES: (1.0, "m")}.get(column.unit, (1.0, None))
+
+
+def named(names: tuple[str, ...], project: Project) -> Iterator[tuple[str, str]]:
+    """Names of columns, each with the metal or process in it, or "". Adjacent names of metals are repeated together, metal by metal."""
+    for placeholder, group in groupby(
+        names, lambda it: next((word for word in ("METAL", "PROCESS") if word in it), "")
     ):
-        columns.append((name, f"{heading}, {currency}", money, 1))
-    return [*columns, ("years", "years", 1.0, 1)]
+        adjacent = list(group)
+        metals, processes = [it.name for it in project.metals], [it.name for it in project.processes]
+        for subject in {"METAL": metals, "PROCESS": processes}.get(placeholder, [""]):
+            yield from ((name.replace(placeholder, subject) if placeholder else name, subject) for name in adjacent)
 
 
-def columns_of_rock(table: pd.DataFrame, project: Project) -> Columns:
-    """Blocks, tonnes, strip ratio, grades and metals."""
-    tonnes, sign = scaled(float(table["tonnes"].max()))
-    # Ore loss and dilution make the mill feed another amount than the ore in situ.
-    is_diluted = bool((table["feed_tonnes"] != table["in_situ_ore_tonnes"]).any())
-    columns = [
-        ("blocks", "blocks", 1.0, 0),
-        ("tonnes", f"total, {sign}t", tonnes, 2),
-        ("feed_tonnes", f"{'mill feed' if is_diluted else 'ore'}, {sign}t", tonnes, 2),
-        *([("in_situ_ore_tonnes", f"in-situ ore, {sign}t", tonnes, 2)] if is_diluted else []),
-        ("waste_tonnes", f"waste, {sign}t", tonnes, 2),
-        ("strip_ratio", "strip ratio", 1.0, 2),
-    ]
-    columns += [(f"feed_tonnes_{process.name}", f"{process.name}, {sign}t", tonnes, 2) for process in project.processes]
-    for metal in project.metals:
-        size, unit = metal_unit(float(table[f"recovered_{metal.name}"].max()), metal)
-        columns.append((f"head_grade_{metal.name}", f"{metal.name}, {metal.sign}", 1.0, 3))
-        columns.append((f"recovered_{metal.name}", f"{metal.name}, {unit}", size, 2))
-    return columns
-
-
-def columns_of_pushbacks(table: pd.DataFrame, project: Project) -> Columns:
-    """What is shown of pushbacks, as `columns_of` of shells."""
-    money, sign = scaled(float(table["undiscounted_cash_flow"].abs().max()))
-    currency = f"{sign} {project.money.currency}".strip()
-    return [
-        ("pushback", "pushback", 1.0, 0),
-        ("revenue_factor", "revenue factor", 1.0, 2),
-        *columns_of_rock(table, project),
-        ("undiscounted_cash_flow", f"undiscounted cash flow, {currency}", money, 1),
-        *([("mining_cost_added", f"added mining cost, {currency}", money, 2)] if "mining_cost_added" in table else []),
-        ("deferred_value", f"value deferred by width, {currency}", money, 2),
-        ("value_lost_to_width", f"value lost to width, {currency}", money, 2),
-        ("pieces", "pieces", 1.0, 0),
-        ("min_width", "minimum width, m", 1.0, 0),
-    ]
-
-
-def columns_of_ways(table: pd.DataFrame, project: Project) -> Columns:
-    """What is shown of the ways of a schedule, as `columns_of` of shells."""
-    money, sign = scaled(float(table["npv"].abs().max()))
-    tonnes, of_tonnes = scaled(float(table["tonnes"].max()))
-    currency = f"{sign} {project.money.currency}".strip()
-    return [
-        ("method", "method", 1.0, 0),
-        ("npv", f"NPV, {currency}", money, 2),
-        ("upper_bound", f"upper bound, {currency}", money, 2),
-        ("optimality_gap", "gap, %", 0.01, 2),
-        ("years", "years", 1.0, 0),
-        ("tonnes", f"total, {of_tonnes}t", tonnes, 2),
-        ("feed_tonnes", f"ore, {of_tonnes}t", tonnes, 2),
-        ("unmined_tonnes", f"unmined, {of_tonnes}t", tonnes, 2),
-        *columns_of_metals(table, project),
-    ]
-
-
-def columns_by_block(table: pd.DataFrame, project: Project) -> Columns:
-    """What is shown of a schedule by block, as `columns_of` of shells."""
-    money, sign = scaled(float(table[["npv", "upper_bound"]].abs().max().max()))
-    tonnes, of_tonnes = scaled(float(table["tonnes"].max()))
-    currency = f"{sign} {project.money.currency}".strip()
-    return [
-        ("npv", f"NPV, {currency}", money, 2),
-        ("upper_bound", f"upper bound, {currency}", money, 2),
-        ("optimality_gap", "gap, %", 0.01, 2),
-        ("years", "years", 1.0, 0),
-        ("blocks", "blocks", 1.0, 0),
-        ("tonnes", f"total, {of_tonnes}t", tonnes, 2),
-        ("feed_tonnes", f"ore, {of_tonnes}t", tonnes, 2),
-        *columns_of_metals(table, project),
-    ]
-
-
-def columns_of_metals(table: pd.DataFrame, project: Project) -> Columns:
-    """What is recovered of each metal."""
-    found: Columns = []
-    for metal in project.metals:
-        size, unit = metal_unit(float(table[f"recovered_{metal.name}"].max()), metal)
-        found.append((f"recovered_{metal.name}", f"{metal.name}, {unit}", size, 2))
-    return found
-
-
-def columns_of_years(table: pd.DataFrame, project: Project) -> Columns:
-    """What is shown of the years of cases, as `columns_of` of shells."""
-    spent = [name for name in ("fixed_cost", "capex") if name in table]
-    money, sign = scaled(float(table[["cash_flow", "discounted_cash_flow", *spent]].abs().max().max()))
-    tonnes, of_tonnes = scaled(float(table["total_tonnes"].max()))
-    currency = f"{sign} {project.money.currency}".strip()
-    return [
-        ("year", "year", 1.0, 0),
-        ("case", "case", 1.0, 0),
-        ("total_tonnes", f"total, {of_tonnes}t", tonnes, 2),
-        ("feed_tonnes", f"ore, {of_tonnes}t", tonnes, 2),
-        *columns_of_metals(table, project),
-        *((name, f"{name.replace('_', ' ')}, {currency}", money, 2) for name in spent),
-        ("cash_flow", f"cash flow, {currency}", money, 2),
-        ("discounted_cash_flow", f"discounted cash flow, {currency}", money, 2),
-    ]
+IN_SITU = "in_situ_ore_tonnes"
+IN_ROCK = ("blocks", "tonnes", "feed_tonnes", IN_SITU, "waste_tonnes", "strip_ratio", "feed_tonnes_PROCESS")
+MATERIAL = (*IN_ROCK, "head_grade_METAL", "recovered_METAL")
+EARNED = ("undiscounted_cash_flow", "npv_best", "npv_worst")
+BOUNDED = ("npv", "upper_bound")
+AMOUNTS = ("years", "blocks", "tonnes", "feed_tonnes", "unmined_tonnes", "recovered_METAL")
+OF_SHELLS = Display(schema.SHELLS, ("revenue_factor", *MATERIAL, *EARNED, "years"), EARNED)
+OF_PUSHBACKS = Display(
+    schema.PUSHBACKS,
+    ("pushback", "revenue_factor", *MATERIAL, EARNED[0], "mining_cost_added", "deferred_value", "value_lost_to_width")
+    + ("pieces", "min_width"),
+    EARNED[:1],
+)
+OF_METHODS = Display(schema.METHODS, ("method", *BOUNDED, "optimality_gap", *AMOUNTS), ("npv",))
+OF_BLOCKS = Display(schema.METHODS, (*BOUNDED, "optimality_gap", *AMOUNTS), BOUNDED)
+SPENT, FLOWS = ("fixed_cost", "capex"), ("cash_flow", "discounted_cash_flow")
+OF_YEARS = Display(
+    schema.YEARLY,
+    ("year", "case", "total_tonnes", "feed_tonnes", "recovered_METAL", *SPENT, *FLOWS),
+    (*FLOWS, *SPENT),
+)
+OF_CASES = Display(schema.SENSITIVITY, (CASE, "npv", NPV_CHANGE, "tonnes", "feed_tonnes", EARNED[0], "years"), ("npv",))
 
 
 def of_cases(table: pd.DataFrame) -> pd.DataFrame:
-    """A table of a sensitivity with each case in words, and by how much its net present value differs from that of the first."""
-    return table.assign(case=cases_in_words(table), change=table["npv"] - table["npv"].iloc[0])
+    """Returns a table of a sensitivity with the columns `case`, in words, and `npv_change`, the difference of NPV from the base case."""
+    return table.assign(**{CASE: cases_in_words(table), NPV_CHANGE: table["npv"] - table["npv"].iloc[0]})
 
 
 def cases_in_words(table: pd.DataFrame) -> list[str]:
@@ -152,24 +152,8 @@ def cases_in_words(table: pd.DataFrame) -> list[str]:
     ]
 
 
-def columns_of_cases(table: pd.DataFrame, project: Project) -> Columns:
-    """What is shown of a sensitivity, as `columns_of` of shells."""
-    money, sign = scaled(float(table["npv"].abs().max()))
-    tonnes, of_tonnes = scaled(float(table["tonnes"].max()))
-    currency = f"{sign} {project.money.currency}".strip()
-    return [
-        ("case", "case", 1.0, 0),
-        ("npv", f"NPV, {currency}", money, 2),
-        *([("change", f"change, {currency}", money, 2)] if "change" in table else []),
-        ("tonnes", f"total, {of_tonnes}t", tonnes, 2),
-        ("feed_tonnes", f"ore, {of_tonnes}t", tonnes, 2),
-        ("undiscounted_cash_flow", f"undiscounted cash flow, {currency}", money, 2),
-        ("years", "years", 1.0, 1),
-    ]
-
-
 def metal_unit(most: float, metal: Metal) -> tuple[float, str]:
-    """A unit in which quantities of a metal are short: grams become kilograms and tonnes."""
+    """Returns size and sign of a unit for quantities of a metal up to `most`: grams become kilograms and tonnes."""
     if metal.quantity != "g":
         size, sign = scaled(most)
         return size, f"{sign}t"
@@ -177,7 +161,7 @@ def metal_unit(most: float, metal: Metal) -> tuple[float, str]:
 
 
 def cells_of(table: pd.DataFrame, columns: Columns) -> list[list[str]]:
-    """The table as texts; a dash where a number is not defined."""
+    """Returns the cells of a table as texts, with a dash for nan."""
 
     def cell(row: pd.Series, name: str, size: float, places: int) -> str:
         if name in ("method", "case"):

@@ -1,7 +1,7 @@
-"""The report: one HTML page, with its pictures in it, which can be mailed as it is and prints on A4.
+"""The report: one HTML page with its figures in it, which can be mailed and prints on A4.
 
-It is made of the files of a plan's folder, for those who decide: the answer, how sure it is, pictures, tables, inputs and hashes. Each figure
-is a cell of a written table, and names it by file, row and column where a pointer rests on it; the header is row 1, as in spreadsheets.
+It is made from the files of a plan's folder, for decision makers: key results, confidence, figures, tables, inputs and hashes. Each number is a
+cell of a written table, which its tooltip names by file, row and column. The header is row 1, as in spreadsheets.
 """
 
 from __future__ import annotations
@@ -17,6 +17,7 @@ from pitplan.config import project_writer
 from pitplan.config.project import Project
 from pitplan.config.shells import IN_WORDS
 from pitplan.core.atomic_files import hash_of, read_json
+from pitplan.core.layout import FIGURES, TABLES
 from pitplan.core.revenue_factors import BASE_PRICE, factor_text
 from pitplan.errors import PlanError
 from pitplan.figures import schedule
@@ -26,17 +27,18 @@ from pitplan.results.folder import read_record
 from . import columns as report
 from .columns import TEMPLATES, Columns
 
-SENSITIVITY, SENSITIVITY_RECORD, TORNADO = "sensitivity.csv", "sensitivity.json", "tornado.png"
+SENSITIVITY, SENSITIVITY_RECORD = f"{TABLES}/sensitivity.csv", "sensitivity.json"
+TORNADO = f"{FIGURES}/tornado.png"
 BY_BLOCK = "block"
-# What is told in words of a column.
+# Columns of the page that are made from another column of the file.
 NAMED = {(SENSITIVITY, "case"): "parameter"}
-# More columns than these are not legible on A4, and stand in several tables below each other.
+# The most columns that are legible on A4. A wider table is divided.
 MOST_COLUMNS = 13
 
 
 @dataclass(frozen=True)
 class Figure:
-    """One figure of the answer: what it is, as text, and the cell that it is."""
+    """A key result: name, text with unit, and the cell that it shows."""
 
     name: str
     text: str
@@ -45,7 +47,7 @@ class Figure:
 
 @dataclass(frozen=True)
 class Written:
-    """A table of a folder as it was written, by the name of its file; its index counts the rows from 0."""
+    """A written table: the name of its file, and its rows, with an index from 0."""
 
     file: str
     frame: pd.DataFrame
@@ -54,7 +56,7 @@ class Written:
         return f"{self.file} row {row + 2} column {NAMED.get((self.file, column), column)}"
 
     def figure(self, name: str, row: int, column: tuple[str, str, float, int]) -> Figure:
-        """A figure with its unit, which stands in the column's heading behind the comma."""
+        """Returns a key result with its unit, which follows the comma in the heading of its column."""
         ((text,),) = report.cells_of(self.frame.loc[[row]], [column])
         unit = column[1].partition(", ")[2]
         return Figure(name, text if text == "–" else f"{text} {unit}".strip(), self.source(row, column[0]))
@@ -66,7 +68,7 @@ def read_table(folder: Path, name: str) -> Written:
 
 @dataclass(frozen=True)
 class Sensitivity:
-    """What `pitplan sensitivity` has written of the same inputs."""
+    """The folder and record of a sensitivity of the same inputs."""
 
     folder: Path
     record: dict[str, Any]
@@ -75,9 +77,20 @@ class Sensitivity:
 def sensitivity_beside(
     project: Project, inputs: dict[str, str], folder: Optional[Path]
 ) -> tuple[Optional[Sensitivity], str]:
-    """The sensitivity of a folder, by default of that in the project's own, and else why there is none, in words.
+    """Returns the sensitivity to show, and if there is none the reason, or "" if none was run.
 
-    Raises PlanError if a folder that is given has none, or one of other inputs.
+    Parameters
+    ----------
+    project : Project
+    inputs : dict of str to str
+        Hashes of the inputs of the plan, by file.
+    folder : Path, optional
+        The folder of the sensitivity. Default: sensitivity in the project's output folder.
+
+    Raises
+    ------
+    PlanError
+        If `folder` is given and has no sensitivity, or one of other inputs.
     """
     place = project.folder / "sensitivity" if folder is None else folder
     for name in (SENSITIVITY_RECORD, SENSITIVITY):
@@ -99,22 +112,35 @@ def sensitivity_beside(
 
 
 def differing(first: dict[str, str], second: dict[str, str]) -> list[str]:
-    """The names of files that only one has, or whose hashes differ."""
+    """Returns the names of files that only one of two has, or whose hashes differ."""
     return [name for name in sorted({*first, *second}) if first.get(name) != second.get(name)]
 
 
 def differing_as_run(project: Project, folder: Path, record: dict[str, Any]) -> list[str]:
-    """The name of the project's text if that of the sensitivity in a folder, which may have been moved, is of another project."""
+    """Returns the name of the project's file if the sensitivity in a folder, which may have been moved, is of another project."""
     both = (project, project_writer.as_run(folder, record["project"]))
     texts = {replace(it, folder=it.path.parent).to_toml() for it in both}
     return [project_writer.AS_RUN] if len(texts) > 1 else []
 
 
 def write(path: Path, folder: Path, project: Project, sensitivity: Optional[Path] = None) -> None:
-    """The page of a folder that holds an answer with its record, its tables and its pictures.
+    """Writes the report of a folder.
 
-    `sensitivity` is the folder of one; without it that in the project's folder is taken, where it is of the same inputs. Raises PlanError
-    as `sensitivity_beside` does.
+    Parameters
+    ----------
+    path : Path
+        The file to write.
+    folder : Path
+        The folder of a plan, with record, tables and figures.
+    project : Project
+        The project of the run.
+    sensitivity : Path, optional
+        The folder of the sensitivity to show. Default: that in the project's output folder, if it is of the same inputs.
+
+    Raises
+    ------
+    PlanError
+        As `sensitivity_beside`.
     """
     record = read_record(folder)
     found, missing = sensitivity_beside(project, record["inputs"], sensitivity)
@@ -127,9 +153,9 @@ def write(path: Path, folder: Path, project: Project, sensitivity: Optional[Path
         warnings=[note.removeprefix("WARNING: ") for note in warnings],
         notes=[note for note in record["notes"] if note not in warnings],
         pictures={Path(name).stem: picture(folder / name) for name in record["files"] if name.endswith(".png")},
-        rate=project.schedule.discount_rate,
-        discounting=IN_WORDS[project.schedule.discounting],
-        has_fixed=project.fixed is not None,
+        rate=project.shells.discount_rate,
+        discounting=IN_WORDS[project.shells.discounting],
+        has_fixed=project.constraints is not None,
         bins=names.MILLING in record["files"],
         project_file=project_writer.AS_RUN if project_writer.AS_RUN in record["files"] else project.path.name,
         project_text=text_of(folder, project, record),
@@ -143,18 +169,18 @@ def write(path: Path, folder: Path, project: Project, sensitivity: Optional[Path
 
 
 def text_of(folder: Path, project: Project, record: dict[str, Any]) -> str:
-    """The project of the run; of a folder of an earlier release the file that it was read from."""
+    """Returns the text of the project that was run; for a folder of an earlier release that of its file."""
     path = folder / project_writer.AS_RUN if project_writer.AS_RUN in record["files"] else project.path
     return without_comments(path.read_text(encoding="utf-8"))
 
 
 def picture(path: Path) -> str:
-    """A PNG as an address that holds it."""
+    """Returns a PNG as a data URL."""
     return "data:image/png;base64," + base64.b64encode(path.read_bytes()).decode("ascii")
 
 
 def without_comments(text: str) -> str:
-    """The lines of a project that say something, without what stands behind a # outside of quotes."""
+    """Returns the lines of a project without comments and empty lines."""
     lines = []
     for line in text.splitlines():
         quoted = ""
@@ -170,33 +196,33 @@ def without_comments(text: str) -> str:
 
 
 def of_answer(folder: Path, project: Project, record: dict[str, Any]) -> dict[str, Any]:
-    """Figures and tables of shells, and where there are such of pushbacks and of a schedule."""
+    """Returns key results and tables of shells and, if there are any, of pushbacks and a schedule."""
     chosen = record["shells"]["selected"]
     shells, years = read_table(folder, names.SHELLS), read_table(folder, names.YEARS)
     marks = shells.frame["revenue_factor"].map(
         lambda factor: " ".join(["selected"] * (factor == chosen) + ["given"] * (factor == BASE_PRICE))
     )
-    found: dict[str, Any] = {"shells": parts_of(shells, report.columns_of, project, marks)}
+    found: dict[str, Any] = {"shells": parts_of(shells, report.OF_SHELLS.of, project, marks)}
     cases, figures = ["best", "worst"], of_shell(shells, chosen, project)
     if names.PUSHBACKS in record["files"]:
-        found["pushbacks"] = parts_of(read_table(folder, names.PUSHBACKS), report.columns_of_pushbacks, project)
-    if names.WAYS in record["files"]:
-        ways = read_table(folder, names.WAYS)
+        found["pushbacks"] = parts_of(read_table(folder, names.PUSHBACKS), report.OF_PUSHBACKS.of, project)
+    if names.METHODS in record["files"]:
+        ways = read_table(folder, names.METHODS)
         shown = record.get("schedule", BY_BLOCK)
-        of_ways = report.columns_by_block if shown == BY_BLOCK else report.columns_of_ways
+        of_ways = report.OF_BLOCKS.of if shown == BY_BLOCK else report.OF_METHODS.of
         found["methods"], found["shown"] = (
             parts_of(ways, of_ways, project, ways.frame["method"].map({shown: "selected"}).fillna("")),
             shown,
         )
         found["method"] = schedule.NAMES.get(shown, shown)
-        # What is scheduled by block is the pit of the price as given, whichever shell is shown.
+        # A schedule by block mines the pit at the base price, whichever shell is selected.
         pit = BASE_PRICE if shown == BY_BLOCK else chosen
         cases, figures = [shown], [*of_way(ways, shown, project), *grades(shells, pit, project)]
     dug = years.frame[
         years.frame["case"].isin(cases)
         & ((years.frame["revenue_factor"] == chosen) | (years.frame["case"] == BY_BLOCK))
     ]
-    found["years"] = parts_of(Written(years.file, dug), report.columns_of_years, project) if len(dug) else []
+    found["years"] = parts_of(Written(years.file, dug), report.OF_YEARS.of, project) if len(dug) else []
     return found | {"figures": figures}
 
 
@@ -206,13 +232,13 @@ def parts_of(
     project: Project,
     marks: Optional[pd.Series] = None,
 ) -> list[dict[str, Any]]:
-    """A table of the page with its file, headings and rows; several, each with the first column, where it is too wide for a page."""
+    """Returns a table of the page with file, headings and rows; if it is too wide several, each with the first column."""
     first, *others = columns_of(table.frame, project)
     count = -(-len(others) // (MOST_COLUMNS - 1))
     parts: list[dict[str, Any]] = []
     while others:
         many = -(-len(others) // (count - len(parts)))
-        # The grade of a metal and what is recovered of it stay beside each other.
+        # Head grade and recovered metal stay next to each other.
         many -= (
             many < len(others)
             and others[many][0].startswith("recovered_")
@@ -232,9 +258,9 @@ def part_of(table: Written, columns: Columns, marks: Optional[pd.Series]) -> dic
 
 
 def of_shell(shells: Written, chosen: float, project: Project) -> list[Figure]:
-    """What the board asks first of a pit that has no schedule."""
+    """Returns the key results of a pit without a schedule."""
     row = int(shells.frame.index[shells.frame["revenue_factor"] == chosen][0])
-    columns = {column[0]: column for column in report.columns_of(shells.frame.loc[[row]], project)}
+    columns = {column[0]: column for column in report.OF_SHELLS.of(shells.frame.loc[[row]], project)}
     names = {
         "npv_best": "Net present value, best case",
         "npv_worst": "Net present value, worst case",
@@ -270,12 +296,12 @@ def recovered(
 
 
 def of_way(ways: Written, shown: str, project: Project) -> list[Figure]:
-    """What the board asks first of a schedule."""
+    """Returns the key results of a schedule."""
     row = int(ways.frame.index[ways.frame["method"] == shown][0])
     only = ways.frame.loc[[row]]
     columns = {
         column[0]: column
-        for column in (report.columns_by_block if shown == BY_BLOCK else report.columns_of_ways)(only, project)
+        for column in (report.OF_BLOCKS.of if shown == BY_BLOCK else report.OF_METHODS.of)(only, project)
     }
     bound = "Upper bound, any schedule by block" if shown == BY_BLOCK else "Upper bound, these pushbacks and processes"
     names = {"npv": "Net present value", "upper_bound": bound, "tonnes": "Total material", "feed_tonnes": "Mill feed"}
@@ -285,13 +311,13 @@ def of_way(ways: Written, shown: str, project: Project) -> list[Figure]:
 
 
 def of_sensitivity(found: Sensitivity, project: Project) -> dict[str, Any]:
-    """Table and picture of a sensitivity: the cases of one number each, and the pit as given before them."""
+    """Returns table and tornado of a sensitivity: the base case, and the cases with one parameter changed."""
     table = read_table(found.folder, SENSITIVITY)
     alone = table.frame[table.frame["second_parameter"].isna()].fillna({"parameter": "", "second_parameter": ""})
     named = alone.assign(case=report.cases_in_words(alone))
     record = found.record
     return {
-        "parts": parts_of(Written(table.file, named), report.columns_of_cases, project),
+        "parts": parts_of(Written(table.file, named), report.OF_CASES.of, project),
         "tornado": picture(found.folder / TORNADO) if (found.folder / TORNADO).is_file() else "",
         "revenue_factor": record["revenue_factor"],
         "verified": record["verified"],

@@ -1,7 +1,7 @@
 """The shells in 3D: one HTML page with three.js and the model in it, to rotate, to cut by planes, and to pick blocks from.
 
-The page holds a byte a cell for each thing that it colours by, and the table's rows, all of them compressed; which faces are seen is found in
-the page. Of pushbacks and of a schedule it shows the ground as it is behind each of them.
+The page holds a byte per cell for each property that it colours by, and the rows of the table, all compressed. It finds the visible faces
+itself. For pushbacks and schedules it shows the topography after each stage.
 """
 
 from __future__ import annotations
@@ -23,18 +23,17 @@ from pitplan.results.names import TABLE
 
 from .columns import TEMPLATES
 
-# A cell's byte: 0 is ground that no pit holds, 1 to 254 the place of its factor in the list, 255 air.
+# The byte of a cell: 0 if no shell holds it, 1 to 254 the place of its revenue factor in the list, 255 air.
 AIR = 255
 MOST_FACTORS = 254
-# Of more blocks than these the rows of those that some pit holds are in the page alone.
+# Up to this number of blocks the page has all rows, otherwise those of mined blocks.
 MOST_ROWS = 300_000
-# What a block is dug by, besides the factor: the column, how it is called, and the colours, which darken from first to last, since not all
-# who look tell red from green.
+# Stages besides the revenue factor: column, and a colour map with its range. Colours darken from first to last, for the colour-blind.
 STAGES = (("pushback", "viridis_r", (0.08, 0.95)), ("year", "plasma_r", (0.05, 0.95)))
 
 
 def write(path: Path, folder: Folder) -> None:
-    """Raises MissingPackage without libjs-three, and PlanError where there are more factors than the page can tell apart."""
+    """Writes the page. Raises MissingPackage without libjs-three, and PlanError if there are more than MOST_FACTORS revenue factors."""
     scripts = three_scripts()
     page = TEMPLATES.get_template("view.html").render(
         title=folder.record["title"], scripts=scripts, model=model_of(folder)
@@ -43,7 +42,7 @@ def write(path: Path, folder: Folder) -> None:
 
 
 def model_of(folder: Folder) -> dict[str, Any]:
-    """What the page is told: the grid, of each cell a byte of factor and one of each grade, pushback and year, the table's rows, and colours."""
+    """Returns the data of the page: grid, a byte per cell of revenue factor, each grade, pushback and year, the rows of the table, and colours."""
     grid, blocks = folder.grid, folder.blocks
     factors = folder.factors
     if len(factors) > MOST_FACTORS:
@@ -74,7 +73,7 @@ def model_of(folder: Folder) -> dict[str, Any]:
 
 
 def metal_of(folder: Folder, metal: dict[str, Any], solid: np.ndarray) -> dict[str, Any]:
-    """A byte of grade for each cell, and what its greatest stands for."""
+    """Returns a byte of grade per cell, and the grade of the largest byte."""
     grade = np.where(solid, folder.blocks[metal["column"]].to_numpy(), 0.0)
     # The highest hundredth of the grades share a colour, so that one rich block does not make all others pale.
     most = float(np.quantile(grade[grade > 0], 0.99)) if (grade > 0).any() else 1.0
@@ -83,7 +82,7 @@ def metal_of(folder: Folder, metal: dict[str, Any], solid: np.ndarray) -> dict[s
 
 
 def stage_of(folder: Folder, name: str, shades: str, ends: tuple[float, float]) -> dict[str, Any]:
-    """A byte of pushback or year for each cell, 0 where it has none, and a colour for each. What a byte does not hold has the last that it does."""
+    """Returns a byte of pushback or year per cell, 0 for none, and a colour for each. Numbers above 254 become 254."""
     number = np.clip(folder.blocks[name].to_numpy(), 0, 254)
     last = max(int(number.max()), 1)
     return {
@@ -94,8 +93,7 @@ def stage_of(folder: Folder, name: str, shades: str, ends: tuple[float, float]) 
 
 
 def rows_of(folder: Folder) -> str:
-    """Rows of blocks.csv as they are written, with what each block is worth once it is dug, at the price as given; of a large table those of
-    blocks that some pit holds."""
+    """Returns the rows of blocks.csv with the value of each mined block at the base price; of a large table those of mined blocks."""
     blocks = folder.blocks
     written = pd.read_csv(folder.path / TABLE, dtype=str, keep_default_na=False, na_values={})
     written["undiscounted_cash_flow"] = worths(blocks).round(6)
@@ -105,7 +103,7 @@ def rows_of(folder: Folder) -> str:
 
 
 def worths(blocks: pd.DataFrame) -> pd.Series:
-    """Of each block what its best process earns, where that pays, less its mining."""
+    """Returns the value of each block once it is mined: the gain of its best process, if above 0, less the mining cost."""
     pairs = [
         (name, name.replace("revenue", "processing_cost", 1))
         for name in blocks
@@ -120,10 +118,10 @@ def encoded(cells: np.ndarray) -> str:
 
 
 def compressed(content: bytes) -> str:
-    """Bytes as gzip, without the day, and these as text."""
+    """Returns bytes as gzip without a time, in base64."""
     return base64.b64encode(gzip.compress(content, 6, mtime=0)).decode("ascii")
 
 
 def colours(name: str, places: np.ndarray) -> list[list[int]]:
-    """Red, green and blue from 0 to 255 at places from 0 to 1 of a colour map."""
+    """Returns red, green and blue, 0 to 255, at places from 0 to 1 of a colour map."""
     return (matplotlib.colormaps[name](places)[:, :3] * 255).round().astype(int).tolist()

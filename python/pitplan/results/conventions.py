@@ -20,7 +20,7 @@ OF_SHELLS = ("best", "worst")
 def with_discounting(table: pd.DataFrame, project: Project) -> pd.DataFrame:
     """Adds the column `discounting` to a table with discounted amounts; returns any other table unchanged."""
     is_discounted = any(name in DISCOUNTED or str(name).startswith(SPREAD) for name in table.columns)
-    return table.assign(**{DISCOUNTING: project.schedule.discounting}) if is_discounted else table
+    return table.assign(**{DISCOUNTING: project.shells.discounting}) if is_discounted else table
 
 
 def with_outline(table: pd.DataFrame, project: Project) -> pd.DataFrame:

@@ -20,7 +20,7 @@ from .names import RECORD, TABLE
 
 
 def read_record(folder: Path) -> dict[str, Any]:
-    """What prepare.json says. Raises PlanError where a part of it is missing or of another kind, and OSError where it cannot be opened."""
+    """What plan.json says. Raises PlanError where a part of it is missing or of another kind, and OSError where it cannot be opened."""
     return json_records.read_plan(folder / RECORD)
 
 
@@ -29,7 +29,7 @@ class Folder:
     """The files of a plan, read back.
 
     blocks  one row a block of the planner's table, with `id` and the shell's `revenue_factor` (0: in none)
-    record  what prepare.json says
+    record  what plan.json says
     """
 
     path: Path
@@ -71,7 +71,7 @@ def read_folder(path: Path) -> Folder:
 
 
 def demand_blocks(blocks: pd.DataFrame, record: dict[str, Any], path: Path) -> None:
-    """Raises PlanError where blocks.csv and prepare.json do not fit each other."""
+    """Raises PlanError where blocks.csv and plan.json do not fit each other."""
     wrong = f"{path / RECORD}: does not fit {TABLE}"
     numbers = ["id", "revenue_factor", record["tonnes"], *(metal["column"] for metal in record["metals"])]
     for name in [*numbers, *record["codes"]]:

@@ -48,13 +48,13 @@ def whole(least: int, most: int) -> Kind:
     )
 
 
-def is_plain_name(value: Any) -> bool:
-    return isinstance(value, str) and value not in ("", ".", "..") and not {"/", "\0"} & {*value}
+def is_plain_path(value: Any) -> bool:
+    return isinstance(value, str) and "\0" not in value and not {"", ".", ".."} & {*value.split("/")}
 
 
 TEXT = Kind("a text", lambda value: isinstance(value, str))
 PATH = Kind("the path of a file", lambda value: isinstance(value, str) and value != "" and "\0" not in value)
-NAME = Kind("the name of a file", is_plain_name)
+FILE = Kind("the path of a file within the folder", is_plain_path)
 NUMBER = Kind("a number", lambda value: is_number(value) and math.isfinite(value))
 LENGTH = Kind("a length in metres above 0", lambda value: is_number(value) and value > 0)
 TRUTH = Kind("true or false", lambda value: isinstance(value, bool))
@@ -158,7 +158,7 @@ class Reader:
 
 
 def read_plan(path: Path, is_whole: bool = True) -> dict[str, Any]:
-    """What prepare.json says; while a run is verified it has no hashes yet. Raises PlanError as `Reader.read` does."""
+    """What plan.json says; while a run is verified it has no hashes yet. Raises PlanError as `Reader.read` does."""
     reader = Reader(path, "pitplan shells")
     record = reader.read(PLAN if is_whole else LAID)
     demand_plan(reader, record)
@@ -177,4 +177,4 @@ def demand_plan(reader: Reader, record: dict[str, Any]) -> None:
     if "selected" in shells and shells["selected"] not in shells["revenue_factors"]:
         raise reader.wrong("shells.selected", f"found {shells['selected']}, expected one of the revenue factors")
     for name in record.get("files", ()):
-        reader.demand(name, NAME, "files")
+        reader.demand(name, FILE, "files")

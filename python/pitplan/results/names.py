@@ -1,8 +1,18 @@
-"""Names of the files in a results folder."""
+"""The files of an output folder, by their paths in it."""
 
 from __future__ import annotations
 
-RECORD, TABLE, SHELLS, YEARS = "prepare.json", "blocks.csv", "shells.csv", "years.csv"
-PUSHBACKS = "pushbacks.csv"
-SCHEDULE, SCHEDULE_RECORD, MILLING = "schedule.csv", "schedule.json", "mill_feed.csv"
-BLOCK_SCHEDULE, WAYS = "block_schedule.json", "methods.csv"
+from pitplan.core.layout import TABLES
+
+RECORD = "plan.json"
+TABLE, SHELLS, YEARS = f"{TABLES}/blocks.csv", f"{TABLES}/shells.csv", f"{TABLES}/years.csv"
+PITS, PUSHBACKS = f"{TABLES}/pits.csv", f"{TABLES}/pushbacks.csv"
+SCHEDULE, MILLING, METHODS = f"{TABLES}/schedule.csv", f"{TABLES}/mill_feed.csv", f"{TABLES}/methods.csv"
+WORKBOOK = f"{TABLES}/schedule.xlsx"
+SCHEDULE_RECORD, BLOCK_SCHEDULE = "schedule.json", "block_schedule.json"
+REPORT, VIEW = "report.html", "view.html"
+# What only some commands write. A run removes those of an earlier run that it does not write itself, since they show other results.
+OF_SOME = (
+    *(SHELLS, YEARS, PITS, PUSHBACKS, SCHEDULE, MILLING, METHODS, WORKBOOK),
+    *(SCHEDULE_RECORD, BLOCK_SCHEDULE, REPORT, VIEW),
+)

@@ -1,4 +1,4 @@
-"""What of a folder is drawn or exported: what is dug up to a factor, a pushback or the end of a year."""
+"""The pits of a folder that are exported: up to a revenue factor, a pushback or the end of a year."""
 
 from __future__ import annotations
 
@@ -23,9 +23,16 @@ MADE_BY = {PUSHBACK: "pitplan pushbacks", YEAR: "pitplan schedule"}
 class Shape:
     """Which pits are exported, and as what.
 
-    of       revenue_factor: that of one; pushback, year: what is dug up to the end of each
-    surface  pit: round the blocks that are dug; ground: the open surface of the ground with the pit in it
-    smooth   of ground: without the steps of blocks
+    Attributes
+    ----------
+    of : str
+        `revenue_factor`: one pit; `pushback` or `year`: the pit at the end of each.
+    surface : str
+        `pit`: the surface around mined blocks; `ground`: the open surface of the ground with the pit in it.
+    smooth : bool
+        Smooth the steps of blocks; for `ground` only.
+    revenue_factor : float
+        That of the one pit.
     """
 
     of: str = FACTOR
@@ -36,7 +43,17 @@ class Shape:
 
 @dataclass(frozen=True)
 class Stage:
-    """What is dug up to a factor, a pushback or a year: a truth for each level (from the top), row and column; number 0 is before all."""
+    """The cells that are mined up to a revenue factor, pushback or year.
+
+    Attributes
+    ----------
+    kind : str
+        FACTOR, PUSHBACK or YEAR.
+    number : float
+        That of the factor, pushback or year; 0: before mining.
+    dug : array of bool, shape (levels, rows, columns)
+        The mined cells; levels from the top.
+    """
 
     kind: str
     number: float
@@ -44,7 +61,7 @@ class Stage:
 
     @property
     def name(self) -> str:
-        """As files and layers are called by it."""
+        """The name of files and layers."""
         return self.spoken.replace(" ", "-") if self.number else "before"
 
     @property
@@ -55,14 +72,17 @@ class Stage:
 
     @property
     def prefix(self) -> str:
-        """What the names of layers begin with: nothing where there is one stage alone."""
+        """The prefix of the names of layers; "" for a single pit."""
         return "" if self.kind == FACTOR else f"{self.name.replace('-', '_').upper()}_"
 
 
 def stages_of(folder: Folder, shape: Shape) -> list[Stage]:
-    """The stages that are asked for, in order; of pushbacks and years of the ground one before all of them.
+    """Returns the stages of a shape, in order; for the ground of pushbacks and years with one before mining.
 
-    Raises PlanError where the folder has no pushbacks or years, and where the pit of the factor is empty.
+    Raises
+    ------
+    PlanError
+        If the folder has no pushbacks or years, or the pit of the revenue factor is empty.
     """
     if shape.of == FACTOR:
         dug = folder.dug(shape.revenue_factor)
@@ -72,14 +92,14 @@ def stages_of(folder: Folder, shape: Shape) -> list[Stage]:
             )
         return [Stage(FACTOR, shape.revenue_factor, dug)]
     if shape.of not in folder.blocks:
-        raise PlanError(f"{folder.path}: has no {shape.of}s: run {MADE_BY[shape.of]}, and name its folder by --out")
+        raise PlanError(f"{folder.path}: has no {shape.of}s: run {MADE_BY[shape.of]}, and give its folder")
     number = np.where(rock(folder), cube_of(folder, shape.of), 0)
     first = 0 if shape.surface == GROUND else 1
     return [Stage(shape.of, last, (number > 0) & (number <= last)) for last in range(first, int(number.max()) + 1)]
 
 
 def rock(folder: Folder) -> NDArray[Any]:
-    """Whether each cell holds rock."""
+    """Returns whether each cell has tonnes, shape (levels, rows, columns)."""
     grid = folder.grid
     return grid.cube(grid.spread((folder.blocks[folder.record["tonnes"]] > 0).to_numpy(), fill=False))
 
@@ -90,8 +110,8 @@ def cube_of(folder: Folder, name: str) -> NDArray[Any]:
 
 
 def places_of(grid: Grid, corners: NDArray[Any]) -> NDArray[Any]:
-    """The planner's x, y, z in metres of corners of blocks, given as steps from the west, the south and the floor of the grid; arrays of three
-    columns."""
+    """Returns the planner's x, y and z in metres of corners, given as steps from the west, the south and the floor of the grid; shape
+    (corners, 3)."""
     west, _, south, _, floor, _ = grid.extent()
     east, north, up = (np.array([west, south, floor]) + np.asarray(corners) * np.array(grid.size)).T
     return np.stack([*grid.frame.back(east, north), up], axis=1)

@@ -10,7 +10,7 @@ import numpy as np
 from pitplan.config.economics import MOST_YEARS
 from pitplan.config.project import Project
 from pitplan.config.schedule import ScheduleRules
-from pitplan.config.shells import Schedule
+from pitplan.config.shells import ShellRules
 from pitplan.economics.period_costs import PLAIN, YearlyMoney
 from pitplan.errors import PlanError
 from pitplan.pits.best_worst_case import year_discounts
@@ -61,8 +61,8 @@ class Limits:
 
 def limits_of(project: Project, rules: ScheduleRules) -> Limits:
     """The limits of `[schedule]`, and of `[shells]` where it gives none."""
-    rock = rules.mining_capacity or project.schedule.mining_capacity
-    most = {ORE: rules.processing_capacity or project.schedule.processing_capacity}
+    rock = rules.mining_capacity or project.shells.mining_capacity
+    most = {ORE: rules.processing_capacity or project.shells.processing_capacity}
     most |= {} if rock is None else {ROCK: rock}
     most |= {f"{ORE}_{process.name}": process.capacity for process in project.processes}
     most |= {f"recovered_{name}": amount for name, amount in rules.max_metal_per_year.items()}
@@ -75,7 +75,7 @@ class Problem:
 
     benches: PushbackBenches
     limits: Limits
-    settings: Schedule
+    settings: ShellRules
     money: YearlyMoney = PLAIN
 
     def value(self, shares: np.ndarray) -> float:

@@ -13,7 +13,7 @@ import scipy
 
 from pitplan.config.project import Project
 from pitplan.config.schedule import ScheduleRules
-from pitplan.config.shells import Schedule
+from pitplan.config.shells import ShellRules
 from pitplan.core.progress import Progress, silent
 from pitplan.economics import period_costs
 from pitplan.errors import PlanError
@@ -60,7 +60,7 @@ class YearlySchedule:
         return self.problem.benches
 
     @property
-    def settings(self) -> Schedule:
+    def settings(self) -> ShellRules:
         return self.problem.settings
 
     @property
@@ -104,7 +104,7 @@ class YearlySchedule:
 
 def rules_of(project: Project) -> ScheduleRules:
     """What `[schedule]` says; without it the limits are those of `[shells]`."""
-    return project.schedule_rules or ScheduleRules()
+    return project.schedule or ScheduleRules()
 
 
 def make(pushbacks: Pushbacks, progress: Progress = silent) -> YearlySchedule:
@@ -119,7 +119,7 @@ def make(pushbacks: Pushbacks, progress: Progress = silent) -> YearlySchedule:
             f"{project.path}: [schedule] minimum, limits: apply to --by block only: remove them, or schedule by block"
         )
     benches = bench_table.of_pushbacks(pushbacks, rules.bench_lag)
-    problem = Problem(benches, limits_of(project, rules), project.schedule, period_costs.of_project(project))
+    problem = Problem(benches, limits_of(project, rules), project.shells, period_costs.of_project(project))
     with progress.step(f"scheduling {len(benches):,} benches of {len(pushbacks.factors)} pushbacks by rule"):
         shares, lead = by_rule(problem, rules.years)
     years = rules.years or math.ceil((1 + MORE_YEARS) * shares.shape[1])
@@ -195,7 +195,7 @@ def rows_of(schedule: YearlySchedule, way: str) -> pd.DataFrame:
 
 
 def years(schedule: YearlySchedule) -> pd.DataFrame:
-    """One row a way and year, as `pitplan.years` has of cases; the factor is that of the last pushback."""
+    """One row a way and year, as `shell_tables.years` has of cases; the factor is that of the last pushback."""
     found = []
     for way in schedule.shares:
         years = schedule.yearly(way)
@@ -207,7 +207,7 @@ def years(schedule: YearlySchedule) -> pd.DataFrame:
     return pd.concat(found, ignore_index=True)
 
 
-def ways(schedule: YearlySchedule) -> pd.DataFrame:
+def methods(schedule: YearlySchedule) -> pd.DataFrame:
     """One row a way: way; value, discounted, and bound, in money; optimality_gap, by which share of the bound it is less; years; tonnes that are
     dug, feed_tonnes that are milled, and unmined_tonnes that are not dug; recovered_NAME recovered."""
     rows = []

@@ -1,4 +1,4 @@
-"""The pairs "a block needs a block" that walls make, a slice of blocks at a time."""
+"""Slope precedences as arcs between blocks, a slice of blocks at a time."""
 
 from __future__ import annotations
 
@@ -12,17 +12,22 @@ from pitplan.blockmodel.grid import Grid
 from .domains import StepList, Walls
 
 ABSENT = -1
-# Fields of a slice: enough for numpy to be fast, few enough to stay within tens of megabytes.
+# Elements of a slice: enough for numpy to be fast, within tens of megabytes.
 FIELDS = 1_000_000
 
 
 @dataclass(frozen=True)
 class Slice:
-    """Some blocks with their needs.
+    """Some blocks with their predecessors.
 
-    ids      the blocks, rising
-    needs    for each block a row of the blocks that it needs, rising, with ABSENT between and behind them
-    clipped  how many needs of the least lists leave the grid at its sides, where nothing is known of the ground
+    Attributes
+    ----------
+    ids : array of int, shape (blocks,)
+        The blocks, ascending.
+    needs : array of int, shape (blocks, most)
+        The predecessors of each block, ascending, with ABSENT between and after them.
+    clipped : int
+        The number of precedences of minimal lists that leave the grid at its sides, where the ground is unknown.
     """
 
     ids: np.ndarray
@@ -31,7 +36,7 @@ class Slice:
 
 
 def slices(grid: Grid, walls: Walls, blocks: np.ndarray) -> Iterator[Slice]:
-    """The needs of the given blocks, whose ids rise. Needs above the highest level are none: there is nothing to dig."""
+    """Yields the predecessors of blocks, whose ids ascend. Above the highest level there are none."""
     most = max((len(walls.lists[number].steps) for number in np.unique(walls.list_of[blocks])), default=1)
     step = max(1, FIELDS // most)
     for start in range(0, len(blocks), step):
@@ -50,7 +55,7 @@ def slice_of(grid: Grid, walls: Walls, ids: np.ndarray) -> Slice:
 
 
 def listed(grid: Grid, walls: Walls, ids: np.ndarray, steps: StepList) -> tuple[np.ndarray, int]:
-    """The needs of blocks that have one list, a row a block, and how many steps that are always written leave the sides."""
+    """Returns the predecessors of blocks with one list, shape (blocks, steps), and how many unconditional steps leave the grid at its sides."""
     column, row, level = (part[:, None] for part in grid.indices(ids))
     east, north, up = steps.steps.T
     x, y, z = column + east, row + north, level - up
@@ -65,14 +70,14 @@ def listed(grid: Grid, walls: Walls, ids: np.ndarray, steps: StepList) -> tuple[
 
 
 def led_on(grid: Grid, walls: Walls, ids: np.ndarray, steps: StepList, there: np.ndarray) -> np.ndarray:
-    """Whether walls on the way lead on to a step, where there is a block: then it goes unwritten."""
+    """Returns whether the slopes of an intermediate block imply a step, which then needs no arc; bool, shape (blocks, steps)."""
     east, north, up = steps.via.T
     way = ids[:, None] + (north - up * grid.shape[1]) * grid.shape[2] + east
     return steps.led[np.arange(len(up)), walls.code[np.where(there, way, ids[:, None])]]
 
 
 def packed(there: np.ndarray, values: np.ndarray) -> np.ndarray:
-    """The values that are there, each row's from its first column on."""
+    """Returns the selected values of each row, moved to its first columns, padded with ABSENT."""
     count = there.sum(axis=1)
     result = np.full((len(there), int(count.max(initial=0))), ABSENT, dtype=np.int64)
     result[np.arange(result.shape[1]) < count[:, None]] = values[there]

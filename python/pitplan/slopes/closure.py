@@ -1,10 +1,9 @@
-"""Leaves out the needs that no paying block uses.
+"""Removes the precedences that no positive block uses.
 
-A block pays where its value at the greatest factor is above 0. The smallest best pit of that factor, and so of each
-lower one, is made of paying blocks and of what these need, directly or through others: blocks outside that set keep no
-needs, and stay as blocks that nobody digs. What is left out holds for factors up to that greatest one, at which all blocks pay that
-pay at a lesser one. Scenarios share the needs that are left without selling cost, for the same reason; they give the same pits, and so
-are no part of the name of a scenario's answer.
+A block is positive if its value at the largest revenue factor is above 0; it includes all that are positive at a lower one. The smallest
+optimal pit of each factor consists of positive blocks and their predecessors, direct and indirect. Other blocks keep no precedences, and are
+never mined. Scenarios share the precedences that remain without selling cost. These give the same pits, so they are not part of the key of a
+result.
 """
 
 from __future__ import annotations
@@ -17,27 +16,27 @@ from .domains import Walls
 
 
 def used_blocks(grid: Grid, walls: Walls, paying: np.ndarray) -> np.ndarray:
-    """The paying blocks and all that they need, directly or through others: a truth for each cell."""
+    """Returns the given blocks and all their predecessors, a boolean mask of shape (cells,)."""
     used = grid.cube(paying).copy()
-    # Needs lead up alone, so a level is whole once those below it have been passed.
+    # Precedences lead upwards only, so a level is complete after those below it.
     for level in range(grid.shape[0] - 1, 0, -1):
         mark_needs(used, level, grid, walls)
     return used.ravel()
 
 
 def mark_needs(used: np.ndarray, level: int, grid: Grid, walls: Walls) -> None:
-    """Marks in an array of levels, rows and columns what the true cells of a level need."""
+    """Marks the predecessors of the marked cells of a level, in a boolean array of shape (levels, rows, columns)."""
     list_of = grid.cube(walls.list_of)[level]
     for number in np.flatnonzero(np.bincount(list_of[used[level]])):
         mine = used[level] & (list_of == number)
-        # A step that goes unwritten is a need all the same, which others lead to.
+        # A step without an arc is a precedence too, which others imply.
         for east, north, up in walls.lists[number].steps:
             if up <= level:
                 mark(used[level - up], mine, east, north)
 
 
 def users_of(grid: Grid, walls: Walls, needed: np.ndarray) -> np.ndarray:
-    """The given blocks and all that need them, directly or through others: a truth for each cell."""
+    """Returns the given blocks and all that depend on them, a boolean mask of shape (cells,)."""
     found = grid.cube(needed).copy()
     for level in range(1, grid.shape[0]):
         found[level] |= users_at(found, level, grid, walls)
@@ -45,7 +44,7 @@ def users_of(grid: Grid, walls: Walls, needed: np.ndarray) -> np.ndarray:
 
 
 def users_at(found: np.ndarray, level: int, grid: Grid, walls: Walls) -> np.ndarray:
-    """The cells of a level that need a true cell of the levels above it: a truth for each row and column."""
+    """Returns the cells of a level that depend on a marked cell above it, a boolean mask of shape (rows, columns)."""
     list_of = grid.cube(walls.list_of)[level]
     result = np.zeros_like(found[level])
     for number in np.flatnonzero(np.bincount(list_of.ravel())):
@@ -58,7 +57,7 @@ def users_at(found: np.ndarray, level: int, grid: Grid, walls: Walls) -> np.ndar
 
 
 def mark(above: np.ndarray, blocks: np.ndarray, east: int, north: int) -> None:
-    """Marks, in another level, the blocks that lie so many steps east and north of the given ones."""
+    """Marks in another level the blocks at an offset east and north of the given ones."""
     rows, columns = blocks.shape
     if abs(north) >= rows or abs(east) >= columns:
         return

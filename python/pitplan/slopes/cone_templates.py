@@ -1,9 +1,9 @@
-"""Cones of needs as arrays, and the lists of steps by which blocks lead each other to every cell of a cone.
+"""Slope cones as boolean templates, and the smallest arc set whose transitive closure is the cone.
 
-A cone is an array of truths: levels up from the block's own, rows from the south, columns from the west, with the block
-in the middle of each level. A block needs every cell of the cone of its own walls. A cell goes unwritten where a needed
-block on the way leads to it. On the way are the lower blocks between the two, in east and in north: these are in the
-grid wherever both ends are, so that no way is cut off at the grid's sides.
+A template has shape (levels, rows, columns): levels up from that of the block, rows from the south, columns from the west, with the block in
+the middle of each level. A block depends on every cell of the cone of its own slopes. An arc is left out if a predecessor between the two
+implies it: a lower block that lies between them in east and in north. Such a block is in the grid if both ends are, so that no implication is
+lost at the sides of the grid.
 """
 
 from __future__ import annotations
@@ -14,7 +14,7 @@ import numpy as np
 
 
 def of_steps(steps: tuple[tuple[int, int, int], ...]) -> np.ndarray:
-    """The cone of the given steps east, north and up."""
+    """Returns the template of steps east, north and up."""
     east, north, up = np.array(steps).T
     wide, broad = np.abs(east).max(), np.abs(north).max()
     cone = np.zeros((up.max() + 1, 2 * broad + 1, 2 * wide + 1), dtype=bool)
@@ -24,13 +24,13 @@ def of_steps(steps: tuple[tuple[int, int, int], ...]) -> np.ndarray:
 
 
 def steps_of(cells: np.ndarray) -> np.ndarray:
-    """A row for each true cell above the block, from the lowest level up: steps east, north and up."""
+    """Returns the steps east, north and up to the cells above the block, shape (steps, 3), from the lowest level up."""
     up, north, east = np.nonzero(cells[1:])
     return np.stack([east - cells.shape[2] // 2, north - cells.shape[1] // 2, up + 1], axis=1)
 
 
 def holds(cone: np.ndarray, steps: np.ndarray) -> np.ndarray:
-    """Whether each step, a row of east, north and up, leads to a cell of the cone above the block."""
+    """Returns whether each step, shape (steps, 3), leads to a cell of the cone above the block."""
     east, north = steps[:, 0] + cone.shape[2] // 2, steps[:, 1] + cone.shape[1] // 2
     up = steps[:, 2]
     inside = (up > 0) & (up < cone.shape[0]) & (north >= 0) & (north < cone.shape[1])
@@ -39,7 +39,7 @@ def holds(cone: np.ndarray, steps: np.ndarray) -> np.ndarray:
 
 
 def meet(cones: list[np.ndarray]) -> np.ndarray:
-    """The cells that all cones have."""
+    """Returns the intersection of cones."""
     levels, rows, columns = np.min([cone.shape for cone in cones], axis=0)
     met = np.ones((levels, rows, columns), dtype=bool)
     for cone in cones:
@@ -49,7 +49,7 @@ def meet(cones: list[np.ndarray]) -> np.ndarray:
 
 
 def quarters(cells: np.ndarray) -> Iterator[np.ndarray]:
-    """The four quarters of a cone as views, from the block outwards: two cells of one are on the way to their sum."""
+    """Yields the four quadrants of a cone as views, from the block outwards. Within one, two steps lie between the block and their sum."""
     south, west = cells.shape[1] // 2, cells.shape[2] // 2
     for north in (1, -1):
         for east in (1, -1):
@@ -57,14 +57,14 @@ def quarters(cells: np.ndarray) -> Iterator[np.ndarray]:
 
 
 def lead_on(led: np.ndarray, quarter: np.ndarray, step: np.ndarray) -> None:
-    """Marks in `led` what a step (up, north, east) and a cell of the quarter above the block lead to together."""
+    """Marks in `led` the sums of a step (up, north, east) and the cells of the quadrant above the block."""
     up, north, east = step
     levels, rows, columns = quarter.shape
     led[up + 1 :, north:, east:] |= quarter[1 : levels - up, : rows - north, : columns - east]
 
 
 def least(cone: np.ndarray) -> np.ndarray:
-    """The cells that no lower ones of these, each with a cell of the cone, lead to: a truth for each cell."""
+    """Returns the cells of a cone that are not implied by lower ones of them, each with a cell of the cone: a boolean mask."""
     kept = np.zeros_like(cone)
     for mine, quarter in zip(quarters(kept), quarters(cone)):
         led = np.zeros_like(quarter)
@@ -76,7 +76,7 @@ def least(cone: np.ndarray) -> np.ndarray:
 
 
 def led_to(cone: np.ndarray, last: np.ndarray) -> np.ndarray:
-    """The cells of a cone to which a lower one of its cells leads by one of the last steps: a truth for each cell."""
+    """Returns the cells of a cone that a lower cell implies by one of the steps in `last`: a boolean mask."""
     led = np.zeros_like(cone)
     for mine, quarter, steps in zip(quarters(led), quarters(cone), quarters(last)):
         for step in np.argwhere(steps):
@@ -85,7 +85,7 @@ def led_to(cone: np.ndarray, last: np.ndarray) -> np.ndarray:
 
 
 def ways(cone: np.ndarray, steps: np.ndarray, kept: np.ndarray) -> np.ndarray:
-    """For each step of the cone the number of the first kept one on the way from which the cone leads to it; -1 for none."""
+    """Returns for each step the index of the first kept step between the block and it that implies it by the cone; -1 for none."""
     found = np.full(len(steps), -1)
     for number, first in enumerate(kept):
         rest = steps - first

@@ -1,8 +1,7 @@
-"""The walls of a whole grid: which needs of each block are written, so that pairs lead to all that its walls need.
+"""Slopes of a whole grid: which arcs each block has, so that they imply all precedences of its slope domain.
 
-A block needs every block of the cone of its own walls. Amid blocks of like walls the least list of the cone leads to
-all of these. Where regions meet, a block on the way may have steeper walls, which do not lead on: there the needs that
-it would lead to are written too.
+A block depends on every block of the cone of its own domain. Within a domain the minimal list of the cone implies all of them. Where domains
+meet, a block in between may have steeper slopes, which imply less: there the missing arcs are added.
 """
 
 from __future__ import annotations
@@ -22,12 +21,16 @@ from .slope_patterns import Pattern, pattern_of
 
 @dataclass(frozen=True)
 class StepList:
-    """Steps to the needs of a block, from the highest level down and there from the south-west: so the needed ids rise.
+    """Steps to the predecessors of a block, from the highest level down, then from the south-west, so that ids ascend.
 
-    steps  a row a step: blocks east, north and up
-    via    for each step a lower one on the way to it; the block itself for a step that is always written
-    led    a row a step, a truth for each pattern: whether walls of that pattern at `via` lead on to the step, which then
-           goes unwritten
+    Attributes
+    ----------
+    steps : array of int, shape (steps, 3)
+        Blocks east, north and up.
+    via : array of int, shape (steps, 3)
+        For each step a lower one between the block and it; zeros if its arc is always written.
+    led : array of bool, shape (steps, patterns)
+        Whether the slopes of a pattern at `via` imply the step, which then has no arc.
     """
 
     steps: np.ndarray
@@ -36,17 +39,23 @@ class StepList:
 
     @property
     def always(self) -> np.ndarray:
-        """For each step whether it is written whatever the walls on the way."""
+        """Whether the arc of each step is written whatever the slopes in between, shape (steps,)."""
         return ~self.via.any(axis=1)
 
 
 @dataclass(frozen=True)
 class Walls:
-    """All patterns, and by which list each cell writes its needs.
+    """All slope patterns, and the list of steps of each cell.
 
-    code     for each cell the number of its pattern
-    lists    two for each pattern: for blocks amid walls that lead on, and for blocks where regions meet
-    list_of  for each cell the number of its list
+    Attributes
+    ----------
+    patterns : tuple of Pattern
+    code : array of int, shape (cells,)
+        The pattern of each cell.
+    lists : tuple of StepList
+        Two for each pattern: for blocks within a domain, and for blocks where domains meet.
+    list_of : array of int, shape (cells,)
+        The list of each cell.
     """
 
     patterns: tuple[Pattern, ...]
@@ -56,16 +65,26 @@ class Walls:
 
 
 def walls_of(region: np.ndarray, grid: Grid, slopes: Slopes) -> Walls:
-    """The walls of a project; `region` has a code a cell, "" where none is known.
+    """Returns the slopes of a project.
 
-    Raises PlanError where a region that blocks are of has no walls.
+    Parameters
+    ----------
+    region : array of str, shape (cells,)
+        The slope domain of each cell, "" if it is unknown.
+    grid : Grid
+    slopes : Slopes
+
+    Raises
+    ------
+    PlanError
+        If a domain of blocks has no slopes.
     """
     patterns = tuple(pattern_of(wall, grid.size, slopes, grid.azimuth) for wall in slopes.domains)
     return laid(patterns, pattern_codes(region, slopes), grid)
 
 
 def pattern_codes(region: np.ndarray, slopes: Slopes) -> np.ndarray:
-    """For each cell the number of its wall entry. Raises PlanError where a region that blocks are of has no walls."""
+    """Returns the index of each cell's entry in `[[slopes.domains]]`. Raises PlanError if a domain of blocks has none."""
     by_region = {name: k for k, wall in enumerate(slopes.domains) for name in wall.domains or ()}
     others = next((k for k, wall in enumerate(slopes.domains) if wall.domains is None), None)
     inverse, codes = pd.factorize(region.astype(object), sort=True)
@@ -83,7 +102,7 @@ def pattern_codes(region: np.ndarray, slopes: Slopes) -> np.ndarray:
 
 
 def laid(patterns: tuple[Pattern, ...], code: np.ndarray, grid: Grid) -> Walls:
-    """The lists of each pattern beside the others that the grid has, and for each cell which one it takes."""
+    """Returns the lists of each pattern next to the others of the grid, and the list of each cell."""
     present = np.unique(code)
     shared = cone_templates.least(cone_templates.meet([patterns[number].cone for number in present]))
     lists: list[StepList] = []
@@ -102,9 +121,9 @@ def always_written(steps: np.ndarray, patterns: int) -> StepList:
 
 
 def where_regions_meet(pattern: Pattern, patterns: tuple[Pattern, ...], shared: np.ndarray) -> StepList:
-    """The steps of a pattern's list, and those to which it leads by way of the pattern's own walls alone.
+    """Returns the steps of a pattern's list, and those that only the pattern's own slopes imply.
 
-    `shared` is the least list of the cone that all walls of the grid have: a block of any walls leads on by its steps.
+    `shared` is the minimal list of the intersection of all cones of the grid: a block of any domain implies its steps.
     """
     kept = np.array(pattern.offsets)
     first = always_written(kept, len(patterns))
@@ -123,7 +142,7 @@ def in_order(steps: StepList) -> StepList:
 
 
 def not_led(steps: StepList, code: np.ndarray, grid: Grid) -> np.ndarray:
-    """A truth for each cell: whether a block there would have a step of the list to which no walls on the way lead."""
+    """Returns whether a block in each cell would have a step of the list that no slopes in between imply, shape (cells,)."""
     found = np.zeros(grid.shape, dtype=bool)
     more = ~steps.always
     for via in np.unique(steps.via[more], axis=0):
@@ -134,7 +153,7 @@ def not_led(steps: StepList, code: np.ndarray, grid: Grid) -> np.ndarray:
 
 
 def mark(found: np.ndarray, there: np.ndarray, step: np.ndarray) -> None:
-    """Marks the cells from which a step leads to one of the given cells."""
+    """Marks the cells from which a step leads to a given cell, in a boolean array of shape (levels, rows, columns)."""
     east, north, up = step
     levels, rows, columns = found.shape
     if up >= levels or abs(north) >= rows or abs(east) >= columns:
@@ -145,7 +164,7 @@ def mark(found: np.ndarray, there: np.ndarray, step: np.ndarray) -> None:
 
 
 def regions_of(frame: pd.DataFrame, grid: Grid, column: str | None) -> np.ndarray:
-    """A region's code for each cell. A cell without a row takes that of the next block below it, else of the next above."""
+    """Returns the slope domain of each cell, shape (cells,). A cell without a row takes that of the next block below, otherwise above."""
     if column is None:
         return np.full(grid.count, "", dtype="U1")
     inverse, codes = pd.factorize(frame[column].astype(str).to_numpy(), sort=True)

@@ -1,8 +1,7 @@
-"""Wall angles as needs: which blocks above must be dug before a block, so that the walls hold.
+"""Slope angles as precedences: which blocks above a block must be mined before it.
 
-A block needs the blocks above it whose centres lie within the cone that its walls leave open, for so many levels. Above
-the highest of these the cone goes on by its own steps, and so becomes the convex hull of them: that is where a wall
-gets steeper than asked, by the angles that `errors` computes.
+A block depends on the blocks above it whose centroids lie in the cone of its slope domain, up to a number of benches. Above these the cone
+continues by its own steps, and so becomes their convex hull. There a slope gets steeper than required, by the slope error in `errors`.
 """
 
 from __future__ import annotations
@@ -25,24 +24,32 @@ Point = tuple[float, float]
 FIVE: tuple[Offset, ...] = ((0, 0, 1), (-1, 0, 1), (1, 0, 1), (0, -1, 1), (0, 1, 1))
 NINE: tuple[Offset, ...] = tuple((x, y, 1) for y in (-1, 0, 1) for x in (-1, 0, 1))
 PATTERN_OFFSETS = {"1:5": FIVE, "1:9": NINE}
-# Centres that lie on the cone but for the noise of floats count as within.
+# Centroids on the cone count as within in spite of rounding errors.
 SLACK = 1e-9
 AZIMUTHS = np.arange(0.0, 360.0, 1.0)
-# Where a project names no levels, there are as many as keep every wall within so many degrees of the asked.
+# Without precedence_benches their number keeps every slope within this slope error, in degrees.
 STEEPER = 0.5
 
 
 @dataclass(frozen=True)
 class Pattern:
-    """The needs of one wall entry: steps east, north and up in blocks, and how far the walls come out off the asked.
+    """The precedences of one entry of `[[slopes.domains]]`, and its slope error.
 
-    cone    all needs of a block, as an array of `cones`
-    offsets the steps that are written amid walls that are alike: those that others do not lead to
-    errors  degrees by which the wall is steeper than asked (below 0: flatter), at azimuths 0, 1, .. 359 from the grid's
-            north; it is empty for a pattern that asked for no angle
-    angles  degrees of the walls that come out, at the same azimuths
-    widened by how much the cone was widened so that no wall is steeper than asked; 1 where it was not
-    azimuth degrees clockwise from north to the grid's north
+    Attributes
+    ----------
+    name : str
+    cone : array of bool
+        All predecessors of a block, as a template of `cone_templates`.
+    offsets : tuple of (int, int, int)
+        Steps east, north and up of the arcs within the domain: those that others do not imply.
+    angles : array of float, shape (360,)
+        The slope angles that result, in degrees, at azimuths 0, 1, .. 359 from the grid's north.
+    errors : array of float, shape (360,)
+        Degrees by which the slope is steeper than required (below 0: flatter); empty for offsets and patterns without an angle.
+    widened : float
+        The factor by which the cone was widened for `never_steeper`; 1 if it was not.
+    azimuth : float
+        Degrees clockwise from north to the grid's north.
     """
 
     name: str
@@ -55,7 +62,7 @@ class Pattern:
 
     @property
     def levels(self) -> int:
-        """How many levels up the needs of a block reach."""
+        """The number of benches that the precedences of a block reach up."""
         return len(self.cone) - 1
 
     def as_json(self) -> dict[str, object]:
@@ -88,19 +95,19 @@ class Pattern:
 
 
 def cotangents(angles: Angles, azimuths: np.ndarray) -> np.ndarray:
-    """Cotangent of the asked angle at each azimuth in degrees: linear between two that are named, and round the circle."""
+    """Returns the cotangent of the required angle at azimuths in degrees: linear between those given, and around the circle."""
     given = np.array([azimuth for azimuth, _ in angles])
     flatness = np.array([1 / math.tan(math.radians(angle)) for _, angle in angles])
     return np.interp(np.asarray(azimuths) % 360.0, given, flatness, period=360.0)
 
 
 def cone(angles: Angles, size: tuple[float, float, float], levels: int, widened: float = 1.0) -> np.ndarray:
-    """The cells within the asked walls: for each level up to the highest a truth for each row and column round the block."""
+    """Returns the template of the cone of given angles, up to a number of levels."""
     return within(angles, size, np.arange(levels + 1), widened)
 
 
 def within(angles: Angles, size: tuple[float, float, float], ups: np.ndarray, widened: float = 1.0) -> np.ndarray:
-    """The cells of a cone at the given levels up."""
+    """Returns the cells of a cone at given levels, shape (levels, rows, columns), with the block in the middle."""
     dx, dy, dz = size
     reach = int(ups.max()) * dz * widened * float(cotangents(angles, AZIMUTHS).max())
     wide, broad = int(reach / dx + SLACK), int(reach / dy + SLACK)
@@ -111,10 +118,10 @@ def within(angles: Angles, size: tuple[float, float, float], ups: np.ndarray, wi
 
 
 def offsets_of(cone: np.ndarray) -> tuple[Offset, ...]:
-    """The steps that lead to every cell of a cone amid walls that are alike, from the lowest level up.
+    """Returns the steps that imply every cell of a cone within a domain, from the lowest level up.
 
-    Of a convex cone they are the least list, and lead to no cell outside it. (Where the asked walls make a cone that is
-    not convex, steps together lead outside it, as they do in the ground.)
+    For a convex cone they are minimal, and imply no cell outside it. (If the required slopes make a cone that is not convex, sums of steps
+    leave it, as in the ground.)
     """
     return tuple(
         (int(east), int(north), int(up)) for east, north, up in cone_templates.steps_of(cone_templates.least(cone))
@@ -122,13 +129,13 @@ def offsets_of(cone: np.ndarray) -> tuple[Offset, ...]:
 
 
 def wall_angles(offsets: tuple[Offset, ...], size: tuple[float, float, float]) -> np.ndarray:
-    """Angles in degrees, at each whole azimuth, of the high walls that steps together make: those of their convex hull."""
+    """Returns the angles in degrees, at each whole azimuth, of high slopes by these steps: those of their convex hull."""
     dx, dy, dz = size
     return angles_of({(x * dx / (up * dz), y * dy / (up * dz)) for x, y, up in offsets})
 
 
 def angles_of(points: set[Point]) -> np.ndarray:
-    """Angles in degrees, at each whole azimuth, of walls whose hull has the points: metres east and north, a metre up."""
+    """Returns the angles in degrees, at each whole azimuth, of slopes whose hull has these points: metres east and north per metre up."""
     sides = sides_of(np.array(sorted(points | {(0.0, 0.0)})))
     towards = np.stack([np.sin(np.radians(AZIMUTHS)), np.cos(np.radians(AZIMUTHS))])
     along = sides[:, :2] @ towards
@@ -138,9 +145,9 @@ def angles_of(points: set[Point]) -> np.ndarray:
 
 
 def sides_of(points: np.ndarray) -> np.ndarray:
-    """Sides round the points x, y, the origin among them, as rows a, b, c: a x + b y + c is at most 0 within.
+    """Returns half planes around points of shape (points, 2), the origin among them, as rows a, b, c with a x + b y + c <= 0.
 
-    They are those of the convex hull, and six that go round it: what is left where all points are on one line, which has no hull.
+    They are those of the convex hull and six around it, which remain if all points lie on one line and have no hull.
     """
     x, y = points[np.hypot(*points.T).argmax()]
     normals = np.array([(1.0, 0.0), (-1.0, 0.0), (0.0, 1.0), (0.0, -1.0), (-y, x), (y, -x)])
@@ -152,7 +159,7 @@ def sides_of(points: np.ndarray) -> np.ndarray:
 
 
 def rim_of(cells: np.ndarray, up: int, size: tuple[float, float, float]) -> set[Point]:
-    """The first and the last cell of each row of a cone's level, in metres east and north for a metre up."""
+    """Returns the first and last cell of each row of a level of a cone, in metres east and north per metre up."""
     dx, dy, dz = size
     rows = np.flatnonzero(cells.any(axis=1))
     first, last = cells[rows].argmax(axis=1), cells.shape[1] - 1 - cells[rows, ::-1].argmax(axis=1)
@@ -162,12 +169,12 @@ def rim_of(cells: np.ndarray, up: int, size: tuple[float, float, float]) -> set[
 
 
 def angles_of_cone(cone: np.ndarray, size: tuple[float, float, float]) -> np.ndarray:
-    """Angles in degrees, at each whole azimuth, of the high walls that a cone's steps together make."""
+    """Returns the angles in degrees, at each whole azimuth, of high slopes by the steps of a cone."""
     return angles_of(set().union(*(rim_of(cone[up], up, size) for up in range(1, len(cone)))))
 
 
 def from_grid_north(wall: Wall, azimuth: float) -> Wall:
-    """A wall whose azimuths are bearings to the wall, counted from the north of a grid, which has an azimuth of its own."""
+    """Returns a domain whose azimuths are bearings to the wall from the north of the grid, which has an azimuth."""
     wall = replace(wall, angles=wall.bearings, azimuth_of=WALL)
     if not azimuth or len(wall.angles) < 2:
         return wall
@@ -177,7 +184,23 @@ def from_grid_north(wall: Wall, azimuth: float) -> Wall:
 
 
 def pattern_of(asked_wall: Wall, size: tuple[float, float, float], slopes: Slopes, azimuth: float = 0.0) -> Pattern:
-    """The needs of one wall entry, with their errors, on a grid whose north has an azimuth."""
+    """Returns the precedences of one entry of `[[slopes.domains]]` with their slope errors, on a grid whose north has an azimuth.
+
+    Parameters
+    ----------
+    asked_wall : Wall
+        The entry.
+    size : tuple of float
+        Block size east, north and up, metres.
+    slopes : Slopes
+    azimuth : float
+        Of the grid's north, degrees clockwise.
+
+    Raises
+    ------
+    PlanError
+        If `never_steeper` cannot be met.
+    """
     wall = from_grid_north(asked_wall, azimuth)
     where = "other domains" if wall.domains is None else f"domain {', '.join(wall.domains)}"
     if wall.pattern:
@@ -210,7 +233,7 @@ def pattern_of(asked_wall: Wall, size: tuple[float, float, float], slopes: Slope
 
 
 def levels_of(wall: Wall, size: tuple[float, float, float], asked: np.ndarray) -> int:
-    """The least number of levels, up to the most, with which no wall is steeper than asked by more than STEEPER degrees."""
+    """Returns the least number of benches, up to MOST_LEVELS, with which no slope error exceeds STEEPER degrees."""
     points: set[Point] = set()
     for levels in range(1, MOST_LEVELS + 1):
         points |= rim_of(within(wall.angles, size, np.array([levels]))[0], levels, size)
@@ -220,9 +243,9 @@ def levels_of(wall: Wall, size: tuple[float, float, float], asked: np.ndarray) -
 
 
 def widening(wall: Wall, size: tuple[float, float, float], levels: int, asked: np.ndarray) -> float:
-    """The least factor, to a thousandth, by which the cone is widened so that no high wall is steeper than asked.
+    """Returns the least factor, to a thousandth, by which the cone is widened so that no slope is steeper than required.
 
-    One number for the whole cone is simple to say and to check, and makes walls flatter than need be at some azimuths.
+    One factor for all azimuths is simple to state and to check, but makes slopes flatter than necessary at some of them.
     """
 
     def steepest(by: float) -> float:

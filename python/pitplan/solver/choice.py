@@ -1,7 +1,8 @@
-"""Which solver finds the pits: the proved library on arrays, in this process, or the proved program on files, in one of its own.
+"""Choice of the solver: the proved library on arrays, in this process, or the proved program on files, in a process of its own.
 
-Both answer the same. Which it was is told by version and SHA-256 wherever an answer is kept, and what one has begun another does not go
-on with."""
+Both give the same shells. Every result records the solver with its version and SHA-256. A study that one solver has begun cannot be
+continued with another.
+"""
 
 from __future__ import annotations
 
@@ -29,14 +30,19 @@ class Solver:
 
 
 def chosen(by: Optional[str] = None) -> Solver:
-    """The solver that is asked for; else what a variable names, PITSHELL_LIBRARY before PITSHELL; else the library where there is one, and
-    else the program.
+    """Returns the solver of this name. Default: the one that PITSHELL_LIBRARY or, after it, PITSHELL names; otherwise the library if it is
+    installed, otherwise the program.
 
-    Raises ProgramError where there is none, and PlanError where something else is asked for.
+    Raises
+    ------
+    ProgramError
+        If there is no such solver.
+    PlanError
+        If the name is unknown.
     """
     by = by or preferred()
     if by not in BY:
-        raise PlanError(f"{by} is none of {', '.join(BY)}")
+        raise PlanError(f"solver: found {by}, expected one of {', '.join(BY)}")
     return Solver(by, **(library.identity() if by == LIBRARY else program.identity()))
 
 
@@ -46,12 +52,12 @@ def preferred() -> str:
 
 
 def place_of(solver: Solver) -> tuple[str, Path]:
-    """The variable that names a solver, and the file that is found here. Raises ProgramError where there is none."""
+    """Returns the variable that names a solver, and the file that is used here. Raises ProgramError if there is none."""
     return ("PITSHELL_LIBRARY", library.loaded().LIBRARY) if solver.by == LIBRARY else ("PITSHELL", paths.program())
 
 
 def demand_same(begun: Solver) -> None:
-    """Raises ProgramError where the solver that others have begun with is another here, or is not there."""
+    """Raises ProgramError if the solver here is not the one that began a study, or is missing."""
     here = chosen(begun.by)
     if here.sha256 != begun.sha256:
         raise ProgramError(

@@ -1,4 +1,4 @@
-"""The proved library in this process: arrays without a copy, its refusals as the program's errors."""
+"""The proved library in this process. Arrays are passed without a copy; its refusals are raised as those of the program."""
 
 from __future__ import annotations
 
@@ -20,7 +20,7 @@ from pitplan.precedences import Rows
 
 from .program import Solution, ended
 
-# The program's own status of a refusal.
+# The exit status of the program when it refuses.
 REFUSED = 1
 
 
@@ -44,7 +44,7 @@ def is_there() -> bool:
 
 
 def loaded() -> ModuleType:
-    """The package `pitshell`. Raises ProgramError where there is no library."""
+    """Returns the package `pitshell`. Raises ProgramError if there is no library."""
     found = package()
     if found is None:
         raise ProgramError(
@@ -55,14 +55,28 @@ def loaded() -> ModuleType:
 
 @lru_cache(maxsize=1)
 def identity() -> dict[str, str]:
-    """The version of the package, and the SHA-256 of the library, which is loaded then. Raises ProgramError where there is none."""
+    """Returns the version of the package and the SHA-256 of the library, which is loaded. Raises ProgramError if there is none."""
     pitshell = loaded()
     return {"version": f"libpitshell {pitshell.__version__}", "sha256": hash_of(pitshell.LIBRARY)}
 
 
 def shells(nodes: tuple[np.ndarray, np.ndarray], rows: Rows, factors: tuple[float, ...]) -> Solution:
-    """The shells of nodes with these revenues and costs, int64 millionths, at revenue factors. Raises ProgramError where the library
-    refuses."""
+    """Returns the nested shells.
+
+    Parameters
+    ----------
+    nodes : pair of int64 arrays, shape (nodes,)
+        Revenue and cost of each node in millionths.
+    rows : Rows
+        The precedences.
+    factors : tuple of float
+        Revenue factors, rising.
+
+    Raises
+    ------
+    ProgramError
+        If the library refuses.
+    """
     revenue, cost = nodes
     solved = [per_mille(factor) for factor in factors]
     found = called("shells", revenue, cost, (rows.starts, rows.needs), solved, millionths=True)
@@ -75,17 +89,33 @@ def shells(nodes: tuple[np.ndarray, np.ndarray], rows: Rows, factors: tuple[floa
 
 
 def pit(values: np.ndarray, rows: Rows, fixed: np.ndarray, factor: float) -> Solution:
-    """One pit of nodes with these values, int64 billionths at a factor, of which some are forced in (1) or barred (2). Raises ProgramError
-    where the library refuses, as where a block must be dug and may not be."""
+    """Returns the pit of one revenue factor.
+
+    Parameters
+    ----------
+    values : int64 array, shape (nodes,)
+        Value of each node in billionths.
+    rows : Rows
+        The precedences.
+    numbers : uint8 array, shape (nodes,)
+        1: must-mine, 2: excluded, 0: neither.
+    factor : float
+        The revenue factor of the values.
+
+    Raises
+    ------
+    ProgramError
+        If the library refuses, for example because a must-mine block depends on an excluded one.
+    """
     found = called("solve", values, (rows.starts, rows.needs), fixed, millionths=True)
     nodes = pd.Series([int(np.count_nonzero(found.in_pit))], index=[factor])
-    # From a text, which no decimal context rounds.
+    # From text, so that the decimal context does not round it.
     worth = pd.Series([Decimal(f"{found.worth}E-3")], index=[factor], dtype=object)
     return Solution(worth, nodes, np.where(found.in_pit, factor, 0.0))
 
 
 def called(name: str, *arrays: Any, **options: Any) -> Any:
-    """What a function of the package gives. Raises ProgramError, in the program's words and with its status, where it refuses."""
+    """Returns the result of a function of the package. Raises ProgramError with the status and text of the program if it refuses."""
     pitshell = loaded()
     try:
         return interruptible(lambda: getattr(pitshell, name)(*arrays, **options))
@@ -94,8 +124,9 @@ def called(name: str, *arrays: Any, **options: Any) -> Any:
 
 
 def interruptible(call: Callable[[], Any]) -> Any:
-    """What a call gives that nothing can end early. Here it is waited for, so that an interruption ends the run and not the call, which goes
-    on by itself for as long as the process does."""
+    """Returns the result of a call that cannot be interrupted. It runs in a thread, so that an interruption ends the run at once; the call
+    itself ends with the process.
+    """
     found: Future[Any] = Future()
 
     def run() -> None:

@@ -1,4 +1,4 @@
-"""The mine of a plan as the files that the program reads."""
+"""The input files of the program."""
 
 from __future__ import annotations
 
@@ -9,6 +9,7 @@ import numpy as np
 from pitplan import constraints
 from pitplan.blockmodel.grid import Grid
 from pitplan.core import byte_lines
+from pitplan.core.layout import SOLVER
 from pitplan.plan import Plan
 from pitplan.precedences import MOST_PAIRS, Needs, Pairs
 from pitplan.slopes.arcs import ABSENT, slices
@@ -16,16 +17,31 @@ from pitplan.slopes.arcs import ABSENT, slices
 BLOCKS, MODEL, PREC, FIXED = "mine.blocks", "mine.upit", "mine.prec", "mine.fixed"
 REST_BLOCKS, REST_PREC, PIT_MODEL = "rest.blocks", "rest.prec", "pit.upit"
 ANSWER = "shells.txt"
-# What the program reads and writes; where the library solves none of them is there.
+# Input and output of the program. The library has no files.
 OF_PROGRAM = (BLOCKS, MODEL, PREC, FIXED, REST_BLOCKS, REST_PREC, PIT_MODEL, ANSWER)
+# Their paths in an output folder.
+IN_FOLDER = tuple(f"{SOLVER}/{name}" for name in OF_PROGRAM)
 CHUNK = 200_000
 
 
 def write(plan: Plan, folder: Path) -> Pairs:
-    """Writes mine.blocks, mine.upit and mine.prec into a folder, and if the project has `[constraints]` mine.fixed, and the rest's rest.blocks
-    and rest.prec.
+    """Writes mine.blocks, mine.upit and mine.prec, and with `[constraints]` mine.fixed, and rest.blocks and rest.prec of the reduced mine.
 
-    Returns how many precedences the mine has. Raises PlanError if the program takes fewer.
+    Parameters
+    ----------
+    plan : Plan
+    folder : Path
+        An existing folder.
+
+    Returns
+    -------
+    Pairs
+        The number of precedences of the whole mine.
+
+    Raises
+    ------
+    PlanError
+        If there are more precedences than the program takes.
     """
     nodes, processed = plan.values.nodes(), plan.values.processed
     write_blocks(folder / BLOCKS, plan.grid, processed, nodes)
@@ -39,19 +55,19 @@ def write(plan: Plan, folder: Path) -> Pairs:
 
 
 def write_needs(path: Path, plan: Plan, needs: Needs) -> Pairs:
-    """Writes precedences of a plan. Raises PlanError if the program takes fewer."""
+    """Writes precedences of a plan. Raises PlanError if there are more than the program takes."""
     pairs = write_prec(path, needs, MOST_PAIRS)
     plan.demand_few(pairs)
     return pairs
 
 
 def of_program(folder: Path) -> tuple[str, ...]:
-    """The names of the files for the program that are in a folder."""
-    return tuple(name for name in OF_PROGRAM if (folder / name).is_file())
+    """Returns the paths, within an output folder, of the solver files that it has."""
+    return tuple(name for name in IN_FOLDER if (folder / name).is_file())
 
 
 def write_blocks(path: Path, grid: Grid, processed: np.ndarray, nodes: tuple[np.ndarray, np.ndarray]) -> None:
-    """`id x y z revenue cost` a node, x, y, z being its block's column, row and level from the floor."""
+    """Writes a line `id x y z revenue cost` per node; x, y and z are column, row and level of its block, counted from the floor."""
     revenue, cost = nodes
     block = np.concatenate([np.arange(grid.count), processed])
     with open(path, "wb") as file:
@@ -68,7 +84,7 @@ def write_blocks(path: Path, grid: Grid, processed: np.ndarray, nodes: tuple[np.
 
 
 def write_model(path: Path, name: str, values: np.ndarray) -> None:
-    """An optimisation model: one value a node, in millionths."""
+    """Writes an optimisation model with one value per node, in millionths."""
     with open(path, "wb") as file:
         file.write(f"NAME: {name}\nTYPE: UPIT\nNBLOCKS: {len(values)}\nOBJECTIVE_FUNCTION:\n".encode())
         for start in range(0, len(values), CHUNK):
@@ -78,7 +94,7 @@ def write_model(path: Path, name: str, values: np.ndarray) -> None:
 
 
 def write_prec(path: Path, needs: Needs, most: int) -> Pairs:
-    """A line for each block and each processing node that needs others. Needs above the most are counted alone."""
+    """Writes a line for each block and each processing node with predecessors. Precedences beyond `most` are only counted."""
     written = clipped = 0
     nodes, blocks = needs.binding()
     with open(path, "wb") as file:

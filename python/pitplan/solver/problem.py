@@ -1,6 +1,7 @@
-"""The mine of a plan, ready for the solver: arrays for the library, files for the program; and the shells of a plan by either.
+"""A mine ready for the solver, as arrays for the library or as files for the program, and its shells.
 
-With fixed blocks the shells are those of the rest, to which what must be dug is joined."""
+With constraints the solver gets the reduced mine. The must-mine blocks, with all that they depend on, are added to each of its shells.
+"""
 
 from __future__ import annotations
 
@@ -39,19 +40,20 @@ GREATEST = 10**18
 class MineInFiles:
     """A mine for the program.
 
-    pairs   how many needs were written
-    folder  where the files are
+    Attributes
+    ----------
+    plan : Plan
+    solver : Solver
+    pairs : Pairs
+        The number of precedences that were written.
+    folder : Path
+        Where the files are.
     """
 
     plan: Plan
     solver: Solver
     pairs: Pairs
     folder: Path
-
-    @property
-    def files(self) -> tuple[str, ...]:
-        """Their names."""
-        return mine_files.of_program(self.folder)
 
     def shells(self, factors: tuple[float, ...]) -> Solution:
         """The shells of the rest that fixed blocks leave; of all where there are none."""
@@ -64,7 +66,7 @@ class MineInFiles:
         return program.solve_files(blocks, prec, factors)
 
     def free_shells(self, factors: tuple[float, ...]) -> Solution:
-        """The shells as if nothing were fixed."""
+        """Returns the shells without constraints."""
         return program.solve_files(self.folder / mine_files.BLOCKS, self.folder / mine_files.PREC, factors)
 
     def pit(self, factor: float) -> Solution:
@@ -82,7 +84,6 @@ class MineInArrays:
     solver: Solver
     rows: Rows
     pairs: Pairs
-    files: tuple[str, ...] = ()
 
     @cached_property
     def rows_of_rest(self) -> Rows:
@@ -105,8 +106,9 @@ Mine = Union[MineInFiles, MineInArrays]
 
 
 def ready(plan: Plan, solver: Solver, folder: Path) -> Mine:
-    """The mine of a plan for a solver, whose files, where it reads any, are written into a folder. Raises PlanError where there are more
-    needs than the solver takes."""
+    """Returns the mine of a plan for a solver. The program's files are written into the folder. Raises PlanError if there are more
+    precedences than the solver takes.
+    """
     if solver.by == LIBRARY:
         return MineInArrays(plan, solver, *counted_rows(plan.needs, plan))
     return MineInFiles(plan, solver, mine_files.write(plan, folder), folder)
@@ -120,15 +122,29 @@ def counted_rows(needs: Needs, plan: Plan) -> tuple[Rows, Pairs]:
 
 @contextmanager
 def temporary(plan: Plan) -> Iterator[Mine]:
-    """The mine of a plan for the project's solver; its files, where it has any, are there for the time being."""
+    """Yields the mine of a plan for the project's solver. Its files are removed at the end."""
     with tempfile.TemporaryDirectory(prefix="pitplan-") as place:
         yield ready(plan, chosen(plan.project.solver), Path(place))
 
 
 def values_at(nodes: tuple[np.ndarray, np.ndarray], factor: float) -> np.ndarray:
-    """Each node's value at a factor, int64 billionths, of its revenue and cost in millionths: `factor * revenue - cost`.
+    """Returns the value of each node at a revenue factor, `factor * revenue - cost`.
 
-    Raises PlanError where one is 10^18 or more: such values, a thousandfold, are those of a model.
+    Parameters
+    ----------
+    nodes : pair of int64 arrays, shape (nodes,)
+        Revenue and cost in millionths.
+    factor : float
+
+    Returns
+    -------
+    int64 array, shape (nodes,)
+        Values in billionths.
+
+    Raises
+    ------
+    PlanError
+        If a value, times 1,000, exceeds those of an optimisation model: it is 10^18 or more.
     """
     values = at_factor(factor, *nodes)
     if greatest(values) >= GREATEST:
@@ -140,23 +156,35 @@ def values_at(nodes: tuple[np.ndarray, np.ndarray], factor: float) -> np.ndarray
 
 
 def solve(plan: Plan, mine: Optional[Mine] = None, progress: Progress = silent) -> Solution:
-    """The shells of a plan at all its factors, with its fixed blocks; the mine is that of the plan, which is else made for the time being.
+    """Returns the shells of a plan at all its revenue factors.
 
-    Raises ProgramError where the solver is missing or refuses, and PlanError where a shell reaches ground that is not known.
+    Parameters
+    ----------
+    plan : Plan
+    mine : Mine, optional
+        The mine of the plan. Default: it is made for this call.
+    progress : Progress
+
+    Raises
+    ------
+    ProgramError
+        If the solver is missing or refuses.
+    PlanError
+        If a shell reaches a missing block.
     """
     if mine is None:
         with temporary(plan) as made:
             return solve(plan, made, progress)
-    factors = plan.project.schedule.revenue_factors
+    factors = plan.project.shells.revenue_factors
     with progress.step(f"solving {len(factors)} revenue factors by the {mine.solver.by}"):
         rest = mine.shells(factors)
-    solution = replace(joined(rest, plan.settled, plan.values), of=plan.key)
+    solution = replace(joined(rest, plan.settled, plan.values), of=plan.key, solver=mine.solver)
     missing_blocks.demand_known(solution.entry, plan.grid, plan.project, plan.source)
     return solution
 
 
 def joined(rest: Solution, settled: Optional[Settled], values: Values) -> Solution:
-    """The shells of the rest with what must be dug, which every pit holds from the first factor on."""
+    """Returns the shells of the reduced mine with the must-mine blocks and all that they depend on, which each shell holds."""
     if settled is None:
         return rest
     factors = list(rest.worth.index)
@@ -173,7 +201,7 @@ def joined(rest: Solution, settled: Optional[Settled], values: Values) -> Soluti
 
 
 def demand_same(shells: Solution, pit: Solution, factor: float) -> None:
-    """Raises PlanError where the shell of a factor is not the pit that was found for it alone, block by block."""
+    """Raises PlanError if the shell of a revenue factor differs from the pit that was solved separately, block by block."""
     inside = (shells.entry > 0) & (shells.entry <= factor)
     other = np.flatnonzero(inside != (pit.entry > 0))
     if len(other) or shells.worth[factor] != pit.worth[factor]:

@@ -1,4 +1,4 @@
-"""The proved program as a subprocess: its statuses as errors, its texts as arrays."""
+"""The proved program as a subprocess: its exit statuses as errors, its texts as arrays."""
 
 from __future__ import annotations
 
@@ -7,7 +7,7 @@ import subprocess
 from dataclasses import dataclass
 from decimal import Decimal
 from pathlib import Path
-from typing import Optional, Union
+from typing import TYPE_CHECKING, Optional, Union
 
 import numpy as np
 import pandas as pd
@@ -17,10 +17,13 @@ from pitplan.core.paths import program
 from pitplan.core.revenue_factors import PER_MILLE, of_per_mille, per_mille
 from pitplan.errors import BudgetUsedUp, ProgramError
 
+if TYPE_CHECKING:
+    from .choice import Solver
+
 
 @dataclass(frozen=True)
 class Solution:
-    """The nested shells of a plan; see `pitplan.solve`.
+    """The nested shells of a plan; see `pitplan.solver.problem.solve`.
 
     Attributes
     ----------
@@ -34,6 +37,8 @@ class Solution:
         The text of the program; None if the library solved.
     of : str
         The key of the plan that was solved; "" if it is not known.
+    solver : Solver, optional
+        Which solver found it; None if it is not known.
     """
 
     worth: pd.Series
@@ -41,10 +46,11 @@ class Solution:
     entry: np.ndarray
     answer: Optional[bytes] = None
     of: str = ""
+    solver: Optional[Solver] = None
 
 
 def call(*arguments: Union[str, Path], fine: tuple[int, ...] = (0,)) -> bytes:
-    """Standard output of the program. Raises BudgetUsedUp on its status 3, and ProgramError on others not in `fine`."""
+    """Returns the standard output of the program. Raises BudgetUsedUp at status 3, and ProgramError at others not in `fine`."""
     ran = subprocess.run([str(program()), *map(str, arguments)], capture_output=True, check=False)
     if ran.returncode in fine:
         return ran.stdout
@@ -52,7 +58,7 @@ def call(*arguments: Union[str, Path], fine: tuple[int, ...] = (0,)) -> bytes:
 
 
 def ended(command: str, status: int, said: str) -> ProgramError:
-    """The error of a command that ended with a status, below 0 by a signal, and said something."""
+    """Returns the error of a command that ended with a status (below 0: by a signal) and this text on standard error."""
     if status == 3:
         return BudgetUsedUp(f"pitshell {command}: {said}", status)
     how = f"was ended by signal {-status}" if status < 0 else f"ended with status {status}"
@@ -60,21 +66,32 @@ def ended(command: str, status: int, said: str) -> ProgramError:
 
 
 def identity() -> dict[str, str]:
-    """What the program says of itself, and the SHA-256 of its file. Raises ProgramError where there is none."""
+    """Returns version and SHA-256 of the program. Raises ProgramError if there is none."""
     return {"version": call("--version").decode().strip(), "sha256": hash_of(program())}
 
 
 def solve_files(blocks: Path, prec: Path, factors: tuple[float, ...]) -> Solution:
-    """The shells of a block model's columns 0 (revenue) and 1 (cost)."""
+    """Returns the shells of a block model; column 0 is revenue, column 1 cost."""
     listed = ",".join(str(per_mille(factor)) for factor in factors)
     options = ("--blocks", blocks, "--prec", prec, "--revenue", "0", "--cost", "1", "--factors", listed)
     return read_answer(call("shells", *options))
 
 
 def solve_pit(model: Path, prec: Path, fixed: Optional[Path], factor: float) -> Solution:
-    """One pit, of a model whose values are those of a factor, a thousandfold; with fixed blocks, where there is a file of them.
+    """Returns the pit of a model whose values are those of a revenue factor, times 1,000.
 
-    Raises ProgramError where the program refuses, as where a block must be dug and may not be.
+    Parameters
+    ----------
+    model, prec : Path
+        Files of values and precedences.
+    fixed : Path, optional
+        File of must-mine and excluded blocks.
+    factor : float
+
+    Raises
+    ------
+    ProgramError
+        If the program refuses, for example because a must-mine block depends on an excluded one.
     """
     options: list[Union[str, Path]] = ["--model", model, "--prec", prec]
     if fixed:
@@ -89,7 +106,7 @@ def solve_pit(model: Path, prec: Path, fixed: Optional[Path], factor: float) -> 
 
 
 def read_answer(answer: bytes) -> Solution:
-    """The program's shell text as arrays."""
+    """Returns the shells of the program's text."""
     head = answer.split(b"\n", 3)
     nodes, count = int(head[1].split()[1]), int(head[2].split()[1])
     *rows, rest = head[3].split(b"\n", count)

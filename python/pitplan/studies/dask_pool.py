@@ -1,8 +1,7 @@
-"""Scenarios over Dask: processes of this machine, or the workers of a scheduler. Each task is one call of the library, or one run of
-the program.
+"""Scenarios over Dask: processes of this machine, or the workers of a scheduler. Each task is one call of the library, or one run of the program.
 
-Answers are files in the shared folder, so a task moves a number there and a status back. A task whose worker dies is
-given to another by the scheduler, and one whose program was killed is tried again.
+Results are files in the shared folder, so a task receives a number and returns a status. If a worker dies, the scheduler gives its task to
+another; if the program was killed, the task is repeated.
 """
 
 from __future__ import annotations
@@ -20,19 +19,27 @@ from pitplan.studies.scenarios.store import Scenario
 
 PACKAGE = "python3-distributed"
 RETRIES = 2
-# A worker that is lost takes its tasks' count of deaths up by one; from here on a task is held to be the cause.
+# How many workers may die during a task before the scheduler counts the task as the cause.
 DEATHS = 5
-# What listens on it can be reached from this machine alone.
+# A server on this address can be reached from this machine only.
 LOOPBACK = "127.0.0.1"
 
 
 class Killed(Exception):
-    """The program was killed, so that this scenario is to be tried again."""
+    """The program was killed, so another try may succeed."""
 
 
 @dataclass(frozen=True)
 class Where:
-    """`local`, with so many processes, or the address of a scheduler."""
+    """Where Dask solves.
+
+    Attributes
+    ----------
+    address : str
+        `local`, or the address of a scheduler, such as tcp://host:8786.
+    workers : int, optional
+        The number of processes of `local`. Default: one for each processor.
+    """
 
     address: str
     workers: Optional[int] = None
@@ -43,7 +50,7 @@ class Where:
 
 
 def task(folder: str, number: int) -> worker.Outcome:
-    """What a worker runs. Raises Killed where another try may help."""
+    """Solves a scenario on a worker. Raises Killed if another try may succeed."""
     outcome = worker.solve(folder, number)
     if not outcome.is_final:
         raise Killed(outcome.why)
@@ -51,8 +58,15 @@ def task(folder: str, number: int) -> worker.Outcome:
 
 
 def run(where: Where, folder: Path, scenarios: list[Scenario], progress: Progress) -> list[worker.Outcome]:
-    """The outcomes, in the order in which they come. Raises MissingPackage without Dask, and PlanError where the
-    scheduler cannot be reached or its workers cannot read the folder or import pitplan."""
+    """Solves scenarios; returns their outcomes in the order of completion.
+
+    Raises
+    ------
+    MissingPackage
+        Without Dask.
+    PlanError
+        If the scheduler cannot be reached, or its workers cannot read the folder or import pitplan.
+    """
     distributed = load("distributed", PACKAGE, "scenarios --on local or a Dask scheduler")
     outcomes = []
     with progress.step(f"solving {len(scenarios):,} scenarios"), client_of(distributed, where) as client:
@@ -67,7 +81,7 @@ def client_of(distributed: Any, where: Where) -> Any:
     load("dask", "python3-dask", "scenarios over Dask").config.set({"distributed.scheduler.allowed-failures": DEATHS})
     if where.address == "local":
         cluster = {"n_workers": where.processes, "threads_per_worker": 1, "host": LOOPBACK}
-        # Left out, or None, a dashboard is an HTTP server on all addresses of the machine.
+        # By default the dashboard is an HTTP server on all addresses of the machine.
         pages = {"dashboard_address": f"{LOOPBACK}:0", "worker_dashboard_address": f"{LOOPBACK}:0"}
         return distributed.Client(processes=True, **cluster, **pages)
     try:
@@ -92,7 +106,7 @@ def outcomes_of(distributed: Any, client: Any, folder: Path, scenarios: list[Sce
 
 
 def lost(error: BaseException, scenario: Scenario) -> worker.Outcome:
-    """The outcome of a scenario that has none of its own. Raises PlanError where no scenario can have one."""
+    """Returns the outcome of a scenario whose task failed. Raises PlanError if all tasks would fail."""
     if isinstance(error, ImportError):
         raise PlanError(
             f"Dask's workers cannot import pitplan ({error}): start them with PYTHONPATH=python of pitshell"

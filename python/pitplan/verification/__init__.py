@@ -1,31 +1,28 @@
-"""A second way to every number that a plan's folder tells: from the project, its table and the files of the answer alone.
+"""Independent verification: recomputes the numbers of an output folder from the project, its table and the written files.
 
-It has nothing in common with what it checks but the readers of the project, of its table, and of drawings, maps and rasters. Whether each
-shell is the best is proved of the program, for the files that it was given; here is looked whether these say what the project says, and
-whether the answer does:
+It shares with the code that it checks only the readers of projects, tables, drawings, maps and rasters. The proof of the solver covers that each
+shell is optimal for the values and precedences that it was given. The verification checks that these follow from the project, and the results
+from these:
 
-- each block of the table stands in the answer, in its own cell and with the table's own fields; where the project gives a rock to cells
-  without rows, each that is not above the highest row of its column is a block of that rock, and no other is;
-- of what was left out since no shell can reach it nothing pays or must be dug, and no shell needs ground there;
-- where rows are put together to blocks, each block holds those that lie in it;
-- where a topography cuts blocks, their tonnes are right in 200 columns of blocks exactly, and in 2,000 to a tenth of a block;
-- no shell leaves a block standing, or ground of which nothing is known, in the whole cone above a block that it digs, by that block's
-  own region and over as many levels as its needs reach; where the project leaves the levels open, no wall comes out more than half a
-  degree steeper than asked;
-- where an as-mined surface cuts blocks, their tonnes are those below it and below the original ground, in as many columns; without an
-  original ground by the centres of blocks, and over a column without points the surface is there a triangle of three points whose circle
-  holds no other, and where several may be laid, as on a regular grid of points, the highest;
-- what must be dug is in every shell and what may not be is in none;
-- each cost and each revenue is the product of the table's and the project's numbers: by floats for all blocks, and exactly, by
-  decimals, for those at the edge of a shell and 10,000 others; with haulage each road is right to a millimetre, by geometry;
-- the table of shells adds up, and the program's worth of each shell is that of its blocks to the last digit that blocks.csv holds;
-- no year exceeds a capacity, the years add up to their shell, and both net present values follow from its benches;
-- of `pit`, both rows of pits.csv are right in all this, and the pit without fixed blocks is worth no less;
-- a table that was written back has the planner's own rows and fields, and of each block what blocks.csv says;
-- pushbacks are closed under the whole cones, hold what must be dug in pushback 1 and what may not be in none, add up, and are as wide as
-  asked, which is counted anew by sums over squares;
-- in a schedule by block no block comes before its whole cone, no year is above a limit, and the value is not above the bound; of
-  scenarios this holds for the schedule of each and for the one for all, whose years mill in each what earns most there.
+- **Blocks**: each block of the table is in its own cell with the fields of the table. If the project defines missing blocks, each cell without a
+  row, up to the highest row of its column, is such a block, and no other is. Blocks that were removed because no shell can reach them neither pay
+  nor are must-mine blocks, and no shell depends on them. With reblocking each block holds the rows that lie in it.
+- **Topography**: the tonnes of blocks lie below it, exactly in 200 columns, and to a tenth of a block in 2,000.
+- **As-mined surface**: tonnes lie below it and below the original ground, in as many columns. Without an original ground blocks are tested by
+  their centroids. Over a column without points the surface is then a Delaunay triangle, and of several, as on a regular grid, the highest.
+- **Slopes**: no shell leaves a block, or unknown ground, in the whole cone above a block that it mines, by the slope domain of that block and up
+  to its precedence benches. If the project does not set their number, no slope error exceeds half a degree.
+- **Constraints**: must-mine blocks are in every shell, and excluded blocks in none.
+- **Money**: each cost and revenue is the product of numbers of the table and the project: by floats for all blocks, and by exact decimals for
+  those at the edge of a shell and 10,000 others. Haul distances are right to a millimetre, by geometry.
+- **Shells**: tables add up, and the solver's value of each shell is that of its blocks, to the last digit of blocks.csv.
+- **Years**: no year exceeds a capacity, years add up to their shell, and both NPVs follow from its benches.
+- **pit**: all this holds for both rows of pits.csv, and the pit without constraints has no smaller value.
+- **Exported table**: it has the planner's rows and fields, and the results of blocks.csv.
+- **Pushbacks**: they keep the whole cones, hold must-mine blocks in pushback 1 and excluded blocks in none, add up, and have the minimum mining
+  width, which is recounted by sums over squares.
+- **Schedules by block**: no block is mined before its whole cone, no year exceeds a limit, and the NPV does not exceed its bound. For scenarios
+  this holds for the schedule of each, and for the common schedule, whose years process the best ore of each scenario.
 """
 
 from __future__ import annotations
@@ -80,10 +77,25 @@ CHECKS = (
 
 
 def verify(folder: Path, project: Optional[Project] = None, table: Optional[pd.DataFrame] = None) -> list[Rule]:
-    """What was looked at, one rule after the other; a rule without differences holds. The project is the one that the folder names, and the
-    table as its reader gives it, unless they are given: a run that has read them need not read them again.
+    """Verifies the folder of a plan.
 
-    Raises PlanError where the folder has no answer, or the table has changed since.
+    Parameters
+    ----------
+    folder : Path
+    project : Project, optional
+        Default: the project that the folder names.
+    table : DataFrame, optional
+        Default: the table as its reader returns it.
+
+    Returns
+    -------
+    list of Rule
+        A rule without differences holds.
+
+    Raises
+    ------
+    PlanError
+        If the folder has no results, or the table has changed since.
     """
     answer = answers.read(folder, project, table)
     more = [reblocked.verify(answer)] if answer.parts is not None else []
@@ -101,7 +113,7 @@ def verify(folder: Path, project: Optional[Project] = None, table: Optional[pd.D
 
 
 def by_record(check: Callable[[Answer], list[Rule]], answer: Answer, name: str) -> list[Rule]:
-    """Rules that read a record of their own. Raises PlanError where it lacks a part, or has one of another kind."""
+    """Runs rules that read a record of their own. Raises PlanError if a part of it is missing or of another type."""
     try:
         return check(answer)
     except OSError as error:
@@ -109,17 +121,17 @@ def by_record(check: Callable[[Answer], list[Rule]], answer: Answer, name: str) 
     except (LookupError, ValueError, TypeError, AttributeError) as error:
         why = f"{type(error).__name__} {error}"
         raise PlanError(
-            f"{answer.folder / name}: does not fit the tables beside it ({why}): run pitplan schedule again"
+            f"{answer.folder / name}: does not match the tables of the folder ({why}): run pitplan schedule again"
         ) from error
 
 
 def verify_table(folder: Path, path: Path) -> Rule:
-    """Whether a table that is written back, at `path`, is right by the folder's answer. Raises PlanError as `verify` does."""
+    """Verifies a table that was exported to `path`. Raises PlanError as `verify`."""
     return planned_table.verify(answers.read(folder), path)
 
 
 def verify_free(kept: Answer, free: Answer) -> Rule:
-    """The pit without fixed blocks, as the other; and that it is worth no less, since to keep to some can gain nothing."""
+    """Verifies the pit without constraints like the other, and that its value is not smaller, since constraints cannot gain anything."""
     found = [check(free) for check in OF_PITS]
     differences = [f"{rule_of.name}: {difference}" for rule_of in found for difference in rule_of.differences]
     lost = [
@@ -133,25 +145,24 @@ def verify_free(kept: Answer, free: Answer) -> Rule:
 
 
 def verify_sensitivity(written: Path, folder: Path) -> list[Rule]:
-    """What was looked at of a sensitivity whose tables are in `written` and whose answers are in `folder`. Raises PlanError as `verify`."""
+    """Verifies a sensitivity with its tables in `written` and the results of its cases in `folder`. Raises PlanError as `verify`."""
     return sensitivity.verify(written, folder)
 
 
 def verify_folder(folder: Path) -> list[Rule]:
-    """What was looked at in a folder of scenarios, of a sensitivity, or else of a plan. Raises PlanError as `verify` of either does."""
+    """Verifies a folder of scenarios, a sensitivity, or otherwise a plan. Raises PlanError as `verify`."""
     if (folder / "sensitivity.json").is_file():
         return verify_sensitivity(folder, folder)
     return verify_scenarios(folder) if (folder / "scenarios.json").is_file() else verify(folder)
 
 
 def verify_scenarios(folder: Path, written: Optional[Path] = None) -> list[Rule]:
-    """What was looked at of scenarios, of pits or of schedules by block, whose tables may stand in another folder, `written`. Raises
-    PlanError as `verify` does."""
+    """Verifies scenarios, of pits or of schedules by block; their tables may be in another folder, `written`. Raises PlanError as `verify`."""
     return (block_scenarios if block_scenarios.is_by_block(folder) else scenarios).verify(folder, written)
 
 
 def demand(rules: list[Rule]) -> None:
-    """Raises PlanError with ten of the differences, where there are any: the first of each rule, then the second ones, and so on."""
+    """Raises PlanError with ten of the differences, if there are any: the first of each rule, then the second of each, and so on."""
     by_turns = zip_longest(*(rule.differences for rule in rules))
     told = [f"{rule.name}: {said}" for turn in by_turns for rule, said in zip(rules, turn) if said is not None]
     if told:

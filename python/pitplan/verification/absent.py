@@ -1,4 +1,4 @@
-"""Cells that the table has no row of: each block that stands for one is of the rock that the project gives it."""
+"""Verifies filled missing blocks: cells without a row are blocks as the project defines them."""
 
 from __future__ import annotations
 
@@ -14,7 +14,7 @@ from pitplan.verification.rules import TOLD, Rule, rule
 
 
 def verify(answer: Answer) -> Rule:
-    """Ground without rows is blocks of the project's rock, where it names one, and otherwise none are."""
+    """Verifies that every missing block is filled as the project defines it, and otherwise that none is."""
     rock = answer.project.table.missing_blocks
     if not isinstance(rock, MissingRock):
         return rule("absent", "no missing block is filled", [])
@@ -29,8 +29,8 @@ def verify(answer: Answer) -> Rule:
 
 
 def words(answer: Answer, rock: MissingRock) -> dict[str, str | float]:
-    """What each column says of such a block: its tonnes, unless a surface cuts them, and codes, and 0 in every other but for its centre
-    and its id."""
+    """Returns the expected fields of a filled block: tonnes, unless a surface cuts them, codes, and 0 in other columns, without centroid and
+    id."""
     columns = answer.project.table
     told: dict[Optional[str], str | float] = {
         columns.tonnes: rock.tonnes,
@@ -48,7 +48,7 @@ def words(answer: Answer, rock: MissingRock) -> dict[str, str | float]:
 
 
 def unlike_cells(answer: Answer) -> tuple[list[str], int]:
-    """Cells that lack such a block, blocks where there is none to be, and blocks that are not called by the number of their cell."""
+    """Returns differences, and their number: missing blocks that are not filled, filled cells in the air, and blocks named by another cell."""
     table, added = (
         tuple(axis[part] for axis in answer.cells) for part in (slice(answer.known), slice(answer.known, None))
     )

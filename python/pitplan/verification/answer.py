@@ -1,4 +1,4 @@
-"""What a plan's folder answers, laid beside the project and its table as they are now."""
+"""Reads the results of a folder, and matches them with the project and its table."""
 
 from __future__ import annotations
 
@@ -40,17 +40,17 @@ from .written import demand_factors, read_table
 def read_shells(
     folder: Path, record: dict[str, Any], project: Project, written: pd.DataFrame, table: TableRows
 ) -> Answer:
-    """The answer of `pitplan shells`, `pitplan pushbacks` or `pitplan schedule`."""
-    shells = read_table(folder / "shells.csv")
+    """Reads the results of `pitplan shells`, `pitplan pushbacks` or `pitplan schedule`."""
+    shells = read_table(folder / "tables/shells.csv")
     demand_factors(shells, record["shells"]["revenue_factors"], "shells.csv")
     shells, years = (
         shells.set_index("revenue_factor"),
-        read_table(folder / "years.csv", ["case"]) if (folder / "years.csv").exists() else None,
+        read_table(folder / "tables/years.csv", ["case"]) if (folder / "tables/years.csv").exists() else None,
     )
     frame, parts, beyond = table
     rows, known, order = beside(frame, written, project, record["grid"], "blocks.csv")
-    pushbacks = read_table(folder / "pushbacks.csv").set_index("pushback") if "pushbacks" in record else None
-    schedule = read_table(folder / "schedule.csv", ["method"]) if "schedule" in record else None
+    pushbacks = read_table(folder / "tables/pushbacks.csv").set_index("pushback") if "pushbacks" in record else None
+    schedule = read_table(folder / "tables/schedule.csv", ["method"]) if "schedule" in record else None
     is_by_block = "by_block" in record
     shares = shares_of(project) if is_by_block else []
     more = [
@@ -69,8 +69,8 @@ def read_shells(
 def read_pits(
     folder: Path, record: dict[str, Any], project: Project, written: pd.DataFrame, table: TableRows
 ) -> Answer:
-    """The two answers of `pitplan pit`: that which keeps to the fixed blocks, and in it the one that does not."""
-    pits = read_table(folder / "pits.csv", ["fixed_blocks"])
+    """Reads the results of `pitplan pit`: the pit with constraints and, in `free`, the one without."""
+    pits = read_table(folder / "tables/pits.csv", ["fixed_blocks"])
     demand_factors(pits, [record["revenue_factors"][-1]] * 2, "pits.csv")
     kept, free = (pits[pits["fixed_blocks"] == name].set_index("revenue_factor") for name in ("kept", "free"))
     if len(kept) != len(free):
@@ -80,36 +80,53 @@ def read_pits(
     said = written[[*said_of(project), *FREE]].iloc[order].reset_index(drop=True)
     other = said.assign(**{name: said[f"free_{name}"] for name in ("revenue_factor", "process_revenue_factor")})
     factors = tuple(record["revenue_factors"])
-    alone = Answer(folder, replace(project, fixed=None), rows, known, other, free, None, record, factors)
+    alone = Answer(folder, replace(project, constraints=None), rows, known, other, free, None, record, factors)
     own = own_columns(written, rows, order)
     return Answer(
         folder, project, rows, known, said, kept, None, record, factors, alone, parts=parts, beyond=beyond, own=own
     )
 
 
-# In place of a factor: a cell that is not dug at any, and one where there is nothing to dig.
+# Instead of a revenue factor: a cell that is never mined, and one without material.
 UNDUG, NOTHING = np.inf, 0.0
 
 
 @dataclass(frozen=True)
 class Answer:
-    """A folder as it is read.
+    """The results of a folder.
 
-    rows    one row a block: the planner's columns of the table as it is now, and behind them those of cells that it has no row of
-    known   how many of the rows are the table's
-    said    the same rows of blocks.csv: id, mining_cost, revenue, processing_cost, revenue_factor, process_revenue_factor
-    shells  shells.csv (of `pitplan pit`: the one row that keeps to the fixed blocks), by factor
-    years   years.csv; None where the folder has none
-    record  prepare.json
-    factors the factors of which the folder has shells
-    free    of `pitplan pit` the answer that keeps to no fixed blocks
-    found   what was told of it before, by name
-    pushbacks  of `pitplan pushbacks` pushbacks.csv, by pushback; `said` has each block's pushback then
-    schedule  of `pitplan schedule` schedule.csv; `said` has each block's year then
-    is_by_block  whether blocks were scheduled one by one; `said` has the year of each then
-    own     what blocks.csv has of the planner's columns in these rows, by the names that they have in the table
-    parts   where rows are put together to blocks the table's rows; `rows` are then the answer's own, which hold them
-    beyond  the table's rows that lie beyond the answer's grid, where some do
+    Attributes
+    ----------
+    folder : Path
+    project : Project
+    rows : DataFrame
+        One row per block: the planner's columns of the table, followed by filled missing blocks.
+    known : int
+        How many of the rows are those of the table.
+    said : DataFrame
+        The results of blocks.csv in the same rows, with pushback, year and shares if there are any.
+    shells : DataFrame
+        shells.csv by revenue factor; for `pitplan pit` the row of pits.csv with constraints.
+    years : DataFrame, optional
+        years.csv.
+    record : dict
+        plan.json.
+    factors : tuple of float
+        The revenue factors with shells.
+    free : Answer, optional
+        For `pitplan pit` the results without constraints.
+    found : dict
+        Cached intermediate results, by name.
+    pushbacks, schedule : DataFrame, optional
+        pushbacks.csv by pushback, and schedule.csv.
+    parts : DataFrame, optional
+        With reblocking the rows of the table; `rows` are then the blocks.
+    beyond : DataFrame, optional
+        The rows of the table outside the grid, if some were removed.
+    is_by_block : bool
+        Whether blocks are scheduled.
+    own : DataFrame
+        The planner's columns of blocks.csv in these rows, by their names in the table.
     """
 
     folder: Path
@@ -137,7 +154,7 @@ class Answer:
 
     @property
     def size(self) -> tuple[float, float, float]:
-        """Metres of a block east, north and up."""
+        """Block size east, north and up, metres."""
         east, north, up = self.record["grid"]["size"]
         return east, north, up
 
@@ -147,36 +164,36 @@ class Answer:
 
     @property
     def azimuth(self) -> float:
-        """Degrees clockwise from the planner's north to the grid's."""
+        """Azimuth of the grid's north, degrees clockwise."""
         return float(self.record["grid"].get("azimuth", 0.0))
 
     @cached_property
     def elevations(self) -> np.ndarray:
-        """Metres of the centres of each level, from the top."""
+        """Elevation of the centroids of each level, from the top, metres."""
         return self.record["grid"]["origin"][2] - np.arange(self.shape[0]) * self.size[2]
 
     @cached_property
     def undiluted(self) -> np.ndarray:
-        """Tonnes of each block itself that come to the mill, if it is processed."""
-        return self.tonnes * by_code(self.project.money.mining_recovery, self.rows, self.project.table)
+        """In-situ tonnes of each block that reach the mill if it is processed, without dilution."""
+        return self.tonnes * by_code(self.project.economics.mining_recovery, self.rows, self.project.table)
 
     @cached_property
     def feed(self) -> np.ndarray:
-        """Tonnes that come to the mill of each block, if it is processed."""
-        return self.undiluted * (1 + by_code(self.project.money.dilution, self.rows, self.project.table))
+        """Mill feed of each block if it is processed, in tonnes."""
+        return self.undiluted * (1 + by_code(self.project.economics.dilution, self.rows, self.project.table))
 
     @cached_property
     def quantities(self) -> dict[str, np.ndarray]:
-        """By metal, what is recovered of each block, if it is processed: tonnes, or grams."""
+        """Recovered metal of each block if it is processed, by metal, in tonnes or grams."""
         found = {}
         for number, metal in enumerate(self.project.metals):
-            grades = [recovered(way.metals[number], self.rows, way) for way in self.project.ways]
+            grades = [recovered(way.metals[number], self.rows, way) for way in self.project.by_process]
             found[metal.name] = self.undiluted * np.choose(self.process, grades) * float(GRADE_UNITS[metal.unit])
         return found
 
     @cached_property
     def process(self) -> np.ndarray:
-        """The number of each block's process at the price as given, as blocks.csv says; 0 where there is one alone or none."""
+        """The number of each block's process at the base price, by blocks.csv; 0 with one process, or for waste."""
         names = [process.name for process in self.project.processes]
         if not names:
             return np.zeros(len(self.rows), dtype=np.int64)
@@ -184,7 +201,7 @@ class Answer:
 
     @cached_property
     def feeds(self) -> dict[str, np.ndarray]:
-        """Of several processes the tonnes of ore that come to each, by the name of the amount."""
+        """Mill feed of each of several processes, by the name of the amount."""
         names = [process.name for process in self.project.processes]
         return {
             f"feed_tonnes_{name}": np.where(self.ore & (self.process == k), self.feed, 0.0)
@@ -193,29 +210,29 @@ class Answer:
 
     @property
     def amounts_of_ways(self) -> list[tuple[str, str]]:
-        """The columns of revenue and of processing cost of each process; of one alone the only ones there are."""
+        """The columns of revenue and processing cost of each process."""
         names = [process.name for process in self.project.processes]
         return [(f"revenue_{name}", f"processing_cost_{name}") for name in names] or [("revenue", "processing_cost")]
 
     @cached_property
     def whole(self) -> dict[str, np.ndarray]:
-        """Amounts of `said` as whole numbers, by name, once they were asked for."""
+        """A cache of the amounts of `said` as whole numbers, by name."""
         return {}
 
     @cached_property
     def ore(self) -> np.ndarray:
-        """Whether processing a block pays at the price as given, once it is dug."""
+        """Whether each block is ore at the base price once it is mined."""
         return (self.said["revenue"] > self.said["processing_cost"]).to_numpy()
 
     @cached_property
     def worths(self) -> np.ndarray:
-        """What each block is worth at the price as given, once it is dug, in money."""
+        """Value of each block at the base price once it is mined, in the currency."""
         gain = (self.said["revenue"] - self.said["processing_cost"]).to_numpy()
         return np.where(self.ore, gain, 0.0) - self.said["mining_cost"].to_numpy()
 
     @cached_property
     def earned(self) -> np.ndarray:
-        """The worths without what each pushback's own mining cost takes of them, once blocks have pushbacks."""
+        """Block values less `mining_cost_added` of their pushback."""
         rules = self.project.pushbacks
         if PUSHBACK not in self.said or rules is None or not rules.mining_cost_added:
             return self.worths
@@ -224,21 +241,21 @@ class Answer:
 
     @cached_property
     def cells(self) -> tuple[np.ndarray, np.ndarray, np.ndarray]:
-        """Level from the top, row from the south and column from the west of each block, told by its centre."""
+        """Level from the top, row from the south and column from the west of each block, by its centroid."""
         east, north, up = (np.rint(axis).astype(np.int64) for axis in self.steps)
         return up, north, east
 
     @property
     def steps(self) -> tuple[np.ndarray, np.ndarray, np.ndarray]:
-        """Blocks east, north and down from the first block, which are whole but for the tolerance."""
+        """Blocks east, north and down from the first block; whole numbers up to the tolerance."""
         columns = self.project.table
         east, north, up = steps_of(self.rows[[columns.x, columns.y, columns.z]].to_numpy(), self.record["grid"]).T
         return east, north, -up
 
     @cached_property
     def dug(self) -> np.ndarray:
-        """For each cell the least factor at which it is dug: UNDUG where none is, and where nothing is known of the ground; NOTHING where
-        there is nothing to dig."""
+        """The least revenue factor at which each cell is mined, shape (levels, rows, columns). UNDUG if it never is, or the ground is unknown;
+        NOTHING without material."""
         cube = np.full(self.shape, UNDUG)
         factor = self.said["revenue_factor"].to_numpy()
         known = np.zeros(self.shape, dtype=bool)
@@ -253,8 +270,8 @@ class Answer:
 
     @cached_property
     def entries(self) -> np.ndarray:
-        """For each cell the number of the wall entry that its region has. A cell without a row is of the region of the next block below
-        it in its column, else of the next above."""
+        """The index of each cell's entry in `[[slopes.domains]]`, shape (levels, rows, columns). A cell without a row has the domain of the next
+        block below it, otherwise above."""
         column, walls = self.project.table.domain, self.project.slopes.domains
         others = next((k for k, wall in enumerate(walls) if wall.domains is None), 0)
         by_region = {name: k for k, wall in enumerate(walls) for name in wall.domains or ()}
@@ -265,7 +282,7 @@ class Answer:
         return columns.bfill().ffill().fillna(others).to_numpy(dtype=np.int16).reshape(self.shape)
 
     def levels(self, wall: Wall) -> int:
-        """Over how many levels the needs of a wall entry reach."""
+        """Returns the precedence benches of an entry of `[[slopes.domains]]`."""
         if wall.pattern:
             return 1
         if wall.offsets:
@@ -274,7 +291,7 @@ class Answer:
         return int(self.record["walls"][number].get("levels", self.project.slopes.precedence_benches))
 
     def called(self, row: int) -> str:
-        """A block by the planner's id, or by its centre."""
+        """Returns the name of a block: the planner's id, otherwise its centroid."""
         name = self.project.table.id
         if name:
             return f"block {self.rows[name].iloc[row]}"
@@ -285,22 +302,32 @@ class Answer:
 
 
 def read(folder: Path, project: Optional[Project] = None, table: Optional[pd.DataFrame] = None) -> Answer:
-    """The answer in a folder, to the project that was run and to its table, unless these are given. If the project's file has changed since
-    the run, the answer must fit that file.
+    """Reads the results of a folder. If the project's file has changed since the run, they must fit that file.
 
-    Raises PlanError where the folder has no answer of `pitplan shells` or `pit`, or the project is not where it was.
+    Parameters
+    ----------
+    folder : Path
+    project : Project, optional
+        Default: the project of the run, or of its file if that has changed.
+    table : DataFrame, optional
+        Default: the project's table.
+
+    Raises
+    ------
+    PlanError
+        If the folder has no results of `pitplan shells` or `pit`, or the project cannot be found.
     """
     try:
-        record = json_records.read_plan(folder / "prepare.json", is_whole=False)
+        record = json_records.read_plan(folder / "plan.json", is_whole=False)
         project = project or as_run_or_edited(folder, record)
         found, expected = len(record.get("walls", project.slopes.domains)), len(project.slopes.domains)
         if found < expected:
             raise PlanError(
-                f"{folder / 'prepare.json'}: walls: found {found}, expected {expected} as in the project: run pitplan shells again"
+                f"{folder / 'plan.json'}: walls: found {found}, expected {expected} as in the project: run pitplan shells again"
             )
         own = [own_name(name) for name in (*reader.names_of(project), project.table.tonnes)]
         written = read_blocks(
-            folder / "blocks.csv", project, (*said_of(project), *FREE, PUSHBACK, YEAR, *shares_of(project), *own)
+            folder / "tables/blocks.csv", project, (*said_of(project), *FREE, PUSHBACK, YEAR, *shares_of(project), *own)
         )
         rows = rows_of(project, written, record["grid"], table)
         return (read_shells if "shells" in record else read_pits)(folder, record, project, written, rows)

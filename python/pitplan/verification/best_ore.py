@@ -1,4 +1,4 @@
-"""The most that a year's ore earns in the mill, by prices of what limits it: the dual of choosing which of it to mill."""
+"""The most that a year's ore can earn in the mill, by dual prices of the limits."""
 
 from __future__ import annotations
 
@@ -9,10 +9,19 @@ HAIR = 1e-9
 
 
 def most_earned(gain: np.ndarray, takes: np.ndarray, most: np.ndarray) -> float:
-    """What blocks earn at most that each yield a gain, 0 or more, and take of limits, shape (limits, blocks), of which there is so much.
+    """Returns the most that blocks can earn within limits, by linear programming duality.
 
-    At any prices of the limits, 0 or more, no choice earns more than the limits are worth and what blocks gain above what they take; and at
-    the best prices some choice of shares earns just that.
+    At any non-negative prices of the limits no selection earns more than the value of the limits plus the gains above the prices of what blocks
+    use. At the optimal prices some selection of shares earns exactly that.
+
+    Parameters
+    ----------
+    gain : array, shape (blocks,)
+        Gain of each block, 0 or more.
+    takes : array, shape (limits, blocks)
+        Amount of each limit that a block uses.
+    most : array, shape (limits,)
+        The limits.
     """
     reached = np.flatnonzero(takes.sum(axis=1) > most * (1 + HAIR))
     if len(reached) == 0:
@@ -26,7 +35,7 @@ def most_earned(gain: np.ndarray, takes: np.ndarray, most: np.ndarray) -> float:
 
 
 def at_price_of_one(gain: np.ndarray, takes: np.ndarray, most: float) -> float:
-    """The same of one limit, whose best price is what the first block yields a unit that it has no room for, by falling yields."""
+    """Returns the same for one limit. Its optimal price is the gain per unit of the first block without room, by descending gain per unit."""
     some = takes > 0
     yields = gain[some] / takes[some]
     falling = np.argsort(-yields)

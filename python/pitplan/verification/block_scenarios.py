@@ -28,6 +28,7 @@ from .scenarios import SHARES, Verification, between, named
 from .schedule import CENT, discount
 from .simulated import ONE, Scenario, read
 from .weighing import at_price
+from .written import TABLES
 
 RECORD, TABLE, YEARS, QUANTILES = "common_schedule.json", "schedules.csv", "common_schedule_years.csv", "quantiles.csv"
 VALUES = ("npv", "upper_bound", "common_npv")
@@ -36,7 +37,7 @@ SLIGHT = 1e-6
 
 
 def is_by_block(folder: Path) -> bool:
-    """Whether the scenarios of a folder are of schedules."""
+    """Returns whether the scenarios of a folder are schedules."""
     try:
         return json.loads((folder / "scenarios.json").read_text(encoding="utf-8")).get("by") == "block"
     except (OSError, ValueError, AttributeError):
@@ -44,14 +45,14 @@ def is_by_block(folder: Path) -> bool:
 
 
 def verify(folder: Path, written: Optional[Path] = None) -> list[Rule]:
-    """What was looked at, one rule after the other. Raises PlanError as `scenarios.verify` does."""
+    """Verifies schedules over scenarios. Raises PlanError as `scenarios.verify`."""
     with named(folder):
         return Schedules(Verification(read(folder, written or folder))).rules()
 
 
 @dataclass(frozen=True)
 class Kept:
-    """A schedule as it is kept: year of each row, from 1, 0: in none; the share of each that is milled; and amounts by name."""
+    """A schedule as written: year of each row, from 1 (0: never), the share of each that is milled, and amounts by name."""
 
     year: np.ndarray
     share: np.ndarray
@@ -64,7 +65,7 @@ class Kept:
             row = dict(zip(said["names"].tolist(), said["amounts"].tolist()))
             return Kept(said["year"].astype(np.int64), said["share"], row)
         except (ValueError, KeyError, TypeError) as error:
-            raise PlanError(f"{file}: is no answer: run pitplan scenarios again: {error}") from error
+            raise PlanError(f"{file}: is not a result of a schedule: {error}: run pitplan scenarios again") from error
 
 
 @dataclass(frozen=True)
@@ -84,14 +85,14 @@ class Schedules:
 
     @cached_property
     def limits(self) -> list[tuple[str, tuple[float, ...], float]]:
-        """Name of an amount, the shares of its limit in the first years, and the limit."""
+        """Name of an amount, its ramp-up, and its limit."""
         return list(limits_of(self.ground))
 
     def rules(self) -> list[Rule]:
         return [*self.whole.of_ground(), self.whole.listed(), self.order(), *self.values()]
 
     def order(self) -> Rule:
-        """Cones, what is fixed, and years and shares, of the one schedule and of those of a sample."""
+        """Verifies cones, constraints, years and shares, of the common schedule and of a sample of the others."""
         sample = [(scenario.label, Kept.of(scenario.file)) for scenario in self.whole.sample]
         differences = [
             f"{name}: {said}"
@@ -112,16 +113,16 @@ class Schedules:
         ]
         wrong = (kept.year < 0) | (kept.year > self.whole.folder.record["years"])
         wrong |= (kept.share < -SLIGHT) | (kept.share > (kept.year > 0) + SLIGHT)
-        if answer.project.fixed is not None:
-            must, never = fixed.demanded(answer, answer.project.fixed)
+        if answer.project.constraints is not None:
+            must, never = fixed.demanded(answer, answer.project.constraints)
             wrong |= (must & (kept.year == 0)) | (never & (kept.year > 0))
         rows = np.flatnonzero(wrong)[:TOLD]
         return found + [
-            f"{answer.called(row)}: year {kept.year[row]}, of which {kept.share[row]:.6g} is milled" for row in rows
+            f"{answer.called(row)}: year {kept.year[row]}, share milled {kept.share[row]:.6g}" for row in rows
         ]
 
     def values(self) -> list[Rule]:
-        """What every schedule holds and earns, by the amounts of its scenario, and the tables that tell it."""
+        """Verifies amounts and NPV of every schedule, by its scenario, and the tables with them."""
         folder, own, dug = self.whole.folder, [], []
         total = pd.DataFrame()
         for scenario in folder.scenarios:
@@ -142,7 +143,7 @@ class Schedules:
         ]
 
     def held(self, scenario: Scenario, is_dug: np.ndarray) -> pd.DataFrame:
-        """By block of a scenario: total_tonnes, feed_tonnes and metals if it pays, cost of mining, value added by processing; 0 if unmined."""
+        """Returns the amounts of each block in a scenario: total_tonnes, feed_tonnes and metals if it pays, mining cost, and gain by processing."""
         whole = self.whole.in_scenario(scenario)
         part = replace(
             whole, rows=whole.rows[is_dug].reset_index(drop=True), said=whole.said[is_dug].reset_index(drop=True)
@@ -153,7 +154,7 @@ class Schedules:
         return frame.set_index(np.flatnonzero(is_dug)).reindex(range(len(is_dug)), fill_value=0.0)
 
     def unlike(self, held: pd.DataFrame, kept: Kept) -> Iterator[str]:
-        """Where a schedule is above a limit or its bound, or does not tell what it holds and earns."""
+        """Yields differences of a schedule: limits, upper bound, amounts and NPV."""
         milled = held.drop(columns=[ROCK, "mining"]).mul(kept.share, axis=0).assign(**{ROCK: held[ROCK]})
         sums = milled.groupby(kept.year).sum().drop(index=0, errors="ignore")
         yield from self.above_limits(sums)
@@ -176,14 +177,14 @@ class Schedules:
             yield f"value {value:.12g} is above bound {bound:.12g}"
 
     def above_limits(self, sums: pd.DataFrame) -> Iterator[str]:
-        """Where a year of a schedule, of sums by year, is above a limit."""
+        """Yields the years of a schedule that exceed a limit."""
         for (name, ramps, most), year in product(self.limits, sums.index):
             amount, allowed = sums[name][year], most * ramps[min(int(year), len(ramps)) - 1]
             if amount > allowed * (1 + 1e-8) + CENT:
                 yield f"year {year}: {name} {amount:.10g} above {allowed:.10g}"
 
     def dug(self, held: pd.DataFrame) -> pd.DataFrame:
-        """A row a year of the one schedule, as a scenario digs it; ore that is milled is no number where several limits choose it."""
+        """Returns one row per year of the common schedule in a scenario; mill feed is nan if several limits select it."""
         rows = []
         of_mill = [(name, ramps, most) for name, ramps, most in self.limits if name != ROCK]
         for year in range(1, int(self.one.year.max()) + 1):
@@ -210,16 +211,16 @@ class Schedules:
 
 
 def by_year(amounts: pd.Series, year: np.ndarray) -> np.ndarray:
-    """Sums by year, from the first."""
+    """Returns sums by year, from the first."""
     return np.bincount(year, amounts, minlength=1)[1:]
 
 
 @dataclass(frozen=True)
 class Tables:
-    """The tables of schedules, laid beside what follows from these.
+    """The tables of schedules, with the expected values.
 
-    dug      a row a year for each scenario, as it digs the one schedule
-    planned  tonnes of ore of each year that the one schedule has on the mean
+    dug      one row per year of the common schedule, for each scenario
+    planned  mill feed of each year of the common schedule at the mean block values, in tonnes
     """
 
     schedules: Schedules
@@ -231,7 +232,7 @@ class Tables:
         return self.schedules.whole.folder.scenarios
 
     def read(self, name: str) -> pd.DataFrame:
-        path, codes = self.schedules.whole.folder.tables / name, {"realisation": str, "status": str}
+        path, codes = self.schedules.whole.folder.tables / TABLES / name, {"realisation": str, "status": str}
         return pd.read_csv(path, dtype=codes, keep_default_na=False, na_values=[""])
 
     @cached_property
@@ -240,7 +241,7 @@ class Tables:
 
     @property
     def solved(self) -> pd.DataFrame:
-        """The rows of the scenarios that have an answer, whatever they say of it."""
+        """The rows of scenarios with a result."""
         return self.rows[self.rows["scenario"].isin([it.number for it in self.schedules.whole.folder.answered])]
 
     @cached_property
@@ -248,7 +249,7 @@ class Tables:
         return self.read(YEARS)
 
     def of_one(self) -> list[str]:
-        """Where the years of the one schedule are not what a scenario makes of them, or it earns more than the scenario's bound."""
+        """Returns differences of the years of the common schedule in a scenario, and an NPV above the scenario's bound."""
         found: list[str] = []
         for scenario, dug in zip(self.scenarios, self.dug):
             said = self.years[self.years["scenario"] == scenario.number].set_index("year")
@@ -266,7 +267,7 @@ class Tables:
 
     def unlike_years(self, said: pd.DataFrame, dug: pd.DataFrame) -> Iterator[str]:
         expected = dug.assign(**{PLANNED: self.planned[: len(dug)]})
-        # Of several limits what is milled and left may be any that earns as much.
+        # With several limits any selection with equal gain may be milled.
         expected[ORE], expected[LEFT] = (expected[name].fillna(said[name]) for name in (ORE, LEFT))
         for name in (ROCK, ORE, LEFT, PLANNED, "cash_flow", "discounted_cash_flow"):
             slack = CENT + (1e-7 if name in ("cash_flow", "discounted_cash_flow") else 1e-9) * expected[name].abs()
@@ -280,7 +281,7 @@ class Tables:
         )
 
     def of_all(self) -> list[str]:
-        """Where schedules.csv, the blocks, the quantiles or the record differ."""
+        """Returns differences of schedules.csv, blocks, quantiles and record."""
         if self.rows["scenario"].tolist() != [scenario.number for scenario in self.scenarios]:
             return [f"{TABLE}: has rows of scenarios {self.rows['scenario'].tolist()[:TOLD]} and so on"]
         rows = self.rows.set_index("scenario")
@@ -301,7 +302,7 @@ class Tables:
         return [*found, *self.unlike_blocks(), *self.unlike_quantiles(), *self.unlike_record()]
 
     def unlike_row(self, row: Any, scenario: Scenario) -> Iterator[str]:
-        """Where a row of schedules.csv differs."""
+        """Yields differences of a row of schedules.csv."""
         years = self.years[self.years["scenario"] == scenario.number]
         expected: dict[str, float] = {f"price_{metal}": float(price) for metal, price in scenario.prices.items()}
         expected |= {
@@ -321,7 +322,7 @@ class Tables:
                 yield f"{name} {row[name]:.12g} for {amount:.12g}"
 
     def unlike_blocks(self) -> list[str]:
-        """Where the blocks of the one schedule have another year or share than it."""
+        """Returns differences of years and shares of blocks from the common schedule."""
         told, one, ground = self.schedules.whole.folder.told, self.schedules.one, self.schedules.ground
         off = (told["year"].to_numpy() != one.year) | ~(np.abs(told["share_mill"].to_numpy() - one.share) <= SLIGHT)
         rows = np.flatnonzero(off)[:TOLD]
@@ -331,7 +332,7 @@ class Tables:
         ]
 
     def unlike_quantiles(self) -> list[str]:
-        """Where quantiles.csv does not follow from the rows, of each set of prices."""
+        """Returns differences of quantiles.csv from the rows, by price deck."""
         written, solved = self.read(QUANTILES), self.solved
         names = [name for name in solved if name.startswith("price_")]
         sets = [
@@ -342,7 +343,7 @@ class Tables:
         for prices in sets:
             rows, mine = at_prices(solved, prices), at_prices(written, prices)
             if len(mine) != 1 or mine["realisations"].iloc[0] != len(rows):
-                found.append(f"{QUANTILES}: {prices}: {len(mine)} rows, of which the first has not {len(rows)} models")
+                found.append(f"{QUANTILES}: {prices}: expected one row, of {len(rows)} realisations")
                 continue
             said = {
                 name: {word: float(mine[f"{name}_{word}"].iloc[0]) for word in spread(rows[name])} for name in VALUES
@@ -351,7 +352,7 @@ class Tables:
         return found
 
     def unlike_record(self) -> Iterator[str]:
-        """Where common_schedule.json differs."""
+        """Yields differences of common_schedule.json."""
         told = json.loads((self.schedules.whole.folder.tables / RECORD).read_text(encoding="utf-8"))
         solved, one = self.solved, self.schedules.one.row
         ramps = next(ramps for name, ramps, _ in self.schedules.limits if name == ORE)
@@ -377,7 +378,7 @@ class Tables:
 
 
 def at_prices(rows: pd.DataFrame, prices: dict[str, float]) -> pd.DataFrame:
-    """The rows of a set of prices, by the names of columns."""
+    """Returns the rows of a price deck, given by the names of columns."""
     mine = np.ones(len(rows), dtype=bool)
     for name, price in prices.items():
         mine &= (rows[name] == price).to_numpy()
@@ -385,14 +386,14 @@ def at_prices(rows: pd.DataFrame, prices: dict[str, float]) -> pd.DataFrame:
 
 
 def spread(values: pd.Series) -> dict[str, float]:
-    """Mean, least, greatest and quantiles."""
+    """Returns mean, minimum, maximum and quantiles."""
     rising = sorted(values.tolist())
     found = {"mean": math.fsum(rising) / len(rising), "least": rising[0], "greatest": rising[-1]}
     return found | {name: between(rising, share) for name, share in SHARES.items()}
 
 
 def unlike_spreads(said: dict[str, Any], rows: pd.DataFrame) -> Iterator[str]:
-    """Where the spread of values, of bounds or of what the one schedule earns is told as another."""
+    """Yields differences of the statistics of NPVs, bounds and the common schedule."""
     for name in VALUES:
         for word, amount in spread(rows[name]).items():
             if not abs(said[name][word] - amount) <= CENT + 1e-9 * abs(amount):

@@ -1,4 +1,4 @@
-"""A schedule by block anew, from the years of blocks, the project and its table: order, limits, what years hold, and what they earn."""
+"""Verifies a schedule by block from the years of blocks, the project and its table: order, limits, annual sums, and NPV."""
 
 from __future__ import annotations
 
@@ -25,12 +25,12 @@ from .schedule import CENT, discount
 
 FILE, CASE = "block_schedule.json", "block"
 SLIGHT = 1e-6
-# By process the share of each block that goes there.
+# The share of each block that goes to a process, by process.
 Shares = list[tuple[str, np.ndarray]]
 
 
 def verify(answer: Answer) -> list[Rule]:
-    """Four rules."""
+    """Verifies constraints, order, limits and values."""
     told = json.loads((answer.folder / FILE).read_text(encoding="utf-8"))
     flows = flows_of(answer)
     sums = flows.groupby(answer.said[YEAR].to_numpy()).sum()
@@ -44,10 +44,10 @@ def verify(answer: Answer) -> list[Rule]:
 
 
 def verify_fixed(answer: Answer) -> Optional[Rule]:
-    """What must be dug is dug, and what may not be is not, nor what needs it."""
-    if answer.project.fixed is None:
+    """Verifies that must-mine blocks are mined, and excluded blocks and those that depend on them are not."""
+    if answer.project.constraints is None:
         return None
-    year, (must, never) = answer.said[YEAR].to_numpy(), fixed.demanded(answer, answer.project.fixed)
+    year, (must, never) = answer.said[YEAR].to_numpy(), fixed.demanded(answer, answer.project.constraints)
     left, dug = np.flatnonzero(must & (year == 0)), np.flatnonzero(never & (year > 0))
     differences = [f"{answer.called(row)} is must-mine, and is in no year" for row in left[:TOLD]]
     differences += [f"{answer.called(row)} is excluded, and is in year {year[row]}" for row in dug[:TOLD]]
@@ -60,7 +60,7 @@ def verify_fixed(answer: Answer) -> Optional[Rule]:
 
 
 def flows_of(answer: Answer) -> pd.DataFrame:
-    """What each block of rock, dug in its year, holds as it is milled, and its cash at the prices of the year."""
+    """Returns the amounts of each mined block with tonnes, and its cash flow at the prices of its year."""
     shares = shares_of(answer)
     columns = {"total_tonnes": answer.tonnes, "feed_tonnes": sum(share for _, share in shares) * answer.feed}
     columns |= {f"feed_tonnes_{name}": share * answer.feed for name, share in shares if name}
@@ -76,12 +76,12 @@ def flows_of(answer: Answer) -> pd.DataFrame:
 
 
 def sums_asked(answer: Answer) -> tuple[Sum, ...]:
-    rules = answer.project.schedule_rules
+    rules = answer.project.schedule
     return rules.limits if rules else ()
 
 
 def sum_of(answer: Answer, asked: Sum, shares: Shares) -> np.ndarray:
-    """What each block adds to a sum of a column: of what is dug, or of what is milled, in one process or in any."""
+    """Returns what each block adds to a limited sum of a column: of total material, of mill feed, or of one process."""
     milled = sum((share for name, share in shares if asked.of in ("feed", name)), np.zeros(len(answer.rows)))
     counted = np.ones(len(answer.rows)) if asked.of == "total" else milled
     tonnes = answer.tonnes if asked.of == "total" else answer.undiluted
@@ -89,14 +89,14 @@ def sum_of(answer: Answer, asked: Sum, shares: Shares) -> np.ndarray:
 
 
 def quantity(answer: Answer, number: int, shares: Shares) -> np.ndarray:
-    """What is recovered of a metal of each block: tonnes, or grams."""
-    grades = [recovered(way.metals[number], answer.rows, way) for way in answer.project.ways]
+    """Returns the recovered metal of each block, in tonnes or grams."""
+    grades = [recovered(way.metals[number], answer.rows, way) for way in answer.project.by_process]
     whole = sum(share * grade for (_, share), grade in zip(shares, grades))
     return whole * answer.undiluted * float(GRADE_UNITS[answer.project.metals[number].unit])
 
 
 def more_by_years(answer: Answer, flows: pd.DataFrame) -> np.ndarray:
-    """What each block earns more by the prices of its year."""
+    """Returns the gain of each block by the prices of its year."""
     year, more = answer.said[YEAR].to_numpy(), np.zeros(len(flows))
     for each in np.unique(year[year > 0]).tolist():
         premium = sum(
@@ -108,13 +108,13 @@ def more_by_years(answer: Answer, flows: pd.DataFrame) -> np.ndarray:
 
 
 def shares_of(answer: Answer) -> Shares:
-    """The share of each block that goes to each process, by its name; the mill of a project that names none has no name here."""
+    """Returns the share of each block that goes to a process, by process; without named processes the name is empty."""
     names = {process.name: process.name for process in answer.project.processes} or {"": "mill"}
     return [(name, answer.said[SHARE + column].to_numpy()) for name, column in names.items()]
 
 
 def verify_order(answer: Answer, told: dict[str, Any]) -> Rule:
-    """No block is dug before one of its whole cone, nor behind the last year, and none goes to processes in more than one whole."""
+    """Verifies that no block is mined before its whole cone or after the last year, and that its shares sum to at most 1."""
     year = answer.said[YEAR].to_numpy()
     dated = replace(answer, said=answer.said.assign(revenue_factor=year))
     found = walls.verify(dated)
@@ -127,13 +127,13 @@ def verify_order(answer: Answer, told: dict[str, Any]) -> Rule:
     wrong |= (whole > 1 + SLIGHT) | (np.min(shares, axis=0) < -SLIGHT)
     wrong |= (year == 0) & (whole > SLIGHT)
     rows = np.flatnonzero(wrong)[:TOLD]
-    differences += [f"{answer.called(row)}: year {year[row]}, of which {whole[row]:.6g} is processed" for row in rows]
+    differences += [f"{answer.called(row)}: year {year[row]}, share processed {whole[row]:.6g}" for row in rows]
     holds = "no block is mined before all blocks of its slope cone"
     return rule("block order", holds, differences, found.count + int(wrong.sum()))
 
 
 def verify_limits(answer: Answer, told: dict[str, Any], sums: pd.DataFrame) -> Rule:
-    """No year is above a limit, the mill's ramp-up among them, nor holds less than the least."""
+    """Verifies that no year exceeds a limit, ramp-up included, or falls below a minimum."""
     differences = []
     for name, ramps, most in limits_of(answer):
         if told["limits"].get(name) != most:
@@ -142,7 +142,7 @@ def verify_limits(answer: Answer, told: dict[str, Any], sums: pd.DataFrame) -> R
             allowed = most * ramps[min(int(year), len(ramps)) - 1]
             if amount > allowed * (1 + 1e-8) + CENT:
                 differences.append(f"year {year}: {name} {amount:.10g} above {allowed:.10g}")
-    rules = answer.project.schedule_rules
+    rules = answer.project.schedule
     expected = {"ramp_up": list(rules.ramp_up) if rules else [1.0]} | (
         {"years": rules.years} if rules and rules.years else {}
     )
@@ -165,8 +165,8 @@ def verify_limits(answer: Answer, told: dict[str, Any], sums: pd.DataFrame) -> R
 
 
 def least_of(answer: Answer) -> Iterator[tuple[str, float]]:
-    """Name of an amount that has a least by year, and this."""
-    rules = answer.project.schedule_rules
+    """Yields the name of an amount with a minimum, and its minima by year."""
+    rules = answer.project.schedule
     for name, least in (rules.minimum if rules else {}).items():
         kind = "feed_tonnes" if name == "feed" else "total_tonnes" if name == "total" else f"recovered_{name}"
         kind = f"feed_tonnes_{name}" if name in {process.name for process in answer.project.processes} else kind
@@ -176,8 +176,8 @@ def least_of(answer: Answer) -> Iterator[tuple[str, float]]:
 
 
 def limits_of(answer: Answer) -> Iterator[tuple[str, tuple[float, ...], float]]:
-    """Name of an amount, the shares of its limit in the first years, and the limit."""
-    rules, shells = answer.project.schedule_rules, answer.project.schedule
+    """Yields the name of an amount, its ramp-up, and its limit."""
+    rules, shells = answer.project.schedule, answer.project.shells
     of_mill = rules.ramp_up if rules else (1.0,)
     yield "feed_tonnes", of_mill, (rules and rules.processing_capacity) or shells.processing_capacity
     rock = (rules and rules.mining_capacity) or shells.mining_capacity
@@ -193,7 +193,7 @@ def limits_of(answer: Answer) -> Iterator[tuple[str, tuple[float, ...], float]]:
 
 
 def verify_value(answer: Answer, told: dict[str, Any], sums: pd.DataFrame) -> Rule:
-    """Years.csv is the sums of blocks, cash is discounted as the project asks, and the value is the sum of it and not above the bound."""
+    """Verifies that years.csv has the sums of blocks and discounted cash flow, and that the NPV is their sum and at most the bound."""
     assert answer.years is not None
     said = answer.years[answer.years["case"] == CASE].set_index("year")
     last = int(sums.index.max()) if len(sums) else 0

@@ -1,5 +1,5 @@
-"""Blocks that an as-mined surface cuts, recomputed: their tonnes lie below the original ground and below the surface, and those that are
-mined must be dug. By volumes where the original ground is known, otherwise by centres."""
+"""Verifies blocks that an as-mined surface cuts: their tonnes lie below the original ground and the surface, and mined blocks are must-mine
+blocks. By volumes if the original ground is known, otherwise by centroids."""
 
 from __future__ import annotations
 
@@ -7,7 +7,7 @@ from typing import Optional
 
 import numpy as np
 
-from pitplan.config.constraints import FixedRules
+from pitplan.config.constraints import ConstraintRules
 from pitplan.config.survey import SurveyFile
 from pitplan.verification.answer import Answer
 from pitplan.verification.read_tables import UNCUT
@@ -21,20 +21,20 @@ MINED = 0.05
 
 
 def original_of(answer: Answer) -> Optional[SurveyFile]:
-    rules = answer.project.fixed
+    rules = answer.project.constraints
     return answer.project.table.topography or (rules.topography if rules else None)
 
 
 def verify_cuts(answer: Answer) -> list[Rule]:
-    """What an as-mined surface, or otherwise a topography, leaves of blocks; nothing if the project has neither."""
-    if answer.project.fixed and answer.project.fixed.as_mined:
+    """Verifies the tonnes that an as-mined surface, or otherwise a topography, leaves; no rule if the project has neither."""
+    if answer.project.constraints and answer.project.constraints.as_mined:
         return [verify(answer)]
     return [topography.verify(answer)] if answer.project.table.topography else []
 
 
 def verify(answer: Answer) -> Rule:
-    """Checks that the tonnes of blocks in sampled columns are those that remain."""
-    original, rules = original_of(answer), answer.project.fixed
+    """Verifies the tonnes of blocks in sampled columns."""
+    original, rules = original_of(answer), answer.project.constraints
     assert rules is not None and rules.as_mined is not None
     if original is None:
         return verify_by_centres(answer, rules.as_mined)
@@ -42,7 +42,7 @@ def verify(answer: Answer) -> Rule:
     differences = told(answer, (after < 0) | (after > before + GRAM), before)
     for exactly, missed in ((False, MISSED), (True, HAIR)):
         whole, left = shares(answer, original, rules.as_mined, exactly)
-        # Tonnes of the table are whole blocks', or those below the original ground.
+        # The table has the tonnes of whole blocks, or those below the original ground.
         due, of = before * left, 1.0 if answer.project.table.topography else whole
         differences += told(answer, np.abs(after * of - due) > 2 * GRAM + missed * before, due)
     where = f"in {EXACTLY:,} columns of blocks at most exactly, in {MANY:,} at most by {ACROSS**2} heights to a tenth"
@@ -50,7 +50,7 @@ def verify(answer: Answer) -> Rule:
 
 
 def verify_by_centres(answer: Answer, file: SurveyFile) -> Rule:
-    """A block above the surface has no tonnes, and every other has the table's or none."""
+    """Verifies that blocks above the surface have no tonnes, and the others those of the table or none."""
     before, after = answer.rows[UNCUT].to_numpy(), answer.tonnes
     wrong = (surface.above(answer, file) & (after != 0)) | ((after != 0) & (np.abs(after - before) > GRAM))
     differences = told(answer, wrong, np.where(surface.above(answer, file), 0.0, before))
@@ -62,8 +62,7 @@ def verify_by_centres(answer: Answer, file: SurveyFile) -> Rule:
 
 
 def shares(answer: Answer, original: SurveyFile, mined: SurveyFile, exactly: bool) -> tuple[np.ndarray, np.ndarray]:
-    """For each row the share of the block below the original ground, and the share below both surfaces; nan in columns that are not
-    sampled."""
+    """Returns the share of each block below the original ground, and below both surfaces, shape (rows,); nan in columns that are not sampled."""
     level, row, column = answer.cells
     places, place = np.unique(np.stack([row, column], axis=1), axis=0, return_inverse=True)
     numbers = some(len(places), EXACTLY if exactly else MANY)
@@ -80,8 +79,8 @@ def shares(answer: Answer, original: SurveyFile, mined: SurveyFile, exactly: boo
     return whole, left
 
 
-def surely_mined(answer: Answer, rules: FixedRules) -> np.ndarray:
-    """A truth for each row: whether so much of the block is mined that it must be dug, however roughly its volumes are taken."""
+def surely_mined(answer: Answer, rules: ConstraintRules) -> np.ndarray:
+    """Returns whether so much of each block is mined that it is a must-mine block in spite of the sampling error, shape (rows,)."""
     assert rules.as_mined is not None
     original, rock = original_of(answer), answer.rows[UNCUT].to_numpy() > 0
     if original is None:

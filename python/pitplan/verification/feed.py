@@ -1,4 +1,4 @@
-"""What of each block comes to the mill, anew: the tonnes that mining leaves of it, what dilutes them, and how much metal is recovered."""
+"""Recomputes the mill feed of blocks: mining recovery, dilution, and recovered metal."""
 
 from __future__ import annotations
 
@@ -12,12 +12,12 @@ from pitplan.config.economics import ByCode, ByDomain, Curve, Metal, Recovery
 from pitplan.config.project import Project
 from pitplan.config.table import TableColumns
 
-# Where a recovery is so few millionths from the middle of two, the nearer one is told exactly.
+# A recovery this close to a half, in millionths, is computed exactly.
 NEAR = 1e-3
 
 
 def by_code(value: ByCode, rows: pd.DataFrame, columns: TableColumns) -> np.ndarray:
-    """One number a row, by its rock or its region; 0 where its code has none."""
+    """Returns a number per row by its rock type or domain, shape (rows,); 0 if the code has none."""
     if isinstance(value, Decimal):
         return np.full(len(rows), float(value))
     column, numbers = (columns.domain, value.values) if isinstance(value, ByDomain) else (columns.rock_type, value)
@@ -27,16 +27,16 @@ def by_code(value: ByCode, rows: pd.DataFrame, columns: TableColumns) -> np.ndar
 
 
 def of_code(value: ByCode, rock: str, region: str) -> Decimal:
-    """The number of a block of these codes; 0 where they have none."""
+    """Returns the number of a block of these codes; 0 if they have none."""
     if isinstance(value, Decimal):
         return value
     return value.values.get(region, Decimal(0)) if isinstance(value, ByDomain) else value.get(rock, Decimal(0))
 
 
 def recovered(metal: Metal, rows: pd.DataFrame, project: Project) -> np.ndarray:
-    """By row the grade that is recovered of each tonne of the block itself that comes to the mill, in the column's unit."""
+    """Returns the recovered grade of each row per undiluted tonne that reaches the mill, in the unit of the column."""
     grades, table = rows[metal.column].to_numpy(), project.table
-    tonnes_of = 1 + by_code(project.money.dilution, rows, table)
+    tonnes_of = 1 + by_code(project.economics.dilution, rows, table)
     codes = [
         rows[name].astype(str).to_numpy() if name else np.full(len(rows), "")
         for name in (table.rock_type, table.domain)
@@ -49,13 +49,13 @@ def recovered(metal: Metal, rows: pd.DataFrame, project: Project) -> np.ndarray:
         mine = np.flatnonzero(codes[0] == code)
         share[mine], close = by_grade(recovery, grades[mine] / tonnes_of[mine])
         for row in mine[close].tolist():
-            whole = 1 + of_code(project.money.dilution, codes[0][row], codes[1][row])
+            whole = 1 + of_code(project.economics.dilution, codes[0][row], codes[1][row])
             share[row] = float(at_grade(recovery, Fraction(repr(float(grades[row]))) / Fraction(whole)))
     return np.maximum(grades - by_code(metal.tail_grade, rows, table) * tonnes_of, 0.0) * share
 
 
 def by_grade(recovery: Recovery, head: np.ndarray) -> tuple[np.ndarray, np.ndarray]:
-    """Recoveries at grades of what comes to the mill, to the millionth where they go by these, and whether two millionths are as near."""
+    """Returns recoveries at head grades, to a millionth if they depend on these, and whether each is near a half."""
     if not isinstance(recovery, Curve):
         return np.full(len(head), float(recovery)), np.zeros(len(head), dtype=bool)
     parts = 1e6 * np.interp(head, *np.array(recovery.points, dtype=np.float64).T)
@@ -63,7 +63,7 @@ def by_grade(recovery: Recovery, head: np.ndarray) -> tuple[np.ndarray, np.ndarr
 
 
 def at_grade(recovery: Recovery, head: Fraction) -> Decimal:
-    """The recovery at a grade of what comes to the mill, to the millionth where it goes by that."""
+    """Returns the exact recovery at a head grade, to a millionth if it depends on that."""
     if not isinstance(recovery, Curve):
         return recovery
     points = [(Fraction(grade), Fraction(share)) for grade, share in recovery.points]

@@ -1,24 +1,24 @@
-"""Fixed blocks, air and unknown ground, and the nesting of what is written."""
+"""Verifies must-mine and excluded blocks, and the cells of blocks."""
 
 from __future__ import annotations
 
 import numpy as np
 from matplotlib.path import Path as Outline
 
-from pitplan.config.constraints import FixedRules
+from pitplan.config.constraints import ConstraintRules
 from pitplan.core.revenue_factors import factor_text
 from pitplan.verification.answer import Answer
 from pitplan.verification.rules import TOLD, Rule, rule
 
 from . import depletion, own_columns, survey
 
-# Metres: of a centre that lies at the edge of an area to within so much nothing is demanded.
+# Metres; a centroid this close to the edge of an area may lie on either side.
 HAIR = 1e-6
 
 
 def verify(answer: Answer) -> Rule:
-    """Every block that must be dug is in every shell, none that may not be is in any."""
-    rules, first = answer.project.fixed, answer.said["revenue_factor"].to_numpy()
+    """Verifies that every must-mine block is in every shell, and no excluded block in any."""
+    rules, first = answer.project.constraints, answer.said["revenue_factor"].to_numpy()
     if rules is None:
         return rule("fixed", "the project has no constraints", [])
     must, never = demanded(answer, rules)
@@ -37,8 +37,8 @@ def verify(answer: Answer) -> Rule:
     return rule("fixed", holds, differences, len(left) + len(dug))
 
 
-def demanded(answer: Answer, rules: FixedRules) -> tuple[np.ndarray, np.ndarray]:
-    """Which blocks of rock must be dug, and which may not be; the same for all answers to one project and table."""
+def demanded(answer: Answer, rules: ConstraintRules) -> tuple[np.ndarray, np.ndarray]:
+    """Returns masks of must-mine and excluded blocks, shape (rows,)."""
     if "fixed" not in answer.found:
         rock = answer.tonnes > 0
         must, never = marked(answer, rules.must_mine) & rock, marked(answer, rules.exclude)
@@ -55,7 +55,7 @@ def marked(answer: Answer, column: str | None) -> np.ndarray:
 
 
 def within(answer: Answer, polygons: list[list[np.ndarray]], inside: bool) -> np.ndarray:
-    """Blocks with their centre in one of some polygons, or out of all; of those at the very edge of one none."""
+    """Returns whether the centroid of each block lies in a polygon, or outside all; False at the edge of one."""
     columns = answer.project.table
     centres, place = np.unique(answer.rows[[columns.x, columns.y]].to_numpy(), axis=0, return_inverse=True)
     surely, perhaps = (np.zeros(len(centres), dtype=bool) for _ in range(2))
@@ -67,17 +67,17 @@ def within(answer: Answer, polygons: list[list[np.ndarray]], inside: bool) -> np
 
 
 def in_ring(centres: np.ndarray, corners: np.ndarray) -> tuple[np.ndarray, np.ndarray]:
-    """Which centres lie in a ring, without those at its very edge and with them."""
+    """Returns which centroids lie in a ring, without those at its edge and with them."""
     middle = corners.mean(axis=0)
     outline = Outline(corners - middle)
     one, other = (outline.contains_points(centres - middle, radius=radius) for radius in (-HAIR, HAIR))
-    # By which way the ring goes round either is the wider.
+    # Depending on the orientation of the ring either is the wider.
     return one & other, one | other
 
 
 def verify_places(answer: Answer) -> Rule:
-    """Each block lies in a cell of its own, at its centre, and bears its number and the planner's own fields; a shell's factor is one of the
-    list."""
+    """Verifies that each block is in a cell of its own, at its centre, with the id of the cell and the planner's fields, and that revenue factors
+    are those of the project."""
     rules, (differences, count) = answer.project.grid, own_columns.unlike(answer)
     tolerance = rules.tolerance
     if rules.azimuth is not None and rules.azimuth != answer.azimuth:

@@ -1,4 +1,4 @@
-"""Roads of blocks by geometry, and what hauling along them costs: all by floats, and exactly, by decimals, a sample."""
+"""Verifies haul distances by geometry, and haulage costs: by floats for all blocks, and by exact decimals for a sample."""
 
 from __future__ import annotations
 
@@ -15,12 +15,12 @@ from pitplan.verification.rules import TOLD, Rule, rule
 from .turned import places_of
 
 ROAD, WASTE, MORE = HAULED
-# Metres: roads are kept to a millimetre.
+# Metres; haul distances are rounded to a millimetre.
 SLIGHT = 0.51e-3
 
 
 def verify(answer: Answer, chosen: np.ndarray) -> Rule:
-    """Roads are right to a millimetre, and the costs of hauling follow from them, exactly so for the chosen rows."""
+    """Verifies haul distances to a millimetre and haulage costs, those of the chosen rows exactly."""
     rules = answer.project.haulage
     if rules is None:
         return rule("haulage", "the project has no haulage", [])
@@ -29,7 +29,7 @@ def verify(answer: Answer, chosen: np.ndarray) -> Rule:
     differences = [
         f"{answer.called(row)}: haul_distance {told[row]:.10g} for {expected[row]:.10g}" for row in off[:TOLD]
     ]
-    count, unit = len(off), Decimal(1).scaleb(-answer.project.money.decimals)
+    count, unit = len(off), Decimal(1).scaleb(-answer.project.economics.decimals)
     for name, tonnes, kinds in ((WASTE, answer.tonnes, (rules.waste,)), (MORE, answer.feed, (rules.ore, rules.waste))):
         said, due = answer.said[name].to_numpy(), tonnes * rate(told, *kinds)
         far = np.flatnonzero(~(np.abs(said - due) <= 0.51 * float(unit) + 1e-12 * np.abs(due)))
@@ -46,7 +46,7 @@ def verify(answer: Answer, chosen: np.ndarray) -> Rule:
 
 
 def lengths(answer: Answer, rules: Haulage) -> np.ndarray:
-    """Metres of each row's road: from its column's centre to the exit in plan, and a ramp between its bench's floor and the exit."""
+    """Returns the haul distance of each row in metres: in plan from the centroid to the exit, and the ramp from the floor of its bench."""
     grid = answer.record["grid"]
     level, row, column = answer.cells
     x, y = places_of(np.stack([column, row], axis=1), grid).T
@@ -56,7 +56,7 @@ def lengths(answer: Answer, rules: Haulage) -> np.ndarray:
 
 
 def rate(metres: np.ndarray, road: Road, less: Road | None = None) -> np.ndarray:
-    """What a tonne costs along roads to the exit and on, less what it costs along those of another kind."""
+    """Returns the haulage cost per tonne over distances to the exit and beyond, less that of another material."""
     cost = float(road.cost) / 1000 * (metres + float(road.ex_pit_distance))
     return cost if less is None else cost - rate(metres, less)
 
@@ -66,5 +66,5 @@ def a_tonne(metres: float, road: Road) -> Decimal:
 
 
 def roads_of(answer: Answer, rules: Haulage) -> np.ndarray:
-    """As the answer tells them, which the rule above looks at; of rows that it says nothing of by geometry, to a millimetre."""
+    """Returns the haul distances of the folder, which `verify` checks; if it has none those by geometry, to a millimetre."""
     return answer.said[ROAD].to_numpy() if ROAD in answer.said else lengths(answer, rules).round(3)

@@ -1,4 +1,4 @@
-"""What becomes of ore that is divided into bins, anew from the blocks and mill_feed.csv."""
+"""Verifies ore that is divided into bins, from the blocks and mill_feed.csv."""
 
 from __future__ import annotations
 
@@ -11,15 +11,15 @@ import pandas as pd
 from .answer import Answer
 from .written import read_table
 
-# The last place that mill_feed.csv keeps of tonnes, and what a share may be off by the solver's tolerance.
+# The last decimal place of tonnes in mill_feed.csv, and the tolerance of the solver for shares.
 AMOUNT, SHARE = 0.6e-3, 1e-6
-# Of a bench's height, by which its middle may be off.
+# Tolerance of the elevation of a bench, as a share of its height.
 SLIGHT = 1e-6
 KEYS = ["pushback", "level", "bin"]
 
 
 def parcels_of(answer: Answer, edges: list[float]) -> pd.DataFrame:
-    """By pushback, level and bin what the ore adds up to: tonnes, metals and gain."""
+    """Returns the sums of ore by pushback, level and bin: tonnes, metals and gain."""
     gain = (answer.said["revenue"] - answer.said["processing_cost"]).to_numpy()
     with np.errstate(divide="ignore", invalid="ignore"):
         bins = 1 + (gain[:, None] / answer.feed[:, None] > np.array(edges)).sum(axis=1)
@@ -32,23 +32,26 @@ def parcels_of(answer: Answer, edges: list[float]) -> pd.DataFrame:
     return frame[(frame["pushback"] > 0) & answer.ore & (answer.tonnes > 0)].groupby(KEYS).sum()
 
 
-def amounts(
-    answer: Answer, rows: pd.DataFrame, plain: pd.DataFrame, told: dict[str, Any]
-) -> tuple[pd.DataFrame, pd.DataFrame, list[str]]:
-    """What each row of a way's schedule should have, by how much it may be off, and what is wrong in mill_feed.csv. `plain` is what it would
-    have if all ore were milled as it is dug."""
-    table = read_table(answer.folder / "mill_feed.csv", ["method"])
+def feed_of(answer: Answer, rows: pd.DataFrame) -> tuple[pd.DataFrame, list[str]]:
+    """Returns the rows of mill_feed.csv of the methods in `rows`, with the level of each bench, and the elevations that are no bench."""
+    table = read_table(answer.folder / "tables/mill_feed.csv", ["method"])
     table = table[table["method"].isin(rows["method"].unique())].copy()
-    # Of a way that mills nothing there are no rows, by which the reader could tell numbers.
+    # A method that mills nothing has no rows, from which the reader could infer numeric columns.
     table = table.astype(
         {name: float if name.endswith("_tonnes") else int for name in table if name not in ("method", "bench")}
     )
     steps = ((answer.elevations[0] - table["bench"]) / answer.size[2]).astype(float)
     table["level"] = np.rint(steps).astype(int)
-    lost = [
-        f"mill_feed.csv: {z:.10g} is the middle of no bench"
-        for z in table["bench"][(steps - table["level"]).abs() > SLIGHT].unique()
-    ]
+    off = table["bench"][(steps - table["level"]).abs() > SLIGHT].unique()
+    return table, [f"mill_feed.csv: {z:.10g} is the middle of no bench" for z in off]
+
+
+def amounts(
+    answer: Answer, rows: pd.DataFrame, plain: pd.DataFrame, told: dict[str, Any]
+) -> tuple[pd.DataFrame, pd.DataFrame, list[str]]:
+    """Returns the expected amounts of each row of a method, their tolerances, and the differences of mill_feed.csv. `plain` are the amounts if all
+    ore were milled directly."""
+    table, lost = feed_of(answer, rows)
     whole = parcels_of(answer, told["edges"])
     of_parcel = whole.reindex(pd.MultiIndex.from_frame(table[KEYS])).reset_index(drop=True).astype(float)
     table = table.reset_index(drop=True)
@@ -58,7 +61,7 @@ def amounts(
     flows = of_parcel.mul(milled / of_parcel["feed_tonnes"], axis=0)
     cost = told["reclaim_cost"]
     flows["gain"] -= (cost or 0.0) * table["reclaimed_tonnes"]
-    # A thousandth of a tonne of a parcel is worth so much.
+    # The value of a thousandth of a tonne of a parcel.
     slack = of_parcel.abs().mul(2 * AMOUNT / of_parcel["feed_tonnes"], axis=0)
     slack["gain"] += (cost or 0.0) * AMOUNT
     keys = [table["year"], table["pushback"], table["level"]]
@@ -83,8 +86,8 @@ def amounts(
 
 
 def unlike_cutoffs(table: pd.DataFrame, told: dict[str, Any]) -> list[str]:
-    """Years whose cut-off is not the lower edge of the poorest bin of which some is milled as it is dug, or of one of which less is than
-    mill_feed.csv shows."""
+    """Returns the years whose cut-off is not the lower edge of the poorest bin that is milled directly, up to amounts below the decimals of
+    mill_feed.csv."""
     edges = [0.0, *told["edges"]]
     poorest = table[table["milled_tonnes"] > 0].groupby("year")["bin"].min()
     found = []
@@ -96,7 +99,7 @@ def unlike_cutoffs(table: pd.DataFrame, told: dict[str, Any]) -> list[str]:
 
 
 def unlike_rows(table: pd.DataFrame, rows: pd.DataFrame, of_parcel: pd.DataFrame) -> list[str]:
-    """What is dug of a bin and is not the share of its bench, and more that is milled straight than is dug."""
+    """Returns rows whose mined tonnes are not the share of their bench, or that mill more than is mined."""
     keys = ["year", "pushback", "level"]
     share = rows.groupby(keys)["share"].sum().reindex(pd.MultiIndex.from_frame(table[keys]))
     dug = share.fillna(0.0).to_numpy() * of_parcel["feed_tonnes"]
@@ -109,13 +112,13 @@ def unlike_rows(table: pd.DataFrame, rows: pd.DataFrame, of_parcel: pd.DataFrame
         f"year {row.year}, pushback {row.pushback}, bench {row.bench:.10g}, bin {row.bin}"
         for row in table[wrong].itertuples()
     ]
-    return [f"mill_feed.csv, {place}: dug or milled tonnes are wrong" for place in places]
+    return [f"mill_feed.csv, {place}: mined or milled tonnes are wrong" for place in places]
 
 
 def unlike_stock(table: pd.DataFrame, whole: pd.DataFrame, is_stocked: bool) -> list[str]:
-    """Bins of benches of which by the end of a year more is reclaimed than was dug and not milled before it."""
+    """Returns bins of benches from which more is reclaimed by the end of a year than was stockpiled before it."""
     if not is_stocked:
-        return ["ore is reclaimed, and there is no stockpile"] if (table["reclaimed_tonnes"] > 0).any() else []
+        return ["ore is reclaimed without a stockpile"] if (table["reclaimed_tonnes"] > 0).any() else []
     years = range(1, int(table["year"].max()) + 1) if len(table) else range(0)
     dug, milled, reclaimed = (
         table.pivot_table(index=KEYS, columns="year", values=f"{name}_tonnes", aggfunc="sum")

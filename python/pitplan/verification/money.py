@@ -1,4 +1,4 @@
-"""Costs and revenue of blocks anew: all by floats, and exactly, by decimals, those at the edges of shells and a sample of the others."""
+"""Verifies costs and revenue of blocks: all by floats, and by exact decimals those at the edges of shells and a sample of the others."""
 
 from __future__ import annotations
 
@@ -28,10 +28,10 @@ Amounts = tuple[Decimal, Decimal, Decimal]
 
 
 def verify(answer: Answer) -> Rule:
-    """Each amount of blocks.csv is the product of the table's and the project's numbers, rounded once."""
+    """Verifies that each amount of blocks.csv is the product of numbers of the table and the project, rounded once."""
     chosen = sample(answer)
-    # Of one process alone it is the answer itself, which has found some things already.
-    parts = [answer if way is answer.project else replace(answer, project=way) for way in answer.project.ways]
+    # With one process these are the results themselves, which have cached some parts.
+    parts = [answer if way is answer.project else replace(answer, project=way) for way in answer.project.by_process]
     found = [near(part, names) for part, names in zip(parts, answer.amounts_of_ways)]
     differences, count = [said for told, _ in found for said in told], sum(count for _, count in found)
     if not count:
@@ -49,12 +49,12 @@ def verify(answer: Answer) -> Rule:
 
 
 def unlike_best(answer: Answer) -> list[str]:
-    """Blocks whose process, or its revenue and cost, are not those of the process that is worth most at the price as given."""
+    """Returns blocks whose process, or its revenue and cost, are not those of the best process at the base price."""
     names = [process.name for process in answer.project.processes]
-    unit = 10**answer.project.money.decimals
+    unit = 10**answer.project.economics.decimals
     told = [np.rint(answer.said[list(pair)].to_numpy() * unit).astype(np.int64) for pair in answer.amounts_of_ways]
     gains = np.stack([amounts[:, 0] - amounts[:, 1] for amounts in told])
-    # Of several that are worth as much it is the one of least revenue.
+    # Of several with equal value it is the one with the least revenue.
     tied = gains == gains.max(axis=0)
     best = np.where(tied, np.stack([amounts[:, 0] for amounts in told]), np.iinfo(np.int64).max).argmin(axis=0)
     of_best = np.stack(told)[best, np.arange(len(best))]
@@ -67,7 +67,7 @@ def unlike_best(answer: Answer) -> list[str]:
 
 
 def not_exact(answer: Answer, chosen: np.ndarray, names: tuple[str, str]) -> list[str]:
-    """What differs by anything at all, of these rows, by decimals."""
+    """Returns any difference of these rows, by exact decimals."""
     read, differences = Exactly.of(answer), []
     told = [answer.said[name].to_numpy() for name in (MINING, *names)]
     for row in chosen.tolist():
@@ -79,7 +79,7 @@ def not_exact(answer: Answer, chosen: np.ndarray, names: tuple[str, str]) -> lis
 
 
 def sample(answer: Answer) -> np.ndarray:
-    """Rows of blocks at the edge of a shell, and of some others, the same each time."""
+    """Returns rows of blocks at the edge of a shell and of some others, the same each time."""
     dug = answer.dug
     edge = np.zeros(answer.shape, dtype=bool)
     for axis in range(3):
@@ -94,7 +94,7 @@ def sample(answer: Answer) -> np.ndarray:
 
 
 def highest_needed(answer: Answer) -> float:
-    """Metres of the top of the highest block with a row that ore needs; without ore, of the highest there is."""
+    """Returns the elevation of the top of the highest block in a cone of ore; without ore, of the highest block."""
     if "highest" not in answer.found:
         ore, known = np.zeros(answer.shape, dtype=bool), np.zeros(answer.shape, dtype=bool)
         ore[answer.cells], known[answer.cells] = answer.ore, True
@@ -104,8 +104,8 @@ def highest_needed(answer: Answer) -> float:
 
 
 def more_for_depth(answer: Answer, elevation: float) -> Decimal:
-    """What mining a tonne costs more for the depth of a block's centre, in metres of elevation."""
-    money = answer.project.money
+    """Returns the mining cost per tonne that is added for depth, by the elevation of the centroid."""
+    money = answer.project.economics
     if money.mining_cost_by_elevation:
         return between(money.mining_cost_by_elevation, Fraction(repr(round(float(elevation), 6))))
     if not money.mining_cost_per_bench:
@@ -118,7 +118,7 @@ def more_for_depth(answer: Answer, elevation: float) -> Decimal:
 
 
 def between(pairs: tuple[tuple[Decimal, Decimal], ...], elevation: Fraction) -> Decimal:
-    """The cost at an elevation, interpolated exactly and then rounded to a millionth, halves to the even one."""
+    """Returns the cost at an elevation, interpolated exactly and rounded to a millionth, halves to even."""
     heights, costs = ([Fraction(pair[k]) for pair in pairs] for k in (0, 1))
     if len(pairs) == 1:
         return pairs[0][1]
@@ -130,8 +130,8 @@ def between(pairs: tuple[tuple[Decimal, Decimal], ...], elevation: Fraction) -> 
 
 @dataclass(frozen=True)
 class Costs:
-    """What blocks of one rock and region have in common: mining cost of a tonne without what depth adds, processing cost of a tonne, the
-    shares that are told of tonnes, and of each metal the recovery and what every tonne at the mill loses of it."""
+    """Costs of a rock type and domain: mining cost per tonne without depth, processing cost per tonne, mining recovery and dilution, and recovery
+    and tail grade of each metal."""
 
     mining: Decimal
     processing: Decimal
@@ -142,7 +142,7 @@ class Costs:
 
     @staticmethod
     def of(project: Project, rock: str, region: str) -> Costs:
-        money, metals = project.money, project.metals
+        money, metals = project.economics, project.metals
         shares = [
             metal.recovery.get(rock, Decimal(0)) if isinstance(metal.recovery, dict) else metal.recovery
             for metal in metals
@@ -158,7 +158,7 @@ class Costs:
         )
 
     def recovered(self, number: int, grade: Decimal) -> Decimal:
-        """The grade of a metal that is recovered of each tonne of the block itself that comes to the mill."""
+        """Returns the recovered grade of a metal per undiluted tonne that reaches the mill."""
         share, tail = self.recoveries[number], self.tails[number]
         if isinstance(share, Curve):
             share = at_grade(share, Fraction(grade) / Fraction(1 + self.dilution))
@@ -167,13 +167,13 @@ class Costs:
 
 @dataclass(frozen=True)
 class Exactly:
-    """The table's numbers as they are needed to weigh a block by decimals.
+    """Exact numbers of the table, for block values by decimals.
 
-    codes   of each block, of rock and region
+    codes   rock type and domain of each block
     costs   by these codes
-    depths  what mining a tonne costs more, by level from the top
-    roads   metres to the exit of each block as the answer tells them, 0 where the project has no haulage
-    weighed the amounts of blocks that were asked for, by their numbers, since many blocks of waste have the same
+    depths  added mining cost per tonne, by level from the top
+    roads   haul distances of blocks, in metres; 0 without haulage
+    weighed a cache of amounts by their numbers, since many blocks of waste are equal
     """
 
     answer: Answer
@@ -202,7 +202,7 @@ class Exactly:
         return Exactly(answer, answer.tonnes.tolist(), grades, codes, costs, answer.cells[0].tolist(), depths, roads)
 
     def amounts(self, row: int) -> Amounts:
-        """Mining cost, revenue and processing cost of a block."""
+        """Returns mining cost, revenue and processing cost of a block."""
         place = self.level[row], self.roads[row]
         grades = tuple(grades[row] for grades in self.grades)
         numbers = (self.tonnes[row], self.codes[row], place, grades)
@@ -211,8 +211,7 @@ class Exactly:
         return self.weighed[numbers]
 
     def of_numbers(self, rock: float, codes: tuple[str, str], place: tuple[int, float], *grades: float) -> Amounts:
-        """The amounts of a block of so many tonnes of rock, of these codes, on a level and so far from the exit, with a grade of each
-        metal."""
+        """Returns the amounts of a block with given tonnes, codes, level, haul distance and grades."""
         project, tonnes, (level, road) = self.answer.project, Decimal(repr(rock)), place
         costs, rules = self.costs[codes], self.answer.project.haulage
         waste, ore = (
@@ -227,23 +226,23 @@ class Exactly:
             quantity = tonnes * costs.mining_recovery * grade * GRADE_UNITS[metal.unit]
             revenue += quantity * converted(metal, metal.price)
             selling += quantity * converted(metal, metal.selling_cost)
-        unit = Decimal(1).scaleb(-project.money.decimals)
+        unit = Decimal(1).scaleb(-project.economics.decimals)
         processing = (
             tonnes
             * costs.mining_recovery
             * (1 + costs.dilution)
-            * (costs.processing + project.money.royalty_per_tonne + ore - waste)
+            * (costs.processing + project.economics.royalty_per_tonne + ore - waste)
         )
-        amounts = (mining, revenue - revenue * project.money.royalty, processing + selling)
+        amounts = (mining, revenue - revenue * project.economics.royalty, processing + selling)
         mining, revenue, processing = (amount.quantize(unit, ROUND_HALF_EVEN) for amount in amounts)
         return mining, revenue, processing if revenue else Decimal(0)
 
 
 def near(answer: Answer, names: tuple[str, str]) -> tuple[list[str], int]:
-    """What differs by more than a rounding, of all blocks, by floats: the first ten of each name, and how many there are."""
+    """Returns the first ten differences of each name by more than rounding, of all blocks by floats, and their number."""
     mining, revenue, processing = by_floats(answer)
     processing = np.where(answer.said[names[0]] > 0, processing, 0.0)
-    unit, differences, count = 10.0**-answer.project.money.decimals, [], 0
+    unit, differences, count = 10.0**-answer.project.economics.decimals, [], 0
     for name, amounts in zip((MINING, *names), (mining, revenue, processing)):
         said = answer.said[name].to_numpy()
         off = np.flatnonzero(np.abs(said - amounts) > 0.51 * unit + 1e-12 * np.abs(amounts))
@@ -253,8 +252,8 @@ def near(answer: Answer, names: tuple[str, str]) -> tuple[list[str], int]:
 
 
 def by_floats(answer: Answer) -> tuple[np.ndarray, np.ndarray, np.ndarray]:
-    """Mining cost, revenue, and cost of processing and selling of each block, as floats that are not rounded."""
-    money, columns = answer.project.money, answer.project.table
+    """Returns mining cost, revenue, and processing and selling cost of each block, as unrounded floats."""
+    money, columns = answer.project.economics, answer.project.table
     deeper = np.array([float(more_for_depth(answer, z)) for z in answer.elevations])
     a_tonne = by_code(money.mining_cost, answer.rows, columns) + deeper[answer.cells[0]]
     if rules := answer.project.haulage:
@@ -263,8 +262,8 @@ def by_floats(answer: Answer) -> tuple[np.ndarray, np.ndarray, np.ndarray]:
 
 
 def gains_by_floats(answer: Answer) -> tuple[np.ndarray, np.ndarray]:
-    """Revenue, and cost of processing and selling of each block, as floats that are not rounded."""
-    project, money, columns = answer.project, answer.project.money, answer.project.table
+    """Returns revenue, and processing and selling cost of each block, as unrounded floats."""
+    project, money, columns = answer.project, answer.project.economics, answer.project.table
     revenue, selling = np.zeros(len(answer.rows)), np.zeros(len(answer.rows))
     for metal in project.metals:
         quantity = answer.quantities[metal.name]

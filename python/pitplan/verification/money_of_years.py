@@ -1,4 +1,4 @@
-"""What years earn and cost besides what is dug at the price as given, anew: prices of their own, fixed costs and capex."""
+"""Recomputes period costs: yearly prices, fixed costs and capex."""
 
 from __future__ import annotations
 
@@ -13,11 +13,11 @@ HAIR = 1e-9
 
 
 def premiums(project: Project, year: int) -> dict[str, float]:
-    """By the name of a metal's amount what a unit of it earns more in a year, numbered from 1, than at the price as given."""
+    """Returns for each amount of metal the gain per unit in a year, from 1, over the base price."""
     return {
         f"recovered_{metal.name}": float(
             (converted(metal, metal.prices[min(year, len(metal.prices)) - 1]) - converted(metal, metal.price))
-            * (1 - project.money.royalty)
+            * (1 - project.economics.royalty)
         )
         for metal in project.metals
         if metal.prices
@@ -25,7 +25,7 @@ def premiums(project: Project, year: int) -> dict[str, float]:
 
 
 def more_by_prices(project: Project, rows: pd.DataFrame) -> np.ndarray:
-    """What each row, which has a year and metals, earns more by the prices of its year."""
+    """Returns the gain of each row, which has a year and metals, by the prices of its year."""
     more = np.zeros(len(rows))
     for year in rows["year"].unique():
         mine = (rows["year"] == year).to_numpy()
@@ -35,7 +35,7 @@ def more_by_prices(project: Project, rows: pd.DataFrame) -> np.ndarray:
 
 
 def most_premium(project: Project) -> float:
-    """The sum over all metals of the greatest that a unit earns more or less in any year."""
+    """Returns the sum over metals of the largest absolute gain per unit in any year."""
     years = range(1, 1 + max((len(metal.prices) for metal in project.metals), default=0))
     return (
         sum(max(abs(premiums(project, year)[name]) for year in years) for name in premiums(project, 1))
@@ -45,5 +45,5 @@ def most_premium(project: Project) -> float:
 
 
 def capex(project: Project, year: int) -> float:
-    """What is spent at the start of a year."""
-    return sum(float(amount) for at, amount in project.money.capex if at == year)
+    """Returns the capex at the start of a year."""
+    return sum(float(amount) for at, amount in project.economics.capex if at == year)

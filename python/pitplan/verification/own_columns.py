@@ -1,4 +1,4 @@
-"""The planner's own columns in the answer's file of blocks: each field is what the table says of the block."""
+"""Verifies the planner's own columns in blocks.csv: each field is that of the table."""
 
 from __future__ import annotations
 
@@ -8,13 +8,12 @@ from pitplan.verification.answer import Answer
 from pitplan.verification.read_tables import UNCUT
 from pitplan.verification.rules import TOLD
 
-# Numbers are told with 15 digits at least.
+# Relative tolerance; numbers are written with at least 15 digits.
 DIGITS = 1e-14
 
 
 def unlike(answer: Answer) -> tuple[list[str], int]:
-    """Fields of blocks that are not the table's, the first ten of each column, and how many there are. Of what a topography cuts, and of rows
-    that are put together or stand for cells without rows, the answer's own are looked at elsewhere."""
+    """Returns the first ten differences of each column, and their number. Other rules verify cut tonnes, reblocked rows and filled blocks."""
     differences, count = [], 0
     for name in answer.rows.columns.drop(UNCUT, errors="ignore"):
         if name not in answer.own:

@@ -1,4 +1,4 @@
-"""Whether the table that was written back holds the planner's own, field by field, and of each block what blocks.csv says."""
+"""Verifies an exported table: the planner's own fields, and the results of blocks.csv for each block."""
 
 from __future__ import annotations
 
@@ -23,11 +23,11 @@ from .turned import steps_of
 
 NAME = "table.csv"
 FOUND = ("revenue_factor", "process_revenue_factor", "pushback", "year")
-HOLDS = "table.csv has the planner's rows in their order, each field as it stands there, and each block's own factors, pushback and year"
+HOLDS = "table.csv has the planner's rows and fields in their order, and the revenue factors, pushback and year of each block"
 
 
 def verify(answer: Answer, path: Path) -> Rule:
-    """Row by row, the header with them; `path` is where the table that was written back stands."""
+    """Verifies the exported table at `path` row by row, header included."""
     project = answer.project
     expected, written = lines_due(answer), lines_of(path, project)
     differences = [
@@ -43,18 +43,18 @@ def told(fields: list[str] | None) -> str:
 
 
 def lines_due(answer: Answer) -> Iterator[list[str]]:
-    """The fields of each line of the planner's table, with those of its block behind them."""
+    """Yields the fields of each line of the planner's table, followed by the results of its block."""
     project, found = answer.project, found_of(answer)
     lines = lines_of(project.table.file, project)
     names = next(lines)
     yield [own_name(name) if name in FOUND else name for name in names] + list(found.columns)
     for fields, numbers in zip_longest(lines, found.itertuples(index=False), fillvalue=()):
-        # A line may leave out fields at its end.
+        # A line may lack its last fields.
         yield [*fields, *[""] * (len(names) - len(fields)), *map(str, numbers)]
 
 
 def found_of(answer: Answer) -> pd.DataFrame:
-    """For each row of the table what is said of the block whose centre is nearest, 0 where that is none of the answer's."""
+    """Returns for each row of the table the results of the block with the nearest centroid, 0 if the folder has no such block."""
     columns, shape = answer.project.table, np.array(answer.shape)
     centres = reader.read(answer.project).frame[[columns.x, columns.y, columns.z]].to_numpy()
     east, north, up = np.rint(steps_of(centres, answer.record["grid"])).astype(np.int64).T
@@ -68,7 +68,7 @@ def found_of(answer: Answer) -> pd.DataFrame:
 
 
 def lines_of(path: Path, project: Project) -> Iterator[list[str]]:
-    """The fields of each line that has any, in the format of the planner's table."""
+    """Yields the fields of each line that is not empty, in the format of the planner's table."""
     form = format_of(project.table.file, project.table)
     with opened(path) as data, io.TextIOWrapper(data, encoding=form.encoding, newline="") as text:
         yield from (fields for fields in csv.reader(text, delimiter=form.separator) if fields)

@@ -1,4 +1,4 @@
-"""Prices of a metal for a unit of its quantity, converted a second time."""
+"""Converts prices of a metal to its unit, independently of the planner."""
 
 from __future__ import annotations
 
@@ -18,7 +18,7 @@ KILOGRAMS = {
 
 
 def converted(metal: Metal, price: Decimal) -> Decimal:
-    """Money for a tonne, or for a gram if the grade is in grams a tonne. A conversion is rounded to twelve decimals, halves to even."""
+    """Returns a price per tonne, or per gram if the grade is in g/t, rounded to twelve decimals, halves to even."""
     of_quantity = "g" if metal.unit == "gram_per_tonne" else "t"
     if metal.price_per in (None, of_quantity):
         return price

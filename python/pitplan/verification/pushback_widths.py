@@ -1,4 +1,4 @@
-"""How wide the pushbacks are and into how many pieces they fall, by counting cells in rectangles and by who touches whom."""
+"""Verifies minimum widths and pieces of pushbacks, by counting cells in rectangles and by connected components."""
 
 from __future__ import annotations
 
@@ -16,12 +16,12 @@ from . import fixed, walls
 
 # Rows and columns of blocks.
 Rectangle = tuple[int, int]
-# Of metres that are told to a thousandth.
+# Tolerance of metres, which are written to a thousandth.
 LAST_PLACE = 0.6e-3
 
 
 def verify(answer: Answer) -> Rule:
-    """The widths that were asked for are kept, and each pushback's pieces and least width are told as they are."""
+    """Verifies that the minimum widths are met, and that `pieces` and `min_width` of each pushback are right."""
     assert answer.pushbacks is not None
     cube, room = cube_of(answer), room_of(answer)
     differences: list[str] = []
@@ -49,16 +49,16 @@ def holds(answer: Answer) -> str:
 
 
 def cube_of(answer: Answer) -> np.ndarray:
-    """The pushback of each cell; of those without a block 0."""
+    """Returns the pushback of each cell, 0 without a block; shape (levels, rows, columns)."""
     cube = np.zeros(answer.shape, dtype=np.int64)
     cube[answer.cells] = answer.said["pushback"].to_numpy()
     return cube
 
 
 def room_of(answer: Answer) -> np.ndarray:
-    """A truth for each cell: whether there is nothing to dig, or it must be dug."""
+    """Returns whether each cell counts as room: air, or a must-mine block; shape (levels, rows, columns)."""
     room = answer.dug == NOTHING
-    rules = answer.project.fixed
+    rules = answer.project.constraints
     if rules is not None:
         must = np.zeros(answer.shape, dtype=bool)
         must[answer.cells] = fixed.demanded(answer, rules)[0]
@@ -67,8 +67,8 @@ def room_of(answer: Answer) -> np.ndarray:
 
 
 def too_narrow(answer: Answer, cube: np.ndarray, room: np.ndarray, number: int) -> tuple[list[str], int]:
-    """Blocks of a pushback that lie in no rectangle of the widths asked for: the first ten, and how many there are. That a project asks for
-    no pushbacks at all is told elsewhere."""
+    """Returns the first ten blocks of a pushback that lie in no rectangle of the minimum widths, and their number. Another rule reports a project
+    without pushbacks."""
     asked, wrong = answer.project.pushbacks, np.zeros(answer.shape, dtype=bool)
     if asked is None:
         return [], 0
@@ -84,7 +84,7 @@ def too_narrow(answer: Answer, cube: np.ndarray, room: np.ndarray, number: int) 
 
 
 def blocks_across(answer: Answer, wide: float) -> Rectangle:
-    """The least number of blocks, north and east, that are so many metres wide."""
+    """Returns the least number of blocks north and east that make a width in metres."""
     east, north, _ = answer.size
     counts = [int(wide // side) for side in (north, east)]
     enough = [count + (count * side < wide * (1 - 1e-12)) for count, side in zip(counts, (north, east))]
@@ -92,27 +92,27 @@ def blocks_across(answer: Answer, wide: float) -> Rectangle:
 
 
 def cells_in(level: np.ndarray, shape: Rectangle) -> np.ndarray:
-    """The cells that lie in some rectangle without a false cell, by sums over rectangles."""
+    """Returns the cells that lie in a rectangle of marked cells, by sums over rectangles."""
     north, east = shape
     rows, columns = level.shape
     found = np.zeros(level.shape, dtype=bool)
     if north > rows or east > columns:
         return found
     full = sums_over(level, shape) == north * east
-    # A cell is covered where one of the rectangles that hold it is full: those that begin up to a rectangle's size before it.
+    # A cell is covered if one of the rectangles that hold it is full: those that begin up to a rectangle's size before it.
     begins = np.pad(full, ((north - 1, north - 1), (east - 1, east - 1)))
     return sums_over(begins, shape) > 0
 
 
 def sums_over(values: np.ndarray, shape: Rectangle) -> np.ndarray:
-    """For each place at which a rectangle may begin the sum of what it holds."""
+    """Returns the sum over the rectangle that begins at each position."""
     north, east = shape
     sums = np.pad(values.astype(np.int64).cumsum(axis=0).cumsum(axis=1), ((1, 0), (1, 0)))
     return sums[north:, east:] - sums[:-north, east:] - sums[north:, :-east] + sums[:-north, :-east]
 
 
 def unlike_shape(answer: Answer, pushback: np.ndarray, room: np.ndarray, said: pd.Series) -> list[str]:
-    """What is told of a pushback's pieces and its least width, and is not so."""
+    """Returns differences of `pieces` and `min_width` of a pushback."""
     rock = pushback & (answer.dug != NOTHING)
     pieces, least, step = count_pieces(rock), float(said["min_width"]), min(answer.size[:2])
     found = [f"pieces {said['pieces']:g} for {pieces}"] if said["pieces"] != pieces else []
@@ -120,7 +120,7 @@ def unlike_shape(answer: Answer, pushback: np.ndarray, room: np.ndarray, said: p
     if math.isnan(least) or not asking.any():
         return found + ([f"min_width {least:g}"] if asking.any() or not math.isnan(least) else [])
     if abs(least - step * round(least / step)) > LAST_PLACE:
-        found.append(f"min_width {least:g} is no whole number of {step:g} m")
+        found.append(f"min_width {least:g} is not a multiple of {step:g} m")
     for wide, is_so in ((least, True), (least + step, False)):
         covered = np.stack([cells_in(level, blocks_across(answer, wide)) for level in pushback | room])
         if (asking & ~covered).any() == is_so:
@@ -129,7 +129,7 @@ def unlike_shape(answer: Answer, pushback: np.ndarray, room: np.ndarray, said: p
 
 
 def count_pieces(rock: np.ndarray) -> int:
-    """How many pieces there are of cells that touch by a side."""
+    """Returns the number of components of cells that share a side."""
     number = np.full(rock.shape, -1)
     number[rock] = np.arange(np.count_nonzero(rock))
     pairs = []

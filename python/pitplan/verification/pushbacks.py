@@ -1,4 +1,4 @@
-"""The pushbacks of a pit: closed under the walls, nested, true to fixed blocks, and added up anew from the blocks."""
+"""Verifies pushbacks: they keep slopes and constraints, are nested, and add up from the blocks."""
 
 from __future__ import annotations
 
@@ -6,7 +6,7 @@ from dataclasses import replace
 
 import numpy as np
 
-from pitplan.core.revenue_factors import factor_text, factor_texts
+from pitplan.core.revenue_factors import BASE_PRICE, factor_text, factor_texts
 from pitplan.verification.answer import Answer
 from pitplan.verification.rules import TOLD, Rule, rule
 
@@ -16,14 +16,14 @@ CENT = 0.01
 
 
 def verify(answer: Answer) -> list[Rule]:
-    """Five rules. Of a block that stands in one pushback alone, pushbacks up to each number are nested as they are written."""
+    """Verifies pushbacks. Since each block has one pushback, the pits up to each number are nested by construction."""
     as_shells = by_pushback(answer)
     of_shells = [of_pushbacks(check(as_shells)) for check in (walls.verify, fixed.verify)]
     return [verify_places(answer), *of_shells, verify_sums(answer), pushback_widths.verify(answer)]
 
 
 def of_pushbacks(of_shells: Rule) -> Rule:
-    """What was found of pushbacks as if they were shells, in words of pushbacks."""
+    """Returns the results of rules of shells, in words of pushbacks."""
     holds = of_shells.holds.replace("of any shell", "of the pushbacks up to any").replace(
         "in every shell", "in pushback 1"
     )
@@ -35,14 +35,14 @@ def of_pushbacks(of_shells: Rule) -> Rule:
 
 
 def by_pushback(answer: Answer) -> Answer:
-    """The same answer with pushbacks in place of factors, each as if it were the shell of its number."""
+    """Returns the results with pushback numbers in place of revenue factors, so that rules of shells apply."""
     assert answer.pushbacks is not None
     said = answer.said.assign(revenue_factor=answer.said["pushback"])
     return replace(answer, said=said, factors=tuple(float(number) for number in answer.pushbacks.index))
 
 
 def verify_places(answer: Answer) -> Rule:
-    """Pushbacks are numbered from 1, one for each shell, and each block has the pushback that ends with the first shell that holds it."""
+    """Verifies that pushbacks are numbered from 1, one per shell, and that each block has the pushback of the first shell that holds it."""
     assert answer.pushbacks is not None
     numbers, factors = answer.pushbacks.index.tolist(), sorted(answer.factors)
     differences = []
@@ -65,12 +65,12 @@ def verify_places(answer: Answer) -> Rule:
 
 
 def unlike_rules(answer: Answer, factors: list[float]) -> list[str]:
-    """What the project asks of the pushbacks' factors, and is not so."""
+    """Returns differences of the revenue factors of pushbacks from the project."""
     asked = answer.project.pushbacks
     if asked is None:
         return ["the project has no pushbacks"]
     found = []
-    last = asked.ultimate_pit or answer.project.schedule.selected or 1000
+    last = asked.ultimate_pit or answer.project.shells.selected or BASE_PRICE
     if asked.revenue_factors is not None:
         last = max(asked.revenue_factors)
         found += [
@@ -79,16 +79,16 @@ def unlike_rules(answer: Answer, factors: list[float]) -> list[str]:
             if factor not in asked.revenue_factors
         ]
     if asked.mining_cost_added and len(factors) != len(asked.mining_cost_added):
-        found.append(f"{len(factors)} pushbacks for mining costs of {len(asked.mining_cost_added)}")
+        found.append(f"{len(factors)} pushbacks, expected {len(asked.mining_cost_added)} as in mining_cost_added")
     if asked.count is not None and len(factors) > asked.count:
-        found.append(f"{len(factors)} pushbacks for {asked.count}")
+        found.append(f"{len(factors)} pushbacks, expected at most {asked.count}")
     if factors[-1] > last:
         found.append(f"the last pushback is of revenue factor {factor_text(factors[-1])} for {factor_text(last)}")
     return found
 
 
 def verify_sums(answer: Answer) -> Rule:
-    """Blocks, tonnes, grades, ratios, metal and worth of each pushback."""
+    """Verifies blocks, tonnes, grades, ratios, metal and cash flow of each pushback."""
     assert answer.pushbacks is not None
     differences: list[str] = []
     pushback, ore = answer.said["pushback"].to_numpy(), answer.ore
@@ -120,7 +120,7 @@ def verify_sums(answer: Answer) -> Rule:
 
 
 def of_blocks(answer: Answer, mine: np.ndarray, ore: np.ndarray) -> dict[str, float]:
-    """What the blocks of a pushback add up to; `ore` are those that pay for their processing."""
+    """Returns the sums over the blocks of a pushback; `ore` marks those that are processed."""
     tonnes = answer.tonnes
     of_ore, of_all, in_situ = answer.feed[ore].sum(), tonnes[mine].sum(), tonnes[ore].sum()
     found = {

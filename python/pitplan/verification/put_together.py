@@ -1,4 +1,4 @@
-"""The rows of a table by the cells of a grid in which their centres lie, and the answer's rows of these."""
+"""Groups the rows of a table by the cells in which their centroids lie, and matches them with reblocked results."""
 
 from __future__ import annotations
 
@@ -14,17 +14,17 @@ from pitplan.config.table import TableColumns
 from ..errors import PlanError
 from .turned import places_of, steps_of
 
-# What is kept of grades; and the distance in units of these from the middle of two within which a mean is taken exactly.
+# Decimals of grades; and the distance from a half, in their last place, within which a mean is computed exactly.
 GRADE_PLACES, NEAR = 9, 1e-3
 
 
 def together(parts: pd.DataFrame, project: Project, grid: dict[str, Any]) -> pd.DataFrame:
-    """A row a cell that holds rows, from the floor up, from the south, from the west."""
-    columns, fixed = project.table, project.fixed
+    """Returns one row per cell with rows, from the floor up, from the south, from the west."""
+    columns, fixed = project.table, project.constraints
     steps = steps_of(parts[[columns.x, columns.y, columns.z]].to_numpy(), grid)
     east, north, up = np.floor(steps + 0.5).astype(np.int64).T
     frame = parts.assign(east_=east, north_=north, up_=up + grid["shape"][0] - 1)
-    sums = project.schedule_rules.limits if project.schedule_rules else ()
+    sums = project.schedule.limits if project.schedule else ()
     of_a_tonne = {*(metal.column for metal in project.metals), *(it.column for it in sums if it.per_tonne)}
     for name in of_a_tonne:
         frame[f"content_{name}"] = frame[name] * frame[columns.tonnes]
@@ -42,14 +42,14 @@ def together(parts: pd.DataFrame, project: Project, grid: dict[str, Any]) -> pd.
     found[columns.x], found[columns.y] = places_of(np.stack([east, north], axis=1), grid).T
     found[columns.z] = grid["origin"][2] + grid["size"][2] * (up - (grid["shape"][0] - 1))
     if columns.id:
-        # From the west, the south and the floor of all that the table holds, of which some may be left out.
+        # From the west, the south and the floor of the whole table, of which blocks may be removed.
         first = [found.index.get_level_values(name).min() - 1 for name in ("up_", "north_", "east_")]
         found[columns.id] = [f"{east - first[2]}-{north - first[1]}-{up - first[0]}" for up, north, east in found.index]
     return found
 
 
 def of_most(frame: pd.DataFrame, name: str, columns: TableColumns) -> pd.Series:
-    """The code of most tonnes of each cell, of several the first by name; where nothing weighs anything, of most rows."""
+    """Returns the code with most tonnes of each cell, of equal ones the first by name; without tonnes that of most rows."""
     cell = ["up_", "north_", "east_"]
     sums = frame.groupby([*cell, name])[columns.tonnes].agg(["sum", "size"]).reset_index()
     weighs = sums.groupby(cell)["sum"].transform("sum") > 0
@@ -61,9 +61,9 @@ def of_most(frame: pd.DataFrame, name: str, columns: TableColumns) -> pd.Series:
 def mean_grades(
     parts: pd.DataFrame, blocks: pd.DataFrame, grades: np.ndarray, columns: TableColumns, grid: dict[str, Any]
 ) -> np.ndarray:
-    """The grades of blocks from those of the rows that lie in them: means by tonnes, to nine decimals.
+    """Returns the grades of blocks: means of their rows by tonnes, to nine decimals, shape (blocks, metals).
 
-    By floats, and exactly where two numbers of nine decimals are as near. `grades` has a row for each of `parts` and a column for each metal.
+    They are computed by floats, and exactly near a half. `grades` has shape (parts, metals).
     """
     row_of = np.full(int(np.prod(grid["shape"])), -1)
     row_of[cells_of(blocks, columns, grid)] = np.arange(len(blocks))
@@ -83,14 +83,14 @@ def mean_grades(
 
 
 def cells_of(frame: pd.DataFrame, columns: TableColumns, grid: dict[str, Any]) -> np.ndarray:
-    """The numbers of the cells in which the centres of rows lie, from the top down and there from the south-west."""
+    """Returns the cells in which the centroids of rows lie."""
     steps = steps_of(frame[[columns.x, columns.y, columns.z]].to_numpy(), grid)
     east, north, up = np.floor(steps + 0.5).astype(np.int64).T
     return np.ravel_multi_index((-up, north, east), grid["shape"])
 
 
 def mean_of(grades: np.ndarray, tonnes: np.ndarray) -> Fraction:
-    """The exact mean by tonnes of decimals."""
+    """Returns the exact mean of decimals by tonnes."""
     weights = [Fraction(repr(float(weight))) for weight in tonnes]
     contents = (Fraction(repr(float(grade))) * weight for grade, weight in zip(grades, weights))
     return sum(contents, Fraction(0)) / sum(weights, Fraction(0))
@@ -99,8 +99,8 @@ def mean_of(grades: np.ndarray, tonnes: np.ndarray) -> Fraction:
 def written_rows(
     expected: pd.DataFrame, written: pd.DataFrame, project: Project, grid: dict[str, Any], source: str = "blocks.csv"
 ) -> pd.DataFrame:
-    """The answer's own rows of the cells that hold rows of the table, as `together` gives them. Raises PlanError where one is missing from
-    `source`, the answer's file."""
+    """Returns the rows of results for cells with rows of the table, in the order of `together`. Raises PlanError if one is missing from the file
+    `source`."""
     axes = [project.table.x, project.table.y, project.table.z]
 
     def places(frame: pd.DataFrame) -> pd.MultiIndex:
@@ -116,9 +116,9 @@ def written_rows(
 
 
 def divided(frame: pd.DataFrame, project: Project, grid: dict[str, Any]) -> tuple[pd.DataFrame, Optional[pd.DataFrame]]:
-    """The rows that lie in a grid, and where there are such those that lie beyond it.
+    """Returns the rows in a grid, and those outside it, if there are any.
 
-    Raises PlanError where these are not as many as were left out.
+    Raises PlanError if the number of these is not that of the removed blocks.
     """
     columns = project.table
     east, north, up = np.rint(steps_of(frame[[columns.x, columns.y, columns.z]].to_numpy(), grid)).T

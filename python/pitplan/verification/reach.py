@@ -1,4 +1,4 @@
-"""What was left out of a model since no shell can reach it: nothing there pays or is forced, and no shell needs any of it."""
+"""Verifies that blocks were removed rightly: none of them pays or is a must-mine block, and no shell depends on one."""
 
 from __future__ import annotations
 
@@ -20,23 +20,24 @@ HAIR = 1e-9
 
 
 def verify(answer: Answer) -> Rule:
-    """No row beyond the grid pays for its processing at the greatest factor, none must be dug, and no cone above a dug block goes there."""
+    """Verifies that no row outside the grid pays at the largest revenue factor or is a must-mine block, and that no cone of a mined block
+    reaches one."""
     rows = answer.beyond
     assert rows is not None
     factor = max(*answer.factors, BASE_PRICE)
     differences, count = [], 0
-    for way in answer.project.ways:
+    for way in answer.project.by_process:
         part = replace(answer, project=way, rows=rows, said=pd.DataFrame(index=rows.index), found={})
         revenue, processing = gains_by_floats(part)
         pays = rock_of(
             part,
-            np.flatnonzero(factor * revenue - processing > HAIR * revenue + 10.0**-answer.project.money.decimals),
+            np.flatnonzero(factor * revenue - processing > HAIR * revenue + 10.0**-answer.project.economics.decimals),
         )
         differences += [
             f"{part.called(row)} was removed, and pays at revenue factor {factor_text(factor)}" for row in pays[:TOLD]
         ]
         count += len(pays)
-    fixed = answer.project.fixed
+    fixed = answer.project.constraints
     if fixed is not None and fixed.must_mine:
         part = replace(answer, rows=rows)
         forced = rock_of(part, np.flatnonzero((rows[fixed.must_mine] > 0) & (rows[answer.project.table.tonnes] > 0)))
@@ -52,13 +53,13 @@ def verify(answer: Answer) -> Rule:
 
 
 def rock_of(part: Answer, numbers: np.ndarray) -> np.ndarray:
-    """Those of some rows that do not lie wholly above the topography; what it leaves of a block pays as the whole does."""
+    """Returns those of some rows that are not wholly above the topography; the part below it pays if the whole block does."""
     level, row, column = (axis[numbers] for axis in part.cells)
     return numbers[~topography.air(part, row, column, level)]
 
 
 def beyond_sides(answer: Answer) -> tuple[int, int, int, int]:
-    """How many rows of the model lie south and north of the grid, and how many columns west and east of it."""
+    """Returns how many rows of the model lie south and north of the grid, and how many columns west and east of it."""
     assert answer.beyond is not None
     columns, (_, rows, width) = answer.project.table, answer.shape
     east, north = np.rint(steps_of(answer.beyond[[columns.x, columns.y]].to_numpy(), answer.record["grid"])).T
@@ -68,7 +69,7 @@ def beyond_sides(answer: Answer) -> tuple[int, int, int, int]:
 
 
 def leading_off(answer: Answer) -> np.ndarray:
-    """Rows of dug blocks above which a cone holds cells of the model beside the grid."""
+    """Returns the rows of mined blocks whose cone holds cells of the model outside the grid."""
     level, row, column = answer.cells
     dug, entry = answer.dug[answer.cells], answer.entries[answer.cells]
     south, north, west, east = beyond_sides(answer)
@@ -86,7 +87,8 @@ def leading_off(answer: Answer) -> np.ndarray:
 def leads_off(
     run: Run, row: np.ndarray, column: np.ndarray, sides: tuple[tuple[int, int], tuple[int, int, int, int]]
 ) -> np.ndarray:
-    """Whether cells of a run above each place lie in the model and beside the grid, of so many rows and columns, with more beside it."""
+    """Returns whether cells of a run above each block lie in the model but outside the grid. `sides` has the rows and columns of the grid, and
+    those of the model around it."""
     (rows, columns), (south, north, west, east) = sides
     to, first, last = row + run.north, column + run.west, column + run.east
     in_model = (to >= -south) & (to < rows + north) & (last >= -west) & (first < columns + east)

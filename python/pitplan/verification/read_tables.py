@@ -1,4 +1,4 @@
-"""Tables of a results folder, laid beside the rows of the planner's table."""
+"""Reads blocks.csv and matches it with the rows of the planner's table."""
 
 from __future__ import annotations
 
@@ -17,32 +17,31 @@ from .put_together import divided, together, written_rows
 from .turned import steps_of
 from .written import demand_numbers
 
-# The columns of blocks.csv that are the answer's.
+# The columns of results in blocks.csv.
 SAID = ("id", "mining_cost", "revenue", "processing_cost", "revenue_factor", "process_revenue_factor")
-# Of several processes that of each block at the price as given, "" where it is waste; there are amounts of each process then.
+# With several processes the best one of each block at the base price, "" for waste; there are amounts of each process too.
 PROCESS = "process"
-# With `[haulage]` the road of each block, and what of the costs is hauling.
+# With `[haulage]` haul distance and haulage costs.
 HAULED = ("haul_distance", "haulage_cost", "ore_haulage_cost")
-# Those that `pitplan pit` writes besides, of the pit that keeps to no fixed blocks.
+# Further columns of `pitplan pit`, of the pit without constraints.
 FREE = ("free_revenue_factor", "free_process_revenue_factor")
-# Those that `pitplan pushbacks` and `pitplan schedule` write besides.
+# Further columns of `pitplan pushbacks` and `pitplan schedule`.
 PUSHBACK, YEAR = "pushback", "year"
-# If a surface cuts blocks: the tonnes in the table, before the cut. The answer has the tonnes below the surface.
+# If a surface cuts blocks: the tonnes of the table. Results have the tonnes below the surface.
 UNCUT = "tonnes before the cut"
-# Of a schedule by block the share of each block that goes to each of several processes.
+# With a schedule by block the share of each block that goes to a process.
 SHARE = "share_"
-# What `rows_of` gives of a table.
+# The result of `rows_of`.
 TableRows = tuple[pd.DataFrame, Optional[pd.DataFrame], Optional[pd.DataFrame]]
 
 
 def shares_of(project: Project) -> list[str]:
-    """Of a schedule by block the columns of blocks.csv that say which share of a block goes to each process; of a project that names none to its
-    mill."""
+    """Returns the columns of blocks.csv with the share of a block that goes to each process; to the mill if the project names no process."""
     return [f"{SHARE}{name}" for name in [process.name for process in project.processes] or ["mill"]]
 
 
 def said_of(project: Project) -> tuple[str, ...]:
-    """The columns of blocks.csv that are the answer's to a project."""
+    """Returns the columns of results in blocks.csv for a project."""
     hauled = HAULED if project.haulage else ()
     if not project.processes:
         return (*SAID, *hauled)
@@ -57,8 +56,8 @@ def rows_of(
     table: Optional[pd.DataFrame] = None,
     source: str = "blocks.csv",
 ) -> TableRows:
-    """A row a block of the table, which is read unless it is given, that lies in the answer's grid; where its rows are put together to blocks
-    these rows; and where some were left out the blocks beyond the grid. Raises PlanError as `beside` does."""
+    """Returns the blocks of the table in the grid of the results; with reblocking the rows before it, otherwise None; and the blocks outside the
+    grid if some were removed, otherwise None. The table is read unless it is given. Raises PlanError as `beside`."""
     frame = reader.read(project).frame if table is None else table
     if project.table.reblock is None:
         inside, beyond = divided(frame, project, grid)
@@ -66,7 +65,7 @@ def rows_of(
     inside, beyond = divided(together(frame, project, grid), project, grid)
     own = written.rename(columns={own_name(name): name for name in frame.columns})
     found = written_rows(inside, own.loc[:, ~own.columns.duplicated(keep="last")], project, grid, source)
-    # What is cut is what was put together.
+    # Blocks are cut after reblocking.
     tonnes = project.table.tonnes
     return (
         found if not project.cuts_blocks else found.assign(**{tonnes: inside[tonnes].to_numpy().round(6)}),
@@ -76,8 +75,8 @@ def rows_of(
 
 
 def read_blocks(path: Path, project: Project, said: Optional[tuple[str, ...]] = None) -> pd.DataFrame:
-    """The centres and those of these columns that the file has; every column where none are named, where rows may stand for cells that the
-    table has none of, or where they are put together or cut. Raises PlanError where a field that is to be a number is none.
+    """Reads centroids and the given columns of blocks.csv, as far as it has them; all columns by default, and if blocks may be filled, reblocked
+    or cut. Raises PlanError if a field of a numeric column is not a number.
     """
     columns = project.table
     codes = {own_name(name): str for name in (columns.id, columns.rock_type, columns.domain) if name}
@@ -94,23 +93,35 @@ def read_blocks(path: Path, project: Project, said: Optional[tuple[str, ...]] = 
 
 
 def own_columns(written: pd.DataFrame, rows: pd.DataFrame, order: np.ndarray) -> pd.DataFrame:
-    """What a file of blocks has of the planner's columns, by their names in the table, in the order of the answer's rows."""
+    """Returns the planner's columns of blocks.csv by their names in the table, in the order of `rows`."""
     there = [name for name in rows.columns if own_name(name) in written]
     return pd.DataFrame({name: written[own_name(name)].to_numpy()[order] for name in there})
 
 
 def own_name(column: str) -> str:
-    """A column of the planner's, as blocks.csv names it."""
+    """Returns the name of a planner's column in blocks.csv."""
     return f"planner_{column}" if column in (*SAID, *FREE, *HAULED, PUSHBACK, YEAR, PROCESS) else column
 
 
 def beside(
     table: pd.DataFrame, written: pd.DataFrame, project: Project, grid: dict[str, Any], source: str
 ) -> tuple[pd.DataFrame, int, np.ndarray]:
-    """The table's rows, with the answer's own behind them, which are of cells without a row; how many are the table's; and for each the
-    row of the answer. Where a surface cuts blocks tonnes are the answer's, and UNCUT those of the table.
+    """Matches the rows of the table with those of blocks.csv.
 
-    Raises PlanError, with `source`, the answer's file, where a block of either is not in the other.
+    Returns
+    -------
+    rows : DataFrame
+        The rows of the table, followed by filled missing blocks. If a surface cuts blocks, tonnes are those of blocks.csv, and UNCUT those of the
+        table.
+    known : int
+        How many rows are those of the table.
+    order : array of int, shape (rows,)
+        The row of blocks.csv for each.
+
+    Raises
+    ------
+    PlanError
+        If a block of one is not in the other; `source` names the file of results.
     """
     columns = project.table
     axes = (columns.x, columns.y, columns.z)
@@ -138,6 +149,6 @@ def beside(
 
 
 def nearest_cells(centres: np.ndarray, grid: dict[str, Any]) -> np.ndarray:
-    """The numbers of the cells to whose centres rows x, y, z in metres are nearest, from the top down and there from the south-west."""
+    """Returns the cells with the nearest centres to rows x, y, z in metres."""
     east, north, up = np.rint(steps_of(centres, grid)).astype(np.int64).T
     return np.ravel_multi_index((-up, north, east), grid["shape"], mode="clip")

@@ -1,4 +1,4 @@
-"""Rows that are put together to blocks, anew: by the cells in which their centres lie."""
+"""Verifies reblocking, by the cells in which the centroids of rows lie."""
 
 from __future__ import annotations
 
@@ -14,13 +14,13 @@ from pitplan.verification.rules import TOLD, Rule, rule
 from .put_together import divided, together
 from .turned import steps_of
 
-# What is kept of tonnes and of grades, and a hair for sums in another order.
+# The last decimal places of tonnes and grades, and the rounding error of sums in another order.
 TONNES, GRADE = 0.51e-6, 0.51e-9
 HAIR = 1e-6
 
 
 def verify(answer: Answer) -> Rule:
-    """Blocks lie where the project puts them, and each holds its rows: tonnes, grades, rock, region, and what is fixed."""
+    """Verifies positions of blocks, and that each holds its rows: tonnes, grades, rock type, domain, and constraints."""
     parts, said = answer.parts, answer.rows
     assert parts is not None
     expected = divided(together(parts, answer.project, answer.record["grid"]), answer.project, answer.record["grid"])[
@@ -30,7 +30,7 @@ def verify(answer: Answer) -> Rule:
     columns, count = answer.project.table, len(differences)
     if len(expected) != answer.known:
         return rule("reblocked", "rows are reblocked", [f"{answer.known:,} blocks for {len(expected):,}"])
-    # Tonnes below a surface have a rule of their own.
+    # Another rule verifies tonnes below a surface.
     passed = (columns.x, columns.y, columns.z, *([columns.tonnes] if answer.project.cuts_blocks else []))
     for name in [name for name in expected if name not in passed]:
         column = said[name].iloc[: answer.known].to_numpy()
@@ -50,11 +50,11 @@ def verify(answer: Answer) -> Rule:
 
 
 def unlike_grid(parts: pd.DataFrame, project: Project, grid: dict[str, Any]) -> list[str]:
-    """Where the blocks have not the size that the project asks for, or their edges do not lie where they should."""
+    """Returns differences of block size and edges from the project."""
     columns, rules, found = project.table, project.table.reblock, []
     assert rules is not None
     levels, axes = grid["shape"][0], [columns.x, columns.y, columns.z]
-    # Metres along the grid's own axes from its first block, where it is turned, else the planner's.
+    # Metres: of a rotated grid along its own axes from its first block, otherwise the planner's.
     first = np.array([0.0, 0.0, grid["origin"][2]]) if grid.get("azimuth") else np.array(grid["origin"])
     along = (
         steps_of(parts[axes].to_numpy(), grid) * grid["size"] + first if grid.get("azimuth") else parts[axes].to_numpy()
@@ -65,7 +65,7 @@ def unlike_grid(parts: pd.DataFrame, project: Project, grid: dict[str, Any]) -> 
         if rules.counts is not None:
             own = size / rules.counts[k]
             expected, start = own * rules.counts[k], centres[0] - own / 2
-            # What no shell can reach may be left out: whole blocks.
+            # Whole blocks that no shell can reach may be removed.
             start += size * np.rint((edge - start) / size)
             steps = (centres - centres[0]) / own
             if np.abs(steps - np.rint(steps)).max() * own > project.grid.tolerance * 2 or not on_steps(
@@ -86,5 +86,5 @@ def unlike_grid(parts: pd.DataFrame, project: Project, grid: dict[str, Any]) -> 
 
 
 def on_steps(gaps: np.ndarray) -> bool:
-    """Whether some two centres follow each other by one step, where there are two."""
+    """Returns whether two centroids are one step apart, if there are two."""
     return not len(gaps) or bool((gaps == 1).any())

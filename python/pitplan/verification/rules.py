@@ -4,13 +4,24 @@ from __future__ import annotations
 
 from dataclasses import dataclass
 
-# So many differences of a rule are told.
+# The most differences of a rule that are reported.
 TOLD = 10
 
 
 @dataclass(frozen=True)
 class Rule:
-    """One thing that was verified: its name, in words what holds, and what differs, of which the first ten are told."""
+    """A verified statement.
+
+    Attributes
+    ----------
+    name : str
+    holds : str
+        The statement.
+    differences : tuple of str
+        The first ten differences; a rule without any holds.
+    count : int
+        The number of differences.
+    """
 
     name: str
     holds: str

@@ -1,6 +1,6 @@
-"""A second way to what a folder of scenarios tells: from the project, its table, its models and the written answers alone.
+"""Verifies a folder of scenarios from the project, its table, its realisations and the written results.
 
-Each answer is added up and counted; of a sample of scenarios every pit is looked at block by block.
+All results are summed and counted; in a sample of scenarios every pit is verified block by block.
 """
 
 from __future__ import annotations
@@ -26,11 +26,12 @@ from ..errors import PlanError
 from . import absent, depletion, fixed, money, reblocked, sums, walls
 from .simulated import QUANTILES, SCENARIOS, Scenario, Simulated, Told, prices_of, read
 from .weighing import gains, weighed
+from .written import TABLES
 
-# So many scenarios are looked at block by block.
+# The number of scenarios that are verified block by block.
 SAMPLE = 10
 SHARES = {"quantile_0.1": 0.1, "quantile_0.5": 0.5, "quantile_0.9": 0.9}
-# What is looked at in each scenario of the sample.
+# The rules that are verified in each scenario of the sample.
 OF_EACH = {
     "walls": "no block of any shell lacks a block of its slope cone",
     "fixed": "must-mine blocks are in every shell, and excluded blocks in none",
@@ -49,10 +50,9 @@ AMOUNTS = (
 
 
 def verify(folder: Path, written: Optional[Path] = None) -> list[Rule]:
-    """What was looked at, one rule after the other; a rule without differences holds. The tables may stand in another folder than the
-    answers, `written`.
+    """Verifies scenarios; a rule without differences holds. The tables may be in another folder than the results, `written`.
 
-    Raises PlanError where the folder has no answers or no tables of them, or the table or a model has changed since.
+    Raises PlanError if the folder has no results or tables, or the table or a realisation has changed since.
     """
     with named(folder):
         return Verification(read(folder, written or folder)).rules()
@@ -60,7 +60,7 @@ def verify(folder: Path, written: Optional[Path] = None) -> list[Rule]:
 
 @contextmanager
 def named(folder: Path) -> Iterator[None]:
-    """What a folder of scenarios lacks is told by its name. Raises PlanError."""
+    """Turns errors of a missing part into PlanError with the name of the file."""
     try:
         yield
     except OSError as error:
@@ -73,7 +73,7 @@ def named(folder: Path) -> Iterator[None]:
 
 @dataclass(frozen=True)
 class Verification:
-    """A folder that is verified, and what was found of it."""
+    """A folder that is verified."""
 
     folder: Simulated
 
@@ -81,14 +81,14 @@ class Verification:
         return [*self.of_ground(), self.listed(), *self.sampled(), *self.counted()]
 
     def of_ground(self) -> list[Rule]:
-        """What all scenarios share: blocks, missing blocks, walls, and what was reblocked or cut by a surface."""
+        """Verifies the common input: blocks, missing blocks, slopes, reblocking, and cuts by a surface."""
         found = [check(self.ground) for check in (fixed.verify_places, absent.verify, walls.verify_steepness)]
         if self.ground.parts is not None:
             found.append(self.reblocked())
         return [*found, *depletion.verify_cuts(self.ground)]
 
     def reblocked(self) -> Rule:
-        """Blocks hold the rows that lie in them, and in the sampled scenarios have the means of their grades."""
+        """Verifies that blocks hold the rows that lie in them, and have the means of their grades in sampled scenarios."""
         of_rows = reblocked.verify(replace(self.ground, project=replace(self.ground.project, metals=())))
         differences, count = list(of_rows.differences), of_rows.count
         for scenario in self.sample:
@@ -104,7 +104,7 @@ class Verification:
 
     @cached_property
     def ground(self) -> Answer:
-        """The blocks as if a plan had told of them in which none is dug."""
+        """Returns the blocks as results of a plan in which none is mined."""
         folder = self.folder
         said = pd.DataFrame({"id": folder.told["id"].to_numpy(), "revenue_factor": 0})
         rows = folder.rows
@@ -124,7 +124,7 @@ class Verification:
         )
 
     def listed(self) -> Rule:
-        """Every model at every set of prices is a scenario, and the list has no other."""
+        """Verifies that every realisation at every price deck is a scenario, and that there are no others."""
         folder, differences = self.folder, []
         own, listed = folder.scenarios, folder.record["scenarios"]
         if len(own) != len(listed):
@@ -149,13 +149,13 @@ class Verification:
 
     @cached_property
     def sample(self) -> list[Scenario]:
-        """Some of the answered scenarios, evenly from the first to the last."""
+        """A sample of the solved scenarios, evenly from the first to the last."""
         there = self.folder.answered
         places = np.linspace(0, len(there) - 1, min(len(there), SAMPLE)).round().astype(int)
         return [there[place] for place in np.unique(places)]
 
     def sampled(self) -> list[Rule]:
-        """Walls, fixed blocks, sums and worth of the sampled scenarios, by their own grades and prices."""
+        """Verifies slopes, constraints, sums and values of sampled scenarios, by their own grades and prices."""
         found: dict[str, list[Rule]] = {name: [] for name in OF_EACH}
         for scenario in self.sample:
             whole = self.of_scenario(scenario)
@@ -168,25 +168,25 @@ class Verification:
         return [joined(name, count + holds, found[name]) for name, holds in OF_EACH.items()]
 
     def of_scenario(self, scenario: Scenario) -> Answer:
-        """A scenario's answer, as a plan at its prices and grades would have told it, without costs and revenue."""
+        """Returns the result of a scenario as that of a plan at its prices and grades, without costs and revenue."""
         folder, told = self.folder, self.folder.answer(scenario)
         factors = np.array([0, *folder.factors])
         said = self.ground.said.assign(revenue_factor=factors[np.clip(told.places, 0, len(folder.factors))])
         return replace(self.in_scenario(scenario), said=said, shells=told.table)
 
     def in_scenario(self, scenario: Scenario) -> Answer:
-        """The blocks with a scenario's grades, at its prices; none is dug."""
+        """Returns the blocks with a scenario's grades, at its prices, none of them mined."""
         rows = self.with_grades(self.folder.grades(scenario.model))
         return replace(self.ground, project=self.priced(scenario.prices), rows=rows)
 
     def priced(self, prices: dict[str, Decimal]) -> Project:
-        """The project at a set of prices, and with the elevation from which on mining costs more in every scenario."""
+        """Returns the project at a price deck, with the `mining_cost_reference` of all scenarios."""
         project = self.folder.project
         metals = tuple(replace(metal, price=prices.get(metal.name, metal.price)) for metal in project.metals)
-        charges = project.money
+        charges = project.economics
         if charges.mining_cost_per_bench and charges.mining_cost_reference is None:
             charges = replace(charges, mining_cost_reference=self.reference)
-        return replace(project, metals=metals, money=charges)
+        return replace(project, metals=metals, economics=charges)
 
     def with_grades(self, grades: np.ndarray) -> pd.DataFrame:
         metals = self.folder.project.metals
@@ -194,8 +194,8 @@ class Verification:
 
     @cached_property
     def reference(self) -> Decimal:
-        """Metres of the top of the highest block that ore of any scenario needs. Ore is what pays for its processing at the greatest grade
-        of all models and the greatest price of all sets, before costs of selling."""
+        """The elevation of the top of the highest block in a cone of ore of any scenario. Ore pays for its processing at the largest grades and
+        prices, before selling costs."""
         folder = self.folder
         grades = np.zeros((len(folder.rows), len(folder.project.metals)))
         for model in {scenario.model.name: scenario.model for scenario in folder.scenarios}.values():
@@ -203,14 +203,14 @@ class Verification:
         sets = prices_of(folder.project)
         dearest = {it.name: max(prices.get(it.name, it.price) for prices in sets) for it in folder.project.metals}
         metals = tuple(replace(it, price=dearest[it.name], selling_cost=Decimal(0)) for it in folder.project.metals)
-        # What is ore does not hang on what mining costs.
-        charges = replace(folder.project.money, mining_cost_per_bench=Decimal(0))
-        project = replace(folder.project, metals=metals, money=charges)
+        # Ore does not depend on mining costs.
+        charges = replace(folder.project.economics, mining_cost_per_bench=Decimal(0))
+        project = replace(folder.project, metals=metals, economics=charges)
         answer = replace(self.ground, project=project, rows=self.with_grades(grades), found={})
         return Decimal(repr(float(money.highest_needed(replace(answer, said=gains(answer))))))
 
     def counted(self) -> list[Rule]:
-        """Rules of probability.csv, and of scenarios.csv and quantiles.csv, by all answers that there are."""
+        """Verifies probability.csv, scenarios.csv and quantiles.csv by all results."""
         folder, differences, tables = self.folder, [], []
         held = np.zeros((len(folder.rows), len(folder.factors)), dtype=np.int64)
         for scenario, told in folder.answers():
@@ -230,7 +230,7 @@ class Verification:
         ]
 
     def unlike_places(self, scenario: Scenario, told: Told, inside: np.ndarray) -> list[str]:
-        """Where an answer's count of blocks and of tonnes are not those of the blocks that it holds."""
+        """Returns differences of blocks and tonnes in a result from the blocks that it holds."""
         folder = self.folder
         found = (
             []
@@ -248,7 +248,7 @@ class Verification:
         return found
 
     def unlike_shares(self, expected: np.ndarray) -> tuple[list[str], int]:
-        """Where probability.csv does not say these shares, to its six digits: the first ten of each factor, and how many there are."""
+        """Returns the first ten differences of probability.csv at each revenue factor, to six digits, and their number."""
         differences, count = [], 0
         for number, factor in enumerate(self.folder.factors):
             said = self.folder.told[f"probability_{factor_text(factor)}"].to_numpy()
@@ -262,19 +262,19 @@ class Verification:
 
 
 def joined(name: str, holds: str, found: list[Rule]) -> Rule:
-    """One rule of what was found of several scenarios."""
+    """Returns one rule of several scenarios."""
     return rule(name, holds, [said for it in found for said in it.differences], sum(it.count for it in found))
 
 
 def in_pits(answer: Told, factors: int) -> np.ndarray:
-    """A truth for each block and factor: whether the factor's pit holds the block."""
+    """Returns whether the pit of each revenue factor holds each block, shape (blocks, factors)."""
     return (answer.places[:, None] > 0) & (answer.places[:, None] <= np.arange(1, factors + 1))
 
 
 def unlike_rows(folder: Simulated, tables: list[tuple[Scenario, pd.DataFrame]]) -> list[str]:
-    """Where scenarios.csv does not say what the answers do."""
+    """Returns differences of scenarios.csv from the results."""
     codes = {"realisation": str, "value_at_revenue_factor": str}
-    written = pd.read_csv(folder.tables / SCENARIOS, dtype=codes, keep_default_na=False, na_values=[""])
+    written = pd.read_csv(folder.tables / TABLES / SCENARIOS, dtype=codes, keep_default_na=False, na_values=[""])
     found = []
     for number in sorted({*written["scenario"]} ^ {scenario.number for scenario, _ in tables}):
         found.append(f"{SCENARIOS}: scenario {number} has an answer or rows there, not both: run pitplan gather again")
@@ -307,8 +307,8 @@ def unlike_row(rows: pd.DataFrame, scenario: Scenario, table: pd.DataFrame) -> l
 
 
 def unlike_quantiles(folder: Simulated, tables: list[tuple[Scenario, pd.DataFrame]]) -> list[str]:
-    """Where quantiles.csv does not follow from the answers, of each set of prices and factor."""
-    written = pd.read_csv(folder.tables / QUANTILES)
+    """Returns differences of quantiles.csv from the results, by price deck and revenue factor."""
+    written = pd.read_csv(folder.tables / TABLES / QUANTILES)
     sets: dict[tuple[tuple[str, float], ...], list[pd.DataFrame]] = {}
     for scenario, table in tables:
         prices = tuple((f"price_{metal}", float(price)) for metal, price in scenario.prices.items())
@@ -347,7 +347,7 @@ def unlike_spread(rows: pd.DataFrame, models: list[Any], what: str) -> list[str]
 
 
 def between(amounts: list[float], share: float) -> float:
-    """The amount that a share of rising amounts do not reach, linear between two."""
+    """Returns the quantile of ascending amounts, linear between two."""
     place = share * (len(amounts) - 1)
     low = math.floor(place)
     high = min(low + 1, len(amounts) - 1)

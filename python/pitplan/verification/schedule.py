@@ -1,4 +1,4 @@
-"""The yearly schedule anew, from its rows, the pushbacks of blocks and the project: order, limits, amounts, and what they earn."""
+"""Verifies a schedule of pushbacks from its rows, the pushbacks of blocks and the project: order, limits, amounts, and NPV."""
 
 from __future__ import annotations
 
@@ -21,16 +21,16 @@ from .money_of_years import capex, more_by_prices, most_premium
 
 FILE = "schedule.json"
 CENT, SLIGHT = 0.01, 1e-6
-# The last places that schedule.csv keeps of amounts and of shares.
+# The last decimal places of amounts and shares in schedule.csv.
 AMOUNT, SHARE = 0.6e-3, 0.6e-9
 
 
 @dataclass(frozen=True)
 class Way:
-    """What one way digs.
+    """The schedule of one method.
 
-    rows  of schedule.csv, with the `level` of their bench, from 0 at the top; -1 where there is none
-    said  what schedule.json says of it
+    rows  the rows of schedule.csv, with the `level` of their bench, from 0 at the top; -1 if there is none
+    said  its entry in schedule.json
     """
 
     answer: Answer
@@ -40,7 +40,7 @@ class Way:
 
     @property
     def project_rules(self) -> Any:
-        return self.answer.project.schedule_rules
+        return self.answer.project.schedule
 
     @property
     def last(self) -> int:
@@ -48,7 +48,7 @@ class Way:
 
     @cached_property
     def done(self) -> np.ndarray:
-        """The share of each bench that is dug by the end of each year: an array of pushbacks from 0, levels and years from 0."""
+        """The share of each bench that is mined by the end of each year, shape (pushbacks from 0, levels, years from 0)."""
         pushbacks, levels = int(self.answer.said["pushback"].max()), self.answer.shape[0]
         dug = np.zeros((pushbacks + 1, levels, self.last + 1))
         place = tuple(self.rows[name].to_numpy() for name in ("pushback", "level", "year"))
@@ -57,7 +57,7 @@ class Way:
 
 
 def verify(answer: Answer) -> list[Rule]:
-    """Five rules."""
+    """Verifies order, amounts, limits, values, and the years of blocks."""
     told = json.loads((answer.folder / FILE).read_text(encoding="utf-8"))
     sums = sums_of_benches(answer)
     misplaced, ways = ways_of(answer, told)
@@ -71,13 +71,13 @@ def verify(answer: Answer) -> list[Rule]:
 
 
 def ways_of(answer: Answer, told: dict[str, Any]) -> tuple[list[str], list[Way]]:
-    """What stands in no place, and each way's rows that do."""
+    """Returns rows with an unknown place, as differences, and the other rows by method."""
     assert answer.schedule is not None
     rows = answer.schedule.copy()
     steps = (answer.elevations[0] - rows["bench"]) / answer.size[2]
     rows["level"] = np.rint(steps).astype(int)
     lost = (abs(steps - rows["level"]) > SLIGHT) | ~rows["level"].between(0, answer.shape[0] - 1)
-    # Of ore that is reclaimed from a stockpile nothing is dug.
+    # Reclaiming ore from a stockpile mines nothing.
     nothing = (rows["share"] < 0) | (
         (rows["share"] == 0) & ((rows["feed_tonnes"] <= 0) | ~rows["method"].isin(told["bins"]))
     )
@@ -95,7 +95,7 @@ def ways_of(answer: Answer, told: dict[str, Any]) -> tuple[list[str], list[Way]]
 
 
 def sums_of_benches(answer: Answer) -> pd.DataFrame:
-    """By pushback and level what the blocks add up to, of benches that hold rock."""
+    """Returns the sums over the blocks of each bench with tonnes, by pushback and level."""
     columns = {
         "total_tonnes": answer.tonnes,
         "feed_tonnes": np.where(answer.ore, answer.feed, 0.0),
@@ -108,7 +108,7 @@ def sums_of_benches(answer: Answer) -> pd.DataFrame:
 
 
 def verify_amounts(ways: list[Way], told: dict[str, Any], sums: pd.DataFrame, misplaced: list[str]) -> Rule:
-    """Each row is a share of the bench's blocks, or what is milled of them, and all shares of a bench are one at most."""
+    """Verifies that each row is a share of its bench, or what is milled of it, and that the shares of a bench sum to at most 1."""
     differences = list(misplaced)
     for way in ways:
         whole = (
@@ -142,13 +142,13 @@ def place(row: Any) -> str:
 
 
 def verify_order(ways: list[Way], sums: pd.DataFrame) -> Rule:
-    """No bench is begun before all benches above it in its pushback, and all of pushbacks before down to `lag` below it, are through."""
+    """Verifies that no bench starts before all benches above it in its pushback, and those of earlier pushbacks down to `lag` below it, are mined."""
     differences = []
     for way in ways:
         lag = way.project_rules.bench_lag if way.project_rules else 0
         is_there = np.zeros(way.done.shape[:2], dtype=bool)
         is_there[tuple(np.array(sums.index.to_list()).T)] = True
-        # The least that is through, from the top of each pushback down; where there is no bench there is nothing to wait for.
+        # The smallest mined share from the top of each pushback down; a level without a bench delays nothing.
         least = np.minimum.accumulate(np.where(is_there[:, :, None], way.done, 1.0), axis=1)
         for row in way.rows.itertuples():
             down = min(row.level + lag, least.shape[1] - 1)
@@ -164,8 +164,8 @@ def verify_order(ways: list[Way], sums: pd.DataFrame) -> Rule:
 
 
 def limits_of(way: Way) -> Iterator[tuple[str, float, float]]:
-    """Name of an amount, the most of a year, and by how much its sum may be off for rounding."""
-    rules, shells = way.project_rules, way.answer.project.schedule
+    """Yields the name of an amount, its annual limit, and the rounding error of its sum."""
+    rules, shells = way.project_rules, way.answer.project.shells
     ore, rock = (rules and rules.processing_capacity) or shells.processing_capacity, (
         rules and rules.mining_capacity
     ) or shells.mining_capacity
@@ -178,7 +178,7 @@ def limits_of(way: Way) -> Iterator[tuple[str, float, float]]:
 
 
 def unlike_limits(way: Way, told: dict[str, Any]) -> Iterator[str]:
-    """What schedule.json says of limits and years, and is not the project's."""
+    """Yields differences of limits and years in schedule.json from the project."""
     rules = way.project_rules
     due: dict[str, Any] = {"limits": {name: most for name, most, _ in limits_of(way) if most < math.inf}}
     due |= {
@@ -193,8 +193,8 @@ def unlike_limits(way: Way, told: dict[str, Any]) -> Iterator[str]:
 
 
 def verify_limits(ways: list[Way], told: dict[str, Any]) -> Rule:
-    """No year is above a limit, the mill's ramp-up and the sinking rate among them, nor behind the last that is allowed; and the record has
-    these."""
+    """Verifies that no year exceeds a limit, ramp-up and vertical advance rate included, or the last year, and that the record has these
+    limits."""
     differences = list(unlike_limits(ways[0], told)) if ways else []
     for way in ways:
         rules = way.project_rules
@@ -218,7 +218,7 @@ def verify_limits(ways: list[Way], told: dict[str, Any]) -> Rule:
 
 
 def verify_value(ways: list[Way], told: dict[str, Any], sums: pd.DataFrame) -> Rule:
-    """Cash is discounted as the project asks; values and years.csv add up; no way earns more than the bound."""
+    """Verifies discounting, the sums of values and years.csv, and that no NPV exceeds the bound."""
     differences = []
     for way in ways:
         rows = way.rows
@@ -259,21 +259,21 @@ def verify_value(ways: list[Way], told: dict[str, Any], sums: pd.DataFrame) -> R
 
 
 def discount(answer: Answer, year: int) -> float:
-    """What one of money of a year is worth at the start."""
-    settings = answer.project.schedule
+    """Returns the discount factors of years."""
+    settings = answer.project.shells
     if settings.discounting == "continuous":
         return years.mean(year - 1, year, settings.discount_rate)
     return (1 + settings.discount_rate) ** -(year - (0.5 if settings.discounting == "mid_year" else 0.0))
 
 
 def present_costs(answer: Answer, year: int) -> float:
-    """Fixed cost and capex of a whole year, as they are worth at the start."""
-    of_year = float(answer.project.money.fixed_cost_per_year) * discount(answer, year)
-    return of_year + capex(answer.project, year) * (1 + answer.project.schedule.discount_rate) ** -(year - 1)
+    """Returns fixed cost and capex of a whole year, discounted."""
+    of_year = float(answer.project.economics.fixed_cost_per_year) * discount(answer, year)
+    return of_year + capex(answer.project, year) * (1 + answer.project.shells.discount_rate) ** -(year - 1)
 
 
 def unlike_years(way: Way, factor: float) -> list[str]:
-    """What years.csv says of a way, and is not the sum of its rows."""
+    """Returns differences between years.csv and the sums of a method's rows."""
     assert way.answer.years is not None
     said = way.answer.years[way.answer.years["case"] == way.name].set_index("year")
     found = (
@@ -294,9 +294,9 @@ def unlike_years(way: Way, factor: float) -> list[str]:
 
 
 def of_years(way: Way, name: str, years: pd.Index) -> pd.Series:
-    """What an amount of years.csv should be by year: the sum of the schedule's rows, and what years cost."""
+    """Returns an amount of years.csv by year: the sum of the schedule's rows, with period costs."""
     project = way.answer.project
-    fixed = pd.Series(float(project.money.fixed_cost_per_year), index=years)
+    fixed = pd.Series(float(project.economics.fixed_cost_per_year), index=years)
     spent = pd.Series([capex(project, int(year)) for year in years], index=years, dtype=float)
     if name in ("fixed_cost", "capex"):
         return fixed if name == "fixed_cost" else spent
@@ -307,10 +307,10 @@ def of_years(way: Way, name: str, years: pd.Index) -> pd.Series:
 
 
 def verify_years_of_blocks(ways: list[Way], told: dict[str, Any], sums: pd.DataFrame) -> Rule:
-    """Each block has the year by whose end its bench of its pushback is through, by the way that earns most."""
+    """Verifies that each block has the year in which its bench is completed, by the method with the highest NPV."""
     values = {name: way["npv"] for name, way in told["methods"].items()}
     best = max(values, key=values.__getitem__)
-    # Values that differ by a rounding alone may be told in either order.
+    # Methods whose values differ by rounding only may be in either order.
     differences = (
         [] if values.get(told["shown"], -math.inf) > values[best] - CENT else [f"shown is {told['shown']} for {best}"]
     )

@@ -1,5 +1,4 @@
-"""A second way to what a sensitivity tells: each case from the project's own text with its numbers changed there, its table, and the written
-pits alone."""
+"""Verifies a sensitivity: each case from the project's text with its numbers changed there, the table, and the written pits."""
 
 from __future__ import annotations
 
@@ -47,8 +46,8 @@ Data = dict[str, Any]
 
 @dataclass(frozen=True)
 class Case:
-    """What is changed, as pairs of a number and a share; where the pits are: for each cell the least factor that holds it; and of the project
-    as given for each cell whether it is in the skin, else nothing."""
+    """A case: its changes, as pairs of parameter and share; the least revenue factor of each cell; slopes; and for the base case a mask of its
+    skin."""
 
     changes: tuple[tuple[str, Decimal], ...]
     entry: np.ndarray
@@ -61,8 +60,8 @@ class Case:
 
 
 def verify(written: Path, folder: Path) -> list[Rule]:
-    """What was looked at of the tables in `written`, and of the answers in `folder`. Raises PlanError where a file is missing or the table
-    has changed since."""
+    """Verifies tables in `written`, and the results of cases in `folder`. Raises PlanError if a file is missing, or the table has changed
+    since."""
     try:
         return Told.read(written, folder).rules()
     except OSError as error:
@@ -73,27 +72,27 @@ def verify(written: Path, folder: Path) -> list[Rule]:
 
 @dataclass(frozen=True)
 class Text:
-    """The text of the project that was run: the file that has it, and the place from which it names others."""
+    """The text of the project that was run: its file, and the place to which its paths are relative."""
 
     file: Path
     place: Path
 
     @staticmethod
     def of(folder: Path, first: str, written: Path) -> Text:
-        """That of a folder whose files are in `written`; of a folder of an earlier release it is in the first file."""
+        """Returns the text of a folder whose files are in `written`; for an earlier release that of the first file."""
         file = written / AS_RUN
         return Text(file, folder / AS_RUN) if file.is_file() else Text(folder / first, folder / first)
 
     @property
     def data(self) -> Data:
-        """What it says, which the caller may change."""
+        """Returns the parsed text, which the caller may change."""
         return toml_text.read(self.file)
 
 
 @dataclass(frozen=True)
 class Told:
-    """A folder as it is read: the blocks as if none were dug, and as blocks.csv tells of them; the cases' rows, and what was recorded of
-    them; and the project's text."""
+    """A folder as read: the blocks as if none were mined, and with the results of blocks.csv; the rows of cases, and their records; and the text
+    of the project."""
 
     ground: Answer
     told: Answer
@@ -107,17 +106,17 @@ class Told:
         record = json.loads((written / "sensitivity.json").read_text(encoding="utf-8"))
         project = as_run(folder, record["project"], written)
         text = Text.of(folder, record["project"], written)
-        blocks = read_blocks(written / "blocks.csv", project)
+        blocks = read_blocks(written / "tables/blocks.csv", project)
         frame, parts, beyond = rows_of(project, blocks, record["grid"])
         known, count, order = beside(frame, blocks, project, record["grid"], "blocks.csv")
         factor = float(record["revenue_factor"])
-        factors = tuple(it for it in project.schedule.revenue_factors if it <= factor)
+        factors = tuple(it for it in project.shells.revenue_factors if it <= factor)
         said = blocks[[name for name in said_of(project) if name in blocks]].iloc[order].reset_index(drop=True)
         record |= {"walls": record["cases"][0]["walls"]}
         found = {"parts": parts, "beyond": beyond, "own": own_columns(blocks, known, order)}
         told = Answer(folder, project, known, count, said, pd.DataFrame(), None, record, factors, **found)
         ground = replace(told, said=said[["id"]].assign(revenue_factor=0))
-        rows = read_table(written / "sensitivity.csv", ["parameter", "second_parameter"])
+        rows = read_table(written / "tables/sensitivity.csv", ["parameter", "second_parameter"])
         rows[["parameter", "second_parameter"]] = rows[["parameter", "second_parameter"]].fillna("")
         return Told(ground, told, rows, list(cases_in(folder, record)), factor, text)
 
@@ -142,7 +141,7 @@ class Told:
         return [*of_ground, *(joined(name, count + holds, found[name]) for name, holds in OF_EACH.items())]
 
     def listed(self) -> Rule:
-        """The project as given, each number by each share, and of each pair both by each share: each has a row, and there are no others."""
+        """Verifies that the base case, each parameter with each change, and each pair have a row, and that there are no others."""
         due, differences = sorted(due_of(self.text)), []
         there = [tuple(row) for row in self.rows[list(AXES)].itertuples(index=False)]
         noted = [padded([(name, float(share)) for name, share in case.changes]) for case in self.cases]
@@ -157,7 +156,7 @@ class Told:
         )
 
     def as_given(self) -> Rule:
-        """What blocks.csv says of the project as given: costs, revenue and roads, and the least factor whose pit holds each block."""
+        """Verifies blocks.csv for the base case: costs, revenue and haul distances, and the least revenue factor of each block."""
         told = self.told
         found = [money.verify(told), *([haulage.verify(told, money.sample(told))] if told.project.haulage else [])]
         said, due = told.said["revenue_factor"].to_numpy(), self.cases[0].entry[told.said["id"].to_numpy()]
@@ -171,7 +170,7 @@ class Told:
         return rule("as given", holds, differences, sum(it.count for it in found) + len(off))
 
     def outside_skin(self) -> Rule:
-        """The pit as given without its skin is a shell, with what must be dug, and has at most the other share of the rock."""
+        """Verifies that the base case's pit without its skin is a shell with all must-mine blocks and at most the other share of the tonnes."""
         given, record, tonnes = self.cases[0], self.ground.record["skin"], self.ground.tonnes
         assert given.skin is not None
         shell = self.dug(np.where(given.skin, 0, given.entry), self.ground.project, given.walls)
@@ -203,7 +202,7 @@ class Told:
         )
 
     def of_case(self, case: Case, row: pd.DataFrame) -> dict[str, Rule]:
-        """Everything that a row says."""
+        """Verifies a row of a case."""
         project = changed(self.text, case.changes)
         whole = self.dug(case.entry, project, case.walls)
         pit = replace(weighed(whole), shells=row.set_index("revenue_factor"))
@@ -230,7 +229,7 @@ class Told:
         }
 
     def kept(self, project: Project, row: pd.DataFrame, moves_walls: bool) -> Rule:
-        """The pit of the project as given, at the numbers of a case; nothing where walls are others."""
+        """Verifies the base case's pit at the parameters of a case; nothing if the slopes change."""
         said = row[[f"kept_{name}" for name in KEPT]].set_axis(list(KEPT), axis=1)
         if moves_walls:
             return rule(
@@ -249,7 +248,7 @@ class Told:
         return rule("kept", "", [*wrong, *years.verify(pit).differences])
 
     def skin(self, project: Project, said: float, moves_walls: bool) -> Rule:
-        """What the skin of the pit as given is worth at the numbers of a case; nothing where walls are others."""
+        """Verifies the value of the skin at the parameters of a case; nothing if the slopes change."""
         if moves_walls:
             return rule("skin", "", [] if np.isnan(said) else ["skin_value is given, although the slopes differ"])
         given = self.cases[0]
@@ -260,16 +259,16 @@ class Told:
         return rule("skin", "", [] if is_near else [f"skin_value {said:.12g} for {worth:.12g}"])
 
     def dug(self, entry: np.ndarray, project: Project, patterns: list[Data]) -> Answer:
-        """The ground with pits, by the numbers of a case."""
+        """Returns the blocks with pits, at the parameters of a case."""
         said = self.ground.said.assign(revenue_factor=entry[self.ground.said["id"].to_numpy()])
         record = {**self.ground.record, "walls": patterns}
         whole = replace(self.ground, project=project, said=said, record=record, found={})
-        if project.money.mining_cost_per_bench and project.money.mining_cost_reference is None:
-            # What is ore does not hang on what mining costs, and what ore needs is told of all blocks.
-            flat = replace(project, money=replace(project.money, mining_cost_per_bench=Decimal(0)))
+        if project.economics.mining_cost_per_bench and project.economics.mining_cost_reference is None:
+            # Ore does not depend on mining costs, and its cones are found from all blocks.
+            flat = replace(project, economics=replace(project.economics, mining_cost_per_bench=Decimal(0)))
             at = money.highest_needed(replace(whole, project=flat, said=gains(replace(whole, project=flat)), found={}))
-            charges = replace(project.money, mining_cost_reference=Decimal(repr(float(at))))
-            whole = replace(whole, project=replace(project, money=charges))
+            charges = replace(project.economics, mining_cost_reference=Decimal(repr(float(at))))
+            whole = replace(whole, project=replace(project, economics=charges))
         return whole
 
 
@@ -289,7 +288,7 @@ def cases_in(folder: Path, record: Data) -> Iterator[Case]:
                 said.get("skin"),
             )
         except (ValueError, KeyError, TypeError) as error:
-            raise PlanError(f"{path}: is no answer of a case: run pitplan sensitivity again: {error}") from error
+            raise PlanError(f"{path}: is not a result of a case: {error}: run pitplan sensitivity again") from error
         yield case
 
 
@@ -299,7 +298,7 @@ def padded(changes: list[tuple[str, float]]) -> tuple[str, float, str, float]:
 
 
 def due_of(text: Text) -> list[tuple[str, float, str, float]]:
-    """The cases that the project's text asks for."""
+    """Returns the cases that the text of the project sets."""
     asked = text.data.get("sensitivity", {})
     changes = [float(share) for share in asked.get("changes", map(Decimal, SHARES))]
     names = asked.get("parameters") or [name for name in NUMBERS if is_given(text, name)]
@@ -325,7 +324,7 @@ def is_given(text: Text, name: str) -> bool:
 
 
 def changed(text: Text, changes: tuple[tuple[str, Decimal], ...]) -> Project:
-    """The project as its text would be read with these numbers changed there."""
+    """Returns the project of the text with these numbers changed there."""
     data = text.data
     for name, share in changes:
         kind, _, metal = name.partition(" ")
@@ -334,7 +333,7 @@ def changed(text: Text, changes: tuple[tuple[str, Decimal], ...]) -> Project:
 
 
 def times(value: Any, by: Decimal, most: Decimal = Decimal("Infinity")) -> Any:
-    """A number, or all numbers of a table by rock or of a list; of pairs the second ones."""
+    """Returns a number times a factor, or all numbers of a table by rock type or of a list; of pairs the second ones."""
     if isinstance(value, dict):
         return {key: times(it, by, most) for key, it in value.items()}
     if isinstance(value, list):
@@ -343,7 +342,7 @@ def times(value: Any, by: Decimal, most: Decimal = Decimal("Infinity")) -> Any:
 
 
 def in_section(section: str, *keys: str, of_process: str = "") -> Any:
-    """Keys of a section, and a key of each of several processes."""
+    """Changes keys of a section, and a key of each process."""
 
     def change(data: Data, by: Decimal, metal: str) -> None:
         data[section] |= {key: times(data[section][key], by) for key in keys if key in data[section]}
@@ -363,7 +362,7 @@ def in_metals(*keys: str, most: Decimal = Decimal("Infinity")) -> Any:
 
 
 def in_recoveries(data: Data, by: Decimal, metal: str) -> None:
-    """Those of metals, or of these in each of several processes."""
+    """Changes recoveries of metals, or of these in each process."""
     in_metals("recovery", most=Decimal(1))(data, by, metal)
     for process in data.get("processes", []):
         process["recovery"] |= {

@@ -1,4 +1,4 @@
-"""A folder of scenarios as it was written, laid beside the project that it was made of, its table and its models as they are now."""
+"""Reads a folder of scenarios, and matches it with its project, table and realisations."""
 
 from __future__ import annotations
 
@@ -25,15 +25,16 @@ from pitplan.verification.read_tables import beside, nearest_cells, read_blocks,
 
 from ..errors import PlanError
 from .put_together import mean_grades
+from .written import TABLES
 
 PROBABILITY, SCENARIOS, QUANTILES = "probability.csv", "scenarios.csv", "quantiles.csv"
-# In place of probability.csv, where blocks are scheduled.
+# Instead of probability.csv, if blocks are scheduled.
 ONE = "common_schedule.csv"
 
 
 @dataclass(frozen=True)
 class Model:
-    """One model of the grades: by metal a column of the table, or else a table of its own."""
+    """A realisation: for each metal a column of the table, otherwise a table of its own."""
 
     name: str
     columns: dict[str, str]
@@ -42,8 +43,7 @@ class Model:
 
 @dataclass(frozen=True)
 class Scenario:
-    """A model at one set of prices, by its number from 1, and the file of its answer. The prices are those of all metals that some set
-    names."""
+    """A realisation at a price deck, by its number from 1, with the file of its result and the prices of all metals that a deck names."""
 
     number: int
     model: Model
@@ -58,10 +58,10 @@ class Scenario:
 
 @dataclass(frozen=True)
 class Told:
-    """What a scenario's answer says.
+    """The result of a scenario.
 
-    places  for each block the place of the least factor whose pit holds it, from 1; 0 where none does
-    table   one row a factor: what its pit holds and is worth
+    places  the place of each block's least revenue factor in the list, from 1; 0: in no pit
+    table   one row per revenue factor, with amounts and value of its pit
     """
 
     places: np.ndarray
@@ -70,15 +70,15 @@ class Told:
 
 @dataclass(frozen=True)
 class Simulated:
-    """A folder as it is read.
+    """A folder as read.
 
-    tables  where the tables of all scenarios are
+    tables  the folder of the tables of all scenarios
     record  scenarios.json
-    table   the table as it is now, with the columns of the models, where they are columns
-    rows    one row a block without grades: those of the table, and behind them those of cells that it has no row of
-    known   how many of these are of the table
-    told    the same rows of probability.csv, or of schedules of common_schedule.csv
-    parts   with reblocking the table's rows without grades, which lie in the blocks; otherwise None
+    table   the table, with the columns of realisations, if they are columns
+    rows    one row per block without grades: those of the table, followed by filled missing blocks
+    known   how many of these are those of the table
+    told    the same rows of probability.csv, or with schedules of common_schedule.csv
+    parts   with reblocking the rows of the table without grades; otherwise None
     """
 
     folder: Path
@@ -93,11 +93,11 @@ class Simulated:
 
     @property
     def factors(self) -> tuple[float, ...]:
-        return self.project.schedule.revenue_factors
+        return self.project.shells.revenue_factors
 
     @cached_property
     def scenarios(self) -> list[Scenario]:
-        """Each model at each set of prices, all sets of a model one after the other; one that the folder does not list has no answer."""
+        """Returns each realisation at each price deck, by realisation; one that the folder does not list has no result."""
         keys = [entry["key"] for entry in self.record["scenarios"]]
         pairs = product(models_of(self.project), prices_of(self.project))
         files = (self.folder / "done" / f"{key}.npz" for key in chain(keys, repeat("")))
@@ -108,9 +108,9 @@ class Simulated:
         return [scenario for scenario in self.scenarios if scenario.file.is_file()]
 
     def grades(self, model: Model) -> np.ndarray:
-        """Grades of a model, a row a block and a column a metal; 0 in cells that the table has no row of.
+        """Returns the grades of a realisation, shape (blocks, metals); 0 in filled missing blocks.
 
-        Raises PlanError where the model's blocks are not those of the table.
+        Raises PlanError if its blocks are not those of the table.
         """
         read, found = self.grades_of_rows(model), np.zeros((len(self.rows), len(self.project.metals)))
         if self.parts is None:
@@ -121,7 +121,7 @@ class Simulated:
         return found
 
     def solved_grades(self, scenario: Scenario) -> np.ndarray:
-        """The grades with which a scenario was solved, as its folder keeps them. Raises PlanError where these are of other blocks."""
+        """Returns the grades with which a scenario was solved, from the folder. Raises PlanError if they are of other blocks."""
         file = self.folder / "realisations" / f"{self.record['scenarios'][scenario.number - 1]['grades']}.npy"
         try:
             found: np.ndarray = np.load(file, allow_pickle=False)
@@ -132,7 +132,7 @@ class Simulated:
         return found
 
     def grades_of_rows(self, model: Model) -> np.ndarray:
-        """Grades of a model, a row for each that the model may name and a column a metal."""
+        """Returns the grades of a realisation for the rows that it may name, shape (rows, metals)."""
         metals = self.project.metals
         if model.file is None:
             return self.table[[model.columns.get(metal.name, metal.column) for metal in metals]].to_numpy()
@@ -145,7 +145,7 @@ class Simulated:
 
     @property
     def named(self) -> pd.DataFrame:
-        """The rows that a model may name: with reblocking those of the table, before they are put together."""
+        """The rows that a realisation may name: with reblocking those of the table before it."""
         return self.rows if self.parts is None else self.parts
 
     def read_model(self, file: Path) -> pd.DataFrame:
@@ -156,7 +156,7 @@ class Simulated:
         return frame
 
     def places_of(self, frame: pd.DataFrame, file: Path) -> np.ndarray:
-        """The rows of the blocks of a model's table, found by their ids where it has these, else by their centres."""
+        """Returns the rows of the blocks of a realisation's table, by ids if it has them, otherwise by centroids."""
         columns = self.project.table
         if columns.id and columns.id in frame:
             numbers = {name: row for row, name in enumerate(self.named[columns.id])}
@@ -170,7 +170,7 @@ class Simulated:
         return at
 
     def at_centres(self, centres: np.ndarray) -> np.ndarray:
-        """The rows with these centres; -1 where there is no such row."""
+        """Returns the rows with these centroids; -1 without such a row."""
         columns, grid = self.project.table, self.record["grid"]
         own = self.named[[columns.x, columns.y, columns.z]].to_numpy()
         if self.parts is None:
@@ -181,7 +181,7 @@ class Simulated:
         return np.where(distance <= 2 * self.project.grid.tolerance, at, -1)
 
     def answers(self) -> Iterator[tuple[Scenario, Told]]:
-        """What the answers say that there are, one after the other. Raises PlanError where one cannot be read."""
+        """Yields scenarios with their results. Raises PlanError if one cannot be read."""
         for scenario in self.answered:
             yield scenario, self.answer(scenario)
 
@@ -195,24 +195,26 @@ class Simulated:
                 said["places"].astype(np.int64), table.assign(value_at_revenue_factor=said["value_at_revenue_factor"])
             )
         except (ValueError, KeyError, TypeError) as error:
-            raise PlanError(f"{scenario.file}: is no answer of {scenario.label}: {error}") from error
+            raise PlanError(
+                f"{scenario.file}: is not a result of {scenario.label}: {error}: run pitplan scenarios again"
+            ) from error
         if len(told.places) != len(self.rows):
             raise PlanError(
-                f"{scenario.file}: tells of {len(told.places):,} blocks, and the table has {len(self.rows):,}"
+                f"{scenario.file}: found {len(told.places):,} blocks, expected the {len(self.rows):,} of the table"
             )
         return told
 
 
 def read(folder: Path, written: Path) -> Simulated:
-    """The answers in a folder, to the project as it was when they were asked for, and the tables of them in `written`.
+    """Reads the results of a folder, for the project that was run, and their tables in `written`.
 
-    Raises PlanError where nothing is gathered or the table has changed, and KeyError where the record lacks a part.
+    Raises PlanError if nothing is gathered or the table has changed, and KeyError if a part of the record is missing.
     """
     try:
         record = json.loads((folder / "scenarios.json").read_text(encoding="utf-8"))
         project = load(folder / "project.toml", folder / record["project"])
         source = ONE if record.get("by") == "block" else PROBABILITY
-        told = read_blocks(written / source, project)
+        told = read_blocks(written / TABLES / source, project)
     except OSError as error:
         raise PlanError(f"{error.filename}: cannot be read: run pitplan scenarios or gather first") from error
     except ValueError as error:
@@ -234,7 +236,7 @@ def asked(project: Project) -> Scenarios:
 
 
 def models_of(project: Project) -> list[Model]:
-    """The models, as the project names them: files by name, or columns in the order that they are named in."""
+    """Returns the realisations of the project: files by name, or columns in their order."""
     scenarios, table = asked(project), project.table
     if scenarios.folder is not None:
         files = [path for path in scenarios.folder.iterdir() if path.name.endswith((".csv", ".csv.gz"))]
@@ -247,7 +249,7 @@ def models_of(project: Project) -> list[Model]:
 
 
 def prices_of(project: Project) -> list[dict[str, Decimal]]:
-    """The sets of prices, each with the project's own for metals that another set names."""
+    """Returns the price decks, each with the project's price for metals that only another deck names."""
     sets = asked(project).prices
     named = {metal.name: metal.price for metal in project.metals if any(metal.name in prices for prices in sets)}
     return [{**named, **prices} for prices in sets]
@@ -258,7 +260,7 @@ def matching(name: str, header: list[str]) -> list[str]:
 
 
 def read_table(project: Project) -> pd.DataFrame:
-    """The table with every column of grades that some model takes."""
+    """Reads the table with every column of grades of a realisation."""
     if asked(project).folder is not None:
         return tables.read(replace(project, metals=())).frame
     metals = {metal.name: metal for metal in project.metals}

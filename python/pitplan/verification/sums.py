@@ -1,4 +1,4 @@
-"""The table of shells added up anew from the blocks, and the worth that the program tells, exactly."""
+"""Verifies the table of shells by sums over blocks, and the solver's value of each shell exactly."""
 
 from __future__ import annotations
 
@@ -10,15 +10,15 @@ from pitplan.core.revenue_factors import BASE_PRICE, PER_MILLE, factor_text, per
 from pitplan.verification.answer import Answer
 from pitplan.verification.rules import TOLD, Rule, rule
 
-# Up to here a float holds every whole number, and 64 bits do.
+# The limits up to which floats and int64 hold every whole number.
 EXACT_WHOLE, MOST_WHOLE = 2**53, 2**63
 
 
 def verify(answer: Answer) -> Rule:
-    """Tonnes, grades, ratios, metal and worth of each shell."""
+    """Verifies tonnes, grades, ratios, metal and cash flow of each shell."""
     differences: list[str] = []
     for factor in answer.shells.index:
-        # What is left of great gains and great costs is as uncertain as these.
+        # A difference of large gains and costs has their absolute error.
         gross = float(np.abs(answer.worths[within(answer, float(factor))]).sum())
         for name, amount in sums(answer, float(factor)).items():
             said = float(answer.shells[name][factor])
@@ -33,12 +33,12 @@ def verify(answer: Answer) -> Rule:
 
 
 def smallest(name: str) -> float:
-    """The last place that shells.csv keeps."""
+    """Returns the last decimal place of a column of shells.csv."""
     return 1e-6 if name.startswith("head_grade_") or name in ("strip_ratio", "years") else 1e-3
 
 
 def within(answer: Answer, factor: float) -> np.ndarray:
-    """Whether a factor's pit holds each block."""
+    """Returns whether the shell of a revenue factor holds each block, shape (blocks,)."""
     first = answer.said["revenue_factor"].to_numpy()
     return (first > 0) & (first <= factor)
 
@@ -67,8 +67,8 @@ def sums(answer: Answer, factor: float) -> dict[str, float]:
 
 
 def verify_worth(answer: Answer) -> Rule:
-    """The program's own worth of each shell is that of its blocks in the factor's own values, exactly; and a dug block is processed from
-    the first factor on at which that pays."""
+    """Verifies that the solver's value of each shell equals the sum over its blocks at the prices of the revenue factor, exactly, and that a
+    mined block is processed from the first factor at which that pays."""
     differences, count = late(answer)
     other = unlike_worth(answer)
     holds = "the solver's value of each shell equals the sum over its blocks, to the last digit of blocks.csv"
@@ -76,7 +76,7 @@ def verify_worth(answer: Answer) -> Rule:
 
 
 def unlike_worth(answer: Answer) -> list[str]:
-    """The factors at which the program's worth is not the sum of what the pit's blocks are worth at that factor."""
+    """Returns differences between the solver's values and the sums of block values at each revenue factor."""
     mining, lost, differences = millionths(answer, "mining_cost"), lost_digits(answer), []
     for factor in answer.shells.index:
         inside = np.flatnonzero(within(answer, float(factor)))
@@ -91,9 +91,9 @@ def unlike_worth(answer: Answer) -> list[str]:
 
 
 def chosen(answer: Answer, factor: float, rows: np.ndarray) -> tuple[np.ndarray, np.ndarray]:
-    """Revenue and processing cost of the blocks of these rows in the process that is worth most at a factor; 0 where none pays. With a fixed
-    cut-off in that of the price as given."""
-    is_moving = answer.project.money.cutoff == "per_revenue_factor"
+    """Returns revenue and processing cost of blocks in the best process at a revenue factor; 0 if none pays. With a cut-off at the base price the
+    process is that of the base price."""
+    is_moving = answer.project.economics.cutoff == "per_revenue_factor"
     ways, price = (answer.amounts_of_ways, factor) if is_moving else ([("revenue", "processing_cost")], BASE_PRICE)
     revenue = processing = gain = np.zeros(len(rows), dtype=np.int64)
     for names in ways:
@@ -107,17 +107,17 @@ def chosen(answer: Answer, factor: float, rows: np.ndarray) -> tuple[np.ndarray,
 
 
 def lost_digits(answer: Answer) -> Decimal:
-    """How far a sum of amounts may be off by its size: not at all, unless some have more digits than a float of blocks.csv holds."""
+    """Returns the relative error that a sum may have: 0, unless amounts have more digits than a float of blocks.csv holds."""
     names = ["mining_cost", *(name for pair in answer.amounts_of_ways for name in pair)]
     greatest = max(float(answer.said[name].max()) for name in names)
-    return Decimal(0) if greatest * 10**answer.project.money.decimals < EXACT_WHOLE else Decimal("1e-15")
+    return Decimal(0) if greatest * 10**answer.project.economics.decimals < EXACT_WHOLE else Decimal("1e-15")
 
 
 def millionths(answer: Answer, name: str) -> np.ndarray:
-    """Amounts as whole numbers; as Python's, which have no limit of size, where 64 bits could not hold them at each factor. They have no
-    more decimals than the project keeps."""
+    """Returns amounts in millionths: int64, or Python's integers if 64 bits could not hold them at every revenue factor. They have no more
+    decimals than the project keeps."""
     if name not in answer.whole:
-        decimals = answer.project.money.decimals
+        decimals = answer.project.economics.decimals
         whole = np.rint(answer.said[name].to_numpy() * 10**decimals).astype(np.int64)
         factors = (*answer.factors, *map(float, answer.shells.index))
         most = int(np.abs(whole).max(initial=0)) * 10 ** (6 - decimals) * max(PER_MILLE, *map(per_mille, factors))
@@ -126,18 +126,18 @@ def millionths(answer: Answer, name: str) -> np.ndarray:
 
 
 def total(amounts: np.ndarray) -> int:
-    """The sum of whole numbers, however great it is."""
+    """Returns the exact sum of whole numbers of any size."""
     if amounts.dtype == object:
         return int(amounts.sum())
-    # The sum of so many upper or lower halves has at most 64 bits.
+    # The sums of the upper and of the lower halves fit into 64 bits.
     return (int((amounts >> 32).sum()) << 32) + int((amounts & 0xFFFFFFFF).sum())
 
 
 def first_processed(answer: Answer) -> np.ndarray:
-    """For each block the first of the folder's factors, from that on at which it is dug, at which processing it pays; 0 at none."""
+    """Returns for each block the least revenue factor at which it is mined and processing it pays; 0 if there is none."""
     first = answer.said["revenue_factor"].to_numpy()
     expected = np.zeros(len(first))
-    if answer.project.money.cutoff == "per_revenue_factor":
+    if answer.project.economics.cutoff == "per_revenue_factor":
         for factor in sorted(answer.factors, reverse=True):
             inside = np.flatnonzero((first > 0) & (first <= factor))
             expected[inside[np.asarray(chosen(answer, factor, inside)[0] > 0, dtype=bool)]] = factor
@@ -147,7 +147,7 @@ def first_processed(answer: Answer) -> np.ndarray:
 
 
 def late(answer: Answer) -> tuple[list[str], int]:
-    """Blocks whose process_revenue_factor is not the first factor at which they are processed: the first ten, and how many there are."""
+    """Returns the first ten differences of process_revenue_factor, and their number."""
     expected, said = first_processed(answer), answer.said["process_revenue_factor"].to_numpy()
     off = np.flatnonzero(expected != said)
     return [

@@ -1,8 +1,8 @@
-"""The ground as mined. By its own triangles it is theirs at the middle of a column of blocks; by points it is over a column their mean, and
-where there is none a triangle of those round it.
+"""The as-mined surface by the centres of columns of blocks: the height of its triangles, or the mean of the points over a column, otherwise that
+of a triangle of the points around it.
 
-Three points make a triangle of the surface where the circle through them holds no other point. Where more than three lie on one circle,
-as of a regular grid, several triangles may be laid, and the highest of them is taken.
+These triangles are Delaunay: the circle through three points holds no other point. If more than three lie on one circle, as those of a regular
+grid, several triangles are possible, and the highest is taken.
 """
 
 from __future__ import annotations
@@ -21,14 +21,14 @@ from .survey import heights
 from .triangles import cross, highest as highest_of
 from .turned import places_of, steps_of
 
-# Metres: so near to the outline of all points nothing is demanded.
+# Metres; this close to the hull of all points either side is accepted.
 HAIR = 1e-6
-# Where more points lie on a circle nothing is demanded.
+# With more points on a circle any height is accepted.
 MOST_ON_A_CIRCLE = 12
 
 
 def above(answer: Answer, file: SurveyFile) -> np.ndarray:
-    """A truth for each block: whether its centre is above the surface. Beyond all points nothing is."""
+    """Returns whether the centroid of each block is above the surface, shape (rows,); False outside all points."""
     points, faces = heights(file, answer.record["grid"])
     height = means(answer, pd.DataFrame(points[: 0 if len(faces) else None], columns=["x", "y", "z"]))
     level, row, column = answer.cells
@@ -43,7 +43,7 @@ def above(answer: Answer, file: SurveyFile) -> np.ndarray:
 
 
 def means(answer: Answer, points: pd.DataFrame) -> np.ndarray:
-    """The mean height of the points over each column of blocks, in metres, by row and column; nan where there is none."""
+    """Returns the mean height of the points over each column of blocks in metres, shape (rows, columns); nan without points."""
     _, rows, columns = answer.shape
     column, row = np.floor(steps_of(points[["x", "y"]].to_numpy(), answer.record["grid"]) + 0.5).astype(int).T
     mean = points["z"].groupby([pd.Series(row, name="row"), pd.Series(column, name="column")]).mean()
@@ -52,10 +52,10 @@ def means(answer: Answer, points: pd.DataFrame) -> np.ndarray:
 
 
 def between(answer: Answer, points: np.ndarray, places: np.ndarray) -> np.ndarray:
-    """Metres of the surface at the centres of columns of blocks without points; infinite beyond all points.
+    """Returns the height in metres at the centres of columns of blocks without points; infinite outside all points.
 
-    points  rows x, y, z in metres
-    places  rows of the row and the column of each column of blocks
+    points  x, y, z in metres, shape (points, 3)
+    places  row and column of each column of blocks, shape (places, 2)
     """
     middle = points[:, :2].mean(axis=0)
     flat, centres = points[:, :2] - middle, places_of(places[:, ::-1], answer.record["grid"]) - middle
@@ -64,7 +64,7 @@ def between(answer: Answer, points: np.ndarray, places: np.ndarray) -> np.ndarra
     try:
         outline, mesh = ConvexHull(corners).equations, Triangulation(*corners.T)
     except (RuntimeError, ValueError):
-        # Points on one line make no triangle.
+        # Points on one line have no triangle.
         return found
     inside = np.flatnonzero((centres @ outline[:, :2].T + outline[:, 2] < -HAIR).all(axis=1))
     if not len(inside):
@@ -82,7 +82,7 @@ def between(answer: Answer, points: np.ndarray, places: np.ndarray) -> np.ndarra
 
 
 def circles(triangles: np.ndarray) -> tuple[np.ndarray, np.ndarray]:
-    """Centres and radii of the circles through triangles, an array of triangles, corners, and x and y."""
+    """Returns centres and radii of the circumcircles of triangles, shape (triangles, 3, 2)."""
     first, (b, c) = triangles[:, 0], (triangles[:, k] - triangles[:, 0] for k in (1, 2))
     twice = 2 * cross(b, c)
     b_square, c_square = (b**2).sum(axis=1), (c**2).sum(axis=1)
@@ -92,10 +92,10 @@ def circles(triangles: np.ndarray) -> tuple[np.ndarray, np.ndarray]:
 
 
 def highest(centres: np.ndarray, corners: np.ndarray, heights: np.ndarray) -> np.ndarray:
-    """The greatest height at each place of all triangles of its corners that hold it; infinite where none does.
+    """Returns the largest height at each place over all triangles of its corners that hold it; infinite without one.
 
-    centres  places, and x and y
-    corners  places, the points on the circle of each, and x and y; `heights` are theirs
+    centres  shape (places, 2)
+    corners  the points on the circle of each, shape (places, points, 2); `heights` are theirs
     """
     best = np.full(len(centres), -np.inf)
     if heights.shape[1] > MOST_ON_A_CIRCLE:

@@ -1,4 +1,4 @@
-"""What the files of surveyors hold, for the second look: a table is read anew, and of others it is what their readers give."""
+"""Survey files for the verification: tables are read again here, other formats by their readers."""
 
 from __future__ import annotations
 
@@ -13,15 +13,15 @@ from pitplan.survey import readers
 
 from .turned import places_of
 
-# Endings of what is no table.
+# Suffixes of files that are not tables.
 OTHERS = (".dxf", ".str", ".gpkg", ".shp", ".geojson", ".json", ".tif", ".tiff", ".asc")
 
 
 def heights(
     file: SurveyFile, grid: dict[str, Any], cells: Optional[np.ndarray] = None
 ) -> tuple[np.ndarray, np.ndarray]:
-    """Rows x, y, z of points, and of triangles three numbers of points; a table has none of these. Of a raster what lies round the grid, or
-    round some cells, a row of the column and the row each."""
+    """Returns points, shape (points, 3), and triangles, shape (triangles, 3), as numbers of points; a table has none. Of a raster only the part
+    around the grid, or around some cells, shape (cells, 2) with column and row."""
     if file.path.suffix.lower() not in OTHERS:
         return table(file.path)[["x", "y", "z"]].to_numpy(dtype=float), np.zeros((0, 3), dtype=np.int64)
     _, rows, columns = grid["shape"]
@@ -34,7 +34,7 @@ def heights(
 
 
 def polygons(file: SurveyFile) -> list[list[np.ndarray]]:
-    """Of each polygon its outline and then its holes, as rows x, y."""
+    """Returns each polygon as outline followed by holes, arrays of shape (corners, 2)."""
     if file.path.suffix.lower() not in OTHERS:
         return [[table(file.path)[["x", "y"]].to_numpy(dtype=float)]]
     return readers.areas(file).polygons

@@ -1,5 +1,5 @@
-"""Blocks that a topography cuts, anew: for some columns exactly, each triangle being cut to the column and at each level's floor, corner by
-corner; and for many by heights at places in them."""
+"""Verifies blocks that a topography cuts: some columns exactly, by clipping each triangle to the column and at each level's floor, and many by
+heights at places in them."""
 
 from __future__ import annotations
 
@@ -20,11 +20,11 @@ from . import survey
 from .triangles import highest, near
 from .turned import steps_of
 
-# A gram, to which tonnes are kept, and shares of a block by which sums of floats are off, of coordinates of seven digits.
+# A gram, the last place of tonnes; and the rounding error of sums as a share of a block, for coordinates of seven digits.
 GRAM, HAIR = 0.51e-6, 1e-8
-# So many columns are looked at by heights at so many places each way, and of them so many exactly.
+# Numbers of sampled columns, of heights each way in a column, and of columns that are computed exactly.
 MANY, ACROSS, EXACTLY = 2_000, 6, 200
-# The share of a block by which such heights may miss it, as of a wall along the blocks' sides, which they do by a twelfth at most.
+# The error of such heights as a share of a block; a wall along the sides of blocks gives at most a twelfth.
 MISSED = 0.1
 
 Corner = tuple[float, float, float]
@@ -32,15 +32,15 @@ Corner = tuple[float, float, float]
 
 @dataclass(frozen=True)
 class Ground:
-    """The corners of triangles, shape (triangles, 3, 3), in columns east and rows north of the middle of the first column of blocks, and in
-    levels above the model's floor; and how many levels, rows and columns there are."""
+    """Triangles of a topography, shape (triangles, 3, 3), in columns east and rows north of the centre of the first column, and in levels above the
+    floor of the model; and the shape of the grid."""
 
     corners: np.ndarray
     shape: tuple[int, int, int]
 
     @staticmethod
     def of(answer: Answer, file: SurveyFile, cells: Optional[np.ndarray] = None) -> Ground:
-        """Of a raster what lies round the answer's grid, or round some cells, a row of the column and the row each."""
+        """Reads a file; of a raster only the part around the grid, or around some cells, shape (cells, 2) with column and row."""
         grid = answer.record["grid"]
         points, faces = survey.heights(file, grid, cells)
         if not len(faces):
@@ -49,8 +49,8 @@ class Ground:
         return Ground(steps[faces], answer.shape)
 
     def quickly(self, places: np.ndarray) -> np.ndarray:
-        """For columns, a row of the row and the column each, the share of each level from the floor that lies below, by heights at places
-        in them; not a number where the triangles do not cover all of these."""
+        """Returns the share of each level, from the floor, that lies below, for columns given by row and column, by heights at places in them; nan if
+        the triangles do not cover all of these."""
         within = (np.arange(ACROSS) + 0.5) / ACROSS - 0.5
         spots = np.stack(np.meshgrid(within, within), axis=-1).reshape(-1, 2)
         found = highest((places[:, None, ::-1] + spots).reshape(-1, 2), self.corners).reshape(len(places), -1)
@@ -59,7 +59,7 @@ class Ground:
         return np.asarray(np.clip(heights[:, None] - levels[:, None], 0, 1).mean(axis=2))
 
     def exactly(self, places: np.ndarray) -> np.ndarray:
-        """The same, exactly; 1 where no triangle lies over a column."""
+        """Returns the same exactly; 1 if no triangle lies over a column."""
         found = np.ones((len(places), self.shape[0]))
         for number, pieces in self.pieces(places):
             covered = sum(area(piece) for piece in pieces)
@@ -69,8 +69,8 @@ class Ground:
         return found
 
     def pieces(self, places: np.ndarray) -> Iterator[tuple[int, list[list[Corner]]]]:
-        """Of each column what of the triangles lies over it."""
-        # A column reaches the root of a half from its middle.
+        """Yields the parts of triangles over each column."""
+        # The corners of a column are sqrt(0.5) from its centre.
         found = [np.stack(pair, axis=1) for pair in near(places[:, ::-1].astype(float), self.corners, 0.71)]
         near_by = pd.DataFrame(np.concatenate([np.zeros((0, 2), dtype=int), *found]), columns=["place", "face"])
         for number, faces in near_by.groupby("place")["face"]:
@@ -81,7 +81,7 @@ class Ground:
 
 
 def part(polygon: list[Corner], of: Callable[[Corner], float]) -> list[Corner]:
-    """The part of a convex polygon where a linear function of its corners is not below 0."""
+    """Returns the part of a convex polygon where a linear function, given at its corners, is at least 0."""
     found = []
     for one, other in zip(polygon, polygon[1:] + polygon[:1]):
         here, there = of(one), of(other)
@@ -95,14 +95,14 @@ def part(polygon: list[Corner], of: Callable[[Corner], float]) -> list[Corner]:
 
 
 def over_column(polygon: list[Corner]) -> list[Corner]:
-    """The part of a triangle over the square of half a block to each side of the middle."""
+    """Returns the part of a triangle over the unit square around the centre."""
     for axis in (0, 1):
         polygon = part(part(polygon, lambda corner: 0.5 - corner[axis]), lambda corner: 0.5 + corner[axis])
     return polygon
 
 
 def fans(polygon: list[Corner]) -> Iterator[tuple[float, float]]:
-    """The area on the map and the mean height of each triangle round a polygon's first corner."""
+    """Yields area in plan and mean height of each triangle of a polygon's fan around its first corner."""
     for (ax, ay, az), (bx, by, bz) in zip(polygon[1:], polygon[2:]):
         x, y, z = polygon[0]
         yield abs((ax - x) * (by - y) - (ay - y) * (bx - x)) / 2, (az + bz + z) / 3
@@ -113,12 +113,12 @@ def area(polygon: list[Corner]) -> float:
 
 
 def volume_above(polygon: list[Corner], level: float) -> float:
-    """What lies between an elevation and the part of a polygon above it."""
+    """Returns the volume between an elevation and the part of a polygon above it."""
     return sum(size * (height - level) for size, height in fans(part(polygon, lambda corner: corner[2] - level)))
 
 
 def verify(answer: Answer) -> Rule:
-    """Tonnes of the blocks of the columns that are looked at are the table's below the topography."""
+    """Verifies that blocks of sampled columns have the tonnes below the topography."""
     file = answer.project.table.topography
     assert file is not None
     ground = Ground.of(answer, file)
@@ -145,12 +145,12 @@ def told(answer: Answer, wrong: np.ndarray, expected: np.ndarray) -> list[str]:
 
 
 def some(count: int, most: int) -> np.ndarray:
-    """At most so many numbers below a count, evenly."""
+    """Returns at most `most` numbers below a count, evenly spaced."""
     return np.unique(np.linspace(0, count - 1, min(count, most)).round().astype(np.int64))
 
 
 def air(answer: Answer, rows: np.ndarray, columns: np.ndarray, levels: np.ndarray) -> np.ndarray:
-    """Whether cells, which may lie beyond the answer's grid, lie wholly above the topography."""
+    """Returns whether cells, which may lie outside the grid, are wholly above the topography."""
     file = answer.project.table.topography
     if file is None or not len(rows):
         return np.zeros(len(rows), dtype=bool)

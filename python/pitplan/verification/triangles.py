@@ -1,7 +1,4 @@
-"""Triangles of a surface anew: the height at a place, and the volume above an elevation, by cutting them with planes.
-
-Which triangles come near a place is told by a tree of their middles; those of like size have a tree of their own.
-"""
+"""Heights of triangle meshes, independently of the planner. A tree of centroids per class of size finds the triangles near a place."""
 
 from __future__ import annotations
 
@@ -10,12 +7,12 @@ from collections.abc import Iterator
 import numpy as np
 from scipy.spatial import cKDTree
 
-# Shares of a triangle, and metres, by which sums of floats are off.
+# Rounding errors of barycentric coordinates, and of metres.
 HAIR = 1e-9
 
 
 def near(places: np.ndarray, corners: np.ndarray, reach: float) -> Iterator[tuple[np.ndarray, np.ndarray]]:
-    """Pairs of the numbers of a place x, y and of a triangle that may come within a reach of it in metres; class by class of their size."""
+    """Yields pairs of a place x, y and a triangle that may come within a distance of it in metres, by class of size."""
     flat = corners[..., :2]
     middles = flat.mean(axis=1)
     radii = np.sqrt(((flat - middles[:, None]) ** 2).sum(axis=2)).max(axis=1)
@@ -31,7 +28,7 @@ def near(places: np.ndarray, corners: np.ndarray, reach: float) -> Iterator[tupl
 
 
 def highest(places: np.ndarray, corners: np.ndarray) -> np.ndarray:
-    """The greatest height at each place of the triangles that hold it; infinite where none does."""
+    """Returns the largest height at each place of the triangles that hold it; infinite without one."""
     best = np.full(len(places), -np.inf)
     for place, face in near(places, corners, 0.0):
         a, b, c = (corners[face, k, :2] - places[place] for k in range(3))
@@ -44,5 +41,5 @@ def highest(places: np.ndarray, corners: np.ndarray) -> np.ndarray:
 
 
 def cross(first: np.ndarray, second: np.ndarray) -> np.ndarray:
-    """Twice the area between each two of rows x, y; below 0 where the second lies clockwise of the first."""
+    """Returns the cross product of rows x, y; negative if the second is clockwise of the first."""
     return np.asarray(first[:, 0] * second[:, 1] - first[:, 1] * second[:, 0])

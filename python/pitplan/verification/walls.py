@@ -1,4 +1,4 @@
-"""The walls by their definition: a block that is dug leaves no block standing in the whole cone above it."""
+"""Verifies slopes by their definition: a mined block leaves no block in the whole cone above it."""
 
 from __future__ import annotations
 
@@ -22,7 +22,7 @@ MOST_LEVELS = 40
 
 @dataclass(frozen=True)
 class Run:
-    """Cells side by side in a level above: so many blocks north, and from `west` to `east` blocks east, both with it."""
+    """Adjacent cells of a level above: `north` blocks north, and from `west` to `east` blocks east, inclusive."""
 
     north: int
     west: int
@@ -30,7 +30,7 @@ class Run:
 
 
 def flatness(wall: Wall, azimuth: np.ndarray) -> np.ndarray:
-    """Metres that the wall steps back for each metre up, by azimuth in degrees: between two that are named linear, round the circle."""
+    """Returns the cotangent of the slope angle at azimuths in degrees: linear between those given, and around the circle."""
     if wall.bench:
         return np.full(
             np.shape(azimuth),
@@ -45,8 +45,8 @@ def flatness(wall: Wall, azimuth: np.ndarray) -> np.ndarray:
 
 
 def cone(wall: Wall, size: tuple[float, float, float], up: int, turn: float = 0.0) -> np.ndarray:
-    """Which cells lie in the cone so many levels up: a square of truths, rows from the south, round the cell straight above; of a grid
-    whose north has the azimuth `turn` in degrees."""
+    """Returns which cells lie in the cone a number of levels up: a boolean square, rows from the south, around the cell above. `turn` is the azimuth
+    of the grid's north in degrees."""
     if wall.pattern:
         corner = NEIGHBOURS[wall.pattern]
         return np.array([[abs(north) + abs(east) <= corner for east in (-1, 0, 1)] for north in (-1, 0, 1)])
@@ -62,7 +62,7 @@ def cone(wall: Wall, size: tuple[float, float, float], up: int, turn: float = 0.
 
 
 def runs(inside: np.ndarray) -> list[Run]:
-    """The cells of a square of truths as runs from west to east."""
+    """Returns the cells of a boolean square as runs from west to east."""
     far, found = len(inside) // 2, []
     for north, row in enumerate(inside):
         edges = np.flatnonzero(np.diff(np.concatenate([[0], row.astype(np.int8), [0]])))
@@ -71,7 +71,7 @@ def runs(inside: np.ndarray) -> list[Run]:
 
 
 def latest(above: np.ndarray, run: Run) -> np.ndarray:
-    """For each cell the greatest number of the run of cells above it; 0 for those that lie beside the model."""
+    """Returns for each cell the largest value in a run of cells above it; cells outside the model count as 0."""
     levels, rows, columns = above.shape
     found = np.zeros(above.shape, dtype=above.dtype)
     to = slice(max(0, -run.north), rows + min(0, -run.north))
@@ -79,7 +79,7 @@ def latest(above: np.ndarray, run: Run) -> np.ndarray:
     if to.start >= to.stop:
         return found
     wide, margin = run.east - run.west + 1, max(abs(run.west), abs(run.east)) + 1
-    # By hand, since numpy's own pad takes longer than the filter on small levels.
+    # np.pad takes longer than the filter on small levels.
     padded = np.zeros((levels, to.stop - to.start, columns + 2 * margin), dtype=above.dtype)
     padded[:, :, margin : margin + columns] = above[:, of]
     first = margin + run.west + wide // 2
@@ -88,7 +88,7 @@ def latest(above: np.ndarray, run: Run) -> np.ndarray:
 
 
 def verify(answer: Answer) -> Rule:
-    """No shell leaves a block of rock, or ground that is not known, in the unreduced cone of a block that it digs."""
+    """Verifies that no shell leaves a block with tonnes, or unknown ground, in the whole cone of a block that it mines."""
     dug, entry = answer.dug, answer.entries
     wrong = np.zeros(answer.shape, dtype=bool)
     for number, wall in enumerate(answer.project.slopes.domains):
@@ -114,7 +114,7 @@ def verify(answer: Answer) -> Rule:
 
 
 def verify_steepness(answer: Answer) -> Rule:
-    """Where the project leaves the levels open, no high wall comes out too much steeper than asked, or there are the most levels."""
+    """Verifies that without `precedence_benches` no slope error exceeds half a degree, unless their number is the largest."""
     slopes, differences = answer.project.slopes, []
     if slopes.precedence_benches is not None:
         return rule(
@@ -137,12 +137,12 @@ def verify_steepness(answer: Answer) -> Rule:
 
 
 def asked(wall: Wall, turn: float) -> np.ndarray:
-    """Degrees, by whole azimuth from the north of a grid that has the azimuth `turn`."""
+    """Returns the required angles in degrees, by whole azimuth from the grid's north, which has the azimuth `turn`."""
     return np.degrees(np.arctan2(1.0, flatness(wall, (np.arange(360.0) + turn) % 360)))
 
 
 def high_walls(wall: Wall, size: tuple[float, float, float], levels: int, turn: float = 0.0) -> np.ndarray:
-    """Degrees, likewise, of the high walls that cones upon cones make: their sides are those of the cone's convex hull."""
+    """Returns the angles of high slopes, of cones upon cones, in the same way: those of the convex hull of the cone."""
     points = []
     for up in range(1, levels + 1):
         inside = cone(wall, size, up, turn)
@@ -159,7 +159,7 @@ def high_walls(wall: Wall, size: tuple[float, float, float], levels: int, turn: 
 
 
 def needed_by(answer: Answer, blocks: np.ndarray) -> np.ndarray:
-    """The given blocks and all that they need, directly or through others: a truth for each cell."""
+    """Returns the given blocks and all their predecessors, a boolean mask over cells."""
     found = blocks.copy()
     entries = answer.entries
     walls, turn = answer.project.slopes.domains, answer.azimuth
@@ -175,7 +175,7 @@ def needed_by(answer: Answer, blocks: np.ndarray) -> np.ndarray:
 
 
 def box(mask: np.ndarray) -> tuple[slice, slice, slice] | None:
-    """The least box that holds all that is true; None where nothing is."""
+    """Returns the smallest box around all marked cells; None without any."""
     if not mask.any():
         return None
     found = []

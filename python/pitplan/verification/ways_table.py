@@ -1,4 +1,4 @@
-"""The row of each way to schedule in methods.csv: the sums of its years, and what the schedule's record says of it."""
+"""Verifies methods.csv: each row has the sums of the method's years, and the values of the schedule's record."""
 
 from __future__ import annotations
 
@@ -7,20 +7,20 @@ from typing import Any
 import pandas as pd
 
 from .answer import Answer
-from .written import read_table
+from .written import TABLES, read_table
 
 FILE = "methods.csv"
-# years.csv has thousandths, and methods.csv too.
+# Tolerances: years.csv and methods.csv have thousandths, shares billionths.
 AMOUNT, SHARE = 0.6e-3, 0.6e-9
 SUMS = {"tonnes": "total_tonnes", "feed_tonnes": "feed_tonnes"}
 
 
 def differences(answer: Answer, told: dict[str, dict[str, Any]]) -> list[str]:
-    """What methods.csv says, and is not so; `told` has of each way, by column, what the record says of it."""
+    """Returns the differences of methods.csv; `told` has the columns of the record for each method."""
     assert answer.years is not None
-    if not (answer.folder / FILE).is_file():
+    if not (answer.folder / TABLES / FILE).is_file():
         return [f"{FILE} is missing"]
-    said = read_table(answer.folder / FILE, ["method"]).set_index("method")
+    said = read_table(answer.folder / TABLES / FILE, ["method"]).set_index("method")
     if said.index.tolist() != list(told):
         return [f"{FILE} has the methods {said.index.tolist()} for {list(told)}"]
     found = []
@@ -42,12 +42,12 @@ def differences(answer: Answer, told: dict[str, dict[str, Any]]) -> list[str]:
 
 
 def below(value: float, bound: float | None) -> float | None:
-    """By which share of the bound a value is less; None where there is no bound, or one of 0."""
+    """Returns the optimality gap as a share of the bound; None without a bound, or if it is 0."""
     return (bound - value) / abs(bound) if bound else None
 
 
 def unlike(said: float, expected: float | None, slack: float) -> bool:
     if expected is None or pd.isna(said):
-        # Of a bound of 0 a schedule may say that it is less by nothing.
+        # With a bound of 0 the gap may be 0.
         return not (expected is None and (pd.isna(said) or said == 0))
     return bool(abs(said - expected) > slack)

@@ -1,4 +1,4 @@
-"""Costs and revenue of blocks of an answer that tells none of its own."""
+"""Computes costs and revenue of blocks for results that have none of their own."""
 
 from __future__ import annotations
 
@@ -16,11 +16,11 @@ from . import money, sums
 
 
 def weighed(whole: Answer) -> Answer:
-    """The blocks that are dug at any factor, with exact costs and revenue."""
+    """Returns the blocks that are mined at any revenue factor, with exact costs and revenue."""
     dug = (whole.said["revenue_factor"] > 0).to_numpy()
     part = replace(whole, rows=whole.rows[dug].reset_index(drop=True), said=whole.said[dug].reset_index(drop=True))
     told: dict[str, Any] = {}
-    for way, names in zip(part.project.ways, part.amounts_of_ways):
+    for way, names in zip(part.project.by_process, part.amounts_of_ways):
         exactly = money.Exactly.of(replace(part, project=way))
         amounts = [[float(amount) for amount in exactly.amounts(row)] for row in range(len(part.rows))]
         told |= dict(zip((money.MINING, *names), np.array(amounts, dtype=np.float64).reshape(-1, 3).T))
@@ -29,7 +29,7 @@ def weighed(whole: Answer) -> Answer:
 
 
 def with_best(told: pd.DataFrame, answer: Answer) -> pd.DataFrame:
-    """The amounts of several processes with those of the one that is worth most, of several that of least revenue, and its name."""
+    """Returns the amounts of several processes with those of the best one, and its name; of equal ones that of least revenue."""
     processes = answer.project.processes
     if not processes:
         return told
@@ -43,8 +43,8 @@ def with_best(told: pd.DataFrame, answer: Answer) -> pd.DataFrame:
 
 @dataclass(frozen=True)
 class AtPrice:
-    """What blocks hold and earn at the price as given, one number a row: what it costs to dig each, and where processing it pays what it
-    earns besides, the tonnes that come to the mill, and what is recovered of each metal; else 0."""
+    """Amounts of blocks at the base price, arrays of shape (rows,): mining cost, and if processing pays its gain, the mill feed, and the recovered
+    metals; otherwise 0."""
 
     mining: np.ndarray
     gain: np.ndarray
@@ -53,9 +53,8 @@ class AtPrice:
 
 
 def at_price(answer: Answer) -> AtPrice:
-    """The blocks of an answer with one process, their amounts of money rounded as the project asks: by floats, and exactly where these are
-    next to the middle of two."""
-    unit = 10.0**-answer.project.money.decimals
+    """Returns the amounts of blocks with one process, with money rounded as the project sets it: by floats, and exactly if these are near a half."""
+    unit = 10.0**-answer.project.economics.decimals
     amounts = np.stack(money.by_floats(answer)) / unit
     rounded = np.rint(amounts)
     close = np.abs(np.abs(amounts - np.floor(amounts)) - 0.5) < 1e-9 + 1e-14 * np.abs(amounts)
@@ -64,7 +63,7 @@ def at_price(answer: Answer) -> AtPrice:
     for row in rows:
         assert exactly is not None
         rounded[:, row] = [
-            float(amount / Decimal(1).scaleb(-answer.project.money.decimals)) for amount in exactly.amounts(row)
+            float(amount / Decimal(1).scaleb(-answer.project.economics.decimals)) for amount in exactly.amounts(row)
         ]
     mining, revenue, processing = rounded * unit
     pays = revenue > np.where(revenue > 0, processing, 0.0)
@@ -73,10 +72,10 @@ def at_price(answer: Answer) -> AtPrice:
 
 
 def gains(answer: Answer) -> pd.DataFrame:
-    """Revenue and processing cost of each block: by floats, and exactly where these are close to one another."""
+    """Returns revenue and processing cost of each block: by floats, and exactly if the two are close."""
     told: dict[str, np.ndarray] = {}
-    unit = 10.0**-answer.project.money.decimals
-    for way, names in zip(answer.project.ways, answer.amounts_of_ways):
+    unit = 10.0**-answer.project.economics.decimals
+    for way, names in zip(answer.project.by_process, answer.amounts_of_ways):
         part = replace(answer, project=way)
         revenue, processing = money.gains_by_floats(part)
         exactly = money.Exactly.of(part)

@@ -1,4 +1,4 @@
-"""What tables say in words of their amounts: how cash is discounted, and whether a row describes shells or pushbacks."""
+"""Verifies the text columns of tables: how cash is discounted, and whether a row describes shells or pushbacks."""
 
 from __future__ import annotations
 
@@ -7,17 +7,17 @@ import pandas as pd
 from pitplan.verification.answer import Answer
 from pitplan.verification.rules import Rule, rule
 
-from .written import WORDS
+from .written import TABLES, WORDS
 
-TABLES = ("shells.csv", "pits.csv", "years.csv", "schedule.csv", "methods.csv")
+NAMES = ("shells.csv", "pits.csv", "years.csv", "schedule.csv", "methods.csv")
 DISCOUNTED = {"npv_best", "discounted_cash_flow", "npv"}
 
 
 def verify(answer: Answer) -> Rule:
-    """Each table with discounted amounts names the project's convention."""
-    differences, due = [], answer.project.schedule.discounting
-    for name in TABLES:
-        path = answer.folder / name
+    """Verifies that each table with discounted amounts names the project's convention."""
+    differences, due = [], answer.project.shells.discounting
+    for name in NAMES:
+        path = answer.folder / TABLES / name
         if not path.is_file():
             continue
         header = set(pd.read_csv(path, nrows=0).columns)
@@ -35,7 +35,7 @@ def verify(answer: Answer) -> Rule:
 
 
 def unlike_outline(answer: Answer, name: str, table: pd.DataFrame) -> list[str]:
-    """Rows of shells and of schedules say which they are where pushbacks are wider than shells."""
+    """Returns differences of the column `outline`, which tables have if pushbacks have a minimum mining width."""
     rules = answer.project.pushbacks
     if rules is None or not (rules.min_mining_width or rules.min_bottom_width):
         return [f"{name}: has a column outline, and pushbacks are shells"] if "outline" in table else []

@@ -1,4 +1,4 @@
-"""Tables of an answer as they are read: in a column of numbers each field is one."""
+"""Reads the tables of a folder, and demands a number in each field of a numeric column."""
 
 from __future__ import annotations
 
@@ -12,19 +12,33 @@ from pitplan.core.revenue_factors import factor_texts, with_exact_factors
 
 from ..errors import PlanError
 
-# How the names of columns begin that are empty where there is no such amount: a ratio to no ore, a width of nothing, a bound that was not
-# sought, what is of other cases alone.
+# Prefixes of columns with empty fields if the amount is not defined: a ratio to no ore, the width of an empty pushback, a bound that was not
+# computed, or columns of other cases.
 MAY_LACK = ("strip_ratio", "head_grade_", "min_width", "upper_bound", "optimality_gap", "sum_", "kept_", "skin_value")
-# Numbers whose digits count each are left as texts.
+# Exact numbers stay texts.
 EXACT = "value_at_revenue_factor"
 
 
+# The folder of an output folder in which its tables lie.
+TABLES = "tables"
 # Text columns, which have a rule of their own.
 WORDS = ("discounting", "outline")
 
 
 def read_table(path: Path, texts: Sequence[str] = ()) -> pd.DataFrame:
-    """Reads a table without its WORDS; `texts` names its other text columns. Raises PlanError, with file, row and column, where a field is no number that is to be one."""
+    """Reads a table without its WORDS.
+
+    Parameters
+    ----------
+    path : Path
+    texts : sequence of str
+        Its other text columns.
+
+    Raises
+    ------
+    PlanError
+        With file, row and column, if a field of a numeric column is not a number.
+    """
     frame = pd.read_csv(path, dtype=dict.fromkeys([*texts, EXACT], str), keep_default_na=False, na_values=[""])
     frame = with_exact_factors(frame.drop(columns=frame.columns.intersection(WORDS)))
     demand_numbers(frame, path.name, texts)
@@ -51,7 +65,7 @@ def demand_numbers(frame: pd.DataFrame, source: str, texts: Iterable[str]) -> No
 
 
 def demand_factors(frame: pd.DataFrame, factors: Iterable[float], source: str) -> None:
-    """Raises PlanError where a table has not one row for each factor, in their order."""
+    """Raises PlanError if a table does not have one row per revenue factor, in their order."""
     there, due = frame["revenue_factor"].tolist(), list(factors)
     if there != due:
         raise PlanError(f"{source}: has rows of the revenue factors {factor_texts(there)} for {factor_texts(due)}")

@@ -1,5 +1,4 @@
-"""What flows in each year of a pit whose pieces are mined one after the other, recomputed by following the pieces: a year ends when one
-of its capacities is used up."""
+"""Recomputes the annual cash flow of a pit by following its pieces: a year ends when one of its capacities is used up."""
 
 from __future__ import annotations
 
@@ -18,8 +17,12 @@ from .money_of_years import HAIR, capex, premiums
 class Parts:
     """Pieces cut at the ends of years.
 
-    piece, year, share  one value a part: its piece, its year from 1, and its share of the piece
-    life                years from the start to the end of the last piece
+    Attributes
+    ----------
+    piece, year, share : array, shape (parts,)
+        The piece of each part, its year from 1, and its share of the piece.
+    life : float
+        Years to the end of the last piece.
     """
 
     piece: np.ndarray
@@ -29,7 +32,7 @@ class Parts:
 
 
 def parts_of(uses: list[list[float]]) -> Parts:
-    """Follows the pieces. `uses` has, for each piece, the years of each capacity that it uses."""
+    """Returns the parts of pieces. `uses` has, for each piece, the years of each capacity that it uses."""
     found: list[tuple[int, int, float]] = []
     room, year = [1.0] * len(uses[0]), 1
     for piece, use in enumerate(uses):
@@ -48,8 +51,8 @@ def parts_of(uses: list[list[float]]) -> Parts:
 
 
 def discounts(until: np.ndarray, years: np.ndarray, project: Project) -> np.ndarray:
-    """What one of money is worth at the start that flows in each year, which lasts until a moment."""
-    rate, how = project.schedule.discount_rate, project.schedule.discounting
+    """Returns the discount factor of each year, which lasts until a moment."""
+    rate, how = project.shells.discount_rate, project.shells.discounting
     if how != "continuous":
         return np.asarray((1 + rate) ** -(years - (0.5 if how == "mid_year" else 0.0)))
     since = years - 1.0
@@ -59,8 +62,8 @@ def discounts(until: np.ndarray, years: np.ndarray, project: Project) -> np.ndar
 
 
 def uses_of(pieces: pd.DataFrame, project: Project) -> list[list[float]]:
-    """How many years of each capacity each piece uses."""
-    schedule = project.schedule
+    """Returns the years of each capacity that each piece uses."""
+    schedule = project.shells
     capacities = {
         "ore": schedule.processing_capacity,
         **{f"feed_tonnes_{process.name}": process.capacity for process in project.processes},
@@ -70,8 +73,8 @@ def uses_of(pieces: pd.DataFrame, project: Project) -> list[list[float]]:
 
 
 def years_of(pieces: pd.DataFrame, project: Project) -> tuple[pd.DataFrame, float]:
-    """A row a year, from 1: the amounts of the pieces, the last of which is cash at the price as given; fixed_cost and capex where the
-    project has such; cash after these, at the prices of the year; and that discounted. With the years from the start to the end.
+    """Returns one row per year and the life in years. Columns are the amounts of the pieces, fixed_cost and capex if the project has any, the
+    cash flow after these at the prices of the year, and the discounted cash flow.
     """
     parts = parts_of(uses_of(pieces, project))
     years = np.arange(1, int(parts.year.max()) + 1)
@@ -80,12 +83,12 @@ def years_of(pieces: pd.DataFrame, project: Project) -> tuple[pd.DataFrame, floa
     found = pd.DataFrame(sums, index=pd.Index(years, name="year"))
     for name in premiums(project, 1):
         found["cash_flow"] += found[name] * [premiums(project, int(year))[name] for year in years]
-    money, until = project.money, np.clip(parts.life, years - 1.0, years)
+    money, until = project.economics, np.clip(parts.life, years - 1.0, years)
     fixed, spent = float(money.fixed_cost_per_year) * (until - (years - 1.0)), np.array(
         [capex(project, int(year)) for year in years]
     )
     present = (found["cash_flow"] - fixed) * discounts(until, years, project) - spent * (
-        1 + project.schedule.discount_rate
+        1 + project.shells.discount_rate
     ) ** -(years - 1.0)
     of_years = {"fixed_cost": fixed, "capex": spent} if money.fixed_cost_per_year or money.capex else {}
     return (

@@ -1,4 +1,4 @@
-"""Years and net present values recomputed: benches are mined one after the other, and a year ends when one of its capacities is used up."""
+"""Verifies years and NPVs: benches are mined one after the other, and a year ends when one of its capacities is used up."""
 
 from __future__ import annotations
 
@@ -17,16 +17,16 @@ from .yearly_flows import years_of
 
 CENT = 0.01
 CASES = ("best", "worst")
-# What years.csv calls the tonnes of benches.
+# The columns of years.csv for the tonnes of benches.
 NAMES = {"rock": "total_tonnes", "ore": "feed_tonnes"}
 
 
 def verify(answer: Answer) -> Rule:
-    """No year exceeds a capacity; each has what flows in it, and the NPV of a shell is that discounted."""
+    """Verifies that no year exceeds a capacity, that each sums the benches mined in it, and that NPVs follow from them."""
     flows = flows_of(answer)
     if answer.years is None:
         return verify_npv(answer, flows)
-    # Those of a schedule are looked at with it.
+    # The years of a schedule are verified with it.
     ways = [] if answer.schedule is None else answer.schedule["method"].unique().tolist()
     of_shells = answer.years[~answer.years["case"].isin([*ways, *(["block"] if answer.is_by_block else [])])]
     differences = [*over_capacity(answer, of_shells), *unlike_years(answer, of_shells, flows)]
@@ -36,7 +36,7 @@ def verify(answer: Answer) -> Rule:
 
 
 def over_capacity(answer: Answer, years: pd.DataFrame) -> list[str]:
-    schedule, found = answer.project.schedule, []
+    schedule, found = answer.project.shells, []
     limits = {"feed_tonnes": schedule.processing_capacity, "total_tonnes": schedule.mining_capacity or math.inf}
     limits |= {f"feed_tonnes_{process.name}": process.capacity for process in answer.project.processes}
     for name, most in limits.items():
@@ -49,14 +49,14 @@ def over_capacity(answer: Answer, years: pd.DataFrame) -> list[str]:
 
 
 def unlike_years(answer: Answer, years: pd.DataFrame, flows: pd.DataFrame) -> Iterator[str]:
-    """Where a year of a case is not what flows in it, as benches are dug one after the other, or is missing or one too many."""
+    """Yields differences of the years of best and worst case, missing and surplus years included."""
     factors = flows.index.get_level_values("revenue_factor")
     due = [
         (case, factor) for case, factor in product(CASES, answer.shells.index) if flows["rock"][factors <= factor].sum()
     ]
     groups = {pit: rows.set_index("year") for pit, rows in years.groupby(["case", "revenue_factor"])}
     yield from (
-        f"years of the {case} case of revenue factor {factor_text(factor)}, which is none"
+        f"{case} case of revenue factor {factor_text(factor)}: has years, but no such shell"
         for case, factor in groups.keys() - set(due)
     )
     for case, factor in due:
@@ -74,7 +74,7 @@ def unlike_years(answer: Answer, years: pd.DataFrame, flows: pd.DataFrame) -> It
 
 
 def unlike_rows(said: pd.DataFrame, expected: pd.DataFrame, slack: float) -> Iterator[str]:
-    """Where rows by year are not the expected ones."""
+    """Yields differences between rows by year and the expected ones."""
     if said.index.tolist() != expected.index.tolist():
         yield f": years {said.index.tolist()} for 1 to {len(expected)}"
         return
@@ -87,7 +87,7 @@ def unlike_rows(said: pd.DataFrame, expected: pd.DataFrame, slack: float) -> Ite
 
 
 def verify_npv(answer: Answer, flows: pd.DataFrame) -> Rule:
-    """Both NPVs and the years of each shell, by following its benches."""
+    """Verifies both NPVs and the life of each shell, by following its benches."""
     differences: list[str] = []
     for factor in answer.shells.index:
         best = flows[flows.index.get_level_values("revenue_factor") <= factor]
@@ -101,7 +101,7 @@ def verify_npv(answer: Answer, flows: pd.DataFrame) -> Rule:
 
 
 def flows_of(answer: Answer) -> pd.DataFrame:
-    """Rock, ore, metals, cash, and cash without signs, of each shell's part of each level."""
+    """Returns tonnes, ore, metals, cash flow, and absolute cash flow, of each shell's part of each level."""
     rock, cash = answer.tonnes, answer.earned
     frame = pd.DataFrame(
         {"rock": rock, "ore": np.where(answer.ore, answer.feed, 0.0), "cash_flow": cash, "gross": np.abs(cash)}
@@ -115,7 +115,7 @@ def flows_of(answer: Answer) -> pd.DataFrame:
 
 
 def npv(pieces: pd.DataFrame, answer: Answer) -> tuple[float, float]:
-    """What pieces mined one after the other earn, discounted as the project asks, with the money of years; and how many years that takes."""
+    """Returns NPV, period costs included, and life in years of pieces that are mined one after the other."""
     if not pieces["rock"].sum():
         return 0.0, 0.0
     years, life = years_of(pieces.drop(columns="gross"), answer.project)
@@ -123,7 +123,7 @@ def npv(pieces: pd.DataFrame, answer: Answer) -> tuple[float, float]:
 
 
 def mean(start: float, end: float, rate: float) -> float:
-    """The mean of (1 + rate)^-t from start to end."""
+    """Returns the mean of (1 + rate)^-t for t from start to end."""
     if rate == 0 or end - start < 1e-12:
         return (1 + rate) ** -end
     force = math.log(1 + rate)

@@ -19,7 +19,7 @@ make_mine() {
     "$python" "$root/tools/make_table.py" --columns "$2" --rows "$3" --levels "$4" --models "$1" \
         --folder "$work/models" --out "$work/blocks.csv"
     cp "$root/examples/plan/project.toml" "$work/project.toml"
-    printf '\n[scenarios]\nmodels = "models"\n' >> "$work/project.toml"
+    printf '\n[scenarios]\nrealisations = "models"\n' >> "$work/project.toml"
 }
 
 # The same scenarios one after the other, without any scheduler.
@@ -31,7 +31,7 @@ reference() {
 
 # compare FOLDER: every probability, table and quantile is that of the reference.
 compare() {
-    for name in probability.csv scenarios.csv quantiles.csv; do cmp "$work/reference/$name" "$1/$name"; done
+    for name in probability scenarios quantiles; do cmp "$work/reference/tables/$name.csv" "$1/tables/$name.csv"; done
     echo "same probability.csv, scenarios.csv and quantiles.csv as one after the other: yes"
 }
 

@@ -54,7 +54,7 @@ class PlannedBlocks:
 
 def of_plan(plan: Plan) -> PlannedBlocks:
     """The blocks of a plan. Raises PlanError where the project asks for what is not done by block, or for too many years."""
-    project, rules = plan.project, plan.project.schedule_rules or ScheduleRules()
+    project, rules = plan.project, plan.project.schedule or ScheduleRules()
     demand_of_blocks(project, rules)
     flows, limits, money = flows_of(plan), limits_of_blocks(project, rules), of_project(project)
     best = cash_of(flows, money, 1 + max((len(more) for more in money.premiums.values()), default=0)).max(axis=(1, 2))
@@ -72,7 +72,7 @@ def of_plan(plan: Plan) -> PlannedBlocks:
         for name, least in limits.least_of_years(years).items()
     ]
     problem = BlockProblem(
-        values=cash_of(flows, money, years) * year_discounts(project.schedule, years),
+        values=cash_of(flows, money, years) * year_discounts(project.shells, years),
         needs=needs,
         limits=(*above, *below),
         dues=dues_of(forced, pays.shape[1]),
@@ -145,12 +145,14 @@ def owing(plan: Plan, flows: Flows, limits: Limits) -> NDArray[np.bool_]:
 
 def pays_of(plan: Plan) -> NDArray[np.bool_]:
     """Whether a cell yields anything in each destination."""
-    return np.stack([np.zeros(plan.grid.count, dtype=bool), *(way.revenue > 0 for way in plan.values.ways)], axis=1)
+    return np.stack(
+        [np.zeros(plan.grid.count, dtype=bool), *(way.revenue > 0 for way in plan.values.by_process)], axis=1
+    )
 
 
 def demand_of_blocks(project: Project, rules: ScheduleRules) -> None:
     """Raises PlanError, with the key, where the project asks for what is not done by block."""
-    path, costs_years = project.path, bool(project.money.fixed_cost_per_year or project.money.capex)
+    path, costs_years = project.path, bool(project.economics.fixed_cost_per_year or project.economics.capex)
     asked = {
         "[schedule] bench_lag: applies to pushbacks": rules.bench_lag > 0,
         "[schedule] vertical_advance_rate: applies to the benches of a pushback": rules.vertical_advance_rate
@@ -174,7 +176,7 @@ def destinations_of(project: Project) -> tuple[str, ...]:
 def flows_of(plan: Plan) -> Flows:
     """What each cell holds of each amount that may be limited, and its cash at the price as given."""
     flows = of_money(plan)
-    rules = plan.project.schedule_rules
+    rules = plan.project.schedule
     return flows | {f"{SUM}{it.name}": sum_of(plan, it) for it in (rules.limits if rules else ())}
 
 
@@ -191,16 +193,18 @@ def sum_of(plan: Plan, asked: Sum) -> NDArray[np.float64]:
 def of_money(plan: Plan) -> Flows:
     """Tonnes, metals and cash of each cell as waste, and in each process."""
     values, processes = plan.values, plan.project.processes
-    nothing, columns = np.zeros(plan.grid.count), {ROCK: [plan.values.tonnes] * (1 + len(plan.values.ways))}
-    columns[ORE] = [nothing, *[values.feed] * len(values.ways)]
+    nothing, columns = np.zeros(plan.grid.count), {ROCK: [plan.values.tonnes] * (1 + len(plan.values.by_process))}
+    columns[ORE] = [nothing, *[values.feed] * len(values.by_process)]
     for number, process in enumerate(processes, 1):
         columns[f"{ORE}_{process.name}"] = [
             values.feed if place == number else nothing for place in range(1 + len(processes))
         ]
-    columns |= {f"recovered_{name}": [nothing, *(way.metal[name] for way in values.ways)] for name in values.metal}
+    columns |= {
+        f"recovered_{name}": [nothing, *(way.metal[name] for way in values.by_process)] for name in values.metal
+    }
     columns[CASH] = [
         -values.mining / MILLION,
-        *((way.revenue - way.cost - values.mining) / MILLION for way in values.ways),
+        *((way.revenue - way.cost - values.mining) / MILLION for way in values.by_process),
     ]
     return {name: np.stack(amounts, axis=1) for name, amounts in columns.items()}
 

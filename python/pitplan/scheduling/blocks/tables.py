@@ -59,7 +59,7 @@ class ScheduledBlocks:
 
     @cached_property
     def years(self) -> pd.DataFrame:
-        """A row a year up to the last in which anything is dug, as `pitplan.years` has of cases."""
+        """A row a year up to the last in which anything is dug, as `shell_tables.years` has of cases."""
         problem, schedule, project = self.planned.problem, self.found.schedule, self.planned.plan.project
         cash = cash_of(self.planned.flows, of_project(project), problem.years)
         dug = np.arange(problem.blocks), slice(None), np.minimum(schedule.year, problem.years - 1)
@@ -69,7 +69,7 @@ class ScheduledBlocks:
             ]
             for name, amounts in (self.planned.flows | {CASH: cash[dug]}).items()
         }
-        discounted = sums[CASH] * year_discounts(project.schedule, problem.years)[: self.count]
+        discounted = sums[CASH] * year_discounts(project.shells, problem.years)[: self.count]
         head = {"case": CASE, "revenue_factor": BASE_PRICE, "year": np.arange(1, self.count + 1)}
         return pd.DataFrame(head | sums | {"discounted_cash_flow": discounted})
 
@@ -91,7 +91,7 @@ class ScheduledBlocks:
         return pd.DataFrame([row])
 
     @property
-    def ways(self) -> pd.DataFrame:
+    def methods(self) -> pd.DataFrame:
         """The same as the row of a way, which is called as its case in years.csv."""
         table = self.table
         table.insert(0, "method", CASE)
@@ -142,7 +142,7 @@ def make(plan: Plan, progress: Progress = silent) -> ScheduledBlocks:
     Raises PlanError where the project asks for what is not done by block or the blocks are too many, and KeyboardInterrupt where it is
     interrupted before there is a bound.
     """
-    rules = plan.project.schedule_rules or ScheduleRules()
+    rules = plan.project.schedule or ScheduleRules()
     with progress.step("collecting the blocks that can be mined"):
         planned = of_plan(plan)
     return ScheduledBlocks(planned, solve(planned.problem, rules.milp, progress))

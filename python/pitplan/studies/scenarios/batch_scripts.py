@@ -1,11 +1,11 @@
-"""Scenarios as lists of jobs for schedulers of other people: a Slurm array, and a list for GNU parallel.
+"""Scenarios as lists of jobs: a Slurm array, and a list for GNU parallel.
 
-Both run `scenario.sh NUMBER`. It ends with the status of `pitplan scenario`: 0 to 5 are final, and any other means that
-the program or its process was killed, so that the scenario is tried again.
+Both run `scenario.sh NUMBER`. It ends with the status of `pitplan scenario`: 0 to 5 are final, and any other means that the program or its
+process was killed, so that the scenario is tried again.
 
-A folder may have any name that the scheduler's own patterns leave alone. The scripts quote it for the one shell that reads them. GNU
-parallel hands its words to a second shell, so the folder reaches that one by the environment alone. Python is run with -P, without which
-it would take its modules from the folder where the script was started.
+A folder may have any name that Slurm does not take as a pattern. The scripts quote it for the shell that reads them. GNU parallel passes its
+words to a second shell, so the folder reaches that one by the environment. Python is run with -P, since it would otherwise import modules from
+the folder in which the script is started.
 """
 
 from __future__ import annotations
@@ -31,7 +31,7 @@ SCRIPT, ARRAY, GATHER, START, JOBS, LOG = (
     "joblog.txt",
 )
 TRIES = 3
-# Slurm's own limit, unless a site has set another (MaxArraySize 1001).
+# Slurm's default limit (MaxArraySize 1001).
 MOST_TASKS = 1000
 
 ONE = """#!/bin/sh
@@ -98,8 +98,7 @@ PYTHONPATH={packages} exec {python} -P -m pitplan gather {folder}
 
 
 def write(kind: str, folder: Path, scenarios: list[Scenario], solver: Solver) -> Path:
-    """Writes the scripts of `slurm` or `parallel`; gives the one to start. Raises PlanError where there is nothing to do
-    or a name would not stand in a script."""
+    """Writes the scripts of `slurm` or `parallel`; returns the one to start. Raises PlanError if a script cannot name the folder."""
     folder = folder.resolve()
     demand_writable(kind, str(folder))
     words = words_of(folder, len(scenarios), solver)
@@ -120,7 +119,7 @@ def write(kind: str, folder: Path, scenarios: list[Scenario], solver: Solver) ->
 
 
 def demand_writable(kind: str, folder: str) -> None:
-    """Raises PlanError where a script cannot name the folder, or Slurm would take a sign of it for one of its own patterns."""
+    """Raises PlanError if a script cannot name the folder, or Slurm would take a character of it as a pattern."""
     if "\n" in folder or (kind == "slurm" and any(sign in folder for sign in "%\\")):
         others = ", a % or a backslash" if kind == "slurm" else ""
         raise PlanError(
@@ -133,12 +132,12 @@ def demand_writable(kind: str, folder: str) -> None:
 
 
 def slurm_word(text: str) -> str:
-    """A word of an #SBATCH line, in double quotes, within which Slurm takes a backslash as quoting the next sign."""
+    """Returns a word of an #SBATCH line in double quotes, within which a backslash escapes the next character."""
     return '"' + text.replace("\\", "\\\\").replace('"', '\\"') + '"'
 
 
 def words_of(folder: Path, count: int, solver: Solver) -> dict[str, object]:
-    """What the scripts are filled with: paths, quoted for the shell, and those of Slurm's lines for Slurm."""
+    """Returns the fields of the scripts: paths, quoted for the shell, or for Slurm in its own lines."""
     variable, file = choice.place_of(solver)
     paths = {
         "python": Path(sys.executable),

@@ -1,4 +1,4 @@
-"""The probability of each cell in the pit of a revenue factor, as plans and sections show it."""
+"""The inclusion probability of each cell at a revenue factor, for plans and sections."""
 
 from __future__ import annotations
 
@@ -7,12 +7,12 @@ from dataclasses import dataclass
 import numpy as np
 
 from pitplan.blockmodel.grid import Grid
-from pitplan.config.figures import PictureRules
+from pitplan.config.figures import FigureRules
 
 
 @dataclass(frozen=True)
 class Likely:
-    """The probability of each cell in the pit of a revenue factor.
+    """The inclusion probability of each cell at a revenue factor.
 
     Attributes
     ----------
@@ -21,13 +21,13 @@ class Likely:
     share : ndarray of float, shape (levels, rows, columns)
         The share of scenarios with the cell in the pit, from 0 to 1.
     solid : ndarray of bool, shape (levels, rows, columns)
-        Whether the cell holds rock.
-    factor : int
-        That of the pits.
+        Whether the cell has tonnes.
+    factor : float
+        The revenue factor.
     count : int
-        How many scenarios there are.
-    rules : PictureRules
-        Which levels and sections are shown.
+        The number of scenarios.
+    rules : FigureRules
+        Which levels and sections are drawn.
     """
 
     grid: Grid
@@ -35,9 +35,9 @@ class Likely:
     solid: np.ndarray
     factor: float
     count: int
-    rules: PictureRules = PictureRules()
+    rules: FigureRules = FigureRules()
 
     @property
     def shown(self) -> np.ndarray:
-        """The shares in rock; 0 elsewhere. Shape (levels, rows, columns)."""
+        """The shares where there are tonnes, 0 elsewhere; shape (levels, rows, columns)."""
         return np.where(self.solid, self.share, 0.0)

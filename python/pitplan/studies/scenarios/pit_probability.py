@@ -1,4 +1,4 @@
-"""From the answers of all scenarios to probabilities by block, and to tables by scenario and of quantiles."""
+"""Inclusion probabilities, and tables by scenario and of quantiles, from the results of all scenarios."""
 
 from __future__ import annotations
 
@@ -11,6 +11,7 @@ import pandas as pd
 from pitplan.core import keyed_arrays
 from pitplan.core.revenue_factors import factor_text
 from pitplan.errors import PlanError
+from pitplan.results.names import TABLE
 
 from . import store
 from .store import Scenario, Shared
@@ -20,11 +21,18 @@ QUANTILES = (0.1, 0.5, 0.9)
 
 @dataclass(frozen=True)
 class Gathered:
-    """What all scenarios say together.
+    """The results of all scenarios.
 
-    share   for each block of the table, in its file's order, and each factor: the share of scenarios with it in the pit
-    table   one row a scenario and factor: model, prices, and what the pit holds and is worth at the scenario's prices
-    missing the scenarios without an answer, by number, each with why
+    Attributes
+    ----------
+    factors : list of float
+        Revenue factors, ascending.
+    share : array of float, shape (blocks, factors)
+        The share of scenarios with the block in the pit, in the order of the table.
+    table : DataFrame
+        One row per scenario and revenue factor, at the prices of the scenario.
+    missing : dict of int to str
+        The reason by number for each scenario without a result.
     """
 
     factors: list[float]
@@ -34,7 +42,7 @@ class Gathered:
 
 
 def gather(shared: Shared, partial: bool = False) -> Gathered:
-    """Raises PlanError as `missing_of` does, or where an answer cannot be read."""
+    """Reads the results of all scenarios. Raises PlanError as `missing_of`, or if a result cannot be read."""
     scenarios, missing = shared.scenarios, missing_of(shared, partial)
     factors = list(shared.record["revenue_factors"])
     counts = np.zeros((len(shared.frame), len(factors) + 1), dtype=np.int64)
@@ -42,7 +50,7 @@ def gather(shared: Shared, partial: bool = False) -> Gathered:
     for scenario in scenarios:
         if scenario.number not in missing:
             places, table = read_answer(shared, scenario)
-            # Blocks that come in at the k-th factor are counted there; sums over the factors then count each pit.
+            # A block is counted at the revenue factor at which it is first mined. Sums over the factors then count each pit.
             counts[rows, places] += 1
             tables.append(table)
     share = np.cumsum(counts[:, 1:], axis=1) / len(tables)
@@ -50,20 +58,20 @@ def gather(shared: Shared, partial: bool = False) -> Gathered:
 
 
 def missing_of(shared: Shared, partial: bool) -> dict[int, str]:
-    """What has no answer, by number, each with why. Raises PlanError where there is any, unless `partial`, or where no scenario has one."""
+    """The reason by number for each scenario without a result. Raises PlanError if there is any, unless `partial`, or if no scenario has a result."""
     missing = {job.number: store.read_failure(shared, job) for job in shared.missing()}
     if missing and (not partial or all(scenario.number in missing for scenario in shared.scenarios)):
         first, why = next(iter(missing.items()))
         others = ", or gather the others with --partial" if len(missing) < len(shared.jobs) else ""
         raise PlanError(
-            f"{len(missing):,} of {len(shared.jobs):,} {shared.called} have no answer, first {shared.jobs[first - 1].label}: {why}: "
+            f"{len(missing):,} of {len(shared.jobs):,} {shared.called} have no result, first {shared.jobs[first - 1].label}: {why}: "
             f"run them again{others}"
         )
     return missing
 
 
 def read_answer(shared: Shared, scenario: Scenario) -> tuple[np.ndarray, pd.DataFrame]:
-    """The place of each block's least factor (0: in no pit), and the scenario's rows of the table."""
+    """Reads a result: the place of each block's least revenue factor in the list, from 1 (0: in no pit), and the rows of the table."""
     path = shared.answer(scenario)
     try:
         answer = keyed_arrays.read(path, scenario.key)
@@ -75,7 +83,9 @@ def read_answer(shared: Shared, scenario: Scenario) -> tuple[np.ndarray, pd.Data
             raise keyed_arrays.NoAnswer("it holds other blocks or factors")
         table["blocks"] = table["blocks"].astype(np.int64)
     except (OSError, ValueError, KeyError, TypeError) as error:
-        raise PlanError(f"{path}: is no answer: remove it, and run pitplan scenarios again: {error}") from error
+        raise PlanError(
+            f"{path}: is not a result of {scenario.label}: {error}: remove it, and run pitplan scenarios again"
+        ) from error
     heads = heads_of(scenario) | {"revenue_factor": shared.record["revenue_factors"]}
     for place, (name, values) in enumerate(heads.items()):
         table.insert(place, name, values)
@@ -84,13 +94,13 @@ def read_answer(shared: Shared, scenario: Scenario) -> tuple[np.ndarray, pd.Data
 
 
 def heads_of(scenario: Scenario) -> dict[str, object]:
-    """With what a scenario's rows of a table begin: scenario, model, and price_NAME of each metal that some set of prices names."""
+    """Returns the first columns of a scenario's rows: scenario, realisation, and price_NAME of each metal that a price deck names."""
     prices = {f"price_{metal}": float(price) for metal, price in scenario.prices.items()}
     return {"scenario": scenario.number, "realisation": scenario.realisation, **prices}
 
 
 def quantiles(table: pd.DataFrame) -> pd.DataFrame:
-    """One row a set of prices and factor, over the models: mean, least, greatest and quantiles of each amount."""
+    """Returns one row per price deck and revenue factor: mean, minimum, maximum and quantiles of each amount over the realisations."""
     by = [name for name in table.columns if name.startswith("price_")] + ["revenue_factor"]
     amounts = [
         name
@@ -105,11 +115,8 @@ def quantiles(table: pd.DataFrame) -> pd.DataFrame:
 
 
 def spread_of(table: pd.DataFrame, by: list[str], amounts: list[str]) -> pd.DataFrame:
-    """One row a group of rows that have the same in these columns, or of all rows where none are named: how many models there are, and
-    mean, least, greatest and quantiles of each amount.
-
-    Quantile 0.1 is the amount that a tenth of the models do not reach (linear between two).
-    """
+    """Returns one row per group of rows with equal values in the columns `by`, or one row if it is empty: the number of realisations, and mean,
+    minimum, maximum and quantiles of each amount. Quantiles are linear between two realisations."""
     groups = table.groupby(by or np.zeros(len(table)), dropna=False)
     result = groups.size().to_frame("realisations")
     for name in amounts:
@@ -122,7 +129,7 @@ def spread_of(table: pd.DataFrame, by: list[str], amounts: list[str]) -> pd.Data
 
 
 def by_block(shared: Shared, gathered: Gathered, blocks: pd.DataFrame) -> pd.DataFrame:
-    """The rows of blocks.csv, by the program's id, with `probability_F` for each factor F; numbers as they are written."""
+    """Returns the rows of blocks.csv, by id, with `probability_F` for each revenue factor F; numbers as text."""
     order = np.argsort(shared.grid.rows)
     columns = {
         f"probability_{factor_text(factor)}": gathered.share[order, k] for k, factor in enumerate(gathered.factors)
@@ -131,9 +138,9 @@ def by_block(shared: Shared, gathered: Gathered, blocks: pd.DataFrame) -> pd.Dat
 
 
 def written(blocks: pd.DataFrame) -> pd.DataFrame:
-    """The rows of blocks.csv with numbers as they are written: a coordinate has seven digits before the point, and more behind."""
+    """Returns the rows of blocks.csv with numbers as text of 15 digits, since coordinates may have seven before the point."""
     return blocks.assign(**{name: blocks[name].map("{:.15g}".format) for name in blocks.select_dtypes("float").columns})
 
 
 def read_blocks(folder: Path, codes: list[str]) -> pd.DataFrame:
-    return pd.read_csv(folder / "blocks.csv", dtype={name: str for name in codes}, keep_default_na=False, na_values={})
+    return pd.read_csv(folder / TABLE, dtype={name: str for name in codes}, keep_default_na=False, na_values={})

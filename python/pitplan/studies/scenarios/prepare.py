@@ -15,11 +15,12 @@ from pitplan.blockmodel.figure_bounds import demand_within
 from pitplan.config import project_writer
 from pitplan.config.economics import ByDomain
 from pitplan.config.project import Project
-from pitplan.core import csv_writer
+from pitplan.core import csv_writer, layout
 from pitplan.core.atomic_files import hashes, staged, write_json
 from pitplan.core.optional_packages import load_library
 from pitplan.core.progress import Progress
 from pitplan.plan import Plan
+from pitplan.results.names import TABLE
 from pitplan.solver import mine_files
 from pitplan.solver.choice import LIBRARY, Solver, chosen
 from pitplan.solver.problem import counted_rows
@@ -28,13 +29,20 @@ from . import store
 from .realisations import Base, envelope, models, read_base, scenarios_of
 from .store import Scenario
 
-BLOCKS = "blocks.csv"
-
 
 @dataclass(frozen=True)
 class Models:
-    """The models as they were written: name and hash of each, the greatest grade of each block and metal, and of each metal the mean by
-    tonnes over all models."""
+    """The realisations as written.
+
+    Attributes
+    ----------
+    names : list of (str, str)
+        Name and hash of each.
+    greatest : array of float, shape (blocks, metals)
+        The largest grade over all.
+    means : array of float, shape (metals,)
+        The mean grade by tonnes over all.
+    """
 
     names: list[tuple[str, str]]
     greatest: np.ndarray
@@ -42,8 +50,15 @@ class Models:
 
 
 def prepare(project: Project, folder: Path, progress: Progress, by: str = store.PIT) -> store.Shared:
-    """Reads and checks every model, and writes what solving needs. Raises PlanError with nothing to solve written, and MissingPackage where
-    blocks are to be scheduled without the library."""
+    """Reads and checks every realisation, and writes the input of solving.
+
+    Raises
+    ------
+    PlanError
+        If an input is not usable. Then nothing to solve is written.
+    MissingPackage
+        Without the library, if blocks are scheduled.
+    """
     of_blocks = block_preparation() if by == store.BLOCK else None
     store.demand_same_kind(folder, by)
     store.demand_no_mine(folder)
@@ -61,10 +76,12 @@ def prepare(project: Project, folder: Path, progress: Progress, by: str = store.
     if of_blocks:
         of_blocks.write(laid, folder, progress)
     else:
-        with progress.step("writing blocks and precedences"), staged(folder, store.RECORD) as stage:
+        with progress.step("writing blocks and precedences"), staged(
+            folder, store.RECORD, subfolders=layout.FOLDERS
+        ) as stage:
             written = [*write_shared(laid, stage), *write_needs(laid.plan, solver, stage)]
             parts = common_parts(laid)
-            parts["project"] |= {"revenue_factors": list(project.schedule.revenue_factors)}
+            parts["project"] |= {"revenue_factors": list(project.shells.revenue_factors)}
             write_record(laid, keyed(laid.scenarios, project, parts), written, stage)
     return store.read_shared(folder)
 
@@ -80,7 +97,7 @@ def block_preparation() -> ModuleType:
 
 @dataclass(frozen=True)
 class Laid:
-    """What scenarios are made of: their base, a plan whose needs serve all, the list of them, and what finds the answers."""
+    """The input of all scenarios: their base, a plan whose precedences serve all, the list of scenarios, and the solver."""
 
     base: Base
     plan: Plan
@@ -100,7 +117,7 @@ def write_models(base: Base, folder: Path) -> Models:
 
 
 def grades_of(base: Base, read: Models) -> list[summary.Grade]:
-    """The grades of each metal, over all models."""
+    """Returns the grades of each metal, over all realisations."""
     found = []
     for number, metal in enumerate(base.project.metals):
         first = base.lists[metal.name][0] if metal.name in base.lists else metal.column
@@ -112,10 +129,10 @@ def grades_of(base: Base, read: Models) -> list[summary.Grade]:
 
 
 def arrays_of(base: Base) -> dict[str, np.ndarray]:
-    """The blocks without grades, as a scenario needs them."""
+    """Returns the blocks without grades, as arrays of shape (blocks,)."""
     table = base.project.table
     arrays = {"cells": base.grid.rows, table.tonnes: base.frame[table.tonnes].to_numpy()}
-    money = base.project.money
+    money = base.project.economics
     by_region = any(isinstance(value, ByDomain) for value in (money.mining_recovery, money.dilution))
     for name in (table.rock_type, table.domain if by_region else None):
         if name:
@@ -124,30 +141,30 @@ def arrays_of(base: Base) -> dict[str, np.ndarray]:
 
 
 def arrays_of_settled(plan: Plan) -> dict[str, np.ndarray]:
-    """What is dug and what is left for the sake of the fixed blocks, by cell; nothing where the project has none."""
+    """Returns masks of the cells that the constraints force in and sterilise, shape (cells,); nothing without constraints."""
     return {} if plan.settled is None else {"dug": plan.settled.dug, "left": plan.settled.left}
 
 
 def write_shared(laid: Laid, stage: Path) -> list[str]:
-    """Base, the project, and the planner's rows, of which blocks are told; gives the names of the files."""
+    """Writes base, project and the planner's rows; returns the names of the files."""
     base, plan = laid.base, laid.plan
     np.savez_compressed(stage / store.BASE, ore=plan.values.processed, **arrays_of(base), **arrays_of_settled(plan))
-    # Of another folder than its own: whoever reads it names the place of the first.
+    # Paths in it are relative to the first project's folder, which its readers name.
     project_writer.write(base.project, stage / store.PROJECT, base.project.path.parent)
     frame = plan.blocks
     grades = [metal.column for metal in base.project.metals]
     costs = ["mining_cost", "revenue", "processing_cost"]
     costs += ["haulage_cost", "ore_haulage_cost"] if base.project.haulage else []
     costs += [f"{name}_{it.name}" for it in base.project.processes for name in ("revenue", "processing_cost")]
-    csv_writer.write(stage / BLOCKS, frame.drop(columns=[*grades, *costs]))
-    return [store.BASE, store.PROJECT, BLOCKS]
+    csv_writer.write(stage / TABLE, frame.drop(columns=[*grades, *costs]))
+    return [store.BASE, store.PROJECT, TABLE]
 
 
 def write_needs(plan: Plan, solver: Solver, stage: Path) -> list[str]:
-    """The needs that all scenarios share, as the solver takes them; gives the names of the files."""
+    """Writes the precedences that all scenarios share, as the solver takes them; returns the names of the files."""
     if solver.by != LIBRARY:
-        mine_files.write_needs(stage / mine_files.PREC, plan, plan.needs_of_rest)
-        return [mine_files.PREC]
+        mine_files.write_needs(stage / store.PREC, plan, plan.needs_of_rest)
+        return [store.PREC]
     rows, _ = counted_rows(plan.needs_of_rest, plan)
     np.save(stage / store.STARTS, rows.starts)
     np.save(stage / store.NEEDS, rows.needs)
@@ -155,7 +172,7 @@ def write_needs(plan: Plan, solver: Solver, stage: Path) -> list[str]:
 
 
 def list_of(base: Base, read: Models) -> list[Scenario]:
-    """Every model at every set of prices, in this order, whose answers have no names yet."""
+    """Returns every realisation at every price deck, in this order, still without keys."""
     sets = scenarios_of(base.project).prices
     named = [metal for metal in base.project.metals if any(metal.name in prices for prices in sets)]
     scenarios: list[Scenario] = []
@@ -167,7 +184,7 @@ def list_of(base: Base, read: Models) -> list[Scenario]:
 
 
 def common_parts(laid: Laid) -> dict[str, Any]:
-    """What the answers of all scenarios depend on."""
+    """Returns the input that the results of all scenarios depend on."""
     base, plan = laid.base, laid.plan
     walls = {"code": plan.walls.code, **{str(k): p.cone for k, p in enumerate(plan.walls.patterns)}}
     surfaces = store.surfaces_of(base.project)
@@ -181,7 +198,7 @@ def common_parts(laid: Laid) -> dict[str, Any]:
 
 
 def keyed(scenarios: list[Scenario], project: Project, common: dict[str, Any]) -> list[Scenario]:
-    """Scenarios with the keys of their answers, told by their grades and prices, and by what is common to all."""
+    """Returns scenarios with the keys of their results: hashes of grades, prices and the common input."""
     given = {metal.name: str(metal.price) for metal in project.metals}
     return [
         replace(it, key=store.key_of({**common, "grades": it.grades, "prices": {**given, **it.prices}}))
@@ -190,12 +207,12 @@ def keyed(scenarios: list[Scenario], project: Project, common: dict[str, Any]) -
 
 
 def write_record(laid: Laid, scenarios: list[Scenario], written: list[str], stage: Path, **more: Any) -> None:
-    """Writes scenarios.json, with what more a kind of scenarios has."""
+    """Writes scenarios.json, with further entries of a kind of scenarios."""
     plan, solver = laid.plan, laid.solver
     record: dict[str, Any] = {
         "title": plan.project.title,
         "project": os.path.relpath(plan.project.path, stage.parent),
-        "revenue_factors": list(plan.project.schedule.revenue_factors),
+        "revenue_factors": list(plan.project.shells.revenue_factors),
         "solver": vars(solver),
         "grid": plan.grid.as_json(),
         "walls": [pattern.as_json() for pattern in plan.walls.patterns],

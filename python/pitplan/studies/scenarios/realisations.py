@@ -1,4 +1,4 @@
-"""The simulated models of a project, and what they share: the blocks, the walls, and the needs that any of them uses."""
+"""The realisations of a project, and their common base: blocks, slopes, and the precedences that any of them uses."""
 
 from __future__ import annotations
 
@@ -32,7 +32,7 @@ from pitplan.slopes import closure
 
 @dataclass(frozen=True)
 class Model:
-    """One simulated model: its name, and its grades, a row a block of the table and a column a metal."""
+    """A realisation: its name, and its grades, shape (blocks, metals), in the order of the table."""
 
     name: str
     grades: np.ndarray
@@ -40,10 +40,15 @@ class Model:
 
 @dataclass(frozen=True)
 class Base:
-    """What all realisations have in common.
+    """The common base of all realisations.
 
-    prepared  the blocks without grades, or with the grades of each realisation if these are columns of the table
-    lists   for each metal the columns of its realisations, where they are columns of the table
+    Attributes
+    ----------
+    project : Project
+    prepared : Preparation
+        The blocks without grades, or with those of all realisations if these are columns of the table.
+    lists : dict of str to list of str
+        For each metal the columns of its realisations, if they are columns of the table.
     """
 
     project: Project
@@ -52,7 +57,7 @@ class Base:
 
     @property
     def frame(self) -> pd.DataFrame:
-        """The blocks of the table, and after them those that stand for missing blocks."""
+        """The blocks of the table, followed by filled missing blocks."""
         return self.prepared.frame
 
     @property
@@ -61,16 +66,16 @@ class Base:
 
     @property
     def table(self) -> Table:
-        """The blocks of the table as they were before any was missing or cut."""
+        """The blocks of the table before missing blocks are filled and tonnes are cut."""
         return self.prepared.table
 
     @property
     def rows(self) -> pd.DataFrame:
-        """The rows that a realisation's own table may name: with reblocking those of the table as it was read."""
+        """The rows that the table of a realisation refers to: those of the table, before reblocking."""
         return self.frame if self.prepared.parts is None else self.prepared.read.frame
 
     def of_blocks(self, grades: np.ndarray) -> np.ndarray:
-        """The grades of the blocks, from those of the rows: with reblocking the means by tonnes, and 0 in missing blocks."""
+        """Returns the grades of blocks from those of rows: with reblocking the means by tonnes, and 0 in missing blocks."""
         if self.prepared.parts is None:
             return grades
         found = np.zeros((len(self.frame), grades.shape[1]))
@@ -78,21 +83,21 @@ class Base:
         return found
 
     def with_grades(self, grades: np.ndarray) -> pd.DataFrame:
-        """The blocks with the grades of a realisation in the columns of the project's metals."""
+        """Returns the blocks with the grades of a realisation in the columns of the project's metals."""
         columns = [metal.column for metal in self.project.metals]
         frame = self.frame.drop(columns=[name for names in self.lists.values() for name in names])
         return frame.assign(**{name: grades[:, number] for number, name in enumerate(columns)})
 
 
 def scenarios_of(project: Project) -> Scenarios:
-    """Raises PlanError where the project has no [scenarios]."""
+    """Returns `[scenarios]`. Raises PlanError if the project has none."""
     if project.scenarios is None:
         raise PlanError(f"{project.path}: [scenarios] is missing: it names the realisations, by a folder or by columns")
     return project.scenarios
 
 
 def read_base(project: Project, progress: Progress = silent) -> Base:
-    """The blocks that all realisations share. Raises PlanError as the steps of a plan do."""
+    """Returns the common base of all realisations. Raises PlanError as the steps of a plan do."""
     lists = column_lists(project)
     by_name = {metal.name: metal for metal in project.metals}
     simulated = [replace(by_name[name], column=column) for name, columns in lists.items() for column in columns]
@@ -103,7 +108,7 @@ def read_base(project: Project, progress: Progress = silent) -> Base:
 
 
 def column_lists(project: Project) -> dict[str, list[str]]:
-    """For each metal the columns of its models. Raises PlanError where a * meets none, or lists differ in length."""
+    """Returns for each metal the columns of its realisations. Raises PlanError if a pattern has no match, or metals differ in their number."""
     asked = scenarios_of(project).columns
     if not asked:
         return {}
@@ -125,7 +130,7 @@ def column_lists(project: Project) -> dict[str, list[str]]:
 
 
 def models(base: Base) -> Iterator[Model]:
-    """The models one after the other. Raises PlanError with file, row and column where one does not fit the table."""
+    """Yields the realisations. Raises PlanError with file, row and column if one does not fit the table."""
     if base.lists:
         count = len(next(iter(base.lists.values())))
         for number in range(count):
@@ -138,7 +143,7 @@ def models(base: Base) -> Iterator[Model]:
 
 
 def model_files(project: Project) -> list[Path]:
-    """The tables in the folder of models, by name."""
+    """Returns the tables of realisations, by name. Raises PlanError if there is none, or two have one name."""
     folder = scenarios_of(project).folder
     assert folder is not None
     found = sorted([*folder.glob("*.csv"), *folder.glob("*.csv.gz")])
@@ -152,12 +157,12 @@ def model_files(project: Project) -> list[Path]:
 
 
 def name_of_model(path: Path) -> str:
-    """The name of its file without .csv or .csv.gz."""
+    """Returns the name of a realisation: its file without .csv or .csv.gz."""
     return path.name.removesuffix(".gz").removesuffix(".csv")
 
 
 def read_model(path: Path, base: Base) -> np.ndarray:
-    """The grades of one table, whose rows may be in any order, by the rows that it names."""
+    """Reads the table of a realisation; returns its grades in the order of the block model, shape (rows, metals)."""
     columns, metals = base.project.table, base.project.metals
     source, grades = str(path), [metal.column for metal in metals]
     places = [columns.x, columns.y, columns.z]
@@ -176,30 +181,30 @@ def read_model(path: Path, base: Base) -> np.ndarray:
 
 
 def rows_by_id(frame: pd.DataFrame, base: Base, source: str) -> np.ndarray:
-    """For each row of a model the row of the table with the same id."""
+    """Returns for each row of a realisation the row of the table with the same id."""
     name = base.project.table.id
     ids = frame[name].str.strip()
     at = pd.Index(base.rows[name]).get_indexer(ids)
     if (at < 0).any():
         row = int((at < 0).argmax())
-        raise at_row(source, row, str(name), f"{ids.iloc[row]} is no block of {base.prepared.read.source}")
+        raise at_row(source, row, str(name), f"{ids.iloc[row]} is not the id of a block of {base.prepared.read.source}")
     return at
 
 
 def rows_by_place(frame: pd.DataFrame, base: Base, source: str) -> np.ndarray:
-    """For each row of a model the row of the table whose block has the same centre."""
+    """Returns for each row of a realisation the row of the table with the same centroid."""
     names = base.project.table
     axes = (names.x, names.y, names.z)
     x, y, z = (reader.filled_numbers(frame[name], source, name, False)[0] for name in axes)
     at = rows_on_grid(x, y, z, base) if base.prepared.parts is None else nearest_rows(np.stack([x, y, z], axis=1), base)
     if (at < 0).any():
-        why = f"no block of {base.prepared.read.source} lies there"
+        why = f"no block of {base.prepared.read.source} has this centroid"
         raise at_row(source, int((at < 0).argmax()), ", ".join(axes), why)
     return at
 
 
 def rows_on_grid(x: np.ndarray, y: np.ndarray, z: np.ndarray, base: Base) -> np.ndarray:
-    """The row of the cell at each place; -1 where the place is off the grid by more than the tolerance, or the cell has no row."""
+    """Returns the row of the cell at each place; -1 if the place is off the grid by more than the tolerance, or the cell has no row."""
     grid, steps, inside = base.grid, [], np.ones(len(x), dtype=bool)
     for axis, step in enumerate((*grid.steps(x, y), (z - grid.origin[2]) / grid.size[2])):
         place = np.rint(step)
@@ -214,19 +219,19 @@ def rows_on_grid(x: np.ndarray, y: np.ndarray, z: np.ndarray, base: Base) -> np.
 
 
 def nearest_rows(places: np.ndarray, base: Base) -> np.ndarray:
-    """The row with its centre nearest to each place; -1 where that is off by more than the tolerance along some axis."""
+    """Returns the row with the nearest centroid to each place; -1 if that is off by more than the tolerance along an axis."""
     names = base.project.table
     distance, at = cKDTree(base.rows[[names.x, names.y, names.z]].to_numpy()).query(places, p=np.inf)
     return np.where(distance <= base.project.grid.tolerance, at, -1)
 
 
 def demand_every_block(at: np.ndarray, base: Base, source: str) -> None:
-    """Refuses a model that has a block twice, or lacks one."""
+    """Raises PlanError if a realisation has a block twice, or lacks one."""
     known = len(base.prepared.read.frame)
     times = np.bincount(at, minlength=known)[:known]
     if times.max(initial=0) > 1:
         row = int(pd.Series(at).duplicated().to_numpy().argmax())
-        raise PlanError(f"{source} row {row + HEADER_ROWS}: the block stands in another row too")
+        raise PlanError(f"{source} row {row + HEADER_ROWS}: the block is in another row too: expected each block once")
     if times.min() == 0:
         row = int((times == 0).argmax()) + HEADER_ROWS
         raise PlanError(
@@ -235,14 +240,14 @@ def demand_every_block(at: np.ndarray, base: Base, source: str) -> None:
 
 
 def priced(project: Project, prices: dict[str, Decimal]) -> Project:
-    """The project at a set of prices."""
+    """Returns the project at a price deck."""
     metals = tuple(replace(metal, price=prices.get(metal.name, metal.price)) for metal in project.metals)
     return replace(project, metals=metals)
 
 
 def envelope(base: Base, greatest: np.ndarray) -> Plan:
-    """A plan whose blocks pay wherever they do in any scenario: the greatest grades, the greatest prices, and no
-    selling cost. Its precedences and its processing nodes serve every scenario."""
+    """Returns a plan in which each block is ore if it is in any scenario: by the largest grades and prices, without selling cost. Its
+    precedences and processing nodes serve every scenario."""
     project = base.project
 
     def dearest(metal: Metal) -> Decimal:
@@ -253,8 +258,8 @@ def envelope(base: Base, greatest: np.ndarray) -> Plan:
     plan = plan_of(blocks)
     plan.values = plan.values.with_shared_nodes()
     block_values.demand_few_nodes(plan.values, plan.grid)
-    if plan.values.cutoff == "base_price" and len(plan.values.ways) > 1:
+    if plan.values.cutoff == "base_price" and len(plan.values.by_process) > 1:
         # At other grades a block may go to another process, whose value rises faster with the factor.
-        paying = np.array(plan.values.value_bound(project.schedule.revenue_factors[-1]) > 0, dtype=bool)
+        paying = np.array(plan.values.value_bound(project.shells.revenue_factors[-1]) > 0, dtype=bool)
         plan.used |= closure.used_blocks(plan.grid, plan.walls, paying)
     return with_notes(plan, blocks)

@@ -21,7 +21,7 @@ class Request:
     revenue_factor : float, optional
         The shell whose probabilities are drawn. Default: the project's selected one, otherwise 1.0.
     partial : bool
-        Gather although scenarios have no answer.
+        Gather even if scenarios have no result.
     by : str
         `pit`, or `block`: schedule the blocks of each scenario, and make one schedule for all.
     """

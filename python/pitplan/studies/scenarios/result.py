@@ -1,4 +1,4 @@
-"""What became of scenarios, and their tables as frames."""
+"""The result of scenarios, and their tables as frames."""
 
 from __future__ import annotations
 
@@ -11,8 +11,9 @@ from typing import Any, Optional
 import pandas as pd
 
 from pitplan.blockmodel.grid import grid_of
-from pitplan.config.figures import PictureRules
+from pitplan.config.figures import FigureRules
 from pitplan.config.project import load
+from pitplan.core.layout import TABLES
 from pitplan.core.revenue_factors import BASE_PRICE, factor_text
 from pitplan.errors import PlanError
 from pitplan.plan import codes_of, shown_name
@@ -20,23 +21,25 @@ from pitplan.plan import codes_of, shown_name
 from . import store
 from .inclusion import Likely
 
-PROBABILITY, IMAGE, TABLE, QUANTILES = "probability.csv", "probability.vti", "scenarios.csv", "quantiles.csv"
-# Of schedules by block those of all scenarios, and the one for all by block and by year.
-SCHEDULES, ONE, ONE_YEARS, ONE_RECORD = (
-    "schedules.csv",
-    "common_schedule.csv",
-    "common_schedule_years.csv",
-    "common_schedule.json",
-)
+PROBABILITY, TABLE, QUANTILES = f"{TABLES}/probability.csv", f"{TABLES}/scenarios.csv", f"{TABLES}/quantiles.csv"
+IMAGE = "probability.vti"
+# With --by block: the schedules of all scenarios, and the common schedule by block and by year.
+SCHEDULES, ONE = f"{TABLES}/schedules.csv", f"{TABLES}/common_schedule.csv"
+ONE_YEARS, ONE_RECORD = f"{TABLES}/common_schedule_years.csv", "common_schedule.json"
 
 
 @dataclass(frozen=True)
 class ScenarioResult:
-    """What `scenarios` and `gather` have done. The frames raise PlanError where nothing is gathered yet.
+    """The result of `write_scenarios` and `gather`. The frames raise PlanError if nothing is gathered yet.
 
-    folder  where answers, tables and pictures stand
-    notes   sentences that a planner should read
-    start   of `slurm` and `parallel` the script to start, where scenarios have no answer yet; else None
+    Attributes
+    ----------
+    folder : Path
+        The folder of results, tables and figures.
+    notes : tuple of str
+        Sentences for the planner.
+    start : Path, optional
+        The script to start, for `slurm` and `parallel`, if scenarios have no result yet.
     """
 
     folder: Path
@@ -45,13 +48,13 @@ class ScenarioResult:
 
     @property
     def probability(self) -> pd.DataFrame:
-        """One row a block: the planner's columns, and `probability_F`, from 0 to 1, for each revenue factor F, as probability_0.80."""
+        """One row per block: the planner's columns, and the inclusion probability at each revenue factor, such as `probability_0.80`."""
         codes = codes_of(load(self.folder / store.PROJECT))
         return self.frame(PROBABILITY, dtype={name: str for name in codes}, keep_default_na=False, na_values={})
 
     @property
     def table(self) -> pd.DataFrame:
-        """One row a scenario and factor: model, prices, tonnes, grades, metal, and worth; `value_at_revenue_factor` is exact (Decimal)."""
+        """One row per scenario and revenue factor, with the columns of scenarios.csv; `value_at_revenue_factor` is exact (Decimal)."""
         table = self.frame(
             TABLE, dtype={"realisation": str, "value_at_revenue_factor": str}, keep_default_na=False, na_values=[""]
         )
@@ -59,18 +62,17 @@ class ScenarioResult:
 
     @property
     def quantiles(self) -> pd.DataFrame:
-        """One row a set of prices and factor, over the models: mean, least, greatest and quantiles of tonnes, metal and worth; of schedules
-        one row a set of prices, of values and bounds."""
+        """One row per price deck and revenue factor, over the realisations: mean, minimum, maximum and quantiles of tonnes, metal and value; of
+        schedules one row per price deck, of NPVs and upper bounds."""
         return self.frame(QUANTILES)
 
     @property
     def schedules(self) -> pd.DataFrame:
-        """Of schedules by block one row a scenario: model, prices, value and bound of its own schedule, and behind `one_` what the one
-        schedule for all earns in it."""
+        """With --by block, one row per scenario: its own schedule and, with the prefix common_, the common schedule in it."""
         return self.frame(SCHEDULES, dtype={"realisation": str}, keep_default_na=False, na_values=[""])
 
     def likely(self, revenue_factor: float = BASE_PRICE) -> Likely:
-        """What the pictures of probability show of a factor. Raises PlanError where it is none of the factors."""
+        """Returns the inclusion probabilities at a revenue factor, for figures. Raises PlanError if there are none at it."""
         blocks, name = self.probability, f"probability_{factor_text(revenue_factor)}"
         if name not in blocks:
             raise PlanError(f"{self.folder / PROBABILITY}: has no revenue factor {factor_text(revenue_factor)}")
@@ -79,7 +81,7 @@ class ScenarioResult:
         project = load(self.folder / store.PROJECT)
         solid = blocks[shown_name(project.table.tonnes)].to_numpy() > 0
         count = self.table["scenario"].nunique()
-        share, rules = grid.cube(grid.spread(blocks[name].to_numpy())), project.pictures or PictureRules()
+        share, rules = grid.cube(grid.spread(blocks[name].to_numpy())), project.figures or FigureRules()
         return Likely(grid, share, grid.cube(grid.spread(solid, fill=False)), revenue_factor, count, rules)
 
     def frame(self, name: str, **reading: Any) -> pd.DataFrame:

@@ -1,6 +1,6 @@
-"""Solves the scenarios that have no answer yet: in this process, over Dask, or by lists of jobs that others start.
+"""Solves the scenarios that have no result yet: over Dask, or by lists of jobs that others start.
 
-All models are read before any scenario is solved, so that an error in the last one cannot stop a run half-way. Answers are files: a
+All realisations are read before any scenario is solved, so that an error in the last one cannot stop a run half-way. Results are files: a
 scheduler passes only a number to a task and a status back. The lists for Slurm and GNU parallel are text, which you can edit before you
 submit it.
 """
@@ -31,7 +31,7 @@ class Solved:
     notes : tuple of str
         Sentences for the planner.
     start : Path, optional
-        The script to start, for `slurm` and `parallel`, if scenarios have no answer yet.
+        The script to start, for `slurm` and `parallel`, if scenarios have no result yet.
     """
 
     notes: tuple[str, ...]
@@ -39,12 +39,12 @@ class Solved:
 
 
 def solve(project: Project, folder: Path, request: Request, progress: Progress) -> Solved:
-    """Solves the scenarios that have no answer yet, or writes the lists of jobs that do so.
+    """Solves the scenarios that have no result yet, or writes the lists of jobs that do so.
 
     Raises
     ------
     PlanError
-        If the project or a model is not usable, or a scenario ends without an answer and the request is not for part of them.
+        If the project or a realisation is not usable, or a scenario ends without a result and the request is not partial.
     MissingPackage
         Without Dask if it is required, or by block without the library.
     """
@@ -57,7 +57,7 @@ def solve(project: Project, folder: Path, request: Request, progress: Progress) 
     missing, count = shared.missing(), len(shared.jobs)
     notes = [
         *shared.record["notes"],
-        f"{count - len(missing):,} of {count:,} {shared.called} have their answer already",
+        f"{count - len(missing):,} of {count:,} {shared.called} have a result already",
     ]
     if request.where in ("slurm", "parallel"):
         start = batch_scripts.write(request.where, folder, missing, shared.solver) if missing else None
@@ -92,7 +92,7 @@ def demand_no_factor(request: Request) -> None:
 def shown_factor(shared: Shared, request: Request) -> float:
     """The factor whose probabilities are drawn. Raises PlanError if no scenario was solved at it."""
     factors = list(shared.record["revenue_factors"])
-    factor = request.revenue_factor or shared.project.schedule.selected or BASE_PRICE
+    factor = request.revenue_factor or shared.project.shells.selected or BASE_PRICE
     if factor not in factors:
         raise PlanError(
             f"revenue factor {factor_text(factor)} is not among the revenue factors {factor_texts(factors)}"

@@ -1,16 +1,16 @@
-"""The folder of a set of scenarios, which whoever solves one reads, and into which the answer is written.
+"""The folder of a set of scenarios: workers read it, and write their results into it.
 
     scenarios.json      what there is to solve, and what it was made of
     project.toml        the project that was run, whose files are named from the place of its first text
-    base.npz            the blocks without grades: cell, tonnes, rock; and of all cells what fixed blocks settle
-    starts.npy,         the needs as rows for the library, once for all scenarios; with fixed blocks those of the rest
-    needs.npy
-    mine.prec           or the same for the program, where that solves
-    diggable.npz        or, where blocks are scheduled, the blocks that may be dug, with their needs,
-    mean.npz            and what these hold and earn on the mean of all scenarios
-    realisations/HASH.npy the grades of one, a row a block and a column a metal
-    done/KEY.npz        the answer of a scenario; its key names all that the answer depends on
-    failed/KEY.json     why a scenario has no answer
+    solver/base.npz     the blocks without grades: cell, tonnes, rock type; and which cells the constraints settle
+    solver/starts.npy,  the precedences as compressed rows for the library, once for all scenarios; with constraints those of the
+    solver/needs.npy    reduced mine
+    solver/mine.prec    or the same for the program, if the program solves
+    solver/diggable.npz or, if blocks are scheduled, the blocks that may be mined, with their precedences,
+    solver/mean.npz     and their amounts and values on the mean of all scenarios
+    realisations/HASH.npy the grades of one, shape (blocks, metals)
+    done/KEY.npz        the result of a scenario; its key is a hash of every input
+    failed/KEY.json     why a scenario has no result
 """
 
 from __future__ import annotations
@@ -33,25 +33,41 @@ from pitplan.config.project import Project, load
 from pitplan.config.schedule import ScheduleRules
 from pitplan.constraints import Settled
 from pitplan.core.atomic_files import hash_of, staged_file, write_json
+from pitplan.core.layout import SOLVER
 from pitplan.errors import PlanError
 from pitplan.precedences import Rows
+from pitplan.solver import mine_files
 from pitplan.solver.choice import Solver
 
-RECORD, PROJECT, BASE = "scenarios.json", "project.toml", "base.npz"
-STARTS, NEEDS = "starts.npy", "needs.npy"
-DIGGABLE, MEAN = "diggable.npz", "mean.npz"
+RECORD, PROJECT = "scenarios.json", "project.toml"
+BASE, STARTS, NEEDS = f"{SOLVER}/base.npz", f"{SOLVER}/starts.npy", f"{SOLVER}/needs.npy"
+PREC, DIGGABLE, MEAN = f"{SOLVER}/{mine_files.PREC}", f"{SOLVER}/diggable.npz", f"{SOLVER}/mean.npz"
 FOLDERS = MODELS, DONE, FAILED = "realisations", "done", "failed"
-# Of the files of answers: since 2 they hold their own key.
+# Version of the files of results: since 2 they hold their own key.
 FORM = 2
-# The sources of what searches for schedules.
+# The sources of the search for schedules.
 SEARCH = Path(__file__).parents[2] / "scheduling" / "blocks"
-# What is found of each scenario: its pits, or a schedule of its blocks.
+# The result of each scenario: its pits, or a schedule of its blocks.
 PIT, BLOCK = "pit", "block"
 
 
 @dataclass(frozen=True)
 class Scenario:
-    """One model at one set of prices: its place in the list from 1, names, and the key of its answer."""
+    """A realisation at a price deck.
+
+    Attributes
+    ----------
+    number : int
+        From 1.
+    realisation : str
+        Its name.
+    grades : str
+        Hash of its grades; "" for the mean of all scenarios.
+    prices : dict of str to str
+        Prices by metal.
+    key : str
+        That of its result.
+    """
 
     number: int
     realisation: str
@@ -61,12 +77,12 @@ class Scenario:
 
     @property
     def is_mean(self) -> bool:
-        """Whether it is no model, but the mean of all scenarios."""
+        """Whether it is the mean of all scenarios."""
         return not self.grades
 
     @property
     def label(self) -> str:
-        """The model and the prices, as a person would call it."""
+        """Realisation and prices in words."""
         said = ", ".join(f"{metal} {price}" for metal, price in self.prices.items())
         return f"{self.realisation} at {said}" if said else self.realisation
 
@@ -76,12 +92,22 @@ class Scenario:
 
 @dataclass(frozen=True)
 class Shared:
-    """What every scenario of a folder is solved with.
+    """The common input of the scenarios of a folder.
 
-    frame   tonnes and rock, a row a block of the table
-    ore     the block of each node for processing that scenarios share
-    solver  what finds all answers
-    settled what is dug and what is left for the sake of fixed blocks; None where the project has none
+    Attributes
+    ----------
+    folder : Path
+    project : Project
+    frame : DataFrame
+        Tonnes and rock type, one row per block.
+    grid : Grid
+    ore : array of int, shape (nodes,)
+        The block of each processing node.
+    record : dict
+        scenarios.json.
+    solver : Solver
+    settled : Settled, optional
+        The cells that constraints force in and sterilise; None without constraints.
     """
 
     folder: Path
@@ -95,18 +121,18 @@ class Shared:
 
     @cached_property
     def rows(self) -> Rows:
-        """The needs for the library, whose pages all processes of a machine share."""
+        """The precedences for the library, in memory that all processes of a machine share."""
         starts, needs = (np.load(self.folder / name, mmap_mode="r", allow_pickle=False) for name in (STARTS, NEEDS))
         return Rows(starts, needs)
 
     @property
     def is_by_block(self) -> bool:
-        """Whether blocks are scheduled, and no pits found."""
+        """Whether blocks are scheduled, instead of pits found."""
         return self.record.get("by", PIT) == BLOCK
 
     @property
     def called(self) -> str:
-        """What its answers are of."""
+        """The jobs in words."""
         return "schedules" if self.is_by_block else "scenarios"
 
     @property
@@ -115,8 +141,7 @@ class Shared:
 
     @property
     def jobs(self) -> list[Scenario]:
-        """What has an answer each: the scenarios, and behind them, where blocks are scheduled, the mean of all, of which the one schedule
-        for all is made."""
+        """The jobs that have a result each: the scenarios and, if blocks are scheduled, the mean of all for the common schedule."""
         return [*self.scenarios, *([Scenario(**self.record["mean"])] if self.is_by_block else [])]
 
     def answer(self, scenario: Scenario) -> Path:
@@ -126,11 +151,11 @@ class Shared:
         return self.folder / FAILED / f"{scenario.key}.json"
 
     def missing(self) -> list[Scenario]:
-        """What has no answer yet."""
+        """The jobs that have no result yet."""
         return [job for job in self.jobs if not self.answer(job).is_file()]
 
     def grades(self, scenario: Scenario) -> np.ndarray:
-        """Raises PlanError where the file is not the one that was written."""
+        """Reads the grades of a scenario, shape (blocks, metals). Raises PlanError if the file has changed since it was written."""
         path = self.folder / MODELS / f"{scenario.grades}.npy"
         try:
             grades: np.ndarray = np.load(path, allow_pickle=False)
@@ -144,7 +169,7 @@ class Shared:
 
 
 def demand_same_kind(folder: Path, by: str) -> None:
-    """Raises PlanError where the folder has answers of another kind, whose tables would stand beside the new ones."""
+    """Raises PlanError if the folder has results of another kind, whose tables would mix with the new ones."""
     try:
         begun = json.loads((folder / RECORD).read_text(encoding="utf-8")).get("by", PIT)
     except (OSError, ValueError, AttributeError):
@@ -161,7 +186,7 @@ def demand_no_mine(folder: Path) -> None:
 
 
 def read_shared(folder: Path) -> Shared:
-    """Raises PlanError where `pitplan scenarios` has not written the folder, or a shared file has changed since."""
+    """Reads the common input of a folder. Raises PlanError if pitplan scenarios has not written it, or a file has changed since."""
     try:
         record = json.loads((folder / RECORD).read_text(encoding="utf-8"))
         for name, digest in record["files"].items():
@@ -173,7 +198,9 @@ def read_shared(folder: Path) -> Shared:
     except OSError as error:
         raise PlanError(f"{error.filename}: cannot be read: run pitplan scenarios first") from error
     except (ValueError, KeyError, TypeError) as error:
-        raise PlanError(f"{folder / RECORD}: is no record of scenarios: {error}") from error
+        raise PlanError(
+            f"{folder / RECORD}: is not a record of scenarios: {error}: run pitplan scenarios again"
+        ) from error
     grid = grid_of(record["grid"], arrays.pop("cells"))
     ore = arrays.pop("ore")
     settled = Settled(arrays.pop("dug"), arrays.pop("left")) if "dug" in arrays else None
@@ -182,32 +209,32 @@ def read_shared(folder: Path) -> Shared:
 
 
 def key_of(parts: dict[str, Any]) -> str:
-    """The name of an answer: a hash of all that it depends on, and of the form in which answers are kept."""
+    """Returns the key of a result: a hash of every input, and of the version of the files of results."""
     return hashlib.sha256(json.dumps({"form": FORM, **parts}, sort_keys=True, default=repr).encode()).hexdigest()[:20]
 
 
 def referred(project: Project, reference: float) -> Project:
-    """The project with the elevation in metres from which on mining costs more, which is one for all scenarios."""
-    if not project.money.mining_cost_per_bench:
+    """Returns the project with a `mining_cost_reference`, an elevation in metres that all scenarios share."""
+    if not project.economics.mining_cost_per_bench:
         return project
-    return replace(project, money=replace(project.money, mining_cost_reference=Decimal(repr(reference))))
+    return replace(project, economics=replace(project.economics, mining_cost_reference=Decimal(repr(reference))))
 
 
 def meaning(project: Project, reference: float) -> dict[str, Any]:
-    """What of a project changes what blocks earn and need; prices, and hashes of the blocks and of survey files, are parts of their own."""
+    """Returns the parts of a project that change block values and precedences, without prices, blocks and survey files."""
     project = referred(project, reference)
     without_prices = [asdict(replace(metal, price=Decimal(0))) for metal in project.metals]
-    parts = {"money": asdict(project.money), "metals": without_prices, "slopes": asdict(project.slopes)}
+    parts = {"money": asdict(project.economics), "metals": without_prices, "slopes": asdict(project.slopes)}
     parts |= {"haulage": asdict(project.haulage)} if project.haulage else {}
-    # No pit depends on what a process takes in a year.
+    # Pits do not depend on the capacities of processes.
     processes = [asdict(replace(process, capacity=0.0)) for process in project.processes]
     parts |= {"processes": processes} if processes else {}
     return parts | ({"reblock": asdict(project.table.reblock)} if project.table.reblock else {})
 
 
 def surfaces_of(project: Project) -> dict[str, Any]:
-    """The topography, the original ground and the as-mined surface: what of each file is taken, and hashes of its parts."""
-    rules = project.fixed
+    """Returns layers, height field and hashes of the files of topography, original ground and as-mined surface."""
+    rules = project.constraints
     named = {"topography": project.table.topography}
     named |= {"original": rules.topography, "as mined": rules.as_mined} if rules and rules.as_mined else {}
     return {
@@ -218,8 +245,8 @@ def surfaces_of(project: Project) -> dict[str, Any]:
 
 
 def meaning_of_years(project: Project, years: int) -> dict[str, Any]:
-    """What besides changes a schedule of so many years: limits, discounting, and how schedules are searched for, which no proof settles."""
-    shells, rules = project.schedule, project.schedule_rules or ScheduleRules()
+    """Returns the further input of a schedule over a number of years: limits, discounting, and the search, which is not proved."""
+    shells, rules = project.shells, project.schedule or ScheduleRules()
     limits = {"ore": shells.processing_capacity, "rock": shells.mining_capacity, "rules": asdict(rules)}
     search = {
         "highs": f"scipy {scipy.__version__}",
@@ -238,7 +265,7 @@ def hash_of_arrays(arrays: dict[str, np.ndarray]) -> str:
 
 
 def save_grades(folder: Path, grades: np.ndarray) -> str:
-    """Writes a model's grades where they do not stand yet; gives their hash, by which the file is named."""
+    """Writes the grades of a realisation if they are not there yet; returns their hash, which names the file."""
     name = hash_of_arrays({"grades": grades})
     path = folder / MODELS / f"{name}.npy"
     if not path.is_file():
@@ -248,7 +275,7 @@ def save_grades(folder: Path, grades: np.ndarray) -> str:
 
 
 def save_failure(shared: Shared, scenario: Scenario, status: Optional[int], sentence: str) -> None:
-    """Notes why a scenario has no answer; `status` is the solver's, None where it did not get to run."""
+    """Records why a scenario has no result; `status` is the solver's, None if it did not run."""
     path = shared.failure(scenario)
     with staged_file(path) as place:
         write_json(place, {"number": scenario.number, "label": scenario.label, "status": status, "why": sentence})

@@ -1,5 +1,4 @@
-"""One scenario, solved by one call of the library or one run of the program, or its blocks scheduled; whoever asks for it, in whatever
-process, on whatever machine."""
+"""Solves one scenario, by one call of the library or one run of the program, or schedules its blocks; in any process, on any machine."""
 
 from __future__ import annotations
 
@@ -36,9 +35,16 @@ PROGRAM_STATUSES = range(1, 5)
 
 @dataclass(frozen=True)
 class Outcome:
-    """How a scenario ended: an exit status, a sentence where it is not 0, and the seconds that it took.
+    """How a scenario ended.
 
-    status  0: its answer stands; 1 to 4: the program's own; 5: pitplan refused; 75: the program was killed, try again
+    Attributes
+    ----------
+    number : int
+    status : int
+        0: its result is written; 1 to 4: the program's own; 5: pitplan refused; 75: the program was killed, try again.
+    why : str
+        The reason if the status is not 0.
+    seconds : float
     """
 
     number: int
@@ -48,18 +54,18 @@ class Outcome:
 
     @property
     def is_final(self) -> bool:
-        """Whether another try would end alike."""
+        """Whether another try would end in the same way."""
         return self.status in FINAL
 
 
 @lru_cache(maxsize=1)
 def shared_of(folder: str, digest: str) -> Shared:
-    """What the scenarios of a folder share, read once in each process; `digest` is that of its record."""
+    """Reads the common input of a folder, once in each process; `digest` is the hash of its record."""
     return store.read_shared(Path(folder))
 
 
 def solve(folder: str, number: int) -> Outcome:
-    """Solves a scenario and writes its answer, unless it stands there already. Never raises PlanError."""
+    """Solves a scenario and writes its result, unless it has one. Never raises PlanError."""
     began = time.perf_counter()
     try:
         shared = shared_of(folder, hash_of(Path(folder) / store.RECORD))
@@ -86,7 +92,7 @@ def solve(folder: str, number: int) -> Outcome:
 
 
 def status_of(error: PlanError) -> int:
-    """The program's own status where it has one, 75 where it was killed, and else 5."""
+    """Returns the program's own status if it has one, 75 if it was killed, otherwise 5."""
     status = error.status if isinstance(error, ProgramError) else None
     if status is None:
         return REFUSED
@@ -94,33 +100,33 @@ def status_of(error: PlanError) -> int:
 
 
 def plan_of(shared: Shared, scenario: Scenario) -> Plan:
-    """A scenario as a plan whose needs stand in the shared file."""
+    """Returns a scenario as a plan, whose precedences are in the shared files."""
     project = priced(shared.project, scenario.priced())
     grades = shared.grades(scenario)
     columns = {metal.column: grades[:, number] for number, metal in enumerate(project.metals)}
     frame = shared.frame.assign(**columns)
     values = block_values.values_of(frame, shared.grid, project, scenario.label)
-    # The same nodes in every scenario, so that one file of needs serves: those without metal here are worth nothing.
+    # All scenarios have the same nodes and share one file of precedences. Nodes without metal here have no value.
     values = replace(values, shared=shared.ore)
     walls, used = Walls((), np.zeros(0), (), np.zeros(0)), np.zeros(0, bool)
     return Plan(project, frame, shared.grid, values, walls, used, scenario.label, settled=shared.settled)
 
 
 def shells_of(shared: Shared, plan: Plan) -> Solution:
-    """The shells of a scenario by the solver of all. Raises ProgramError where that is another here, or refuses."""
+    """Returns the shells of a scenario. Raises ProgramError if the solver here is another one, or refuses."""
     choice.demand_same(shared.solver)
-    factors = plan.project.schedule.revenue_factors
+    factors = plan.project.shells.revenue_factors
     nodes = plan.values.nodes() if plan.settled is None else constraints.nodes_of_rest(plan.values, plan.settled)
     if shared.solver.by == choice.LIBRARY:
         return library.shells(nodes, shared.rows, factors)
     with tempfile.TemporaryDirectory(prefix="pitplan-") as place:
         blocks = Path(place) / mine_files.BLOCKS
         mine_files.write_blocks(blocks, plan.grid, plan.values.processed, nodes)
-        return program.solve_files(blocks, shared.folder / mine_files.PREC, factors)
+        return program.solve_files(blocks, shared.folder / store.PREC, factors)
 
 
 def write_block_answer(shared: Shared, scenario: Scenario) -> None:
-    """Makes and keeps the schedule of a scenario. Raises MissingPackage without the library, and PlanError as `block_work` does."""
+    """Schedules the blocks of a scenario and writes the result. Raises MissingPackage without the library, and PlanError as `blocks.worker`."""
     load_library("a schedule by block")
     # It imports the library itself, and this module.
     from pitplan.studies.scenarios.blocks import worker
@@ -129,17 +135,17 @@ def write_block_answer(shared: Shared, scenario: Scenario) -> None:
 
 
 def write_answer(shared: Shared, scenario: Scenario) -> None:
-    """Raises ProgramError where the solver ends without an answer."""
+    """Solves the shells of a scenario and writes the result. Raises ProgramError if the solver refuses."""
     plan = plan_of(shared, scenario)
     solution = problem.joined(shells_of(shared, plan), plan.settled, plan.values)
     missing_blocks.demand_known(solution.entry, plan.grid, plan.project, plan.source)
     cells = shell_tables.cells_of(plan, solution)
     table = shell_tables.amounts(plan, cells).astype(np.float64)
-    factors = np.array(plan.project.schedule.revenue_factors)
+    factors = np.array(plan.project.shells.revenue_factors)
     entry = cells.factor[plan.grid.rows]
     texts = {"value_at_revenue_factor": np.array([f"{worth:f}" for worth in solution.worth], dtype=str)}
     with staged_file(shared.answer(scenario)) as path:
-        # The place of a block's least factor in the list, from 1; 0: in no pit.
+        # The place of a block's least revenue factor in the list, from 1; 0: in no pit.
         places = np.where(entry > 0, np.searchsorted(factors, entry) + 1, 0).astype(np.uint16)
         keyed_arrays.write(
             path, scenario.key, places=places, columns=table.columns.to_numpy().astype(str), table=table, **texts

@@ -1,7 +1,7 @@
-"""How much the pit that is shown, and what it earns, hang on single numbers: each more and less by given shares, and pairs of them.
+"""Sensitivity of the selected pit shell: single parameters changed by given shares, and pairs of them.
 
-In every case the pit of the same factor is found anew. Beside it stands what the pit of the project as given earns at the case's numbers,
-which is dug where nothing is planned anew; where walls change there is none, since that pit may not stand.
+Each case finds the pit of the same revenue factor again. It also values the base case's pit at the parameters of the case: that pit is mined if
+nothing is planned again. There is no such value if the slopes change, since that pit may not be stable.
 """
 
 from __future__ import annotations
@@ -35,7 +35,7 @@ from pitplan.studies.scenarios.store import key_of
 from .perturb import Change, given, varied
 
 CASES = "cases"
-# What the pit as given earns at a case's numbers, and what its skin does.
+# Columns of the base case's pit at the parameters of a case, and the value of its skin.
 KEPT = ("undiscounted_cash_flow", "npv_best", "npv_worst", "years")
 SKIN_WORTH = "skin_value"
 WHOLE = ("blocks",)
@@ -43,7 +43,7 @@ WHOLE = ("blocks",)
 
 @dataclass(frozen=True)
 class Case:
-    """What is changed; nothing is the project as given."""
+    """The changes of a case; the base case has none."""
 
     changes: tuple[Change, ...] = ()
 
@@ -58,13 +58,18 @@ class Case:
 
 @dataclass(frozen=True)
 class Found:
-    """The answer of a case.
+    """The result of a case.
 
-    row    what the pit holds and earns, by the names of `shells`, and with kept_ before them what the pit as given earns; and what the skin
-           of that pit is worth
-    entry  for each cell the least of the factors whose pit holds it; 0: none
-    walls  the record of the walls' patterns
-    skin   of the project as given the skin of its pit, else None
+    Attributes
+    ----------
+    row : dict of str to Any
+        The columns of `Shells.table` for the pit, with the prefix kept_ those of the base case's pit, and the value of the skin of that.
+    entry : array of float, shape (cells,)
+        The least revenue factor whose shell holds the cell; 0: none.
+    walls : list of dict
+        The record of slope patterns.
+    skin : Skin, optional
+        For the base case the skin of its pit.
     """
 
     row: dict[str, Any]
@@ -75,11 +80,22 @@ class Found:
 
 @dataclass(frozen=True)
 class Sensitivity:
-    """All cases with their answers, in order; the first is the project as given, whose plan is kept.
+    """All cases with their results, in order; the first is the base case.
 
-    factor  that of the pit that is looked at
-    solver  what found all of them
-    asked   the project as it was given; `project` has the factors up to the shown one alone
+    Attributes
+    ----------
+    project : Project
+        With the revenue factors up to the selected one only.
+    plan : Plan
+        That of the base case.
+    factor : float
+        The selected revenue factor.
+    answers : dict of Case to Found
+    keys : dict of Case to str
+        Names of the files of results.
+    solver : Solver
+    asked : Project
+        The project as it was given.
     """
 
     project: Project
@@ -92,13 +108,13 @@ class Sensitivity:
 
 
 def rules_of(project: Project) -> SensitivityRules:
-    """What is varied: what the project asks for, or else each number that it gives."""
+    """Returns the rules of `[sensitivity]`; by default all parameters that the project has."""
     rules = project.sensitivity or SensitivityRules()
     return rules if rules.parameters else replace(rules, parameters=given(project))
 
 
 def cases_of(rules: SensitivityRules) -> list[Case]:
-    """The project as given, each number by each share, and of each pair both by each share."""
+    """Returns the base case, each parameter with each change, and each pair with each combination of changes."""
     singles = [Case(((name, share),)) for name, share in product(rules.parameters, rules.changes)]
     of_pairs = {name for pair in rules.pairs for name in pair if name not in rules.parameters}
     beside = [Case(((name, share),)) for name, share in product(sorted(of_pairs), rules.changes)]
@@ -112,8 +128,8 @@ def cases_of(rules: SensitivityRules) -> list[Case]:
 
 @dataclass(frozen=True)
 class Asked:
-    """What every case is made of: the project with the factors up to the shown one, its table, what solves, and the pit as given, once it is
-    found."""
+    """The common input of all cases: project, with the revenue factors up to the selected one, table, solver, and the base case once it is
+    solved."""
 
     project: Project
     frame: pd.DataFrame
@@ -121,22 +137,53 @@ class Asked:
     as_given: Found | None = None
 
 
-def solve(project: Project, folder: Path, where: dask_pool.Where | None, progress: Progress = silent) -> Sensitivity:
-    """Solves the cases that have no answer in the folder yet, one after the other or where it is said, and writes each answer as it is
-    found.
+def demand_whole(plan: Plan) -> None:
+    """Raises PlanError if the model was cropped, since each case would be cropped differently."""
+    if plan.left_out:
+        why = "is too large for the solver, and each case would be cropped differently: set [table] reblock"
+        raise PlanError(f"{plan.project.table.file}: {why}, or give a smaller model")
 
-    Raises PlanError where the table or a case cannot be planned with, ProgramError where the solver refuses, and MissingPackage without
-    Dask where it is asked for.
+
+def answer_all(
+    missing: dict[Case, Path], asked: Asked, where: dask_pool.Where | None, progress: Progress = silent
+) -> None:
+    """Solves these cases, one after the other in this process or where Dask solves, and writes each result to its path."""
+    if where is None:
+        for number, (case, path) in enumerate(missing.items(), 1):
+            with progress.step(f"{number} of {len(missing)}: {case.label}"):
+                answer(case, asked, path)
+    elif missing:
+        over_dask(missing, asked, where, progress)
+
+
+def solve(project: Project, folder: Path, where: dask_pool.Where | None, progress: Progress = silent) -> Sensitivity:
+    """Solves the cases that have no result in the folder yet, and writes each result when it is found.
+
+    Parameters
+    ----------
+    project : Project
+    folder : Path
+        The output folder; results are in its folder cases.
+    where : Where, optional
+        Where Dask solves. Default: one case after the other in this process.
+    progress : Progress
+
+    Raises
+    ------
+    PlanError
+        If the table or a case is not usable.
+    ProgramError
+        If the solver refuses.
+    MissingPackage
+        Without Dask if `where` is given.
     """
     found_by, given_project = solver.chosen(project.solver), project
     project = replace(project, solver=found_by.by)
     frame = reader.read(project).frame
     plan = prepared(project, frame, progress)
-    if plan.left_out:
-        why = "is too large for the solver, and each case would be cropped differently: set [table] reblock"
-        raise PlanError(f"{project.table.file}: {why}, or give a smaller model")
+    demand_whole(plan)
     solution = problem.solve(plan, progress=progress)
-    factor = shell_tables.selected_factor(shell_tables.shells(plan, solution), project.schedule)
+    factor = shell_tables.selected_factor(shell_tables.shells(plan, solution), project.shells)
     asked = Asked(up_to(project, factor), frame, found_by)
     rules = rules_of(project)
     begun = {
@@ -152,13 +199,7 @@ def solve(project: Project, folder: Path, where: dask_pool.Where | None, progres
     if not paths[Case()].is_file():
         answer(Case(), asked, paths[Case()])
     asked = replace(asked, as_given=read(paths[Case()], plan.grid.count))
-    missing = {case: path for case, path in paths.items() if not path.is_file()}
-    if where is None:
-        for number, (case, path) in enumerate(missing.items(), 1):
-            with progress.step(f"{number} of {len(missing)}: {case.label}"):
-                answer(case, asked, path)
-    elif missing:
-        over_dask(missing, asked, where, progress)
+    answer_all({case: path for case, path in paths.items() if not path.is_file()}, asked, where, progress)
     return Sensitivity(
         asked.project,
         plan,
@@ -171,12 +212,12 @@ def solve(project: Project, folder: Path, where: dask_pool.Where | None, progres
 
 
 def answer(case: Case, asked: Asked, path: Path) -> None:
-    """Finds a case's answer and writes it."""
+    """Solves a case and writes its result."""
     write(path, find(case, asked))
 
 
 def over_dask(missing: dict[Case, Path], asked: Asked, where: dask_pool.Where, progress: Progress) -> None:
-    """Each case as a task of its own, tried again where its worker is lost. Raises PlanError as the case does."""
+    """Solves each case as a Dask task, which is repeated if its worker is lost. Raises PlanError as the case does."""
     distributed = load("distributed", dask_pool.PACKAGE, "sensitivity --on local or a Dask scheduler")
     with progress.step(f"solving {len(missing):,} cases"), dask_pool.client_of(distributed, where) as client:
         shared = client.scatter(asked, broadcast=True)
@@ -189,15 +230,15 @@ def over_dask(missing: dict[Case, Path], asked: Asked, where: dask_pool.Where, p
 
 
 def up_to(project: Project, factor: float) -> Project:
-    """The project with the factors up to one alone, whose pit is shown."""
-    factors = tuple(it for it in project.schedule.revenue_factors if it <= factor)
+    """Returns the project with the revenue factors up to one, which is selected."""
+    factors = tuple(it for it in project.shells.revenue_factors if it <= factor)
     return replace(
-        project, schedule=replace(project.schedule, revenue_factors=factors, selected=factor, base_price_added=False)
+        project, shells=replace(project.shells, revenue_factors=factors, selected=factor, base_price_added=False)
     )
 
 
 def find(case: Case, asked: Asked) -> Found:
-    """The pit of a case, and what the pit as given, where there is one, earns in it. Raises ProgramError where the solver here is another."""
+    """Returns the pit of a case, and the values of the base case's pit in it. Raises ProgramError if the solver here is another one."""
     solver.demand_same(asked.solver)
     plan = prepared(varied(asked.project, case.changes), asked.frame)
     solution = problem.solve(plan)
@@ -217,13 +258,13 @@ def find(case: Case, asked: Asked) -> Found:
 
 
 def of_last(table: pd.DataFrame) -> dict[str, Any]:
-    """The row of the greatest factor, with the mean of its net present values."""
+    """Returns the row of the largest revenue factor, with the mean of both NPVs."""
     row = dict(table.iloc[-1])
     return row | {"npv": (row["npv_best"] + row["npv_worst"]) / 2}
 
 
 def write(path: Path, found: Found) -> None:
-    """Keeps an answer under the name that is its key."""
+    """Writes a result; its file is named by its key."""
     numbers = {name: float(amount) for name, amount in found.row.items() if name != "value_at_revenue_factor"}
     texts = {"value_at_revenue_factor": f"{found.row['value_at_revenue_factor']:f}", "walls": json.dumps(found.walls)}
     skin = {} if found.skin is None else {"skin": found.skin.cells, "skin_factor": found.skin.factor}
@@ -234,7 +275,7 @@ def write(path: Path, found: Found) -> None:
 
 
 def read(path: Path, cells: int) -> Found:
-    """The answer of a case on a grid with this number of cells. Raises PlanError if the file has no such answer."""
+    """Reads the result of a case on a grid with this number of cells. Raises PlanError if the file has none."""
     try:
         said = keyed_arrays.read(path, path.stem)
         row: dict[str, Any] = dict(zip(said["names"].tolist(), said["amounts"].tolist()))
@@ -249,13 +290,14 @@ def read(path: Path, cells: int) -> Found:
             skin,
         )
     except (OSError, ValueError, KeyError, TypeError) as error:
-        raise PlanError(f"{path}: is no answer: remove it, and run pitplan sensitivity again: {error}") from error
+        raise PlanError(
+            f"{path}: is not a result of this case: {error}: remove it, and run pitplan sensitivity again"
+        ) from error
 
 
 def table(found: Sensitivity) -> pd.DataFrame:
-    """One row a case: number, share, and of a pair second and second_share; what the pit holds and earns; kept_ what the pit as given
-    does; and skin_value what that pit's skin is worth. Amounts are in tonnes, grams and money at the price as given; npv is the mean of best
-    and worst case."""
+    """Returns one row per case: its changes, the columns of the pit, with the prefix kept_ those of the base case's pit, and the value of the
+    skin. `npv` is the mean of best and worst case; docs/FORMATS.md lists the columns."""
     rows = []
     for case, answer in found.answers.items():
         (name, share), (second, other) = (*case.changes, ("", Decimal(0)), ("", Decimal(0)))[:2]

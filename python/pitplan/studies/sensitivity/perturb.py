@@ -1,4 +1,4 @@
-"""A project with some of its numbers more or less, by shares of what they are."""
+"""Projects with changed parameters."""
 
 from __future__ import annotations
 
@@ -10,14 +10,14 @@ from pitplan.config.economics import ByRock, Curve, Metal, Process, Recovery
 from pitplan.config.project import Project
 from pitplan.errors import PlanError
 
-# A number's name, as `[sensitivity]` gives it, and a share: 0.1 for a tenth more.
+# A parameter of `[sensitivity]`, and the share by which it changes: 0.1 is 10 % more.
 Change = tuple[str, Decimal]
 Recoveries = Union[Recovery, dict[str, Recovery]]
 STEEPEST, FLATTEST = 90.0, 1.0
 
 
 def varied(project: Project, changes: tuple[Change, ...]) -> Project:
-    """The project with these changes; a recovery ends at 1. Raises PlanError where a wall angle leaves 1 to 90 degrees."""
+    """Returns the project with these changes; recoveries stop at 1. Raises PlanError if a slope angle leaves 1 to 90 degrees."""
     for name, share in changes:
         kind, _, metal = name.partition(" ")
         project = VARIED[kind](project, 1 + share, metal)
@@ -29,7 +29,7 @@ def times(price: ByRock, by: Decimal) -> ByRock:
 
 
 def recovered(recovery: Recoveries, by: Decimal) -> Recoveries:
-    """Recoveries of all rocks and grades; no more than all of the metal is recovered."""
+    """Returns recoveries of all rock types and grades times a factor, at most 1."""
     if isinstance(recovery, dict):
         return {rock: of_rock(part, by) for rock, part in recovery.items()}
     return of_rock(recovery, by)
@@ -43,19 +43,19 @@ def of_rock(recovery: Recovery, by: Decimal) -> Recovery:
 
 
 def with_metals(project: Project, name: str, change: Callable[[Metal], Metal]) -> Project:
-    """One metal changed, or all where none is named."""
+    """Returns the project with one metal changed, or all if `name` is ""."""
     return replace(
         project, metals=tuple(change(metal) if name in ("", metal.name) else metal for metal in project.metals)
     )
 
 
 def with_processes(project: Project, change: Callable[[Process], Process]) -> Project:
-    """Each of several processes changed."""
+    """Returns the project with each of its processes changed."""
     return replace(project, processes=tuple(change(process) for process in project.processes))
 
 
 def price(project: Project, by: Decimal, metal: str) -> Project:
-    """With the prices of years."""
+    """Changes the price of a metal, yearly prices included."""
     return with_metals(
         project, metal, lambda it: replace(it, price=it.price * by, prices=tuple(price * by for price in it.prices))
     )
@@ -66,7 +66,7 @@ def selling_cost(project: Project, by: Decimal, metal: str) -> Project:
 
 
 def recovery(project: Project, by: Decimal, metal: str) -> Project:
-    """In all processes."""
+    """Changes the recovery of a metal in all processes."""
 
     def change(process: Process) -> Process:
         changed = {name: recovered(it, by) if metal in ("", name) else it for name, it in process.recovery.items()}
@@ -78,24 +78,26 @@ def recovery(project: Project, by: Decimal, metal: str) -> Project:
 
 
 def mining_cost(project: Project, by: Decimal, metal: str) -> Project:
-    """With what is added for each level or by elevation."""
-    money = project.money
+    """Changes mining costs, those by bench or by elevation included."""
+    money = project.economics
     deeper = tuple((elevation, cost * by) for elevation, cost in money.mining_cost_by_elevation)
     level = money.mining_cost_per_bench * by
     changed = replace(
         money, mining_cost=times(money.mining_cost, by), mining_cost_per_bench=level, mining_cost_by_elevation=deeper
     )
-    return replace(project, money=changed)
+    return replace(project, economics=changed)
 
 
 def processing_cost(project: Project, by: Decimal, metal: str) -> Project:
-    """In all processes."""
-    project = replace(project, money=replace(project.money, processing_cost=times(project.money.processing_cost, by)))
+    """Changes the processing costs of all processes."""
+    project = replace(
+        project, economics=replace(project.economics, processing_cost=times(project.economics.processing_cost, by))
+    )
     return with_processes(project, lambda it: replace(it, cost=times(it.cost, by)))
 
 
 def slopes(project: Project, by: Decimal, metal: str) -> Project:
-    """All angles, those of benches too, but not patterns and steps."""
+    """Changes all slope angles, those by bench geometry included, but no patterns and offsets."""
     walls = []
     for wall in project.slopes.domains:
         angles = tuple((azimuth, angle * float(by)) for azimuth, angle in wall.angles)
@@ -108,18 +110,18 @@ def slopes(project: Project, by: Decimal, metal: str) -> Project:
 
 
 def capacity(project: Project, by: Decimal, metal: str) -> Project:
-    """Of mill, or of all processes, and shovels."""
-    shells, more = project.schedule, float(by)
+    """Changes mining capacity and the processing capacity of all processes."""
+    shells, more = project.shells, float(by)
     rock = None if shells.mining_capacity is None else shells.mining_capacity * more
     of_processes = tuple(tonnes * more for tonnes in shells.per_process)
-    schedule = replace(
+    shells = replace(
         shells, processing_capacity=shells.processing_capacity * more, mining_capacity=rock, per_process=of_processes
     )
-    return with_processes(replace(project, schedule=schedule), lambda it: replace(it, capacity=it.capacity * more))
+    return with_processes(replace(project, shells=shells), lambda it: replace(it, capacity=it.capacity * more))
 
 
 def haulage(project: Project, by: Decimal, metal: str) -> Project:
-    """What a tonne and kilometre costs, of ore and of waste."""
+    """Changes the haulage costs of ore and waste."""
     rules = project.haulage
     assert rules is not None
     ore, waste = (replace(road, cost=road.cost * by) for road in (rules.ore, rules.waste))
@@ -139,7 +141,7 @@ VARIED: dict[str, Callable[[Project, Decimal, str], Project]] = {
 
 
 def given(project: Project) -> tuple[str, ...]:
-    """The numbers of a project that are not nothing, and that a share changes."""
+    """Returns the parameters that a project has and that can be changed."""
     is_there = {
         "selling_cost": any(metal.selling_cost for metal in project.metals),
         "slopes": any(wall.angles for wall in project.slopes.domains),

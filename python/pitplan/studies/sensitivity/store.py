@@ -1,23 +1,21 @@
-"""The record of a sensitivity, and its table as the file has it."""
+"""The record of a sensitivity, sensitivity.json."""
 
 from __future__ import annotations
 
 from dataclasses import asdict
 from typing import Any
 
-import numpy as np
-import pandas as pd
-
 from pitplan.core.atomic_files import hashes_of
+from pitplan.core.layout import TABLES
 from pitplan.core.revenue_factors import factor_text
 
 from .cases import SKIN_WORTH, Case, Sensitivity
 
-WRITTEN = TABLE, RECORD = "sensitivity.csv", "sensitivity.json"
+WRITTEN = TABLE, RECORD = f"{TABLES}/sensitivity.csv", "sensitivity.json"
 
 
 def record(found: Sensitivity, project: str) -> dict[str, Any]:
-    """The cases and how they were solved, for the verification; `project` is the path of the project relative to the folder."""
+    """Returns the record of all cases and of their solver; `project` is the path of the project relative to the folder."""
     return {
         "project": project,
         "title": found.project.title,
@@ -26,7 +24,7 @@ def record(found: Sensitivity, project: str) -> dict[str, Any]:
         "grid": found.plan.record_of_grid(),
         "revenue_factor": found.factor,
         "skin": (skin := skin_of(found)),
-        "notes": [*found.plan.notes, told_of_skin(skin, found.project.money.currency)],
+        "notes": [*found.plan.notes, told_of_skin(skin, found.project.economics.currency)],
         "cases": [
             {
                 "changes": [[name, str(share)] for name, share in case.changes],
@@ -40,7 +38,7 @@ def record(found: Sensitivity, project: str) -> dict[str, Any]:
 
 
 def skin_of(found: Sensitivity) -> dict[str, Any]:
-    """The skin of the pit as given: the factor of the shell within it, tonnes of rock, their share of the pit's, and worth."""
+    """Returns the skin of the base case's pit: revenue factor of the inner shell, tonnes, their share of the pit's, and cash flow."""
     skin, row = found.answers[Case()].skin, found.answers[Case()].row
     assert skin is not None
     tonnes = float(found.plan.values.tonnes[skin.cells].sum())
@@ -59,15 +57,3 @@ def told_of_skin(skin: dict[str, Any], currency: str) -> str:
         else "as a whole"
     )
     return f"pit skin, {100 * skin['share']:.1f} % of its tonnes, {where}: undiscounted cash flow {skin['undiscounted_cash_flow']:,.0f} {currency}".rstrip()
-
-
-def shown(cases: pd.DataFrame) -> pd.DataFrame:
-    """Sums to a thousandth, grades, ratios and years to a millionth."""
-    result = cases.copy()
-    for name in result.columns:
-        if result[name].dtype == np.float64 and name not in ("change", "second_change"):
-            result[name] = (
-                result[name].round(6 if name.startswith("head_grade_") or name.endswith(("ratio", "years")) else 3)
-                + 0.0
-            )
-    return result

@@ -1,11 +1,11 @@
-"""One schedule for all scenarios, dug in each of them: what its years mill and earn where the ground is the scenario's own.
+"""The common schedule in each scenario: mill feed and cash flow of its years with the grades of the scenario.
 
-Each year digs the blocks of the schedule, whatever they hold. Then what pays goes to the mill, and where that is more than a limit allows,
-the choice that earns most; the rest is left as waste. A year's choice binds no other year, so this is the best that the schedule can earn
-in the scenario. It is a schedule of the scenario's own problem, in which blocks go to the mill or to waste in shares too, with the same
-years, limits and blocks: so it earns no more than the scenario's bound. The mean of these bounds is one of the wait-and-see problem, and
-less what the one schedule earns on the mean it bounds the expected value of perfect information (Birge and Louveaux, Introduction to
-Stochastic Programming, 2nd edition, Springer 2011, chapter 4).
+Each year mines the blocks of the schedule, whatever they hold. Then the ore goes to the mill; if it exceeds a limit, the selection that earns
+most, and the rest becomes waste. The selection of a year does not bind other years, so this is the most that the schedule can earn in the
+scenario. It is feasible for the scenario's own problem, which has the same years, limits and blocks, and sends blocks in shares too. So it
+earns at most the upper bound of the scenario. The mean of these bounds is a bound on the wait-and-see problem. Less the mean NPV of the common
+schedule it bounds the expected value of perfect information (Birge and Louveaux, Introduction to Stochastic Programming, 2nd edition, Springer
+2011, chapter 4).
 """
 
 from __future__ import annotations
@@ -24,18 +24,23 @@ from pitplan.pushbacks.bench_table import CASH, ORE, ROCK
 
 from .problem import Weights, limits_of_scenarios
 
-# By such a share of it a limit may be missed, as sums of floats do, and a year may lack of what was planned.
+# Relative tolerance of limits and of planned feed, for sums of floats.
 HAIR = 1e-9
 LEFT, PLANNED = "unprocessed_tonnes", "planned_feed_tonnes"
 
 
 @dataclass(frozen=True)
 class Dug:
-    """Blocks of the years of a schedule in a scenario.
+    """A schedule applied to a scenario.
 
-    year     in which each block is dug, from 1; 0: in none
-    weights  what the blocks hold and earn in the scenario
-    project  whose limits and discounts hold
+    Attributes
+    ----------
+    year : array of int, shape (blocks,)
+        The year in which each block is mined, from 1; 0: never.
+    weights : Weights
+        Amounts of the blocks in the scenario.
+    project : Project
+        With limits and discounting.
     """
 
     year: NDArray[np.int64]
@@ -44,13 +49,13 @@ class Dug:
 
     @property
     def gain(self) -> NDArray[np.float64]:
-        """What each block earns in the mill, in money; 0 where it does not pay there."""
+        """The gain of each block in the mill over waste, in the currency; 0 if it does not pay."""
         return self.weights.flows[CASH] + self.weights.mining
 
     def milled(self) -> NDArray[np.float64]:
-        """The share of each block that is milled in its year."""
+        """Returns the share of each block that is milled in its year."""
         limits, share = limits_of_scenarios(self.project), np.zeros(len(self.year))
-        # What is dug in a year is dug, so that its rock is not chosen.
+        # The mined blocks of a year are given, so total material is not a choice.
         of_mill = [k for k, name in enumerate(limits.most) if name != ROCK]
         takes = np.stack([self.weights.flows[name] for name in limits.most if name != ROCK])
         for year in range(1, int(self.year.max(initial=0)) + 1):
@@ -62,14 +67,21 @@ class Dug:
 def best_shares(
     gain: NDArray[np.float64], takes: NDArray[np.float64], most: NDArray[np.float64]
 ) -> NDArray[np.float64]:
-    """The shares of blocks in the mill that earn most: of a limit that alone is reached by what earns most a unit of it, else by a linear
-    programme.
+    """Returns the shares of blocks in the mill that earn most: by gain per unit if one limit binds, otherwise by a linear programme.
 
-    gain   what each block earns there, in money: shape (blocks,)
-    takes  what each takes of each limit: shape (limits, blocks)
-    most   of each limit: shape (limits,)
+    Parameters
+    ----------
+    gain : array, shape (blocks,)
+        Gain of each block in the mill, in the currency.
+    takes : array, shape (limits, blocks)
+        Amount of each limit that a block uses.
+    most : array, shape (limits,)
+        The limits.
 
-    Raises PlanError where HiGHS finds no optimum.
+    Raises
+    ------
+    PlanError
+        If HiGHS finds no optimum.
     """
     pays = (gain > 0).astype(float)
     over = np.flatnonzero(takes @ pays > most * (1 + HAIR))
@@ -85,13 +97,13 @@ def best_shares(
     if found.status != 0:
         raise PlanError(f"HiGHS found no optimal feed of a year: {found.message}")
     shares = np.clip(found.x, 0.0, pays)
-    # HiGHS keeps limits to its tolerance alone.
+    # HiGHS keeps limits within its tolerance only.
     taken = takes[over] @ shares
     return shares * float(np.min(np.where(taken > most[over], most[over] / np.where(taken > 0, taken, 1.0), 1.0)))
 
 
 def by_worth(gain: NDArray[np.float64], takes: NDArray[np.float64], most: float) -> NDArray[np.float64]:
-    """The blocks that earn most a unit of a limit, the last in part; those that take none of it whole."""
+    """Returns the shares of blocks by gain per unit of a limit, the last one in part; blocks that use none of it are whole."""
     with np.errstate(divide="ignore", invalid="ignore"):
         order = np.argsort(np.where(takes > 0, -gain / takes, -np.inf), kind="stable")
     before = np.cumsum(takes[order]) - takes[order]
@@ -101,10 +113,13 @@ def by_worth(gain: NDArray[np.float64], takes: NDArray[np.float64], most: float)
 
 
 def years_of_dug(dug: Dug, planned: NDArray[np.float64]) -> pd.DataFrame:
-    """A row a year up to the last of the schedule: total_tonnes, feed_tonnes that are milled, unprocessed_tonnes that pay and are not,
-    planned_feed_tonnes, cash, and discounted, in money.
+    """Returns one row per year of the schedule, with the columns of common_schedule_years.csv.
 
-    planned  tonnes of ore of each year, from the first, that the schedule has on the mean of all scenarios
+    Parameters
+    ----------
+    dug : Dug
+    planned : array, shape (years,)
+        Mill feed of each year on the mean of all scenarios, in tonnes.
     """
     flows, share, last = dug.weights.flows, dug.milled(), int(dug.year.max(initial=0))
     of_block = {ROCK: flows[ROCK], ORE: flows[ORE] * share, LEFT: flows[ORE] * (1 - share)}
@@ -112,12 +127,11 @@ def years_of_dug(dug: Dug, planned: NDArray[np.float64]) -> pd.DataFrame:
     sums = {name: np.bincount(dug.year, amounts, minlength=last + 1)[1:] for name, amounts in of_block.items()}
     table = pd.DataFrame({"year": np.arange(1, last + 1), **sums})
     table.insert(4, PLANNED, planned[:last])
-    return table.assign(discounted_cash_flow=table[CASH] * year_discounts(dug.project.schedule, last))
+    return table.assign(discounted_cash_flow=table[CASH] * year_discounts(dug.project.shells, last))
 
 
 def row_of(years: pd.DataFrame) -> dict[str, float]:
-    """What the one schedule earns in a scenario, of its years: value, discounted, in money; tonnes of ore that are milled, and that pay and
-    are left since the mill is full; and in how many years less is milled than was planned."""
+    """Returns the columns of schedules.csv of the common schedule in a scenario, from its years."""
     short = years[ORE] < years[PLANNED] * (1 - HAIR)
     return {
         "common_npv": float(years["discounted_cash_flow"].sum()),

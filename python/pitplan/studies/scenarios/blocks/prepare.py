@@ -1,4 +1,4 @@
-"""What scenarios by block share: the blocks that any of them may dig, in how many years, and the mean of what these hold and earn."""
+"""The common input of scenarios --by block: the blocks that may be mined, the number of years, and the mean of their amounts."""
 
 from __future__ import annotations
 
@@ -11,6 +11,7 @@ import pandas as pd
 from pitplan.blockmodel.grid import grid_of
 from pitplan.config.project import Project
 from pitplan.config.schedule import ScheduleRules
+from pitplan.core import layout
 from pitplan.core.atomic_files import staged
 from pitplan.core.progress import Progress
 from pitplan.core.revenue_factors import BASE_PRICE
@@ -29,8 +30,8 @@ ONE = "common schedule"
 
 
 def demand_apt(project: Project) -> None:
-    """Raises PlanError where the project asks for what is not done of scenarios by block."""
-    demand_of_blocks(project, project.schedule_rules or ScheduleRules())
+    """Raises PlanError if the project sets an option that scenarios --by block do not support."""
+    demand_of_blocks(project, project.schedule or ScheduleRules())
     demand_of_scenarios(project)
     if project.solver == PROGRAM:
         raise PlanError(
@@ -39,9 +40,9 @@ def demand_apt(project: Project) -> None:
 
 
 def write(laid: Laid, folder: Path, progress: Progress) -> None:
-    """Writes what schedules are made of, and scenarios.json. Raises PlanError where a scenario cannot be weighed, or its pit would take too
+    """Writes the common input of schedules, and scenarios.json. Raises PlanError if block values cannot be computed, or a pit would take too
     many years."""
-    with staged(folder, store.RECORD) as stage:
+    with staged(folder, store.RECORD, subfolders=layout.FOLDERS) as stage:
         blocks, mean = spread(laid, folder, progress)
         written = [*prepare.write_shared(laid, stage), store.DIGGABLE, store.MEAN]
         np.savez_compressed(stage / store.DIGGABLE, **blocks.arrays())
@@ -62,14 +63,14 @@ def write(laid: Laid, folder: Path, progress: Progress) -> None:
 
 
 def spread(laid: Laid, folder: Path, progress: Progress) -> tuple[Diggable, Weights]:
-    """The blocks that may be dug, and what these hold and earn on the mean of all scenarios, each of which counts once. Years are those of
-    the project, or else as many as the longest of all pits, that of the mean among them, and a fifth more."""
+    """Returns the blocks that may be mined, and the mean of their amounts over all scenarios, with equal weights. The years are those of the
+    project, otherwise those of the longest pit, that of the mean included, and a fifth more."""
     plan, project, count = laid.plan, laid.base.project, len(laid.scenarios)
     with progress.step("collecting the blocks that can be mined"):
-        # What pays in a scenario pays at the greatest grades and prices and without selling cost, since no recovery falls with the grade.
+        # A block that pays in a scenario pays at the largest grades and prices without selling cost, since no recovery falls with the grade.
         cells, needs = diggable(plan, np.array(plan.values.greatest_value(BASE_PRICE) > 0, dtype=bool))
         forced = np.isin(cells, plan.fixed.forced)
-    rules = project.schedule_rules or ScheduleRules()
+    rules = project.schedule or ScheduleRules()
 
     def years(weights: Weights) -> int:
         return rules.years or years_asked(weights, pit_of(weights.flows[CASH], needs, forced), project)
@@ -86,7 +87,7 @@ def spread(laid: Laid, folder: Path, progress: Progress) -> tuple[Diggable, Weig
 
 
 def shared_of(laid: Laid, folder: Path) -> Shared:
-    """What weighing a scenario needs, before it is written."""
+    """Returns the common input before it is written, for the block values of scenarios."""
     base, plan = laid.base, laid.plan
     arrays = prepare.arrays_of(base)
     grid = grid_of(plan.grid.as_json(), arrays.pop("cells"))

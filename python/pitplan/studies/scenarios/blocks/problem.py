@@ -1,9 +1,9 @@
-"""What blocks hold and earn by which scenarios are scheduled: those of one scenario, and the mean of all.
+"""Amounts and values of blocks for schedules over scenarios: those of one scenario, and the mean of all.
 
-A block that is dug goes to the mill or is left as waste, in shares, so that a year that digs more ore than the mill takes mills the best
-of it. Sent to the mill a block is what it is at its best: ore where that pays, and else waste. The mean over scenarios is taken of this,
-not of the grades: grades are known by the time a block is dug, so one that is ore in a single model of ten is worth a tenth of what that
-model makes of it, while by its mean grade it might be worth nothing; and it takes a tenth of its tonnes of the mill.
+A mined block goes to the mill or to waste, in shares, so that a year with more ore than the processing capacity mills the best of it. A block
+that is sent to the mill counts at its best: as ore if that pays, otherwise as waste. The mean over scenarios is taken of these values, not of
+the grades, since grades are known when a block is mined. A block that is ore in one of ten realisations has a tenth of its value there, and
+takes a tenth of its tonnes from the mill; by its mean grade it might have no value.
 """
 
 from __future__ import annotations
@@ -30,12 +30,17 @@ MINING = "mining"
 
 @dataclass(frozen=True)
 class Diggable:
-    """The blocks that scenarios may dig, and in how many years: the same for all, so that what one digs every other may dig too.
+    """The blocks that may be mined, and the number of years: the same for all scenarios, so that each can follow the schedule of another.
 
-    cells   the grid's number of each, rising
-    needs   of these among themselves
-    forced  whether each must be dug
-    years   how many there are
+    Attributes
+    ----------
+    cells : array of int, shape (blocks,)
+        Their cells, ascending.
+    needs : Needs
+        Precedences between them.
+    forced : array of bool, shape (blocks,)
+        Whether each must be mined.
+    years : int
     """
 
     cells: NDArray[np.int64]
@@ -44,7 +49,7 @@ class Diggable:
     years: int
 
     def arrays(self) -> dict[str, NDArray]:
-        """What a file keeps of it; the years stand in the record."""
+        """Returns the arrays for a file; the years are in the record."""
         return {"cells": self.cells, "starts": self.needs.starts, "needed": self.needs.needed, "forced": self.forced}
 
     @staticmethod
@@ -54,32 +59,36 @@ class Diggable:
 
 @dataclass(frozen=True)
 class Weights:
-    """What blocks hold and earn where they go to the mill if that pays, and else are waste: shape (blocks,) each.
+    """Amounts of blocks that go to the mill if that pays, otherwise to waste; arrays of shape (blocks,).
 
-    flows   by name: total_tonnes, feed_tonnes that come to the mill, recovered_NAME recovered (tonnes, or grams), and last cash, in money
-    mining  what it costs to dig each, in money
+    Attributes
+    ----------
+    flows : dict of str to array
+        total_tonnes, feed_tonnes, recovered_NAME (tonnes or grams), and last the cash flow in the currency.
+    mining : array
+        Mining cost in the currency.
     """
 
     flows: dict[str, NDArray[np.float64]]
     mining: NDArray[np.float64]
 
     def plus(self, other: Weights) -> Weights:
-        """Amounts added up; what it costs to dig a block is the same in all scenarios."""
+        """Returns the sums of amounts; mining costs are the same in all scenarios."""
         return Weights({name: amounts + other.flows[name] for name, amounts in self.flows.items()}, self.mining)
 
     def over(self, count: int) -> Weights:
-        """Of sums the means."""
+        """Returns the means of sums over a number of scenarios."""
         return Weights({name: amounts / count for name, amounts in self.flows.items()}, self.mining)
 
     @property
     def by_destination(self) -> Flows:
-        """The same as waste and in the mill: shape (blocks, 2) each."""
+        """The amounts as waste and in the mill, arrays of shape (blocks, 2)."""
         as_waste = {ROCK: self.flows[ROCK], CASH: -self.mining}
         nothing = np.zeros_like(self.mining)
         return {name: np.stack([as_waste.get(name, nothing), amounts], axis=1) for name, amounts in self.flows.items()}
 
     def arrays(self) -> dict[str, NDArray]:
-        """What a file keeps of it."""
+        """Returns the arrays for a file."""
         return {**self.flows, MINING: self.mining}
 
     @staticmethod
@@ -88,18 +97,18 @@ class Weights:
 
 
 def weights_of(plan: Plan, cells: NDArray[np.int64]) -> Weights:
-    """Those of some cells of a plan with one process."""
+    """Returns the amounts of some cells of a plan with one process."""
     flows = at_best(plan)
     return Weights({name: amounts[cells] for name, amounts in flows.items()}, plan.values.mining[cells] / MILLION)
 
 
 def limits_of_scenarios(project: Project) -> Limits:
-    """The limits of a year, which are those of every scenario and of the mean."""
-    return limits_of_blocks(project, project.schedule_rules or ScheduleRules())
+    """Returns the annual limits, which are the same for every scenario and the mean."""
+    return limits_of_blocks(project, project.schedule or ScheduleRules())
 
 
 def years_asked(weights: Weights, pit: NDArray[np.bool_], project: Project) -> int:
-    """The years in which a pit can be dug, and a fifth more. Raises PlanError where they are too many."""
+    """Returns the years in which a pit can be mined, and a fifth more. Raises PlanError if they are too many."""
     return years_of(
         {name: float(amounts[pit].sum()) for name, amounts in weights.flows.items()},
         limits_of_scenarios(project),
@@ -108,10 +117,10 @@ def years_asked(weights: Weights, pit: NDArray[np.bool_], project: Project) -> i
 
 
 def problem_of(diggable: Diggable, weights: Weights, project: Project) -> BlockProblem:
-    """What is scheduled: each block as waste and in the mill."""
+    """Returns the problem to schedule, with each block as waste and in the mill."""
     limits, flows = limits_of_scenarios(project), weights.by_destination
     return BlockProblem(
-        values=flows[CASH][:, :, None] * year_discounts(project.schedule, diggable.years),
+        values=flows[CASH][:, :, None] * year_discounts(project.shells, diggable.years),
         needs=diggable.needs,
         limits=tuple(
             Limit(name, flows[name], most) for name, most in zip(limits.most, limits.of_years(diggable.years).T)
@@ -121,8 +130,8 @@ def problem_of(diggable: Diggable, weights: Weights, project: Project) -> BlockP
 
 
 def demand_of_scenarios(project: Project) -> None:
-    """Raises PlanError, with the key, where the project asks for what is not done of scenarios by block."""
-    rules = project.schedule_rules or ScheduleRules()
+    """Raises PlanError with the key if the project sets an option that scenarios --by block do not support."""
+    rules = project.schedule or ScheduleRules()
     of_metals = "[[metals]] prices: a scenario has one price for all years"
     asked = {
         "[schedule] milp: its time limit would make results depend on the machine": rules.milp is not None,

@@ -1,4 +1,4 @@
-"""From the schedules of all scenarios, and the one for all, to their tables."""
+"""Tables of the schedules of all scenarios, and of the common schedule."""
 
 from __future__ import annotations
 
@@ -20,7 +20,7 @@ from .problem import weights_of
 from .worker import Kept, diggable_of, mean_of, read_answer
 
 SOLVED = "solved"
-# What quantiles and means are told of.
+# The columns with means and quantiles.
 VALUES = ("npv", "upper_bound", "common_npv")
 
 
@@ -28,11 +28,16 @@ VALUES = ("npv", "upper_bound", "common_npv")
 class Schedules:
     """The schedules of all scenarios.
 
-    table    one row a scenario: its model and prices, status, which is solved or why it has no schedule; of its own schedule value, bound
-             and so on, which are empty where it has none; and behind `one_` what the one schedule for all earns in it
-    years    one row a scenario and year of the one schedule
-    one      the one schedule, whose own value and bound are those of the mean of all scenarios
-    missing  the scenarios without an answer, by number, each with why
+    Attributes
+    ----------
+    table : DataFrame
+        One row per scenario, with the columns of schedules.csv.
+    years : DataFrame
+        One row per scenario and year of the common schedule.
+    one : Kept
+        The common schedule; its NPV and upper bound are at the mean block values.
+    missing : dict of int to str
+        The reason by number for each scenario without a result.
     """
 
     table: pd.DataFrame
@@ -42,12 +47,12 @@ class Schedules:
 
     @property
     def answered(self) -> pd.DataFrame:
-        """The rows of the scenarios that have a schedule of their own."""
+        """The rows of scenarios that have a schedule of their own."""
         return self.table[self.table["status"] == SOLVED]
 
     def record(self, shared: Shared) -> dict[str, Any]:
-        """What common_schedule.json says: how the one schedule was made, and over all scenarios that have an answer what it earns, what a
-        schedule of each one's own earns, and the bounds of these; and what knowing the ground before digging would be worth at most.
+        """Returns common_schedule.json: limits and years, statistics over all scenarios with a result of the NPV of the common schedule, the NPV
+        of each scenario's own and its upper bound, and the upper bound on the expected value of perfect information.
         """
         spread = pit_probability.spread_of(self.answered, [], list(VALUES)).iloc[0]
         words = [name.removeprefix("upper_bound_") for name in spread.index if name.startswith("upper_bound_")]
@@ -64,8 +69,7 @@ class Schedules:
         }
 
     def by_block(self, shared: Shared, blocks: pd.DataFrame) -> pd.DataFrame:
-        """The rows of blocks.csv, by the program's id, with the year of the one schedule, 0 where a block is in none, and the share of each
-        that is planned for the mill."""
+        """Returns the rows of blocks.csv, by id, with the year in the common schedule (0: none) and the share that is planned for the mill."""
         order = np.argsort(shared.grid.rows)
         return pit_probability.written(blocks).assign(
             year=self.one.year[order], share_mill=self.one.share[order].round(9)
@@ -73,8 +77,19 @@ class Schedules:
 
 
 def gather(shared: Shared, partial: bool = False) -> Schedules:
-    """Raises PlanError where a schedule has no answer, unless `partial`, or the one for all or that of each scenario has none, or where an
-    answer cannot be read."""
+    """Reads the schedules of all scenarios, and applies the common schedule to each.
+
+    Parameters
+    ----------
+    shared : Shared
+    partial : bool
+        Gather even if scenarios have no result.
+
+    Raises
+    ------
+    PlanError
+        If a result is missing, unless `partial`; if the common schedule or all others are missing; or if a result cannot be read.
+    """
     missing = pit_probability.missing_of(shared, partial)
     job = shared.jobs[-1]
     if job.number in missing:
@@ -92,7 +107,7 @@ def gather(shared: Shared, partial: bool = False) -> Schedules:
 
 
 def planned_ore(shared: Shared, one: Kept) -> NDArray[np.float64]:
-    """Tonnes of ore of each year of the one schedule, from the first, on the mean of all scenarios."""
+    """Returns the mill feed of each year of the common schedule, on the mean of all scenarios, in tonnes."""
     ore = np.zeros(shared.grid.count)
     ore[diggable_of(shared).cells] = mean_of(shared).flows[ORE]
     years = np.bincount(one.year, ore[shared.grid.rows] * one.share, minlength=shared.record["years"] + 1)
@@ -100,14 +115,14 @@ def planned_ore(shared: Shared, one: Kept) -> NDArray[np.float64]:
 
 
 def quantiles(schedules: Schedules) -> pd.DataFrame:
-    """One row a set of prices, over the models that have a schedule of their own: mean, least, greatest and quantiles of its value and
-    bound, and of what the one schedule earns."""
+    """Returns one row per price deck, over the realisations with a schedule of their own: mean, minimum, maximum and quantiles of NPV, upper
+    bound, and NPV of the common schedule."""
     table = schedules.answered
     return pit_probability.spread_of(table, [name for name in table.columns if name.startswith("price_")], list(VALUES))
 
 
 def notes(schedules: Schedules, shared: Shared) -> list[str]:
-    """What a planner should know of the schedules."""
+    """Returns notes on the schedules for the planner."""
     told, count = schedules.record(shared), len(schedules.answered)
     one, bound, value = (told[name]["mean"] for name in ("common_npv", "upper_bound", "npv"))
     left, short = (

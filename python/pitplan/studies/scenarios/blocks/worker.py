@@ -1,4 +1,4 @@
-"""One schedule of a set of scenarios, that of a scenario or the one for all, made and kept as a file."""
+"""Makes and writes one schedule of a set of scenarios: that of a scenario, or the common one."""
 
 from __future__ import annotations
 
@@ -29,12 +29,16 @@ WHOLE = ("years", "blocks")
 
 @dataclass(frozen=True)
 class Kept:
-    """A schedule as it is kept.
+    """A schedule as written.
 
-    year   in which each row of the table is dug, from 1; 0: in none
-    share  of each that goes to the mill
-    row    value and bound, discounted, in money; optimality_gap, by which share of the bound the value is less; years, the last in which
-           anything is dug; blocks of rock that are dug; tonnes, feed_tonnes and recovered_NAME; and the seconds that it took
+    Attributes
+    ----------
+    year : array of int, shape (rows,)
+        The year in which each row of the table is mined, from 1; 0: never.
+    share : array of float, shape (rows,)
+        The share of each that goes to the mill.
+    row : dict of str to Any
+        The columns of schedules.csv for its own schedule.
     """
 
     year: NDArray[np.int64]
@@ -43,10 +47,14 @@ class Kept:
 
 
 def write_answer(shared: Shared, job: Scenario) -> None:
-    """Makes the schedule of a scenario, or of the mean of all, and keeps it.
+    """Schedules a scenario, or the mean of all, and writes the result.
 
-    Raises PlanError where no schedule keeps what the project asks for, or it reaches ground that is not known, and KeyboardInterrupt where
-    it is interrupted.
+    Raises
+    ------
+    PlanError
+        If no schedule is feasible, or it reaches a missing block.
+    KeyboardInterrupt
+        If it is interrupted.
     """
     choice.demand_same(shared.solver)
     began = time.perf_counter()
@@ -60,7 +68,7 @@ def write_answer(shared: Shared, job: Scenario) -> None:
 
 @dataclass(frozen=True)
 class Made:
-    """A schedule of some of a folder's blocks, and what they hold and earn."""
+    """A schedule of blocks of a folder, with their amounts."""
 
     shared: Shared
     diggable: Diggable
@@ -82,14 +90,14 @@ class Made:
 
     @property
     def entry(self) -> NDArray[np.int64]:
-        """For each cell the price as given where it is dug, and else 0."""
+        """The base price's revenue factor for each mined cell, otherwise 0; shape (cells,)."""
         entry = np.zeros(self.shared.grid.count, dtype=np.int64)
         entry[self.diggable.cells] = np.where(self.is_dug, BASE_PRICE, 0)
         return entry
 
     @property
     def by_row(self) -> tuple[NDArray[np.int16], NDArray[np.float64]]:
-        """Year and share of the mill by row of the table."""
+        """Year and share in the mill by row of the table."""
         schedule, grid = self.found.schedule, self.shared.grid
         year, share = np.zeros(grid.count, dtype=np.int16), np.zeros(grid.count)
         year[self.diggable.cells] = np.where(self.is_dug, schedule.year + 1, 0)
@@ -98,7 +106,7 @@ class Made:
 
     @property
     def row(self) -> dict[str, float]:
-        """What the answer tells besides."""
+        """The columns of schedules.csv."""
         found, flows, milled = self.found, self.weights.flows, self.found.schedule.share[:, MILL]
         year = found.schedule.year[self.is_dug]
         return {
@@ -123,13 +131,13 @@ def diggable_of(shared: Shared) -> Diggable:
 
 
 def mean_of(shared: Shared) -> Weights:
-    """What the blocks that may be dug hold and earn on the mean of all scenarios."""
+    """Reads the mean amounts of the blocks that may be mined, over all scenarios."""
     with np.load(shared.folder / store.MEAN, allow_pickle=False) as arrays:
         return Weights.of_arrays({name: arrays[name] for name in arrays.files})
 
 
 def read_answer(shared: Shared, job: Scenario) -> Kept:
-    """Raises PlanError where the answer cannot be read, or is of other blocks."""
+    """Reads the schedule of a job. Raises PlanError if it cannot be read, or is of other blocks."""
     path = shared.answer(job)
     try:
         kept = keyed_arrays.read(path, job.key)
@@ -143,5 +151,7 @@ def read_answer(shared: Shared, job: Scenario) -> Kept:
             raise keyed_arrays.NoAnswer("it holds other blocks or years")
         row |= {name: int(row[name]) for name in WHOLE}
     except (OSError, ValueError, KeyError, TypeError) as error:
-        raise PlanError(f"{path}: is no answer: remove it, and run pitplan scenarios again: {error}") from error
+        raise PlanError(
+            f"{path}: is not a result of {job.label}: {error}: remove it, and run pitplan scenarios again"
+        ) from error
     return Kept(year, share, row)

@@ -1,0 +1,1 @@
+"""Block model, plan, shells, pushbacks and schedule as objects. Each holds what it was made from."""

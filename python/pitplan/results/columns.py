@@ -1,0 +1,373 @@
+"""The columns of all written tables: unit, decimals in files, and how they are shown.
+
+Everything that depends on a column takes it from here: rounding (`results.rounding`), the headings of report and command line
+(`report.columns`), the number formats of workbooks (`export.xlsx`) and the tables of docs/FORMATS.md (`tools/columns_page.py`).
+
+In a name, a word in capitals stands for others: recovered_METAL is recovered_copper and recovered_gold.
+"""
+
+from __future__ import annotations
+
+import re
+from dataclasses import dataclass, replace
+from functools import cache
+from typing import Optional
+
+from .conventions import DISCOUNTING, OUTLINE
+
+THOUSANDS = "#,##0"
+
+
+@dataclass(frozen=True)
+class Unit:
+    """A unit of columns.
+
+    Attributes
+    ----------
+    text : str
+        As docs/FORMATS.md calls it.
+    decimals : int, optional
+        Decimals in files; None: numbers are written as they are.
+    places : int
+        Decimals where the column is shown.
+    sheet : str
+        Number format in workbooks.
+    """
+
+    text: str
+    decimals: Optional[int] = None
+    places: int = 0
+    sheet: str = THOUSANDS
+
+
+TEXT, COUNT, NUMBER = Unit("text"), Unit("number"), Unit("number", sheet="General")
+FACTOR = Unit("factor", 3, 2, "General")
+METRES = Unit("m", 3, 0, "General")
+TONNES = Unit("t", 3, 2)
+METAL = Unit("t or g", 3, 2, "#,##0.00")
+GRADE = Unit("as in the table", 6, 3, "0.000")
+RATIO = Unit("t/t", 6, 2, "0.00")
+YEARS, WHOLE_YEARS = Unit("years", 6, 1, "0.0"), Unit("years", None, 0, "0.0")
+MONEY, EXACT_MONEY = Unit("currency", 3, 2), Unit("currency", 9)
+SHARE = Unit("share", 9, 2, "0.0000")
+GIVEN = Unit("share", None, 2, "0.0000")
+PRICE, AMOUNT = Unit("currency per t or g"), Unit("that of the amount")
+
+
+@dataclass(frozen=True)
+class Column:
+    """A column of a written table.
+
+    Attributes
+    ----------
+    name : str
+        In files, with words in capitals that stand for others.
+    unit : Unit
+    holds : str
+        What it holds.
+    heading : str
+        Where it is shown, without unit; "" if it never is. METAL and PROCESS stand for the name.
+    when : str
+        When a table has it; "" if always.
+    places : int, optional
+        Decimals where it is shown, if not those of its unit.
+    """
+
+    name: str
+    unit: Unit
+    holds: str
+    heading: str = ""
+    when: str = ""
+    places: Optional[int] = None
+
+    @property
+    def shown_places(self) -> int:
+        """Decimals where it is shown."""
+        return self.unit.places if self.places is None else self.places
+
+    def matches(self, name: str) -> bool:
+        """Whether a column of a file is this one."""
+        return re.fullmatch(re.sub("[A-Z]+", ".+", self.name), name) is not None
+
+
+@dataclass(frozen=True)
+class Table:
+    """A written table: its file, what a row is, its columns in order, and if its numbers are not rounded to decimals, to how many
+    significant digits (0: they are written in full)."""
+
+    file: str
+    rows: str
+    columns: tuple[Column, ...]
+    digits: Optional[int] = None
+
+    def find(self, name: str) -> Optional[Column]:
+        """A column by its name in files, or by its own; None if the table has none."""
+        exact = [it for it in self.columns if it.name == name]
+        return next(iter(exact or [it for it in self.columns if it.matches(name)]), None)
+
+    @property
+    def number_format(self) -> str:
+        """How numbers are written, for %, if the table has significant digits."""
+        return f"%.{self.digits}g"
+
+
+SEVERAL = "with several processes"
+RF = Column("revenue_factor", FACTOR, "that of the shell", "revenue factor")
+METHOD = Column("method", TEXT, "`rule`, `lp`, `milp` or `block`", "method")
+YEAR = Column("year", NUMBER, "from 1", "year")
+PUSHBACK = Column("pushback", NUMBER, "from 1", "pushback")
+BENCH = Column("bench", METRES, "elevation of its centroids")
+BLOCKS = Column("blocks", COUNT, "blocks with tonnes", "blocks")
+TOTAL = Column("tonnes", TONNES, "total material", "total")
+FEED = Column("feed_tonnes", TONNES, "mill feed: diluted and after ore loss", "ore")
+FEED_OF = Column("feed_tonnes_PROCESS", TONNES, "mill feed of a process", "PROCESS", SEVERAL)
+HEAD_GRADE = Column("head_grade_METAL", GRADE, "head grade of the mill feed; empty without feed", "METAL")
+RECOVERED = Column("recovered_METAL", METAL, "recovered metal", "METAL")
+CASH = Column("undiscounted_cash_flow", MONEY, "at the base price", "undiscounted cash flow")
+NPV = Column("npv", MONEY, "sum of `discounted_cash_flow` in `years.csv`", "NPV")
+BOUND = Column("upper_bound", MONEY, "upper bound on the NPV of any such schedule; empty without one", "upper bound")
+GAP = Column("optimality_gap", SHARE, "what the NPV stays below the bound, as a share of the bound", "gap")
+DISCOUNTS = Column(DISCOUNTING, TEXT, "`end_of_year`, `mid_year` or `continuous`")
+WIDTH = "with a minimum mining width"
+OUTLINES = Column(OUTLINE, TEXT, "`shell`: the shells before widening; `pushback`: the pushbacks", when=WIDTH)
+TONNAGES = (
+    BLOCKS,
+    TOTAL,
+    FEED,
+    Column("in_situ_ore_tonnes", TONNES, "ore in the ground", "in-situ ore"),
+    Column("waste_tonnes", TONNES, "total material less in-situ ore", "waste"),
+    Column("strip_ratio", RATIO, "waste to in-situ ore; empty without ore", "strip ratio"),
+)
+AT_FACTOR = Column("processed_at_revenue_factor", TONNES, "mill feed at the prices of the revenue factor")
+EXACT = Column(
+    "value_at_revenue_factor", EXACT_MONEY, "exact value at the prices of the revenue factor, as the solver returns it"
+)
+# What a pit holds, and what it earns with years.
+PIT = (*TONNAGES, AT_FACTOR, FEED_OF, HEAD_GRADE, RECOVERED)
+BEST = Column("npv_best", MONEY, "NPV of the best case: shell by shell", "NPV best", places=1)
+LIFE = Column("years", YEARS, "life of the best case", "years")
+WORST = Column("npv_worst", MONEY, "NPV of the worst case: bench by bench", "NPV worst", places=1)
+EARNED = (replace(CASH, places=1), BEST, LIFE, WORST, EXACT)
+SPENT = (
+    Column("fixed_cost", MONEY, "period cost of the year", "fixed cost", "with period costs"),
+    Column("capex", MONEY, "spent at the start of the year", "capex", "with period costs"),
+)
+FLOWS = (
+    Column("cash_flow", MONEY, "at the prices of the year", "cash flow"),
+    Column("discounted_cash_flow", MONEY, "to the start of year 1", "discounted cash flow"),
+)
+MINED = Column("total_tonnes", TONNES, "total material", "total")
+HEADS = (
+    Column("scenario", NUMBER, "from 1"),
+    Column("realisation", TEXT, "name of its file or columns"),
+    Column("price_METAL", PRICE, "price in the deck", when="if a deck names the metal"),
+)
+SCHEDULED = (
+    replace(LIFE, unit=WHOLE_YEARS, holds="until the last block is mined"),
+    replace(BLOCKS, when="by block"),
+    TOTAL,
+    FEED,
+    Column("unmined_tonnes", TONNES, "total material that is not mined", "unmined", "by pushback"),
+    RECOVERED,
+)
+
+SHELLS = Table("shells.csv", "a row per revenue factor", (RF, *PIT, *EARNED, OUTLINES, DISCOUNTS))
+PITS = Table(
+    "pits.csv",
+    "a row with the constraints and one without",
+    (
+        Column("fixed_blocks", TEXT, "`kept` or `free`: with the constraints or without"),
+        *SHELLS.columns[:-2],
+        DISCOUNTS,
+    ),
+)
+YEARLY = Table(
+    "years.csv",
+    "a row per case, revenue factor and year",
+    (
+        Column("case", TEXT, "`best`, `worst`, or the method of a schedule", "case"),
+        RF,
+        YEAR,
+        MINED,
+        FEED,
+        FEED_OF,
+        RECOVERED,
+        Column(
+            "sum_NAME",
+            Unit("as in the table", 3, 2),
+            "a sum that is limited",
+            when="by block, with `[[schedule.limits]]`",
+        ),
+        *SPENT,
+        *FLOWS,
+        OUTLINES,
+        DISCOUNTS,
+    ),
+)
+PUSHBACKS = Table(
+    "pushbacks.csv",
+    "a row per pushback: what it adds to those before",
+    (
+        PUSHBACK,
+        replace(RF, holds="that of the shell that ends it"),
+        *(it for it in PIT if it is not AT_FACTOR),
+        replace(CASH, places=1),
+        Column(
+            "mining_cost_added",
+            MONEY,
+            "not in the cash flow",
+            "added mining cost",
+            "with `[pushbacks] mining_cost_added`",
+        ),
+        Column(
+            "deferred_value",
+            MONEY,
+            "cash flow that a minimum width moves to a later pushback",
+            "value deferred by width",
+        ),
+        Column("value_lost_to_width", MONEY, "cash flow that it loses, in the last row", "value lost to width"),
+        Column("pieces", NUMBER, "parts that share no side of a block", "pieces"),
+        Column("min_width", METRES, "the widest square that holds for all blocks", "minimum width"),
+    ),
+)
+SCHEDULE = Table(
+    "schedule.csv",
+    "a row per method, bench and year",
+    (METHOD, YEAR, PUSHBACK, BENCH, Column("share", SHARE, "of the bench"), MINED, FEED, FEED_OF, RECOVERED)
+    + (*FLOWS, DISCOUNTS),
+)
+MILL_FEED = Table(
+    "mill_feed.csv",
+    "with `bins`: a row per method, bin of a bench and year",
+    (
+        *(METHOD, YEAR, PUSHBACK, BENCH),
+        Column("bin", COUNT, "from 1, the poorest"),
+        Column("mined_tonnes", TONNES, "ore that is mined"),
+        Column("milled_tonnes", TONNES, "of these, milled in the year"),
+        Column("reclaimed_tonnes", TONNES, "milled from the stockpile"),
+    ),
+)
+METHODS = Table("methods.csv", "a row per method", (METHOD, NPV, BOUND, GAP, *SCHEDULED, DISCOUNTS))
+SENSITIVITY = Table(
+    "sensitivity.csv",
+    "a row per case; the first is the base case",
+    (
+        Column("parameter", TEXT, "the parameter that is changed; empty in the base case"),
+        Column("change", GIVEN, "by which it is changed: 0.1 is 10 % more"),
+        Column("second_parameter", TEXT, "of a pair"),
+        Column("second_change", GIVEN, "by which it is changed"),
+        RF,
+        *PIT,
+        CASH,
+        replace(NPV, holds="mean of best and worst case"),
+        *(BEST, LIFE, WORST, EXACT),
+        Column("kept_undiscounted_cash_flow", MONEY, "of the base case's pit; these are empty if the slopes change"),
+        Column("kept_npv_best", MONEY, "of the base case's pit"),
+        Column("kept_npv_worst", MONEY, "of the base case's pit"),
+        Column("kept_years", YEARS, "of the base case's pit"),
+        Column("skin_value", MONEY, "undiscounted cash flow of the pit skin"),
+        DISCOUNTS,
+    ),
+)
+SCENARIOS = Table("scenarios.csv", "a row per scenario and revenue factor", (*HEADS, RF, *PIT, CASH, EXACT), digits=10)
+SPREAD = (
+    Column("AMOUNT_mean", AMOUNT, "its mean"),
+    Column("AMOUNT_least", AMOUNT, "its minimum"),
+    Column("AMOUNT_quantile_Q", AMOUNT, "its quantiles 0.1, 0.5 and 0.9"),
+    Column("AMOUNT_greatest", AMOUNT, "its maximum"),
+)
+REALISATIONS = Column("realisations", COUNT, "how many have a result")
+QUANTILES = Table(
+    "quantiles.csv",
+    "of pits: a row per price deck and revenue factor, over the realisations; AMOUNT is blocks, tonnes, metal and value in `scenarios.csv`",
+    (HEADS[-1], RF, REALISATIONS, *SPREAD),
+    digits=10,
+)
+SCHEDULES = Table(
+    "schedules.csv",
+    "a row per scenario: its own schedule, and the common schedule in it",
+    (
+        *HEADS,
+        Column("status", TEXT, "`solved`, or why the scenario has no schedule"),
+        *(replace(it, when="") for it in (NPV, BOUND, GAP, *SCHEDULED) if it.name != "unmined_tonnes"),
+        Column("seconds", Unit("s"), "until it was solved"),
+        Column("common_npv", MONEY, "NPV of the common schedule"),
+        Column("common_feed_tonnes", TONNES, "its mill feed"),
+        Column("common_unprocessed_tonnes", TONNES, "ore that pays but exceeds the processing capacity"),
+        Column("common_years_short", COUNT, "years with less feed than planned"),
+        DISCOUNTS,
+    ),
+    digits=12,
+)
+COMMON_YEARS = Table(
+    "common_schedule_years.csv",
+    "a row per scenario and year of the common schedule",
+    (
+        *HEADS,
+        YEAR,
+        MINED,
+        FEED,
+        Column("unprocessed_tonnes", TONNES, "ore that pays but exceeds the processing capacity"),
+        Column("planned_feed_tonnes", TONNES, "mill feed as planned from the mean block values"),
+        *FLOWS,
+        DISCOUNTS,
+    ),
+    digits=12,
+)
+BLOCK_QUANTILES = Table(
+    "quantiles.csv",
+    "by block: a row per price deck, over the realisations; AMOUNT is `npv`, `upper_bound` and `common_npv`",
+    (HEADS[-1], REALISATIONS, *SPREAD, DISCOUNTS),
+    digits=12,
+)
+PROBABILITY = Table(
+    "probability.csv",
+    "a row per block, with your columns and these",
+    (Column("probability_FACTOR", SHARE, "share of the scenarios whose shell at the revenue factor holds the block"),),
+    digits=6,
+)
+COMMON = Table(
+    "common_schedule.csv",
+    "a row per block, with your columns and these",
+    (
+        replace(YEAR, holds="in which it is mined; 0: not"),
+        Column("share_mill", SHARE, "share that is planned for the mill"),
+    ),
+    digits=0,
+)
+FIRST = replace(RF, holds="the least one whose shell holds the block; 0: none")
+PROCESSED = Column("process_revenue_factor", FACTOR, "the least one at which it is processed; 0: none")
+BLOCK_TABLE = Table(
+    "blocks.csv",
+    "a row per block, with your columns and these",
+    (
+        Column("mining_cost", MONEY, "all its costs as waste"),
+        Column("revenue", MONEY, "at the base price, less selling cost and royalty"),
+        Column("processing_cost", MONEY, "what it costs more as mill feed"),
+        Column("revenue_PROCESS", MONEY, "revenue in a process", when=SEVERAL),
+        Column("processing_cost_PROCESS", MONEY, "processing cost in a process", when=SEVERAL),
+        Column("haul_distance", METRES, "one way", when="with `[haulage]`"),
+        Column("haulage_cost", MONEY, "part of `mining_cost`", when="with `[haulage]`"),
+        Column("ore_haulage_cost", MONEY, "part of `processing_cost`", when="with `[haulage]`"),
+        *(FIRST, PROCESSED, Column("process", TEXT, "the best one at the base price; empty: waste", when=SEVERAL)),
+        replace(PUSHBACK, holds="from 1; 0: none", when="with pushbacks"),
+        replace(YEAR, holds="in which its bench is completed; 0: never", when="with a schedule"),
+        Column("share_PROCESS", SHARE, "share of the block that goes to a process; the rest is waste", when="by block"),
+        replace(FIRST, name="free_revenue_factor", holds="without the constraints", when="of `pitplan pit`"),
+        replace(
+            PROCESSED, name="free_process_revenue_factor", holds="without the constraints", when="of `pitplan pit`"
+        ),
+    ),
+    digits=0,
+)
+TABLES: tuple[Table, ...] = (BLOCK_TABLE, SHELLS, YEARLY, PITS, PUSHBACKS, SCHEDULE, MILL_FEED, METHODS, SENSITIVITY)
+TABLES += (PROBABILITY, SCENARIOS, QUANTILES, COMMON, COMMON_YEARS, SCHEDULES, BLOCK_QUANTILES)
+
+
+@cache
+def unit_of(name: str) -> Optional[Unit]:
+    """The unit of a column by its name in any table that is rounded to decimals; None if there is no such column."""
+    for table in TABLES:
+        if table.digits is None and (found := table.find(name)):
+            return found.unit
+    return None
