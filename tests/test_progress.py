@@ -253,18 +253,25 @@ def test_the_time_of_writing_is_that_of_a_reader_who_waits(mine: Mine) -> None:
     assert told["WRITING"] == max(told.values()) > 1
 
 
-COLUMN = 32_000
+def solve_column(mine: Mine, blocks: int) -> str:
+    """Solves a column whose deeper half is ore, of which a block pays for two of waste. Small to read and to write, and long to solve:
+    the time grows with the square of the blocks. Returns what stands on standard error."""
+    mine.write("mine.upit", model_of(["-1"] * (blocks // 2) + ["2"] * (blocks // 2)))
+    mine.write("mine.prec", "".join(f"{block} 1 {block - 1}\n" for block in range(1, blocks)))
+    status, out, err = mine.run(*SOLVE, "--progress", "1", "--stats", "made.stats")
+    assert (status, out) == (0, pit_of(blocks, list(range(blocks)), f"{blocks // 2}.000000"))
+    return err
 
 
 def test_the_time_of_solving_is_that_of_a_single_column(mine: Mine) -> None:
-    """Its deeper half is ore, of which a block pays for two of waste: small to read and to write, and long to solve."""
-    mine.write("mine.upit", model_of(["-1"] * (COLUMN // 2) + ["2"] * (COLUMN // 2)))
-    mine.write("mine.prec", "".join(f"{block} 1 {block - 1}\n" for block in range(1, COLUMN)))
-    status, out, err = mine.run(*SOLVE, "--progress", "1", "--stats", "made.stats")
-    assert (status, out) == (0, pit_of(COLUMN, list(range(COLUMN)), f"{COLUMN // 2}.000000"))
+    """The column is doubled until the processor needs more than the second after which the first line is due."""
+    blocks, err = 32_000, ""
+    while "solving" not in err and blocks <= 256_000:
+        err = solve_column(mine, blocks)
+        blocks *= 2
     assert re.search(r"^pitshell: solving, [1-9]\d* mergers$", err, re.MULTILINE)
     told = times(mine)
-    assert told["SOLVING"] == max(told.values()) > 1 and told["PLANNING"] == 0
+    assert told["SOLVING"] == max(told.values()) > 0.5 and told["PLANNING"] == 0
 
 
 @pytest.mark.parametrize(("closed", "more", "due"), [("<&- >&- 2>&-", ["--budget", "0"], 3), (">&-", [], 1)])
