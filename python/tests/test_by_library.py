@@ -21,7 +21,7 @@ import pitplan
 from pitplan import PlanError, ProgramError, load
 from pitplan.blockmodel import reader
 from pitplan.cli import main
-from pitplan.commands import answers
+from pitplan.commands import drawing
 from pitplan.core.atomic_files import hash_of
 from pitplan.precedences import Rows
 from pitplan.solver import choice, library, mine_files, program
@@ -388,7 +388,7 @@ def test_files_of_an_earlier_run_by_the_program_are_taken_away(plan_folder):
     there = {"solver/mine.blocks", "solver/mine.upit", "solver/mine.prec", "solver/shells.txt"}
     assert set(mine_files.of_program(project.folder)) == there
     with pytest.MonkeyPatch.context() as patch:
-        patch.setattr(answers, "draw", lambda *_: (_ for _ in ()).throw(PlanError("no pictures")))
+        patch.setattr(drawing, "draw", lambda *_: (_ for _ in ()).throw(PlanError("no pictures")))
         with pytest.raises(PlanError, match="no pictures"):
             pitplan.write_shells(replace(project, solver="library"), writing=pitplan.Writing(verifies=False))
     assert set(mine_files.of_program(project.folder)) == there

@@ -18,7 +18,7 @@ from conftest import PROJECT, ROOT, files_in, rows
 import pitplan
 from pitplan import BudgetUsedUp, PlanError, ProgramError, load
 from pitplan.cli import main
-from pitplan.commands import answers
+from pitplan.commands import drawing
 from pitplan.commands.prepare import write_plan
 from pitplan.commands.writing import PICTURES
 from pitplan.core import cell_outlines, optional_packages
@@ -353,7 +353,7 @@ def test_nothing_half_written_stays(plan_folder, monkeypatch):
 def test_a_failed_run_leaves_the_earlier_one(solved, monkeypatch):
     project, folder = solved
     before = files_in(folder)
-    monkeypatch.setattr(answers, "draw", lambda *_: (_ for _ in ()).throw(PlanError("no pictures")))
+    monkeypatch.setattr(drawing, "draw", lambda *_: (_ for _ in ()).throw(PlanError("no pictures")))
     with pytest.raises(PlanError, match="no pictures"):
         pitplan.write_shells(project, folder)
     assert files_in(folder) == before

@@ -29,10 +29,15 @@ def test_help_loads_no_package(words):
 
 def test_names_are_imported_on_first_use():
     assert loaded("import pitplan; dir(pitplan); pitplan.PlanError") == []
-    assert "pandas" in loaded("import pitplan; pitplan.Solution") and "matplotlib" in loaded(
-        "import pitplan; pitplan.write_shells"
-    )
+    assert "pandas" in loaded("import pitplan; pitplan.Solution")
     assert loaded("import pitplan; pitplan.errors.PlanError") == [], "modules too"
+
+
+def test_commands_load_matplotlib_only_to_draw():
+    """Its import takes longer than most plans."""
+    commands = [name for name in pitplan.__all__ if pitplan.PLACES[name].startswith("commands.")]
+    without = [f"pitplan.{name}" for name in commands if name not in ("verify", "view")]
+    assert loaded(f"import pitplan; {', '.join(without)}") == ["numpy", "pandas", "scipy"]
 
 
 def test_every_public_name_is_there_and_no_other():

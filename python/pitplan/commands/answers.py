@@ -1,4 +1,7 @@
-"""The answer of a plan, with pushbacks or a schedule if there are any, as tables, pictures, workbook, report and record."""
+"""The answer of a plan, with pushbacks or a schedule if there are any, as tables, pictures, workbook, report and record.
+
+Figures, workbooks and schedules are imported by the functions that write them, so that a run takes only the libraries that it uses.
+"""
 
 from __future__ import annotations
 
@@ -12,7 +15,6 @@ from pitplan.core import layout
 from pitplan.core.atomic_files import write_json
 from pitplan.core.progress import Progress
 from pitplan.core.revenue_factors import factor_text
-from pitplan.export import xlsx
 from pitplan.pits import shell_tables
 from pitplan.pushbacks import nested
 from pitplan.pushbacks.nested import Pushbacks
@@ -20,18 +22,16 @@ from pitplan.report import html
 from pitplan.results import names
 from pitplan.results.conventions import with_discounting, with_outline
 from pitplan.results.rounding import shown, write_csv
-from pitplan.scheduling import pushback_schedule
-from pitplan.scheduling.pushback_schedule import YearlySchedule
 from pitplan.solver import mine_files, problem
 from pitplan.solver.problem import Mine
 from pitplan.solver.program import Solution
 
 from ..plan import Plan
-from .drawing import draw
 from .writing import Run, finish, note_verified, write_table
 
 if TYPE_CHECKING:
     from pitplan.scheduling.blocks.tables import ScheduledBlocks
+    from pitplan.scheduling.pushback_schedule import YearlySchedule
 
 
 @dataclass(frozen=True)
@@ -69,9 +69,13 @@ def write_answer(answered: Answered, run: Run) -> pd.DataFrame:
     note_verified(plan, run)
     drawn: list[str] = []
     if run.writing.figures:
+        from .drawing import draw
+
         with progress.step("drawing"):
             drawn = draw(answered, table, years, factor, stage)
     if answered.schedule is not None:
+        from pitplan.export import xlsx
+
         with progress.step("writing the workbook"):
             xlsx.write(stage / names.WORKBOOK, sheets_of(answered, table, years))
     finish(plan, run.record, [*mine_files.of_program(stage), *tables_of(answered), *drawn], stage)
@@ -115,6 +119,8 @@ def tables_of(answered: Answered) -> list[str]:
 
 def sheets_of(answered: Answered, table: pd.DataFrame, years: pd.DataFrame) -> dict[str, pd.DataFrame]:
     """The tables of a schedule's workbook, by sheet."""
+    from pitplan.scheduling import pushback_schedule
+
     assert answered.pushbacks is not None and answered.schedule is not None
     project = answered.plan.project
     bins = {"milling": shown(pushback_schedule.milling(answered.schedule))} if answered.schedule.milling else {}
@@ -138,6 +144,8 @@ def write_tables(answered: Answered, stage: Path) -> tuple[pd.DataFrame, pd.Data
         (stage / layout.SOLVER / mine_files.ANSWER).write_bytes(solution.answer)
     blocks = shell_tables.blocks(plan, solution) if pushbacks is None else nested.blocks(pushbacks)
     if answered.schedule is not None:
+        from pitplan.scheduling import pushback_schedule
+
         blocks["year"] = pushback_schedule.blocks_year(answered.schedule)[blocks["id"].to_numpy()]
         years = pd.concat([years, pushback_schedule.years(answered.schedule)], ignore_index=True)
         write_schedule_tables(answered.schedule, plan, stage)
@@ -155,6 +163,8 @@ def write_tables(answered: Answered, stage: Path) -> tuple[pd.DataFrame, pd.Data
 
 def write_schedule_tables(schedule: YearlySchedule, plan: Plan, stage: Path) -> None:
     """Writes schedule.csv, methods.csv, schedule.json, and mill_feed.csv if ore is divided into bins."""
+    from pitplan.scheduling import pushback_schedule
+
     write_csv(shown(pushback_schedule.table(schedule)), stage / names.SCHEDULE, plan.project)
     write_csv(shown(pushback_schedule.methods(schedule)), stage / names.METHODS, plan.project)
     write_json(stage / names.SCHEDULE_RECORD, pushback_schedule.record(schedule))

@@ -4,7 +4,6 @@ from __future__ import annotations
 
 from typing import Optional, Union
 
-from pitplan import verification
 from pitplan.core.noted_path import NotedPath, noted
 from pitplan.core.progress import Progress, silent
 from pitplan.core.revenue_factors import factor_text, factor_texts
@@ -63,6 +62,8 @@ def write_export(
     with progress.step(f"writing {target.name}"), registry.staged(target, kind, shape) as path:
         notes = registry.WRITERS[kind](path, result, shape)
         if kind == "table":
+            from pitplan import verification
+
             verification.demand([verification.verify_table(result.path, path)])
     return noted(target, notes or ())
 

@@ -8,7 +8,6 @@ from typing import TYPE_CHECKING
 import numpy as np
 import pandas as pd
 
-from pitplan import verification
 from pitplan.config.figures import FigureRules
 from pitplan.core import csv_writer
 from pitplan.core.atomic_files import staged, write_json
@@ -16,8 +15,6 @@ from pitplan.core.layout import FIGURES, FOLDERS
 from pitplan.core.optional_packages import load_library
 from pitplan.core.revenue_factors import factor_text
 from pitplan.export.vtk import write_image as write_vti
-from pitplan.figures import scenario_values, scenarios
-from pitplan.figures.style import also_as
 from pitplan.results import columns
 from pitplan.results.conventions import with_discounting
 from pitplan.studies.scenarios import pit_probability, run
@@ -94,8 +91,8 @@ def write_schedules(shared: Shared, request: Request, writing: Writing) -> list[
             write_schedule_tables(schedules, block_answers.quantiles(schedules), shared, stage)
         notes = block_answers.notes(schedules, shared) + note_verified(shared, schedules.missing, writing, stage)
         if writing.figures:
-            with progress.step("drawing"), also_as(rules_of(shared).formats):
-                scenario_values.write(schedules.answered, shared.project.economics.currency, stage / PICTURE_OF_VALUES)
+            with progress.step("drawing"):
+                draw_values(shared, schedules, stage)
     return [*notes, *notes_of_missing(schedules.missing)]
 
 
@@ -126,6 +123,8 @@ def note_verified(shared: Shared, missing: dict[int, str], writing: Writing, sta
     """
     verified: list[str] = []
     if writing.verifies:
+        from pitplan import verification
+
         with writing.progress.step("verifying"):
             rules = verification.verify_scenarios(shared.folder, stage)
         verification.demand(rules)
@@ -177,7 +176,10 @@ def write_image(shared: Shared, gathered: Gathered, stage: Path) -> list[str]:
 
 
 def draw(shared: Shared, gathered: Gathered, factor: float, stage: Path) -> None:
-    """Draws plans and sections of the probabilities at a factor, and the spread of tonnes and worth."""
+    """Draws plans and sections of the probabilities at a factor, and the spread of tonnes and worth. It imports matplotlib itself."""
+    from pitplan.figures import scenarios
+    from pitplan.figures.style import also_as
+
     grid, rules = shared.grid, rules_of(shared)
     share = gathered.share[:, gathered.factors.index(factor)]
     solid = grid.spread(shared.frame[shared.project.table.tonnes].to_numpy() > 0)
@@ -187,3 +189,12 @@ def draw(shared: Shared, gathered: Gathered, factor: float, stage: Path) -> None
         scenarios.write_plans(likely, stage / PICTURES["plans"])
         scenarios.write_sections(likely, stage / PICTURES["sections"])
         scenarios.write_spread(gathered.table, shared.project.economics.currency, stage / PICTURES["spread"])
+
+
+def draw_values(shared: Shared, schedules: Schedules, stage: Path) -> None:
+    """Draws the value of the common schedule and of each scenario's own. It imports matplotlib itself."""
+    from pitplan.figures import scenario_values
+    from pitplan.figures.style import also_as
+
+    with also_as(rules_of(shared).formats):
+        scenario_values.write(schedules.answered, shared.project.economics.currency, stage / PICTURE_OF_VALUES)

@@ -8,14 +8,11 @@ from typing import Optional
 
 import pandas as pd
 
-from pitplan import verification
 from pitplan.config import project_writer
 from pitplan.core import csv_writer, layout, staging
 from pitplan.core.atomic_files import staged, write_json
 from pitplan.core.warned import warn
 from pitplan.errors import InputWarning
-from pitplan.figures import sensitivity
-from pitplan.figures.style import also_as
 from pitplan.results import names
 from pitplan.results.rounding import shown, write_csv
 from pitplan.studies.dask_pool import Where
@@ -80,20 +77,22 @@ def write_cases(found: Sensitivity, folder: Path, writing: Writing) -> pd.DataFr
     """
     cases, project, progress = varied_cases.table(found), found.project, writing.progress
     pairs = varied_cases.rules_of(project).pairs
-    figures = [*sensitivity.WRITTEN, *map(sensitivity.grid_name, pairs)]
+    figures = [names.TORNADO, names.SPIDER, *map(names.grid_of, pairs)]
     with staged(folder, RECORD, in_all_formats(figures), layout.FOLDERS) as stage:
         record = store.record(found, os.path.relpath(project.path, folder)) | {"figures": writing.figures}
         write_tables(found, cases, stage)
         project_writer.write(found.asked, stage / project_writer.AS_RUN, folder)
         write_json(stage / RECORD, record)
         if writing.verifies:
+            from pitplan import verification
+
             with progress.step("verifying"):
                 rules = verification.verify_sensitivity(stage, folder)
             verification.demand(rules)
             record["verified"] = [f"{rule.name}: {rule.holds}" for rule in rules]
         if writing.figures:
-            with progress.step("drawing"), also_as(project.figures.formats if project.figures else ()):
-                sensitivity.write_all(cases, pairs, project.economics.currency, stage)
+            with progress.step("drawing"):
+                draw(found, cases, stage)
         write_json(stage / RECORD, record)
     return cases
 
@@ -104,3 +103,13 @@ def write_tables(found: Sensitivity, cases: pd.DataFrame, stage: Path) -> None:
     blocks["revenue_factor"] = found.answers[Case()].entry[blocks["id"].to_numpy()]
     csv_writer.write(stage / names.TABLE, blocks)
     write_csv(shown(cases), stage / TABLE, found.project)
+
+
+def draw(found: Sensitivity, cases: pd.DataFrame, stage: Path) -> None:
+    """Draws the tornado, the spider plot and the grids. It imports matplotlib itself."""
+    from pitplan.figures import sensitivity
+    from pitplan.figures.style import also_as
+
+    project = found.project
+    with also_as(project.figures.formats if project.figures else ()):
+        sensitivity.write_all(cases, varied_cases.rules_of(project).pairs, project.economics.currency, stage)

@@ -10,7 +10,6 @@ from typing import Any, Iterable, Iterator, Optional, Union
 
 import pandas as pd
 
-from pitplan import verification
 from pitplan.blockmodel.figure_bounds import demand_within
 from pitplan.config import project_writer
 from pitplan.config.figures import FORMATS
@@ -20,12 +19,10 @@ from pitplan.core.atomic_files import demand_no_folders, hashes, hashes_of, stag
 from pitplan.core.progress import Progress, silent
 from pitplan.core.warned import warn
 from pitplan.export import registry
-from pitplan.figures import sensitivity
 from pitplan.results import names
 from pitplan.solver import mine_files, problem
 from pitplan.solver.choice import PROGRAM, Solver, chosen
 from pitplan.solver.problem import Mine
-from pitplan.studies.sensitivity import store
 
 from ..errors import InputWarning, PlanError, ResultWarning
 from ..plan import Plan, prepared
@@ -52,7 +49,7 @@ WRITTEN = {
     *names.OF_SOME,
     *FIGURES,
 }
-WRITTEN |= {*store.WRITTEN, *sensitivity.WRITTEN, *registry.WRITTEN}
+WRITTEN |= {names.SENSITIVITY, names.SENSITIVITY_RECORD, names.TORNADO, names.SPIDER, *registry.WRITTEN}
 
 
 @dataclass(frozen=True)
@@ -175,6 +172,9 @@ def note_verified(plan: Plan, run: Run) -> None:
     record["project"] = os.path.relpath(plan.project.path, stage.parent)
     record["verified"] = []
     if run.writing.verifies:
+        # Only a run that is verified takes the time of these imports.
+        from pitplan import verification
+
         write_json(stage / names.RECORD, record)
         with run.writing.progress.step("verifying"):
             rules = verification.verify(stage, plan.project, plan.read)

@@ -14,8 +14,9 @@ from matplotlib.ticker import MaxNLocator
 
 from pitplan.config.project import Project
 from pitplan.config.shells import ShellRules
+from pitplan.core.magnitude import scaled
 from pitplan.core.revenue_factors import factor_text
-from pitplan.figures.style import ORE, PLAIN, STYLE, WASTE, finish, list_of, scaled
+from pitplan.figures.style import ORE, PLAIN, STYLE, WASTE, finish, list_of
 
 CASES = {"best": "Best case", "worst": "Worst case"}
 MILL, SHOVELS = "#1f3f6e", "#8a7f6a"

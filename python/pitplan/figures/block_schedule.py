@@ -11,7 +11,8 @@ from matplotlib.axes import Axes
 from matplotlib.figure import Figure
 from matplotlib.ticker import MaxNLocator
 
-from pitplan.figures.style import ORE, PLAIN, STYLE, finish, list_of, scaled
+from pitplan.core.magnitude import scaled
+from pitplan.figures.style import ORE, PLAIN, STYLE, finish, list_of
 
 from .annual import FAR_ABOVE, MARGIN, MILL, SHOVELS
 from .schedule import draw_bars

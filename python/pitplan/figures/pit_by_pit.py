@@ -10,10 +10,11 @@ import pandas as pd
 from matplotlib.axes import Axes
 from matplotlib.figure import Figure
 
+from pitplan.core.magnitude import scaled
 from pitplan.core.revenue_factors import factor_text
 from pitplan.figures.style import BEST, BEST_MARK, CHOSEN, ORE, PLAIN, WASTE, WORST, WORST_MARK
 
-from .style import STYLE, finish, scaled
+from .style import STYLE, finish
 
 
 def write_pit_by_pit(table: pd.DataFrame, currency: str, chosen: float, path: Path) -> None:

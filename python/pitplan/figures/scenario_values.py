@@ -11,7 +11,8 @@ import pandas as pd
 from matplotlib.axes import Axes
 from matplotlib.figure import Figure
 
-from pitplan.figures.style import STYLE, finish, list_of, scaled
+from pitplan.core.magnitude import scaled
+from pitplan.figures.style import STYLE, finish, list_of
 from pitplan.studies.scenarios.pit_probability import QUANTILES
 
 # Label and colour of each column.

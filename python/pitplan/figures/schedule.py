@@ -16,21 +16,15 @@ from matplotlib.ticker import MaxNLocator
 
 from pitplan.blockmodel.grid import metres
 from pitplan.config.economics import Metal
-from pitplan.figures.style import BEST, BEST_MARK, ORE, PLAIN, STYLE, WASTE, WORST, WORST_MARK, finish, list_of, scaled
-from pitplan.scheduling.pushback_schedule import LP, MILP, RULE, YearlySchedule, years as years_of
+from pitplan.core.magnitude import scaled
+from pitplan.figures.style import BEST, BEST_MARK, ORE, PLAIN, STYLE, WASTE, WORST, WORST_MARK, finish, list_of
+from pitplan.scheduling.methods import LP, MILP, NAMES, RULE
+from pitplan.scheduling.pushback_schedule import YearlySchedule, years as years_of
 
 from .annual import FAR_ABOVE, MARGIN, MILL, SHOVELS
 
 TITLES = {RULE: "Rule", LP: "Linear programme", MILP: "Integer programme"}
 COLOURS = {"worst": WORST, RULE: "#d08a1d", LP: ORE, MILP: "#7b4fa3", "best": BEST, "upper_bound": PLAIN}
-NAMES = {
-    "worst": "worst case",
-    RULE: "rule",
-    LP: "linear programme",
-    MILP: "integer programme",
-    "best": "best case",
-    "upper_bound": "upper bound, these pushbacks",
-}
 MARKED = {"marker": "o", "markersize": 3, "linewidth": 1.4}
 # The line of the rule is broad, so that it stays visible below another.
 LINES = {

@@ -15,10 +15,10 @@ from matplotlib.axes import Axes
 from matplotlib.figure import Figure
 from matplotlib.ticker import FuncFormatter
 
-from pitplan.core.layout import FIGURES
-from pitplan.figures.style import STYLE, finish, scaled
+from pitplan.core.magnitude import scaled
+from pitplan.figures.style import STYLE, finish
+from pitplan.results import names
 
-WRITTEN = TORNADO, SPIDER = f"{FIGURES}/tornado.png", f"{FIGURES}/spider.png"
 LESS, MORE = "#c0504d", "#1f3f6e"
 COLOURS = ("#0072b2", "#d55e00", "#009e73", "#aa4499", "#b58900", "#555555", "#56b4e9", "#8b0000", "#6b8e23", "#000000")
 MARKS = ("o", "s", "^", "D", "v", "P", "X", "<", ">", "*")
@@ -27,15 +27,10 @@ PER_CENT = FuncFormatter(lambda share, _: f"{100 * share:+.0f} %" if share else 
 
 def write_all(table: pd.DataFrame, pairs: tuple[tuple[str, str], ...], currency: str, folder: Path) -> None:
     """Writes the tornado, the spider plot, and a grid per pair."""
-    write_tornado(table, currency, folder / TORNADO)
-    write_spider(table, currency, folder / SPIDER)
+    write_tornado(table, currency, folder / names.TORNADO)
+    write_spider(table, currency, folder / names.SPIDER)
     for pair in pairs:
-        write_grid(table, pair, currency, folder / grid_name(pair))
-
-
-def grid_name(pair: tuple[str, str]) -> str:
-    """Returns the file of the grid of a pair."""
-    return f"{FIGURES}/grid-{pair[0]}-{pair[1]}.png".replace(" ", "-")
+        write_grid(table, pair, currency, folder / names.grid_of(pair))
 
 
 def singles(table: pd.DataFrame) -> dict[str, pd.Series]:

@@ -57,14 +57,6 @@ def list_of(axes: Any, count: int) -> list[Axes]:
     return found
 
 
-def scaled(most: float) -> tuple[float, str]:
-    """Returns size and sign of a unit, such as (1e6, "M"), in which `most` has at least two digits before the point."""
-    for size, sign in ((1e6, "M"), (1e3, "k")):
-        if most >= 10 * size:
-            return size, sign
-    return 1.0, ""
-
-
 def name_axes(axis: Axes, across: str, up: str) -> None:
     """Labels axes in metres, with coordinates in full, and few enough ticks for seven digits."""
     axis.set_xlabel(f"{across}, m")

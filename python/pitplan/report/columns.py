@@ -13,8 +13,8 @@ from jinja2 import Environment, FileSystemLoader, select_autoescape
 
 from pitplan.config.economics import Metal
 from pitplan.config.project import Project
+from pitplan.core.magnitude import scaled
 from pitplan.core.revenue_factors import factor_text
-from pitplan.figures.style import scaled
 from pitplan.results import columns as schema
 from pitplan.results.columns import Column, Table
 

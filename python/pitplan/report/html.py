@@ -17,18 +17,16 @@ from pitplan.config import project_writer
 from pitplan.config.project import Project
 from pitplan.config.shells import IN_WORDS
 from pitplan.core.atomic_files import hash_of, read_json
-from pitplan.core.layout import FIGURES, TABLES
 from pitplan.core.revenue_factors import BASE_PRICE, factor_text
 from pitplan.errors import PlanError
-from pitplan.figures import schedule
 from pitplan.results import names
 from pitplan.results.folder import read_record
+from pitplan.results.names import SENSITIVITY, SENSITIVITY_RECORD
+from pitplan.scheduling import methods
 
 from . import columns as report
 from .columns import TEMPLATES, Columns
 
-SENSITIVITY, SENSITIVITY_RECORD = f"{TABLES}/sensitivity.csv", "sensitivity.json"
-TORNADO = f"{FIGURES}/tornado.png"
 BY_BLOCK = "block"
 # Columns of the page that are made from another column of the file.
 NAMED = {(SENSITIVITY, "case"): "parameter"}
@@ -214,7 +212,7 @@ def of_answer(folder: Path, project: Project, record: dict[str, Any]) -> dict[st
             parts_of(ways, of_ways, project, ways.frame["method"].map({shown: "selected"}).fillna("")),
             shown,
         )
-        found["method"] = schedule.NAMES.get(shown, shown)
+        found["method"] = methods.NAMES.get(shown, shown)
         # A schedule by block mines the pit at the base price, whichever shell is selected.
         pit = BASE_PRICE if shown == BY_BLOCK else chosen
         cases, figures = [shown], [*of_way(ways, shown, project), *grades(shells, pit, project)]
@@ -318,7 +316,7 @@ def of_sensitivity(found: Sensitivity, project: Project) -> dict[str, Any]:
     record = found.record
     return {
         "parts": parts_of(Written(table.file, named), report.OF_CASES.of, project),
-        "tornado": picture(found.folder / TORNADO) if (found.folder / TORNADO).is_file() else "",
+        "tornado": picture(found.folder / names.TORNADO) if (found.folder / names.TORNADO).is_file() else "",
         "revenue_factor": record["revenue_factor"],
         "verified": record["verified"],
         "pairs": len(table.frame) > len(alone),

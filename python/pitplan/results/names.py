@@ -2,7 +2,7 @@
 
 from __future__ import annotations
 
-from pitplan.core.layout import TABLES
+from pitplan.core.layout import FIGURES, TABLES
 
 RECORD = "plan.json"
 TABLE, SHELLS, YEARS = f"{TABLES}/blocks.csv", f"{TABLES}/shells.csv", f"{TABLES}/years.csv"
@@ -11,8 +11,15 @@ SCHEDULE, MILLING, METHODS = f"{TABLES}/schedule.csv", f"{TABLES}/mill_feed.csv"
 WORKBOOK = f"{TABLES}/schedule.xlsx"
 SCHEDULE_RECORD, BLOCK_SCHEDULE = "schedule.json", "block_schedule.json"
 REPORT, VIEW = "report.html", "view.html"
+SENSITIVITY, SENSITIVITY_RECORD = f"{TABLES}/sensitivity.csv", "sensitivity.json"
+TORNADO, SPIDER = f"{FIGURES}/tornado.png", f"{FIGURES}/spider.png"
 # What only some commands write. A run removes those of an earlier run that it does not write itself, since they show other results.
 OF_SOME = (
     *(SHELLS, YEARS, PITS, PUSHBACKS, SCHEDULE, MILLING, METHODS, WORKBOOK),
     *(SCHEDULE_RECORD, BLOCK_SCHEDULE, REPORT, VIEW),
 )
+
+
+def grid_of(pair: tuple[str, str]) -> str:
+    """Returns the figure of a pair of parameters of a sensitivity."""
+    return f"{FIGURES}/grid-{pair[0]}-{pair[1]}.png".replace(" ", "-")

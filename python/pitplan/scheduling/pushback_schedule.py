@@ -26,8 +26,8 @@ from . import bench_lp, bench_milp, value_bins
 from .bench_lp import Relaxed
 from .bench_sequencing import Problem, by_rule, limits_of, running
 from .cutoff_lp import Milling, MillingProblem
+from .methods import LP, MILP, RULE
 
-RULE, LP, MILP = "rule", "lp", "milp"
 # The linear programme may take this part of the rule's years more.
 MORE_YEARS = 0.2
 

@@ -6,12 +6,12 @@ from dataclasses import asdict
 from typing import Any
 
 from pitplan.core.atomic_files import hashes_of
-from pitplan.core.layout import TABLES
 from pitplan.core.revenue_factors import factor_text
+from pitplan.results import names
 
 from .cases import SKIN_WORTH, Case, Sensitivity
 
-WRITTEN = TABLE, RECORD = f"{TABLES}/sensitivity.csv", "sensitivity.json"
+TABLE, RECORD = names.SENSITIVITY, names.SENSITIVITY_RECORD
 
 
 def record(found: Sensitivity, project: str) -> dict[str, Any]:

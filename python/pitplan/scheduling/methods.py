@@ -1,0 +1,13 @@
+"""The methods by which a schedule of pushbacks is found, and their names in figures and reports."""
+
+from __future__ import annotations
+
+RULE, LP, MILP = "rule", "lp", "milp"
+NAMES = {
+    "worst": "worst case",
+    RULE: "rule",
+    LP: "linear programme",
+    MILP: "integer programme",
+    "best": "best case",
+    "upper_bound": "upper bound, these pushbacks",
+}
