@@ -126,14 +126,22 @@ def solved(solved_once, tmp_path):
     return project, project.folder
 
 
-@pytest.fixture(scope="module")
+@pytest.fixture(scope="session", autouse=True)
 def without_figures():
-    """No command draws figures, which take most of the time of a run. Other tests check them."""
-    from pitplan.commands.writing import Writing
+    """No command draws figures unless its Writing asks for them: they take most of the time of a run."""
+    from pitplan.commands import writing
 
     with pytest.MonkeyPatch.context() as patch:
-        patch.setattr(Writing, "figures", property(lambda writing: False, lambda writing, given: None))
+        patch.setattr(writing, "DRAWS", False)
         yield
+
+
+@pytest.fixture
+def with_figures(monkeypatch):
+    """Commands draw figures as they do for a planner."""
+    from pitplan.commands import writing
+
+    monkeypatch.setattr(writing, "DRAWS", True)
 
 
 @pytest.fixture(scope="session")

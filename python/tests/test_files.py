@@ -1,5 +1,6 @@
 """What the subcommands write: whole or not at all; audits, exports and pages of a small mine."""
 
+import io
 import json
 import os
 import signal
@@ -23,7 +24,7 @@ from pitplan.commands.prepare import write_plan
 from pitplan.commands.writing import PICTURES
 from pitplan.core import cell_outlines, optional_packages
 from pitplan.core.atomic_files import hash_of, write_json
-from pitplan.core.progress import silent
+from pitplan.core.progress import Progress, silent
 from pitplan.core.revenue_factors import factor_text
 from pitplan.export import audit
 from pitplan.results.folder import read_folder, read_record
@@ -33,10 +34,12 @@ from pitplan.solver import mine_files, problem, program
 ORE = {"cu": lambda i, j, k: {(3, 3, 1): 6, (4, 3, 1): 2.5, (3, 4, 0): 9}.get((i, j, k), 0)}
 
 
-def test_shells_write_tables_pictures_and_a_page_that_needs_no_other_file(solved):
+def test_shells_write_tables_pictures_and_a_page_that_needs_no_other_file(solved, with_figures):
     """Where the library solves it needs no other file either."""
     project, folder = solved
-    pitplan.write_shells(replace(project, solver="program"), writing=pitplan.Writing(verifies=False))
+    told = io.StringIO()
+    pitplan.write_shells(replace(project, solver="program"), writing=pitplan.Writing(Progress(told), verifies=False))
+    assert "drawing .." in told.getvalue()
     names = {*files_in(folder)}
     pictures = set(PICTURES.values())
     assert (
@@ -350,7 +353,7 @@ def test_nothing_half_written_stays(plan_folder, monkeypatch):
     assert not project.folder.exists()
 
 
-def test_a_failed_run_leaves_the_earlier_one(solved, monkeypatch):
+def test_a_failed_run_leaves_the_earlier_one(solved, monkeypatch, with_figures):
     project, folder = solved
     before = files_in(folder)
     monkeypatch.setattr(drawing, "draw", lambda *_: (_ for _ in ()).throw(PlanError("no pictures")))
@@ -439,7 +442,7 @@ def test_the_command_line_tells_table_steps_and_warnings(solved_once):
     assert lines[-1] == str(solved_once.place / "plan" / "report.html")
     by = read_record(solved_once.place / "plan")["shells"]["solver"]["by"]
     needs = {"library": "listing precedences", "program": "writing blocks and precedences"}[by]
-    steps = ["reading", "building slope precedences", needs, f"solving 3 revenue factors by the {by}", "drawing"]
+    steps = ["reading", "building slope precedences", needs, f"solving 3 revenue factors by the {by}", "verifying"]
     assert all(f"{step}" in solved_once.err for step in steps)
     assert "WARNING: the largest shell reaches the north side of the block model" in solved_once.err
     assert (

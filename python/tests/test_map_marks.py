@@ -233,7 +233,7 @@ def test_grades_are_those_of_the_metal_asked_for(project):
     )
 
 
-def test_pictures_are_written_as_pdf_and_svg_too_the_same_each_time(project):
+def test_pictures_are_written_as_pdf_and_svg_too_the_same_each_time(project, with_figures):
     path = project('formats = ["pdf", "svg"]')
     written = []
     for _ in range(2):
@@ -253,9 +253,10 @@ def test_pictures_are_written_as_pdf_and_svg_too_the_same_each_time(project):
     assert (folder / "figures/plans.pdf").read_bytes().startswith(b"%PDF-") and b"<svg" in (
         folder / "figures/plans.svg"
     ).read_bytes()[:500]
+    assert ALSO.get() == (), "the next run draws PNG alone"
 
 
-def test_pushbacks_are_drawn_where_the_project_asks_for(project, monkeypatch):
+def test_pushbacks_are_drawn_where_the_project_asks_for(project, monkeypatch, with_figures):
     shown = []
     for name in ("write_plans", "write_sections"):
         monkeypatch.setattr(pushbacks, name, lambda scene, path: (shown.append(scene), path.touch()))
@@ -263,11 +264,6 @@ def test_pushbacks_are_drawn_where_the_project_asks_for(project, monkeypatch):
         project("levels = [5]\nnorth = 49\n[pushbacks]\ncount = 1"), writing=pitplan.Writing(verifies=False)
     )
     assert [pushbacks.levels_to_show(scene) for scene in shown] == [[2]] * 2 and shown[0].section_row == 4
-
-
-def test_without_a_word_pictures_are_png_alone(solved):
-    assert not list(solved[1].glob("*.pdf")) + list(solved[1].glob("*.svg"))
-    assert ALSO.get() == ()
 
 
 @pytest.mark.parametrize(

@@ -318,7 +318,7 @@ def test_what_went_wrong_is_told_by_status(plan_folder, monkeypatch):
     )
 
 
-def test_some_answers_are_gathered_on_request_alone(plan_folder):
+def test_some_answers_are_gathered_on_request_alone(plan_folder, with_figures):
     shared = prepared(plan_folder(pillar(), COLUMNS, UPRIGHT))
     assert [worker.solve(str(shared.folder), number).status for number in (1, 3)] == [0, 0]
     with pytest.raises(PlanError, match="1 of 3 scenarios have no result, first sim_2: was not solved"):
@@ -335,7 +335,7 @@ def test_some_answers_are_gathered_on_request_alone(plan_folder):
         pitplan.gather(shared.folder, Request(revenue_factor=0.7))
 
 
-def test_pictures_of_scenarios_are_those_that_the_project_asks_for(plan_folder, monkeypatch):
+def test_pictures_of_scenarios_are_those_that_the_project_asks_for(plan_folder, monkeypatch, with_figures):
     """Three blocks over each other: of the three levels the lowest is asked for."""
     shown = []
     monkeypatch.setattr(scenarios, "write_plans", lambda likely, path: shown.append(likely))

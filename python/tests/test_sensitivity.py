@@ -12,7 +12,6 @@ from matplotlib.figure import Figure
 import pitplan
 from pitplan import PlanError, Where, load
 from pitplan.cli import main
-from pitplan.commands.writing import Writing
 from pitplan.figures import sensitivity
 from pitplan.studies.sensitivity import cases, perturb
 from pitplan.verification import verify_folder
@@ -302,8 +301,7 @@ def test_what_has_an_answer_is_not_solved_again(small, monkeypatch):
     assert len(solved) == 6 + 11, "the project's text is another"
 
 
-def test_files_and_what_the_command_line_tells(small, capsys, monkeypatch):
-    monkeypatch.setattr(Writing, "figures", True)
+def test_files_and_what_the_command_line_tells(small, capsys, with_figures):
     path = small('parameters = ["price", "mining_cost"]\npairs = [["price", "mining_cost"]]')
     assert main(["sensitivity", str(path), "--quiet"]) == 0
     out = capsys.readouterr().out.splitlines()

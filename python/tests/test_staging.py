@@ -13,7 +13,6 @@ import pitplan
 from pitplan import PlanError, Request, Shape
 from pitplan.cli import main
 from pitplan.commands.prepare import write_plan
-from pitplan.commands.writing import Writing
 from pitplan.core import atomic_files, staging
 from pitplan.export import registry
 from pitplan.results.folder import read_record
@@ -231,11 +230,9 @@ def turns(folder: Path, count: int) -> None:
         "report.html",
     ],
 )
-def test_a_folder_in_place_of_a_file_is_refused_before_anything_is_replaced(mine, name, monkeypatch):
-    if name.endswith(".png"):
-        monkeypatch.setattr(Writing, "figures", True)
+def test_a_folder_in_place_of_a_file_is_refused_before_anything_is_replaced(mine, name):
     folder = mine.parent / "out"
-    pitplan.write_shells(mine, folder, writing=pitplan.Writing(verifies=False))
+    pitplan.write_shells(mine, folder, writing=pitplan.Writing(verifies=False, figures=name.endswith(".png")))
     (folder / name).unlink(missing_ok=True)
     (folder / name).mkdir(parents=True)
     before = files_in(folder)
@@ -323,9 +320,8 @@ def test_scenarios_do_not_replace_the_project_of_another_mine(mine):
     assert {path.name: path.read_text() for path in other.iterdir()} == {"project.toml": "title = 'another mine'\n"}
 
 
-def test_a_run_removes_what_an_earlier_one_wrote_and_it_does_not(mine, monkeypatch):
+def test_a_run_removes_what_an_earlier_one_wrote_and_it_does_not(mine, with_figures):
     """Tables, records, figures and pages of a schedule show other results than the shells; exports stay."""
-    monkeypatch.setattr(Writing, "figures", True)
     folder, bare = mine.parent / "out", pitplan.Writing(verifies=False)
     pitplan.write_schedule(mine, folder, writing=bare)
     pitplan.write_export(folder, "csv", read_record(folder)["shells"]["selected"])

@@ -118,6 +118,8 @@ def test_surfaces_of_years_go_to_a_folder_of_any_name(folder, tmp_path):
 
 def test_an_input_or_a_file_of_the_plan_is_never_replaced(solved, tmp_path, capsys):
     project, folder = solved
+    (folder / "figures").mkdir(exist_ok=True)
+    (folder / "figures" / "plans.png").write_bytes(b"a figure of the plan")
     shutil.copytree(folder, tmp_path / "other")
     (tmp_path / "link").symlink_to(folder)
     os.link(project.table.file, tmp_path / "hard.csv")

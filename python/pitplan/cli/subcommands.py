@@ -35,7 +35,9 @@ def project_of(options: Namespace) -> Project:
 def writing_of(options: Namespace) -> Writing:
     from ..commands.writing import Writing
 
-    return Writing(progress_of(options), not options.no_verify, not getattr(options, "no_figures", False))
+    return Writing(
+        progress_of(options), not options.no_verify, False if getattr(options, "no_figures", False) else None
+    )
 
 
 def init(options: Namespace) -> int:

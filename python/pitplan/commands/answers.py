@@ -65,10 +65,10 @@ def write_answer(answered: Answered, run: Run) -> pd.DataFrame:
     factor = shell_tables.selected_factor(table, plan.project.shells)
     check_fixed(run.mine, answered.solution, factor, progress)
     note_answer(answered, factor, run)
-    run.record["figures"] = run.writing.figures
+    run.record["figures"] = run.writing.draws
     note_verified(plan, run)
     drawn: list[str] = []
-    if run.writing.figures:
+    if run.writing.draws:
         from .drawing import draw
 
         with progress.step("drawing"):

@@ -62,7 +62,7 @@ def write_pits(shared: Shared, request: Request, writing: Writing) -> list[str]:
         notes = note_verified(shared, gathered.missing, writing, stage)
         with progress.step("writing the image"):
             notes += write_image(shared, gathered, stage)
-        if writing.figures:
+        if writing.draws:
             with progress.step("drawing"):
                 draw(shared, gathered, factor, stage)
     return [*notes, *notes_of_missing(gathered.missing)]
@@ -90,7 +90,7 @@ def write_schedules(shared: Shared, request: Request, writing: Writing) -> list[
             schedules = block_answers.gather(shared, request.partial)
             write_schedule_tables(schedules, block_answers.quantiles(schedules), shared, stage)
         notes = block_answers.notes(schedules, shared) + note_verified(shared, schedules.missing, writing, stage)
-        if writing.figures:
+        if writing.draws:
             with progress.step("drawing"):
                 draw_values(shared, schedules, stage)
     return [*notes, *notes_of_missing(schedules.missing)]
@@ -130,7 +130,7 @@ def note_verified(shared: Shared, missing: dict[int, str], writing: Writing, sta
         verification.demand(rules)
         verified = [f"{rule.name}: {rule.holds}" for rule in rules]
     answered = [scenario.number for scenario in shared.scenarios if scenario.number not in missing]
-    write_json(stage / GATHERED, {"answers": answered, "verified": verified, "figures": writing.figures})
+    write_json(stage / GATHERED, {"answers": answered, "verified": verified, "figures": writing.draws})
     return [] if writing.verifies else [f"the results were not verified: run pitplan verify {shared.folder}"]
 
 

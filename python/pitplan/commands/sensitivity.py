@@ -79,7 +79,7 @@ def write_cases(found: Sensitivity, folder: Path, writing: Writing) -> pd.DataFr
     pairs = varied_cases.rules_of(project).pairs
     figures = [names.TORNADO, names.SPIDER, *map(names.grid_of, pairs)]
     with staged(folder, RECORD, in_all_formats(figures), layout.FOLDERS) as stage:
-        record = store.record(found, os.path.relpath(project.path, folder)) | {"figures": writing.figures}
+        record = store.record(found, os.path.relpath(project.path, folder)) | {"figures": writing.draws}
         write_tables(found, cases, stage)
         project_writer.write(found.asked, stage / project_writer.AS_RUN, folder)
         write_json(stage / RECORD, record)
@@ -90,7 +90,7 @@ def write_cases(found: Sensitivity, folder: Path, writing: Writing) -> pd.DataFr
                 rules = verification.verify_sensitivity(stage, folder)
             verification.demand(rules)
             record["verified"] = [f"{rule.name}: {rule.holds}" for rule in rules]
-        if writing.figures:
+        if writing.draws:
             with progress.step("drawing"):
                 draw(found, cases, stage)
         write_json(stage / RECORD, record)

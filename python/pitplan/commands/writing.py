@@ -52,6 +52,10 @@ WRITTEN = {
 WRITTEN |= {names.SENSITIVITY, names.SENSITIVITY_RECORD, names.TORNADO, names.SPIDER, *registry.WRITTEN}
 
 
+# Whether commands draw figures if their Writing leaves it open. The tests set it to False.
+DRAWS = True
+
+
 @dataclass(frozen=True)
 class Writing:
     """How a command writes its folder.
@@ -62,13 +66,18 @@ class Writing:
         Reports the steps; silent by default.
     verifies : bool
         Recalculate all results independently before they are kept.
-    figures : bool
-        Draw figures. In any case those of an earlier run in the folder are removed, since they show other results.
+    figures : bool, optional
+        Draw figures, as by default. In any case those of an earlier run in the folder are removed, since they show other results.
     """
 
     progress: Progress = silent
     verifies: bool = True
-    figures: bool = True
+    figures: Optional[bool] = None
+
+    @property
+    def draws(self) -> bool:
+        """Whether figures are drawn."""
+        return DRAWS if self.figures is None else self.figures
 
 
 def in_all_formats(figures: Iterable[str]) -> tuple[str, ...]:
