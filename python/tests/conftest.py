@@ -10,13 +10,15 @@ from pathlib import Path
 
 import pandas as pd
 import pytest
-from hypothesis import settings
 
 ROOT = Path(__file__).resolve().parents[2]
 sys.path.insert(0, str(ROOT / "python"))
+# A failed assertion of a helper is shown as one of a test is.
+pytest.register_assert_rewrite("helpers", "oracle")
 
-settings.register_profile("plan", deadline=None, max_examples=40, derandomize=True, database=None)
-settings.load_profile("plan")
+from helpers.random_tests import load_profile  # after the line above
+
+load_profile()
 # Some tests interrupt themselves, and what a shell has put behind is deaf to that.
 signal.signal(signal.SIGINT, signal.default_int_handler)
 

@@ -3,7 +3,8 @@
 import numpy as np
 import pandas as pd
 import pytest
-from conftest import PROJECT, rows
+from conftest import PROJECT
+from helpers.missing_blocks import ROCK, deposit
 from hypothesis import given, strategies as st
 
 import pitplan
@@ -14,7 +15,6 @@ from pitplan.cli import main
 
 SHAPE = (4, 2, 3)
 AIR = ('file = "blocks.csv"', 'file = "blocks.csv"\nmissing_blocks = "air"')
-ROCK = ('file = "blocks.csv"', 'file = "blocks.csv"\nmissing_blocks = { tonnes = 100, rock_type = "R", domain = "1" }')
 
 
 @given(st.lists(st.booleans(), min_size=24, max_size=24))
@@ -29,11 +29,6 @@ def test_what_is_not_known_by_definition(filled):
         if not filled[cell] and not is_air:
             expected.append(cell)
     assert missing_blocks.unknown_cells(grid).tolist() == expected
-
-
-def deposit():
-    """Ore at the floor in the middle of seven columns; its pit reaches two columns to either side at the surface."""
-    return rows(7, 1, 3, cu=lambda i, j, k: 9 if (i, k) == (3, 0) else 0)
 
 
 def shells_of(path):

@@ -5,8 +5,18 @@ from itertools import product
 
 import numpy as np
 import pytest
+from helpers.block_problems import (
+    EXACT,
+    cone_of,
+    needs_of,
+    pairs_of,
+    problem_of,
+    programme,
+    random_problem,
+    without_first,
+)
 from hypothesis import given, strategies as st
-from scipy.optimize import Bounds, LinearConstraint, linprog, milp
+from scipy.optimize import linprog
 
 from pitplan import PlanError
 from pitplan.config.schedule import Effort
@@ -14,86 +24,11 @@ from pitplan.scheduling.blocks import nodes as node_module, restricted_lp as mas
 from pitplan.scheduling.blocks.bienstock_zuckerberg import relaxed
 from pitplan.scheduling.blocks.integer_values import upward
 from pitplan.scheduling.blocks.lagrangian import priced
-from pitplan.scheduling.blocks.nodes import nodes_of
 from pitplan.scheduling.blocks.presolve import earliest_years, worth_digging
-from pitplan.scheduling.blocks.problem import BlockProblem, Limit, Needs, demand_sound
+from pitplan.scheduling.blocks.problem import BlockProblem, Limit, demand_sound
 from pitplan.scheduling.blocks.ranks import ranks_of
 from pitplan.scheduling.blocks.restricted_lp import Master
 from pitplan.scheduling.blocks.scheduler import reduced
-
-EXACT = Effort(1e-9)
-
-
-def problem_of(values, pairs, *limits):
-    """Of values by block and year, of one destination; pairs (user, needed); and limits (amounts by block, most by year)."""
-    values = np.array(values, dtype=float)
-    values = values if values.ndim == 3 else values[:, None, :]
-    blocks, destinations, _ = values.shape
-    found = []
-    for number, (amounts, most) in enumerate(limits):
-        amounts = np.array(amounts, dtype=float).reshape(blocks, -1)
-        found.append(
-            Limit(
-                f"limit {number}", np.broadcast_to(amounts, (blocks, destinations)).copy(), np.array(most, dtype=float)
-            )
-        )
-    return BlockProblem(values, needs_of(blocks, pairs), tuple(found))
-
-
-def needs_of(blocks, pairs):
-    pairs = sorted(pairs)
-    starts = np.searchsorted([user for user, _ in pairs], np.arange(blocks + 1))
-    return Needs(starts.astype(np.uint32), np.array([needed for _, needed in pairs], dtype=np.uint32))
-
-
-def pairs_of(problem):
-    return list(zip(problem.needs.users.tolist(), problem.needs.needed.tolist()))
-
-
-def random_problem(seed, most=60, years=4, destinations=3):
-    """Each block needs about two of those before it. Values are discounted, some by year at prices of their own; a year may hold a
-    twentieth to a half of all, or anything."""
-    rng = np.random.default_rng(seed)
-    blocks, years, destinations = (int(rng.integers(1, top + 1)) for top in (most, years, destinations))
-    pairs = [(user, needed) for user in range(blocks) for needed in range(user) if rng.random() < 2 / user]
-    values = rng.integers(-100, 150, (blocks, destinations, 1)) * (1 + rng.choice([0.0, 0.1, 0.3])) ** -np.arange(
-        1.0, years + 1
-    )
-    if rng.random() < 0.3:
-        values = values * rng.uniform(0.7, 1.3, (1, destinations, years))
-    limits = []
-    for _ in range(rng.integers(0, 4)):
-        amounts = rng.integers(0, 20, (blocks, destinations))
-        shares = np.where(rng.random(years) < 0.15, np.inf, rng.uniform(0.05, 0.5, years))
-        limits.append((amounts, shares * max(amounts.max(axis=1).sum(), 1)))
-    return problem_of(values, pairs, *limits)
-
-
-def programme(problem, first=None):
-    """The whole linear programme by what is dug in a year: gain, rows, what these are at most, and upper limits of the unknowns, by block,
-    destination and year; what is dug before its `first` year is none."""
-    blocks, destinations, years = shape = problem.values.shape
-    place = np.arange(np.prod(shape)).reshape(shape)
-    rows, most = [], []
-
-    def add(right, *parts):
-        row = np.zeros(place.size)
-        for places, factors in parts:
-            row[np.ravel(places)] = np.ravel(factors)
-        rows.append(row)
-        most.append(right)
-
-    for block in range(blocks):
-        add(1.0, (place[block], 1.0))
-    for (user, needed), year in product(pairs_of(problem), range(years)):
-        add(0.0, (place[user, :, : year + 1], 1.0), (place[needed, :, : year + 1], -1.0))
-    for limit, year in product(problem.limits, range(years)):
-        if np.isfinite(limit.most[year]):
-            add(limit.most[year], (place[:, :, year], limit.amounts))
-    upper = np.ones(shape)
-    if first is not None:
-        upper[np.broadcast_to(np.arange(years) < first[:, None, None], shape)] = 0.0
-    return problem.values.ravel(), np.array(rows), np.array(most), upper.ravel()
 
 
 def linear_optimum(problem, first=None):
@@ -101,30 +36,6 @@ def linear_optimum(problem, first=None):
     found = linprog(-gain, A_ub=rows, b_ub=most, bounds=np.column_stack([np.zeros(len(gain)), upper]), method="highs")
     assert found.status == 0, found.message
     return -found.fun
-
-
-def integer_optimum(problem):
-    """The most that a schedule earns whose blocks each go to one destination whole."""
-    gain, rows, most, upper = programme(problem)
-    found = milp(
-        -gain,
-        integrality=np.ones(len(gain)),
-        bounds=Bounds(0, upper),
-        constraints=LinearConstraint(rows, -np.inf, most),
-    )
-    assert found.status == 0, found.message
-    return -found.fun
-
-
-def cone_of(problem, block):
-    """The block and all that it needs, by a walk."""
-    pairs, found, open_ = pairs_of(problem), {block}, [block]
-    while open_:
-        user = open_.pop()
-        more = {needed for one, needed in pairs if one == user} - found
-        found |= more
-        open_ += more
-    return sorted(found)
 
 
 def first_years(problem):
@@ -136,10 +47,6 @@ def first_years(problem):
             found[block], next((year for year in range(problem.years) if whole <= done[year] + 1e-9), problem.years)
         )
     return found
-
-
-def without_first(problem):
-    return nodes_of(problem, np.zeros(problem.blocks, dtype=np.int64))
 
 
 @pytest.mark.parametrize("batch", range(10))

@@ -9,9 +9,9 @@ import sys
 import pandas as pd
 import pytest
 from conftest import PROJECT, ROOT, rows
+from helpers.block_commands import YEARLY, rewrite, scheduled, with_processes, wrong, years_of
+from helpers.pushbacks import pillars
 from matplotlib.figure import Figure
-from test_processes import WITH
-from test_pushbacks import UPRIGHT, pillars
 
 import pitplan
 from pitplan import Plan, PlanError, load
@@ -19,28 +19,9 @@ from pitplan.cli import main
 from pitplan.figures import block_schedule
 from pitplan.results.folder import read_record
 from pitplan.scheduling.blocks import from_plan, tables
-from pitplan.verification import verify
 
 pytestmark = pytest.mark.usefixtures("without_figures")
-# The mill takes the ore of one pillar a year, and the shovels a pillar.
-YEARLY = UPRIGHT.replace(
-    "processing_capacity = 100", 'processing_capacity = 100\nmining_capacity = 200\ndiscounting = "end_of_year"'
-)
 RULES = ["block order", "block limits", "block value"]
-
-
-def scheduled(plan_folder, words="", text=YEARLY, table=None):
-    project = load(plan_folder(pillars() if table is None else table, text + words))
-    return pitplan.write_block_schedule(project).iloc[0], project.folder / "block_schedule"
-
-
-def wrong(folder):
-    return {rule.name for rule in verify(folder) if rule.differences}
-
-
-def years_of(folder):
-    years = pd.read_csv(folder / "tables/years.csv")
-    return years[years["case"] == "block"]
 
 
 def test_three_pillars_by_hand(plan_folder):
@@ -120,17 +101,6 @@ def test_years_have_prices_of_their_own(plan_folder):
     blocks = pd.read_csv(folder / "tables/blocks.csv").set_index("name")
     assert blocks["year"][["b0-0-0", "b1-0-0", "b2-0-0"]].tolist() == [2, 1, 3]
     assert row["npv"] == pytest.approx(1400 / 1.1 + 4600 / 1.21 + 600 / 1.331) and wrong(folder) == set()
-
-
-def with_processes():
-    """Leach earns 32 a per cent and tonne less 3, and takes 300 t a year; the mill 72 less 13, and 100 t. Shovels take 600 t a year."""
-    text = UPRIGHT.replace(
-        "discount_rate = 0.1", 'discount_rate = 0.1\nmining_capacity = 600\ndiscounting = "end_of_year"'
-    )
-    for old, new in WITH:
-        assert text.count(old) == 1
-        text = text.replace(old, new)
-    return text
 
 
 def test_each_ore_waits_for_the_process_where_it_is_worth_most(plan_folder):
@@ -252,12 +222,6 @@ def test_what_is_right_passes(copied, capsys):
         line.startswith("block order") for line in record["verified"]
     )
     assert pd.read_csv(copied / "tables/blocks.csv")["year"].max() > 2
-
-
-def rewrite(path, change):
-    table = pd.read_csv(path)
-    change(table)
-    table.to_csv(path, index=False)
 
 
 def test_a_block_before_its_cone_is_found(copied):

@@ -5,8 +5,8 @@ import json
 import pandas as pd
 import pytest
 from conftest import PROJECT, rows
-from test_block_commands import YEARLY, rewrite, scheduled, with_processes, wrong, years_of
-from test_pushbacks import pillars
+from helpers.block_commands import YEARLY, rewrite, scheduled, with_processes, wrong, years_of
+from helpers.pushbacks import pillars
 
 import pitplan
 from pitplan import PlanError, load

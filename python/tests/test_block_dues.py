@@ -5,9 +5,8 @@ from itertools import product
 
 import numpy as np
 import pytest
+from helpers.block_problems import EXACT, demand_sound, pairs_of, problem_of, programme, random_problem, without_first
 from scipy.optimize import Bounds, LinearConstraint, linprog, milp
-from test_block_bound import EXACT, pairs_of, problem_of, programme, random_problem, without_first
-from test_block_schedules import demand_sound
 
 from pitplan import PlanError
 from pitplan.config.schedule import Effort

@@ -14,25 +14,19 @@ import numpy as np
 import pandas as pd
 import pytest
 from conftest import ROOT, rows
-from hypothesis import given, settings, strategies as st
+from helpers.block_scenarios import COLUMNS, TWO_YEARS, YEARLY, pillars, prepared, solved_in_turn
+from helpers.random_tests import examples
+from helpers.scenarios import hill, write_models
+from hypothesis import given, strategies as st
 from scipy.optimize import linprog
-from test_pushbacks import UPRIGHT
-from test_scenarios import hill, write_models
 
 import pitplan
-from pitplan import MissingPackage, PlanError, Request, gather, load, write_scenarios
+from pitplan import MissingPackage, PlanError, Request, gather, write_scenarios
 from pitplan.cli import main
-from pitplan.core.progress import silent
 from pitplan.figures import scenario_values
-from pitplan.studies.scenarios import prepare, store, worker
+from pitplan.studies.scenarios import store, worker
 from pitplan.studies.scenarios.blocks.common_schedule import best_shares
 
-# The mill takes the ore of one block a year, and the shovels two pillars of two blocks.
-YEARLY = UPRIGHT.replace(
-    "processing_capacity = 100", 'processing_capacity = 100\nmining_capacity = 400\ndiscounting = "end_of_year"'
-)
-COLUMNS = '[scenarios]\ncolumns = { copper = "sim_*" }\n'
-TWO_YEARS = YEARLY + "[schedule]\nyears = 2\n" + COLUMNS
 BY_BLOCK = Request(by="block")
 # The same with the process by its name.
 MILL = '[[processes]]\nname = "mill"\ncost = 10\nrecovery = { copper = 0.5 }\ncapacity = 100\n'
@@ -45,25 +39,6 @@ FILES = [
     "tables/quantiles.csv",
     "common_schedule.json",
 ]
-
-
-def pillars(*models):
-    """As many pillars as a model has grades, of waste over ore of these. A block of grade g yields 4000 g in the mill, less 1000; to dig
-    one costs 200."""
-    table = rows(len(models[0]), 1, 2).drop(columns="cu")
-    return table.assign(**{f"sim_{number}": [*grades, *[0] * len(grades)] for number, grades in enumerate(models, 1)})
-
-
-def prepared(path):
-    project = load(path)
-    return prepare.prepare(project, project.folder / "block_scenarios", silent, "block")
-
-
-def solved_in_turn(shared):
-    outcomes = [worker.solve(str(shared.folder), job.number) for job in shared.missing()]
-    assert [outcome.why for outcome in outcomes] == [""] * len(outcomes)
-    pitplan.gather(shared.folder)
-    return shared.folder
 
 
 def answered(plan_folder, table, text=TWO_YEARS):
@@ -199,7 +174,7 @@ def earned(year, grades, years, ore):
 grades_of = st.lists(st.sampled_from([0, 0, 0.3, 0.5, 0.8, 1.5]), min_size=6, max_size=6)
 
 
-@settings(max_examples=12)
+@examples(12)
 @given(grades_of, grades_of, st.sampled_from([100, 150]), st.sampled_from([300, 400]))
 def test_no_schedule_of_all_earns_more_than_a_scenario_s_bound(tmp_path_factory, one, other, ore, rock):
     """Of six blocks in two years every schedule is tried, each milling its best ore: the bounds hold for all of them, and so the mean of
@@ -240,7 +215,7 @@ cases = st.integers(1, 6).flatmap(
 )
 
 
-@settings(max_examples=200)
+@examples(50)
 @given(cases)
 def test_the_best_ore_is_that_of_a_linear_programme_of_all_limits(case):
     gain, takes, most = (np.array(part, dtype=float) for part in case)

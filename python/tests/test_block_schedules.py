@@ -7,7 +7,7 @@ from threading import Timer
 
 import numpy as np
 import pytest
-from test_block_bound import cone_of, integer_optimum, pairs_of, problem_of, random_problem
+from helpers.block_problems import demand_sound, integer_optimum, pairs_of, problem_of, random_problem
 
 from pitplan.config.schedule import Effort
 from pitplan.scheduling import highs_process
@@ -21,23 +21,6 @@ from pitplan.scheduling.blocks.schedule import BlockSchedule, nothing
 from pitplan.scheduling.blocks.scheduler import reduced
 from pitplan.scheduling.blocks.toposort import Sequence, in_order, sequences
 from pitplan.scheduling.blocks.window_milp import window_of
-
-
-def demand_sound(problem, schedule):
-    """Each block with its whole cone by then, whole, and no year above a limit; gives what it earns."""
-    years, earned = problem.years, 0.0
-    left = [limit.most * (1 + 1e-9) + 1e-9 for limit in problem.limits]
-    for block, year in enumerate(schedule.year.tolist()):
-        share = schedule.share[block]
-        assert share.sum() == pytest.approx(float(year < years)) and (share >= 0).all()
-        if year == years:
-            continue
-        assert max(schedule.year[cone_of(problem, block)]) <= year
-        earned += float(share @ problem.values[block, :, year])
-        for limit, most in zip(problem.limits, left):
-            most[year] -= share @ limit.amounts[block]
-    assert all((most >= 0).all() for most in left)
-    return earned
 
 
 @pytest.mark.parametrize("batch", range(4))

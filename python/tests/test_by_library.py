@@ -14,8 +14,8 @@ from pathlib import Path
 import numpy as np
 import pytest
 from conftest import PROJECT, ROOT, files_in, rows
-from test_fixed import FIXED_SECTION, ores_and_fixed, with_section
-from test_scenarios import COLUMNS, PRICES, UPRIGHT, pillar
+from helpers.constraints import FIXED_SECTION, ores_and_fixed, with_section
+from helpers.scenarios import COLUMNS, PRICES, UPRIGHT, pillar
 
 import pitplan
 from pitplan import PlanError, ProgramError, load

@@ -10,7 +10,7 @@ import numpy as np
 import pandas as pd
 import pytest
 from conftest import ROOT
-from test_oracle import cotangent
+from oracle.slopes import cotangent
 
 import pitplan
 from pitplan import Plan

@@ -5,15 +5,15 @@ import json
 import math
 import subprocess
 import sys
-from decimal import Decimal
+from decimal import ROUND_HALF_EVEN, Decimal
 
 import numpy as np
 import pandas as pd
 import pytest
 from conftest import ROOT
+from oracle.closures import least_best_pit
 from scipy.optimize import linprog
 from scipy.sparse import csr_matrix
-from test_oracle import least_best_pit, whole
 
 EXAMPLE = ROOT / "examples" / "scenarios"
 SHAPE = (10, 9, 7)  # columns, rows, levels of blocks of 20 x 20 x 15 m
@@ -22,6 +22,10 @@ PRICES, FACTORS = (7400, 9000), (0.7, 1.0)
 COPPER = {"OX": Decimal("0.62"), "POR": Decimal("0.88"), "AND": Decimal("0.86")}
 GOLD = {"OX": Decimal("0.55"), "POR": Decimal("0.7"), "AND": Decimal("0.7")}
 PROCESSING = {"OX": Decimal("9.8"), "POR": Decimal("8.6"), "AND": Decimal("8.6")}
+
+
+def whole(amount):
+    return int(amount.quantize(Decimal(1), ROUND_HALF_EVEN))
 
 
 @pytest.fixture(scope="module")

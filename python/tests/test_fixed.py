@@ -9,9 +9,10 @@ from decimal import Decimal
 import numpy as np
 import pandas as pd
 import pytest
-from conftest import PROJECT, rows
+from conftest import rows
+from helpers.constraints import FIXED_SECTION, ores_and_fixed, with_section
+from helpers.shells import BOX, CLOSED, SMALL, best_by_trying, grades, project_of
 from hypothesis import given, strategies as st
-from test_shells import BOX, CLOSED, SMALL, best_by_trying, grades, project_of
 
 import pitplan
 from pitplan import Plan, constraints, load
@@ -21,10 +22,6 @@ from pitplan.core.progress import Progress, silent
 from pitplan.errors import PlanError
 from pitplan.results.folder import read_record
 from pitplan.solver import mine_files, problem, program
-
-
-def with_section(text):
-    return PROJECT + "\n" + text
 
 
 def lines_of(path, table, text, tmp_path):
@@ -282,21 +279,6 @@ def test_shells_with_fixed_blocks_are_the_best_of_all_closed_sets_that_keep_to_t
         assert solution.worth[factor] == worth
         inside = (solution.entry > 0) & (solution.entry <= factor)
         assert set(np.flatnonzero(inside[:9])) == pit and solution.nodes[factor] == inside.sum()
-
-
-def ores_and_fixed():
-    """Two ores at the floor of seven columns, of which the poorer comes in late; the last column must be dug, the first may not be."""
-    return rows(
-        7,
-        1,
-        2,
-        cu=lambda i, j, k: {(2, 0): 6, (5, 0): 0.5}.get((i, k), 0),
-        must=lambda i, j, k: int(i == 6),
-        never=lambda i, j, k: int(i == 0),
-    )
-
-
-FIXED_SECTION = '[constraints]\nmust_mine = "must"\nexclude = "never"\n'
 
 
 def test_shells_keep_to_fixed_blocks_and_are_compared_with_the_pit_of_the_program(plan_folder, capsys):

@@ -6,11 +6,12 @@ import numpy as np
 import pandas as pd
 import pytest
 from conftest import rows
-from hypothesis import given, settings, strategies as st
+from helpers.benches import benches_of, demand_diggable, problem_of
+from helpers.programmes import limits
+from helpers.pushbacks import UPRIGHT, with_pushbacks
+from helpers.random_tests import examples
+from hypothesis import given, strategies as st
 from scipy.optimize import linprog
-from test_linear_programme import limits
-from test_pushbacks import UPRIGHT, with_pushbacks
-from test_sequencing import benches_of, demand_diggable, problem_of
 
 import pitplan
 from pitplan import PlanError, load
@@ -184,7 +185,7 @@ def bound_of(problem):
     return -answer.fun
 
 
-@settings(max_examples=25)
+@examples(25)
 @given(mines, limits, st.integers(0, 1), st.sampled_from([None, 0.0, 0.5]))
 def test_the_bound_and_what_is_made_of_it(pits, limits, lag, cost):
     benches, parcels = mine_of(pits, lag)

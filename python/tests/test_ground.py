@@ -7,7 +7,7 @@ from dataclasses import replace
 import numpy as np
 import pandas as pd
 import pytest
-from test_surfaces import triangles_of, volume_of
+from helpers.surfaces import triangles_of, volume_of
 
 import pitplan
 from pitplan import PlanError

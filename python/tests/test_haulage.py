@@ -7,7 +7,7 @@ import numpy as np
 import pandas as pd
 import pytest
 from conftest import PROJECT, rows
-from test_turned import turned
+from helpers.turned import turned
 
 import pitplan
 from pitplan import PlanError, verification

@@ -8,12 +8,12 @@ import numpy as np
 import pandas as pd
 import pytest
 from conftest import rows
-from hypothesis import given, settings, strategies as st
+from helpers.benches import THREE, benches_of, demand_diggable, problem_of, random_benches
+from helpers.programmes import integer_optimum, limits, small
+from helpers.pushbacks import PUSHBACKS, pillars, with_pushbacks
+from helpers.random_tests import examples
+from hypothesis import given, strategies as st
 from scipy.sparse import csr_matrix
-from test_linear_programme import integer_optimum, limits, small
-from test_pushbacks import pillars, with_pushbacks
-from test_sequencing import THREE, benches_of, demand_diggable, problem_of, random_benches
-from test_yearly_schedule import PUSHBACKS
 
 import pitplan
 from pitplan import PlanError, load
@@ -33,7 +33,7 @@ def in_this_process():
         yield
 
 
-@settings(max_examples=25)
+@examples(25)
 @given(small, limits, st.integers(0, 1))
 def test_it_is_the_best_schedule_of_all(in_this_process, pit, limits, lag):
     """Made of the programme's own unknowns, without the help of orders."""

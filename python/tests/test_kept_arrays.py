@@ -6,7 +6,7 @@ import random
 import numpy as np
 import pytest
 from conftest import PROJECT
-from test_scenarios import COLUMNS, UPRIGHT, pillar, prepared, solved_in_turn
+from helpers.scenarios import COLUMNS, UPRIGHT, pillar, prepared, solved_in_turn
 
 from pitplan import PlanError, load
 from pitplan.core import keyed_arrays

@@ -26,6 +26,7 @@ LAYERS = (
 )
 PACKAGE = ROOT / "python" / "pitplan"
 MODULES = sorted(PACKAGE.rglob("*.py"))
+TESTS = ROOT / "python" / "tests"
 MOST_LINES = 400
 
 
@@ -42,6 +43,14 @@ def imported(module: Path) -> set[str]:
             found |= {tuple(alias.name.split(".")) for alias in node.names}
     layers = {(path[1] if path[1] in LAYERS else path[0]) for path in found if path[0] == "pitplan" and len(path) > 1}
     return layers | {path[0] for path in found if path == ("pitplan",)}
+
+
+def modules_of(text: str) -> set[str]:
+    """The first names of all modules that a text imports."""
+    nodes = [*ast.walk(ast.parse(text))]
+    found = {node.module for node in nodes if isinstance(node, ast.ImportFrom) and node.module and not node.level}
+    found |= {alias.name for node in nodes if isinstance(node, ast.Import) for alias in node.names}
+    return {name.partition(".")[0] for name in found}
 
 
 def layer_of(module: Path) -> str:
@@ -81,3 +90,9 @@ def test_every_module_has_a_layer():
 def test_no_module_is_long():
     long = {str(it.relative_to(PACKAGE)): len(it.read_text().splitlines()) for it in MODULES}
     assert {name: lines for name, lines in long.items() if lines > MOST_LINES} == {}
+
+
+@pytest.mark.parametrize("module", sorted(TESTS.rglob("*.py")), ids=lambda it: str(it.relative_to(TESTS)))
+def test_tests_share_helpers_and_no_module_of_tests(module):
+    """What two modules of tests need lies in tests/helpers, so that each can be moved and run by itself."""
+    assert not {name for name in modules_of(module.read_text(encoding="utf-8")) if name.startswith("test_")}

@@ -4,8 +4,7 @@ import numpy as np
 import pandas as pd
 import pytest
 from conftest import PROJECT
-from test_pushback_widths import RICH, floor, square
-from test_pushbacks import UPRIGHT, pillars, with_pushbacks
+from helpers.pushbacks import RICH, UPRIGHT, floor, pillars, square, with_pushbacks
 
 import pitplan
 from pitplan import PlanError

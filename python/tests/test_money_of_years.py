@@ -8,9 +8,10 @@ import numpy as np
 import pandas as pd
 import pytest
 from conftest import PROJECT, rows
-from hypothesis import given, settings, strategies as st
-from test_linear_programme import limits, small
-from test_sequencing import problem_of, random_benches
+from helpers.benches import problem_of, random_benches
+from helpers.programmes import limits, small
+from helpers.random_tests import examples
+from hypothesis import given, strategies as st
 
 import pitplan
 from pitplan import PlanError, write_schedule
@@ -201,7 +202,7 @@ def padded(pair):
     )
 
 
-@settings(max_examples=25)
+@examples(25)
 @given(
     small,
     limits,

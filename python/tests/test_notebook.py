@@ -10,9 +10,9 @@ from decimal import Decimal
 import pandas as pd
 import pytest
 from conftest import ROOT
+from helpers.constraints import FIXED_SECTION, ores_and_fixed, with_section
+from helpers.scenarios import COLUMNS, PRICES, UPRIGHT, pillar
 from matplotlib.figure import Figure
-from test_fixed import FIXED_SECTION, ores_and_fixed, with_section
-from test_scenarios import COLUMNS, PRICES, UPRIGHT, pillar
 
 import pitplan
 from pitplan import PlanError, Request

@@ -6,6 +6,7 @@ import numpy as np
 import pandas as pd
 import pytest
 from conftest import PROJECT, rows
+from helpers.processes import WITH
 from hypothesis import given, strategies as st
 
 import pitplan
@@ -15,26 +16,6 @@ from pitplan.economics.process_routing import Way, best_way, steps_of
 from pitplan.pits import shell_tables
 from pitplan.solver import mine_files
 from pitplan.verification import verify
-
-LEACH_AND_MILL = """
-[[processes]]
-name = "leach"
-cost = 3
-recovery = { copper = 0.4 }
-capacity = 300
-[[processes]]
-name = "mill"
-cost = 13
-recovery = { copper = { R = 0.9, S = 0.65 } }
-capacity = 100
-[slopes]
-"""
-WITH = [
-    ("processing_cost = 10\n", ""),
-    ("recovery = 0.5\n", ""),
-    ("processing_capacity = 100\n", ""),
-    ("[slopes]\n", LEACH_AND_MILL),
-]
 
 
 def ways_of(*lines):

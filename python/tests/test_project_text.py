@@ -8,7 +8,7 @@ from pathlib import Path
 import numpy as np
 import pytest
 from conftest import PROJECT, ROOT
-from test_features_together import haulage, pick, project_of
+from helpers.random_projects import haulage, pick, project_of
 
 from pitplan import PlanError, load
 from pitplan.config import project_writer

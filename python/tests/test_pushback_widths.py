@@ -6,8 +6,9 @@ import numpy as np
 import pandas as pd
 import pytest
 from conftest import PROJECT, rows
-from hypothesis import given, settings, strategies as st
-from test_pushbacks import UPRIGHT, blocks_of, with_pushbacks, wrong
+from helpers.pushbacks import POOR, RICH, UPRIGHT, blocks_of, floor, square, with_pushbacks, wrong
+from helpers.random_tests import examples
+from hypothesis import given, strategies as st
 
 import pitplan
 from pitplan import Plan, PlanError, load
@@ -18,18 +19,6 @@ from pitplan.slopes import closure
 from pitplan.verification.pushback_widths import blocks_across, cells_in
 
 pytestmark = pytest.mark.usefixtures("without_figures")
-RICH, POOR = 2, 0.4
-
-
-def floor(*cells, columns=9, rows_=7, grade=RICH, **more):
-    """Waste over a floor with ore at some cells, of which a rich one gains 8000 - 1000 - 200 and a poor one 1600 - 1000 - 200. Each block
-    of waste costs 200. The walls need the block straight above and its four neighbours."""
-    grades = dict.fromkeys(cells, grade) if not isinstance(cells[0], dict) else cells[0]
-    return rows(columns, rows_, 2, cu=lambda i, j, k: 0 if k else grades.get((i, j), 0), **more)
-
-
-def square(west, south, side):
-    return {(west + i, south + j) for i in range(side) for j in range(side)}
 
 
 def pushed(plan_folder, table, words, text=PROJECT):
@@ -196,7 +185,7 @@ def random_plan(seed, plan_text):
     return plan, pushback
 
 
-@settings(max_examples=30)
+@examples(30)
 @given(st.integers(0, 10**6), st.sampled_from([(20, None), (30, None), (None, 20), (20, 30), (30, 20)]))
 def test_random_pushbacks_are_wide_closed_and_nested(tmp_path_factory, seed, asked):
     place = tmp_path_factory.mktemp("random")

@@ -6,7 +6,9 @@ import numpy as np
 import pandas as pd
 import pytest
 from conftest import PROJECT, rows
-from hypothesis import given, settings, strategies as st
+from helpers.pushbacks import GRADES, UPRIGHT, blocks_of, pillars, with_pushbacks, wrong
+from helpers.random_tests import examples
+from hypothesis import given, strategies as st
 
 import pitplan
 from pitplan import PlanError, load
@@ -14,27 +16,8 @@ from pitplan.cli import main
 from pitplan.config.pushbacks import PushbackRules
 from pitplan.pushbacks import nested
 from pitplan.results.folder import read_record
-from pitplan.verification import verify
 
 pytestmark = pytest.mark.usefixtures("without_figures")
-UPRIGHT = PROJECT.replace('pattern = "1:5"', "angle = 90").replace(
-    "precedence_benches = 3\n", "precedence_benches = 1\n"
-)
-GRADES = [1, 0.7, 0.5]
-
-
-def pillars(**more):
-    """Three pillars of waste over ore. At a factor f the ore of grade g pays for itself and the waste, 1000 + 2 x 200, where f x 4 g is
-    more: from 0.351, 0.501 and 0.701 on."""
-    return rows(3, 1, 2, cu=lambda i, j, k: 0 if k else GRADES[i], **more)
-
-
-def with_pushbacks(words, text=UPRIGHT):
-    return text + f"\n[pushbacks]\n{words}\n"
-
-
-def blocks_of(folder):
-    return pd.read_csv(folder / "tables/blocks.csv").set_index("name")
 
 
 def test_three_shells_of_like_tonnage_are_three_pushbacks(plan_folder):
@@ -243,7 +226,7 @@ def random_table(seed):
     return table
 
 
-@settings(max_examples=10)
+@examples(10)
 @given(st.integers(0, 10**6))
 def test_pushbacks_of_random_mines_are_closed_nested_and_even(tmp_path_factory, seed):
     place = tmp_path_factory.mktemp("random")
@@ -283,10 +266,6 @@ def divided(without_figures, tmp_path_factory):
 @pytest.fixture
 def copied(divided, tmp_path):
     return shutil.copytree(divided, tmp_path / "mine") / "plan" / "pushbacks"
-
-
-def wrong(folder):
-    return {rule.name: rule for rule in verify(folder) if rule.differences}
 
 
 def test_what_is_right_passes(copied, capsys):

@@ -8,7 +8,8 @@ import numpy as np
 import pandas as pd
 import pytest
 from conftest import PROJECT, rows
-from hypothesis import HealthCheck, given, settings, strategies as st
+from helpers.random_tests import examples
+from hypothesis import HealthCheck, given, strategies as st
 
 import pitplan
 from pitplan import PlanError, load
@@ -24,7 +25,7 @@ from pitplan.verification.put_together import mean_grades
 from pitplan.verification.scenarios import verify
 
 pytestmark = pytest.mark.usefixtures("without_figures")
-SOME = settings(max_examples=12, suppress_health_check=[HealthCheck.function_scoped_fixture])
+SOME = examples(12, suppress_health_check=[HealthCheck.function_scoped_fixture])
 COLUMNS = '[scenarios]\ncolumns = { copper = "cu_*" }\n'
 SETS = COLUMNS + "[[scenarios.prices]]\ncopper = 4000\n[[scenarios.prices]]\ncopper = 11_000\ngold = 80\n"
 MODELS = '[scenarios]\nrealisations = "realisations"\n'

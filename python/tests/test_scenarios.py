@@ -12,40 +12,20 @@ import numpy as np
 import pandas as pd
 import pytest
 from conftest import PROJECT, rows
-from hypothesis import given, settings, strategies as st
-from test_shells import BOX, CLOSED, best_by_trying
+from helpers.random_tests import examples
+from helpers.scenarios import COLUMNS, MODELS, PRICES, UPRIGHT, hill, pillar, prepared, solved_in_turn, write_models
+from helpers.shells import BOX, CLOSED, best_by_trying
+from hypothesis import given, strategies as st
 
 import pitplan
 from pitplan import MissingPackage, PlanError, ProgramError, Request, load
 from pitplan.cli import main
 from pitplan.cli.parser import parser
 from pitplan.commands import scenario_files
-from pitplan.core.progress import Progress, silent
+from pitplan.core.progress import Progress
 from pitplan.figures import scenarios
 from pitplan.studies import dask_pool
-from pitplan.studies.scenarios import batch_scripts, pit_probability, prepare, store, worker
-
-UPRIGHT = ('pattern = "1:5"', "angle = 90")
-COLUMNS = PROJECT + '[scenarios]\ncolumns = { copper = "sim_*" }\n'
-PRICES = COLUMNS + "[[scenarios.prices]]\ncopper = 8000\n[[scenarios.prices]]\ncopper = 12_000\n"
-MODELS = PROJECT + '[scenarios]\nrealisations = "realisations"\n'
-
-
-def pillar():
-    """Three blocks above each other; at the floor three models of copper: 1.5 %, 0.4 % and none."""
-    table = rows(1, 1, 3).drop(columns="cu")
-    return table.assign(sim_1=[1.5, 0, 0], sim_2=[0.4, 0, 0], sim_3=[0.0, 0, 0])
-
-
-def prepared(path):
-    project = load(path)
-    return prepare.prepare(project, project.folder, silent)
-
-
-def solved_in_turn(shared):
-    outcomes = [worker.solve(str(shared.folder), scenario.number) for scenario in shared.missing()]
-    assert [outcome.status for outcome in outcomes] == [0] * len(outcomes)
-    return pit_probability.gather(shared)
+from pitplan.studies.scenarios import batch_scripts, pit_probability, store, worker
 
 
 def test_probabilities_by_hand(plan_folder):
@@ -101,7 +81,7 @@ def values_by_hand(grades, price, selling, factor, fixed):
     return [(gain if ore else Decimal(0)) - 200 for gain, ore in zip(gains, is_ore)]
 
 
-@settings(max_examples=10)
+@examples(10)
 @given(boxes, boxes, moneys)
 def test_every_scenario_is_the_best_of_all_closed_sets(tmp_path_factory, one, other, money):
     """The needs are written once for all, whatever the grades, the prices, the selling cost and the cut-off."""
@@ -126,18 +106,6 @@ def test_every_scenario_is_the_best_of_all_closed_sets(tmp_path_factory, one, ot
             worth, pit = best_by_trying(CLOSED, values)
             assert set(np.flatnonzero((entry > 0) & (entry <= number))) == pit
             assert Decimal(answer["value_at_revenue_factor"][number - 1]) == worth
-
-
-def write_models(path, **models):
-    (path.parent / "realisations").mkdir(exist_ok=True)
-    for name, frame in models.items():
-        frame.to_csv(path.parent / "realisations" / f"{name}.csv", index=False)
-
-
-def hill():
-    """A model of a hill of 3 x 2 x 2 blocks, a grade of its own at each."""
-    table = rows(3, 2, 2).drop(columns="cu")
-    return table, table[["name", "x", "y", "z"]].assign(cu=np.arange(12) / 10)
 
 
 def test_models_of_a_folder_may_have_their_rows_in_any_order(plan_folder):

@@ -9,8 +9,8 @@ import matplotlib
 import numpy as np
 import pandas as pd
 import pytest
+from helpers.benches import THREE, benches_of, problem_of
 from matplotlib.figure import Figure
-from test_sequencing import THREE, benches_of, problem_of
 
 from pitplan import PlanError
 from pitplan.config.project import Metal

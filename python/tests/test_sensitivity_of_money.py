@@ -6,7 +6,7 @@ from decimal import Decimal
 import pandas as pd
 import pytest
 from conftest import PROJECT, rows
-from test_processes import WITH
+from helpers.processes import WITH
 
 import pitplan
 from pitplan import PlanError, load

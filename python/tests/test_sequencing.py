@@ -1,31 +1,13 @@
 """Benches of pushbacks, which of them wait for which, and schedules by rule, against cases worked by hand and a walk of the tests' own."""
 
-from types import SimpleNamespace
 
 import numpy as np
 import pytest
+from helpers.benches import THREE, benches_of, demand_diggable, pits, problem_of, random_benches
 from hypothesis import given, strategies as st
 
 from pitplan import PlanError
-from pitplan.pushbacks.bench_table import PushbackBenches
-from pitplan.scheduling.bench_milp import TOLERATED
-from pitplan.scheduling.bench_sequencing import Limits, Problem, Sequence, by_lead, by_rule, dig, leads
-
-NAMES = ("total_tonnes", "feed_tonnes", "recovered_copper", "cash_flow")
-
-
-def problem_of(benches, limits, rate=0.1, discounting="end_of_year"):
-    return Problem(benches, limits, SimpleNamespace(discount_rate=rate, discounting=discounting))
-
-
-def benches_of(*benches, lag=0):
-    """Of (pushback, level, rock, ore, cash): each tonne of ore yields a hundredth of copper."""
-    pushback, level, rock, ore, cash = (np.array(column) for column in zip(*benches))
-    return PushbackBenches(pushback, level, NAMES, np.column_stack([rock, ore, ore / 100, cash]).astype(float), lag)
-
-
-# A pit of two pushbacks: waste over ore, and beside it ore alone.
-THREE = [(1, 0, 100, 0, -200), (1, 1, 100, 100, 1000), (2, 0, 100, 100, 500)]
+from pitplan.scheduling.bench_sequencing import Limits, Sequence, by_lead, by_rule, dig, leads
 
 
 def shares_of(rows):
@@ -113,8 +95,6 @@ def test_limits_that_take_a_thousand_years_are_refused():
         dig(problem_of(benches_of(*THREE), Limits({"feed_tonnes": 0.01})), by_lead(benches_of(*THREE), 0))
 
 
-amounts = st.tuples(st.sampled_from([10, 50, 100]), st.sampled_from([0, 0.3, 1]), st.integers(-300, 900))
-pits = st.lists(st.tuples(st.integers(0, 2), st.lists(amounts, min_size=1, max_size=5)), min_size=1, max_size=4)
 limits = st.builds(
     lambda ore, rock, sinking, ramp_up: Limits({"feed_tonnes": ore, "total_tonnes": rock}, ramp_up, sinking),
     st.sampled_from([40.0, 110.0]),
@@ -122,40 +102,6 @@ limits = st.builds(
     st.sampled_from([0.7, 1.5, np.inf]),
     st.sampled_from([(1.0,), (0.0, 0.5, 1.0)]),
 )
-
-
-def random_benches(pit, lag):
-    rows = []
-    for pushback, (top, benches) in enumerate(pit, 1):
-        rows += [(pushback, top + k, rock, rock * share, cash) for k, (rock, share, cash) in enumerate(benches)]
-    return benches_of(*rows, lag=lag)
-
-
-def demand_diggable(benches, limits, shares):
-    """Each bench once, within the limits to the tolerance of `bench_milp`, and begun in no year by whose end what it waits for is not
-    through."""
-    done = shares.cumsum(axis=1)
-    assert (shares >= 0).all() and (done <= 1 + 1e-9).all()
-    for year in range(shares.shape[1]):
-        ramp = limits.ramp_up[min(year, len(limits.ramp_up) - 1)]
-        for name, most in limits.most.items():
-            allowed = most * (ramp if name == "feed_tonnes" else 1)
-            assert benches.of(name) @ shares[:, year] <= allowed * (1 + TOLERATED) + 1e-9
-        for pushback in set(benches.pushback.tolist()):
-            assert (
-                shares[benches.pushback == pushback, year].sum()
-                <= limits.vertical_advance_rate * (1 + TOLERATED) + 1e-9
-            )
-        for bench in np.flatnonzero(shares[:, year]):
-            for other in range(len(benches)):
-                above = (
-                    benches.pushback[other] == benches.pushback[bench] and benches.level[other] < benches.level[bench]
-                )
-                earlier = (
-                    benches.pushback[other] < benches.pushback[bench]
-                    and benches.level[other] <= benches.level[bench] + benches.lag
-                )
-                assert not (above or earlier) or done[other, year] > 1 - 1e-9
 
 
 @given(pits, limits, st.integers(0, 2), st.booleans())

@@ -2,94 +2,21 @@
 
 import json
 
-import ezdxf
 import numpy as np
 import pandas as pd
 import pytest
 from conftest import PROJECT, rows
 from ezdxf.render import MeshBuilder
-from osgeo import gdal, ogr, osr
-from test_verify import looked_at
+from helpers.surveys import AREA, HOLED, LEASE, SURFACE, areas, drawing, gis, layer, read, tiff
+from helpers.verified import looked_at
+from osgeo import gdal, ogr
 
 import pitplan
 from pitplan import Plan, PlanError, constraints, load
 from pitplan.blockmodel import tin as terrain
-from pitplan.config.survey import SurveyFile
-from pitplan.survey import readers
 
 gdal.UseExceptions()
 ogr.UseExceptions()
-# Least and greatest x and y of what a raster is read for.
-AROUND = (0.0, 60.0, 0.0, 40.0)
-
-
-def drawing(path, *shapes, units=6):
-    """A drawing of what each of the functions adds to its model space."""
-    made = ezdxf.new("R2010")
-    made.header["$INSUNITS"] = units
-    for shape in shapes:
-        shape(made.modelspace())
-    made.saveas(path)
-    return path
-
-
-def layer(name, **more):
-    return {"dxfattribs": {"layer": name, **more}}
-
-
-def gis(path, driver, layers, epsg=None):
-    """A map of layers by name, each a list of geometries as well-known text with a value of the field ELEV."""
-    system = None
-    if epsg:
-        system = osr.SpatialReference()
-        system.ImportFromEPSG(epsg)
-    source = ogr.GetDriverByName(driver).CreateDataSource(str(path))
-    for name, geometries in layers.items():
-        # A shapefile is of one kind, which its first geometry tells.
-        kind = (
-            ogr.CreateGeometryFromWkt(geometries[0][0]).GetGeometryType()
-            if driver == "ESRI Shapefile"
-            else ogr.wkbUnknown
-        )
-        made = source.CreateLayer(name, system, kind)
-        made.CreateField(ogr.FieldDefn("ELEV", ogr.OFTReal))
-        for text, value in geometries:
-            feature = ogr.Feature(made.GetLayerDefn())
-            feature.SetGeometry(ogr.CreateGeometryFromWkt(text))
-            if value is not None:
-                feature.SetField("ELEV", value)
-            made.CreateFeature(feature)
-        del made
-    del source
-    return path
-
-
-def tiff(path, heights, place, epsg=None, nothing=None, unit=None, bands=1):
-    """A raster of heights by rows from its upper edge."""
-    heights = np.asarray(heights, dtype=float)
-    made = gdal.GetDriverByName("GTiff").Create(str(path), heights.shape[1], heights.shape[0], bands, gdal.GDT_Float64)
-    if place is not None:
-        made.SetGeoTransform(place)
-    if epsg:
-        system = osr.SpatialReference()
-        system.ImportFromEPSG(epsg)
-        made.SetProjection(system.ExportToWkt())
-    band = made.GetRasterBand(1)
-    band.WriteArray(heights)
-    if nothing is not None:
-        band.SetNoDataValue(nothing)
-    if unit:
-        band.SetUnitType(unit)
-    made = None
-    return path
-
-
-def read(path, *layers, height=None):
-    return readers.topography(SurveyFile(path, layers, height), AROUND)
-
-
-def areas(path, *layers):
-    return readers.areas(SurveyFile(path, layers))
 
 
 PLANE = [(x, y, 21 - 0.4 * x + 0.3 * y) for x in (-17, 91) for y in (-23, 64)]
@@ -127,9 +54,6 @@ def plane_by_polylines(space):
 def plane_by_lines(space):
     for one, other in (PLANE[:2], PLANE[2:]):
         space.add_line(one, other, **layer("TOPO"))
-
-
-SURFACE = '\n[constraints]\ntopography = "blocks"\nas_mined = '
 
 
 @pytest.mark.parametrize(
@@ -400,10 +324,6 @@ def test_heights_over_triangles_at_random(tmp_path):
     assert np.isinf(found).any() and np.isfinite(found).any()
 
 
-LEASE = [(-1, -1), (31, -1), (31, 11), (-1, 11)]
-AREA = "\n[[constraints.areas]]\npolygon = "
-
-
 def closed_lease(space):
     space.add_lwpolyline(LEASE, close=True, **layer("LEASE"))
 
@@ -480,9 +400,6 @@ def test_lines_that_are_not_closed(tmp_path):
     found = areas(drawing(tmp_path / "both.dxf", open_line, closed_lease))
     assert len(found.polygons) == 1
     assert "both.dxf: 1 open lines of the layer LEASE are ignored: close them" in found.notes[-1]
-
-
-HOLED = "POLYGON ((-1 -1,41 -1,41 31,-1 31,-1 -1),(9 9,21 9,21 21,9 21,9 9))"
 
 
 @pytest.mark.parametrize("driver, ending", [("GPKG", "gpkg"), ("ESRI Shapefile", "shp"), ("GeoJSON", "geojson")])

@@ -5,7 +5,7 @@ import sys
 
 import pytest
 from conftest import PROJECT, rows
-from test_survey_files import AREA, HOLED, LEASE, SURFACE, areas, drawing, gis, layer, read, tiff
+from helpers.surveys import AREA, HOLED, LEASE, SURFACE, areas, drawing, gis, layer, read, tiff
 
 from pitplan import MissingPackage, Plan, PlanError, load
 

@@ -4,11 +4,11 @@ import numpy as np
 import pandas as pd
 import pytest
 from conftest import PROJECT, rows
+from helpers.surveys import drawing, layer, tiff
+from helpers.turned import turned
+from helpers.verified import looked_at
 from hypothesis import given, strategies as st
 from scipy.interpolate import LinearNDInterpolator
-from test_survey_files import drawing, layer, tiff
-from test_turned import turned
-from test_verify import looked_at
 
 import pitplan
 from pitplan import PlanError

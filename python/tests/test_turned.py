@@ -10,6 +10,7 @@ import numpy as np
 import pandas as pd
 import pytest
 from conftest import PROJECT, rows
+from helpers.turned import turned
 from matplotlib.figure import Figure
 
 import pitplan
@@ -26,14 +27,6 @@ NO_SIZE = ("[grid]\nsize = [10, 10, 10]\n", "")
 ORE = {(6, 5, 1): 2.4, (2, 8, 2): 3.0, (10, 2, 2): 2.5, (1, 1, 3): 0.5}
 # Uneven walls: turned the wrong way, or not at all, other blocks are dug.
 WALLS = [(0, 60), (90, 35), (180, 50), (290, 40)]
-
-
-def turned(table, degrees, decimals=3):
-    """Clockwise about 600,000, 6,500,000: what lay in the east lies to azimuth 90 and so many degrees."""
-    turn = np.radians(degrees)
-    x = 600_000 + table["x"] * np.cos(turn) + table["y"] * np.sin(turn)
-    y = 6_500_000 + table["y"] * np.cos(turn) - table["x"] * np.sin(turn)
-    return table.assign(x=x.round(decimals), y=y.round(decimals))
 
 
 def walls_at(degrees):

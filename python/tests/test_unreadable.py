@@ -7,7 +7,7 @@ import zipfile
 import numpy as np
 import pytest
 from conftest import PROJECT, rows
-from test_survey_files import AROUND, HOLED, gis, tiff
+from helpers.surveys import AROUND, HOLED, gis, tiff
 
 import pitplan
 from pitplan import PlanError

@@ -9,54 +9,25 @@ import numpy as np
 import pandas as pd
 import pytest
 from conftest import PROJECT, rows
-from hypothesis import HealthCheck, given, settings, strategies as st
+from helpers.random_tests import examples
+from helpers.verified import TEXT, deposit, looked_at, ore_everywhere, wrong
+from hypothesis import HealthCheck, given, strategies as st
 
 import pitplan
 from pitplan import Plan, PlanError, constraints, load
 from pitplan.blockmodel import missing_blocks, reader
 from pitplan.cli import main
-from pitplan.commands.answers import Answered, write_tables
 from pitplan.config.slopes import Wall
-from pitplan.core.layout import FOLDERS, SOLVER
 from pitplan.economics import block_values
 from pitplan.pits import best_worst_case
 from pitplan.results.folder import read_record
 from pitplan.slopes import slope_patterns
-from pitplan.solver import mine_files
 from pitplan.verification import demand, sums, verify
 from pitplan.verification.answer import read
 from pitplan.verification.money import sample
 from pitplan.verification.read_tables import read_blocks
 from pitplan.verification.rules import rule
 from pitplan.verification.walls import flatness, high_walls
-
-TEXT = (
-    PROJECT.replace(
-        "mining_cost = 2\n", "mining_cost = { R = 2, S = 2.5 }\nmining_cost_per_bench = 0.25\ndecimals = 2\n"
-    )
-    .replace(
-        "[slopes]\n",
-        '[[metals]]\nname = "gold"\ncolumn = "au"\nunit = "gram_per_tonne"\nprice = 60\nselling_cost = 1.5\nrecovery = { R = 0.9, S = 0.4 }\n[slopes]\n',
-    )
-    .replace("processing_capacity = 100", "processing_capacity = 150\nmining_capacity = 1000")
-    + '\n[constraints]\nmust_mine = "must"\nexclude = "never"\n'
-)
-
-
-def deposit():
-    """Ore below a hill, with blocks that must be dug and blocks that may not be."""
-    table = rows(
-        11,
-        9,
-        5,
-        tonnes=lambda i, j, k: 99.7 + 0.01 * i,
-        cu=lambda i, j, k: {(5, 4, 1): 6, (6, 4, 1): 0.9, (4, 6, 2): 0.41, (5, 4, 2): 0.2}.get((i, j, k), 0),
-        au=lambda i, j, k: 0.7 if (j, k) == (4, 1) else 0,
-        rock=lambda i, j, k: "RS"[(i + j) % 2],
-        must=lambda i, j, k: int((i, j, k) == (2, 1, 4)),
-        never=lambda i, j, k: int(i == 10),
-    )
-    return table[(table["z"] < 40) | (table["x"] < 70)]
 
 
 @pytest.fixture(scope="module")
@@ -73,10 +44,6 @@ def answered(tmp_path_factory):
 def copied(answered, tmp_path):
     """The folder of the answer in a place of the test's own."""
     return shutil.copytree(answered[0], tmp_path / "mine") / "plan"
-
-
-def wrong(folder):
-    return {rule.name for rule in verify(folder) if rule.differences}
 
 
 def test_what_is_right_is_told_rule_by_rule(answered, copied, capsys):
@@ -387,18 +354,6 @@ def test_a_run_reads_its_table_once_and_a_later_look_reads_it_again(plan_folder,
     assert wrong(path.parent / "plan") == {"blocks", "money", "shells", "years"}
 
 
-def looked_at(plan):
-    """What is said of the plan's numbers, without pictures and report."""
-    folder = plan.project.folder
-    for name in FOLDERS:
-        (folder / name).mkdir(parents=True, exist_ok=True)
-    record = plan.record(mine_files.write(plan, folder / SOLVER))
-    write_tables(Answered(plan, plan.shells().solution), folder)
-    record["shells"] = {"revenue_factors": list(plan.project.shells.revenue_factors)}
-    (folder / "plan.json").write_text(json.dumps(record))
-    return verify(folder, plan.project)
-
-
 def two_regions():
     """Ore at the floor, in rock that stands at 35 degrees, under rock that stands at 65."""
     return rows(
@@ -569,12 +524,6 @@ def test_fixed_blocks_that_are_passed_over_are_found(plan_folder, monkeypatch):
     assert "fixed: block b2-1-4 is must-mine" in refused(plan_folder)
 
 
-def ore_everywhere():
-    """Forty-two blocks on two levels, all of which pay, at coordinates of seven digits."""
-    table = rows(7, 3, 2, cu=lambda i, j, k: 6)
-    return table.assign(x=table["x"] + 600_000, y=table["y"] + 6_512_000)
-
-
 AREA = '[[constraints.areas]]\npolygon = "map.csv"\nexclude = '
 
 
@@ -642,7 +591,7 @@ def test_a_shell_of_other_blocks_is_found(plan_folder, monkeypatch):
     assert "walls: " in refused(plan_folder, None, TEXT, ('[constraints]\nmust_mine = "must"\nexclude = "never"\n', ""))
 
 
-@settings(max_examples=12, suppress_health_check=[HealthCheck.function_scoped_fixture])
+@examples(12, suppress_health_check=[HealthCheck.function_scoped_fixture])
 @given(
     st.integers(0, 10**6),
     st.sampled_from(["per_revenue_factor", "base_price"]),

@@ -8,10 +8,10 @@ import numpy as np
 import pandas as pd
 import pytest
 from conftest import PROJECT
-from test_block_scenarios import TWO_YEARS, pillars, prepared, solved_in_turn
-from test_features_together import pick, project_of, table_of
-from test_verify import TEXT
-from test_verify_scenarios import SETS, answer_of, bend, simulated
+from helpers.block_scenarios import TWO_YEARS, pillars, prepared, solved_in_turn
+from helpers.random_projects import pick, project_of, table_of
+from helpers.verified import TEXT
+from helpers.verified_scenarios import SETS, answer_of, bend, simulated
 
 from pitplan import PlanError, gather
 from pitplan.cli import main

@@ -10,10 +10,10 @@ import numpy as np
 import pandas as pd
 import pytest
 from conftest import PROJECT
-from test_absent import ROCK, deposit
-from test_fixed import FIXED_SECTION, ores_and_fixed, with_section
-from test_scenarios import COLUMNS, UPRIGHT, pillar, prepared, solved_in_turn
-from test_verify import looked_at, ore_everywhere, wrong
+from helpers.constraints import FIXED_SECTION, ores_and_fixed, with_section
+from helpers.missing_blocks import ROCK, deposit
+from helpers.scenarios import COLUMNS, UPRIGHT, pillar, prepared, solved_in_turn
+from helpers.verified import looked_at, ore_everywhere, wrong
 
 import pitplan
 from pitplan import Plan, PlanError, constraints, load

@@ -7,9 +7,11 @@ import numpy as np
 import pandas as pd
 import pytest
 from conftest import rows
-from hypothesis import HealthCheck, given, settings, strategies as st
-from test_scenarios import COLUMNS, MODELS, PRICES, UPRIGHT, hill, pillar, prepared, solved_in_turn, write_models
-from test_verify import TEXT, deposit
+from helpers.random_tests import examples
+from helpers.scenarios import COLUMNS, MODELS, PRICES, UPRIGHT, hill, pillar, prepared, solved_in_turn, write_models
+from helpers.verified import TEXT
+from helpers.verified_scenarios import SETS, answer_of, bend, simulated
+from hypothesis import HealthCheck, given, strategies as st
 
 import pitplan
 from pitplan import PlanError, Request
@@ -17,17 +19,6 @@ from pitplan.cli import main
 from pitplan.studies.scenarios import realisations, worker
 from pitplan.verification.scenarios import Verification, verify
 from pitplan.verification.simulated import read
-
-SETS = "\n[[scenarios.prices]]\ncopper = 8000\n[[scenarios.prices]]\ncopper = 11_000.5\ngold = 45\n"
-
-
-def simulated():
-    """Three models of the copper of a hill in which gold, rocks, fixed blocks and costs by level vary."""
-    table = deposit()
-    copper = table["cu"]
-    return table.drop(columns="cu").assign(
-        cu_a=copper, cu_b=(copper * 0.3).round(3), cu_c=copper.where(copper < 1, 1.25)
-    )
 
 
 @pytest.fixture(scope="module")
@@ -50,19 +41,6 @@ def copied(gathered, tmp_path):
 
 def wrong(folder):
     return {rule.name for rule in verify(folder) if rule.differences}
-
-
-def answer_of(folder, number):
-    return (
-        folder / "done" / f"{json.loads((folder / 'scenarios.json').read_text())['scenarios'][number - 1]['key']}.npz"
-    )
-
-
-def bend(path, **changed):
-    """Writes arrays of an answer anew."""
-    with np.load(path) as answer:
-        arrays = {**answer}
-    np.savez_compressed(path, **{**arrays, **{name: change(arrays[name]) for name, change in changed.items()}})
 
 
 RULES = [
@@ -403,7 +381,7 @@ def test_answers_that_are_none_are_named(copied):
         verify(copied)
 
 
-@settings(max_examples=6, suppress_health_check=[HealthCheck.function_scoped_fixture])
+@examples(6, suppress_health_check=[HealthCheck.function_scoped_fixture])
 @given(
     st.integers(0, 10**6),
     st.sampled_from(["per_revenue_factor", "base_price"]),

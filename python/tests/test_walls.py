@@ -7,7 +7,8 @@ from pathlib import Path
 import numpy as np
 import pandas as pd
 from conftest import rows
-from hypothesis import given, settings, strategies as st
+from helpers.random_tests import examples
+from hypothesis import given, strategies as st
 
 import pitplan
 from pitplan.config.project import of_data
@@ -134,7 +135,7 @@ ENTRY = st.one_of(ANGLE, AZIMUTHS, st.sampled_from([{"pattern": "1:5"}, {"patter
 SHAPE = st.tuples(st.integers(2, 7), st.integers(1, 8), st.integers(1, 8))
 
 
-@settings(max_examples=200)
+@examples(40)
 @given(
     st.lists(ENTRY, min_size=3, max_size=3),
     st.sampled_from(["layers", "columns", "blobs", "noise"]),
@@ -157,7 +158,7 @@ def test_pairs_lead_to_all_that_the_walls_need_and_to_no_more(
     assert closures(written) == closures(needed)
 
 
-@settings(max_examples=40)
+@examples(12)
 @given(
     st.lists(ENTRY, min_size=3, max_size=3),
     st.sampled_from(["layers", "columns", "blobs"]),

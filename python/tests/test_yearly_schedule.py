@@ -8,7 +8,7 @@ import signal
 import pandas as pd
 import pytest
 from conftest import PROJECT, rows
-from test_pushbacks import UPRIGHT, pillars, with_pushbacks
+from helpers.pushbacks import PUSHBACKS, UPRIGHT, pillars, with_pushbacks
 
 import pitplan
 from pitplan import PlanError, load
@@ -18,13 +18,6 @@ from pitplan.scheduling import pushback_schedule
 from pitplan.verification import verify
 
 pytestmark = pytest.mark.usefixtures("without_figures")
-# Three pillars of waste over ore; the mill takes the ore of one a year, and the shovels a pillar.
-PUSHBACKS = with_pushbacks(
-    "count = 3",
-    UPRIGHT.replace(
-        "processing_capacity = 100", 'processing_capacity = 100\nmining_capacity = 200\ndiscounting = "end_of_year"'
-    ),
-)
 # What each pillar is worth: 40 a per cent and tonne, less 10 for processing and 4 for mining.
 WORTHS = [2600, 1400, 600]
 

@@ -1,0 +1,46 @@
+"""Projects that are scheduled by block, and what the verification says of their folders."""
+
+import pandas as pd
+
+import pitplan
+from pitplan import load
+from pitplan.verification import verify
+
+from .processes import WITH
+from .pushbacks import UPRIGHT, pillars
+
+# The mill takes the ore of one pillar a year, and the shovels a pillar.
+YEARLY = UPRIGHT.replace(
+    "processing_capacity = 100", 'processing_capacity = 100\nmining_capacity = 200\ndiscounting = "end_of_year"'
+)
+
+
+def scheduled(plan_folder, words="", text=YEARLY, table=None):
+    project = load(plan_folder(pillars() if table is None else table, text + words))
+    return pitplan.write_block_schedule(project).iloc[0], project.folder / "block_schedule"
+
+
+def wrong(folder):
+    return {rule.name for rule in verify(folder) if rule.differences}
+
+
+def years_of(folder):
+    years = pd.read_csv(folder / "tables/years.csv")
+    return years[years["case"] == "block"]
+
+
+def with_processes():
+    """Leach earns 32 a per cent and tonne less 3, and takes 300 t a year; the mill 72 less 13, and 100 t. Shovels take 600 t a year."""
+    text = UPRIGHT.replace(
+        "discount_rate = 0.1", 'discount_rate = 0.1\nmining_capacity = 600\ndiscounting = "end_of_year"'
+    )
+    for old, new in WITH:
+        assert text.count(old) == 1
+        text = text.replace(old, new)
+    return text
+
+
+def rewrite(path, change):
+    table = pd.read_csv(path)
+    change(table)
+    table.to_csv(path, index=False)

@@ -1,0 +1,120 @@
+"""The programme of a schedule by pushback, stated a second time, and its integer optimum by scipy."""
+
+import numpy as np
+from hypothesis import strategies as st
+from scipy.optimize import Bounds, LinearConstraint, milp
+
+from pitplan.scheduling.bench_sequencing import Limits
+
+from .benches import amounts
+
+
+def statement(benches, limits, years):
+    """The same programme stated anew, by what is dug in a year: gains, rows of (coefficients, most), and the greatest cumulative share.
+
+    Unknowns are x(bench, year).
+    """
+    count = len(benches)
+    before = [
+        [
+            other
+            for other in range(count)
+            if (benches.pushback[other] == benches.pushback[bench] and benches.level[other] < benches.level[bench])
+            or (
+                benches.pushback[other] < benches.pushback[bench]
+                and benches.level[other] <= benches.level[bench] + benches.lag
+            )
+        ]
+        for bench in range(count)
+    ]
+    # A bench waits for others by those that wait in turn.
+    for bench in range(count):
+        before[bench] = sorted(set(before[bench]).union(*(before[other] for other in before[bench])))
+    gain = {
+        (bench, year): benches.of("cash_flow")[bench] / 1.1 ** (year + 1)
+        for bench in range(count)
+        for year in range(years)
+    }
+    ramp_up = [limits.ramp_up[min(year, len(limits.ramp_up) - 1)] for year in range(years)]
+    most = [
+        {name: amount * (ramp if name == "feed_tonnes" else 1) for name, amount in limits.most.items()}
+        for ramp in ramp_up
+    ]
+    rows = [({(bench, year): 1.0 for year in range(years)}, 1.0) for bench in range(count)]
+    for year in range(years):
+        rows += [
+            ({(bench, year): benches.of(name)[bench] for bench in range(count)}, most[year][name])
+            for name in limits.most
+        ]
+        for pushback in set(benches.pushback.tolist()) if np.isfinite(limits.vertical_advance_rate) else ():
+            rows.append(
+                (
+                    {(bench, year): 1.0 for bench in range(count) if benches.pushback[bench] == pushback},
+                    limits.vertical_advance_rate,
+                )
+            )
+        for bench in range(count):
+            for other in before[bench]:
+                rows.append(
+                    ({**{(bench, t): 1.0 for t in range(year + 1)}, **{(other, t): -1.0 for t in range(year + 1)}}, 0.0)
+                )
+            # By the end of the year all before it is dug, and of it what the limits leave.
+            for name in limits.most:
+                room = sum(most[t][name] for t in range(year + 1)) - sum(
+                    benches.of(name)[other] for other in before[bench]
+                )
+                own = benches.of(name)[bench]
+                rows.append(
+                    ({(bench, t): 1.0 for t in range(year + 1)}, max(0.0, room / own) if own else float(room >= 0))
+                )
+            if np.isfinite(limits.vertical_advance_rate):
+                above = sum(benches.pushback[other] == benches.pushback[bench] for other in before[bench])
+                rows.append(
+                    (
+                        {(bench, t): 1.0 for t in range(year + 1)},
+                        max(0.0, limits.vertical_advance_rate * (year + 1) - above),
+                    )
+                )
+    return gain, rows, before
+
+
+def integer_optimum(benches, limits, years):
+    """The most that a schedule earns that can be dug: whole unknowns say whether a bench may be begun."""
+    gain, rows, before = statement(benches, limits, years)
+    place = {key: number for number, key in enumerate(gain)}
+    size = len(place)
+    table, most = [], []
+    for coefficients, right in rows:
+        row = np.zeros(2 * size)
+        for key, factor in coefficients.items():
+            row[place[key]] += factor
+        table.append(row)
+        most.append(right)
+    for (bench, year), number in place.items():
+        row = np.zeros(2 * size)
+        row[number], row[size + number] = 1, -1
+        table.append(row)
+        most.append(0)
+        for other in before[bench]:
+            row = np.zeros(2 * size)
+            row[size + number] = 1
+            row[[place[other, t] for t in range(year + 1)]] = -1
+            table.append(row)
+            most.append(1e-9)
+    cost = -np.concatenate([list(gain.values()), np.zeros(size)])
+    whole = np.repeat([0, 1], size)
+    found = milp(
+        cost, integrality=whole, bounds=Bounds(0, 1), constraints=LinearConstraint(np.array(table), -np.inf, most)
+    )
+    assert found.status == 0, found.message
+    return -found.fun
+
+
+small = st.lists(st.tuples(st.integers(0, 1), st.lists(amounts, min_size=1, max_size=3)), min_size=1, max_size=2)
+limits = st.builds(
+    lambda ore, rock, sinking, ramp_up: Limits({"feed_tonnes": ore, "total_tonnes": rock}, ramp_up, sinking),
+    st.sampled_from([40.0, 110.0]),
+    st.sampled_from([70.0, 200.0, 1e6]),
+    st.sampled_from([0.7, 1.5, np.inf]),
+    st.sampled_from([(1.0,), (0.5, 1.0)]),
+)
