@@ -138,6 +138,25 @@ def without_figures():
         yield
 
 
+@pytest.fixture(scope="session", autouse=True)
+def highs_here():
+    """HiGHS solves integer programmes in the process of the tests, which takes a tenth of the time."""
+    from pitplan.scheduling import highs_process
+
+    with pytest.MonkeyPatch.context() as patch:
+        patch.setattr(highs_process, "FEW_WHOLE", highs_process.FEW)
+        yield
+
+
+@pytest.fixture
+def highs_apart(monkeypatch):
+    """HiGHS solves each programme in a process of its own, as large ones for a planner."""
+    from pitplan.scheduling import highs_process
+
+    monkeypatch.setattr(highs_process, "FEW", 0)
+    monkeypatch.setattr(highs_process, "FEW_WHOLE", 0)
+
+
 @pytest.fixture
 def with_figures(monkeypatch):
     """Commands draw figures as they do for a planner."""

@@ -227,7 +227,7 @@ def test_an_interruption_behind_the_bound_gives_the_best_so_far(monkeypatch):
     assert 0 < demand_sound(problem, found.schedule) == pytest.approx(found.value) and found.value <= whole.value
 
 
-def test_an_interruption_while_a_window_is_solved_ends_its_process(monkeypatch):
+def test_an_interruption_while_a_window_is_solved_ends_its_process(highs_apart, monkeypatch):
     """The process would take ten minutes."""
     popen, begun = highs_process.subprocess.Popen, []
 

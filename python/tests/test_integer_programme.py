@@ -25,18 +25,16 @@ from pitplan.verification import verify
 
 
 @pytest.fixture(scope="module")
-def in_this_process():
-    """Programmes are solved here, since a process takes longer to begin than a small one to be solved."""
+def without_orders():
+    """Schedules are made of the programme's own unknowns, without the help of orders."""
     with pytest.MonkeyPatch.context() as patch:
-        patch.setattr(bench_milp, "solve", lambda programme, effort, patience: highs_process.here(programme, effort))
         patch.setattr(bench_milp, "diggable", lambda optimum, problem: np.zeros((len(problem.benches), 0)))
         yield
 
 
 @examples(25)
 @given(small, limits, st.integers(0, 1))
-def test_it_is_the_best_schedule_of_all(in_this_process, pit, limits, lag):
-    """Made of the programme's own unknowns, without the help of orders."""
+def test_it_is_the_best_schedule_of_all(without_orders, pit, limits, lag):
     benches, years = random_benches(pit, lag), 5
     shares, bound = bench_milp.best_diggable(problem_of(benches, limits), years, Effort(0.0, 60.0))
     best, slack = integer_optimum(benches, limits, years), 2e-6 * max(1.0, np.abs(benches.of("cash_flow")).sum())
@@ -69,6 +67,12 @@ def test_a_pushback_that_sinks_too_fast_does_not_keep_to_the_rules():
     assert not bench_milp.keeps(problem, np.array([[1, 0], [0.6, 0.4], [1, 0]]))
 
 
+def test_an_integer_programme_is_the_same_in_a_process_of_its_own(highs_apart):
+    problem = problem_of(benches_of(*THREE), Limits({"feed_tonnes": 100, "total_tonnes": 200}))
+    shares, bound = bench_milp.best_diggable(problem, 3, Effort(0.0, 60.0))
+    assert bound == pytest.approx(800 / 1.1 + 500 / 1.21) == problem.value(shares)
+
+
 def test_pushbacks_sink_each_by_itself():
     """Of three pushbacks each digs its one bench in the same year."""
     benches = benches_of(*((pushback, 0, 100, 100, 500) for pushback in (1, 2, 3)))
@@ -86,12 +90,11 @@ def test_the_solver_is_told_the_gap_and_the_seconds(monkeypatch, seconds, more):
 
 
 @pytest.mark.usefixtures("without_figures")
-def test_a_programme_that_goes_on_when_its_time_is_up_is_ended(monkeypatch, tmp_path):
+def test_a_programme_that_goes_on_when_its_time_is_up_is_ended(highs_apart, monkeypatch, tmp_path):
     """It would sleep for a minute: it has a quarter of a second, twice that, and half a second more."""
     (tmp_path / "highs.py").write_text("import time\ntime.sleep(60)\n")
     monkeypatch.setattr(highs_process.highs, "__file__", str(tmp_path / "highs.py"))
     monkeypatch.setattr(bench_milp, "LATE", 0.5)
-    monkeypatch.setattr(bench_milp, "solve", highs_process.solve)
     began = time.monotonic()
     problem = problem_of(benches_of(*THREE), Limits({"feed_tonnes": 100, "total_tonnes": 200}))
     assert bench_milp.best_diggable(problem, 3, Effort(0.0, 0.25)) == (None, np.inf)

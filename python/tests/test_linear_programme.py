@@ -107,13 +107,12 @@ def test_orders_have_what_the_optimum_digs_by_its_last_year():
     assert len(orders) > 3 and all(order == [0, 1] for order in orders)
 
 
-def test_solved_in_a_process_of_its_own_the_same(monkeypatch):
-    monkeypatch.setattr(highs_process, "FEW", 0)
+def test_solved_in_a_process_of_its_own_the_same(highs_apart):
     benches, limits = benches_of(*THREE), Limits({"feed_tonnes": 100, "total_tonnes": 200})
     assert bench_lp.relaxed(problem_of(benches, limits), 3).bound == pytest.approx(800 / 1.1 + 500 / 1.21)
 
 
-def test_an_interruption_ends_a_process_of_its_own(monkeypatch):
+def test_an_interruption_ends_a_process_of_its_own(highs_apart, monkeypatch):
     """The process would take ten minutes."""
     popen, begun = highs_process.subprocess.Popen, []
 
@@ -122,7 +121,6 @@ def test_an_interruption_ends_a_process_of_its_own(monkeypatch):
         Timer(0.3, os.kill, (os.getpid(), signal.SIGINT)).start()
         return begun[0]
 
-    monkeypatch.setattr(highs_process, "FEW", 0)
     monkeypatch.setattr(highs_process.subprocess, "Popen", sleep)
     started = time.monotonic()
     with pytest.raises(KeyboardInterrupt):
@@ -130,14 +128,13 @@ def test_an_interruption_ends_a_process_of_its_own(monkeypatch):
     assert time.monotonic() - started < 30 and begun[0].wait(5) != 0
 
 
-def test_a_process_that_is_late_is_ended(monkeypatch):
+def test_a_process_that_is_late_is_ended(highs_apart, monkeypatch):
     popen, begun = highs_process.subprocess.Popen, []
 
     def sleep(arguments, **options):
         begun.append(popen(["/bin/sleep", "600"], **options))
         return begun[0]
 
-    monkeypatch.setattr(highs_process, "FEW", 0)
     monkeypatch.setattr(highs_process.subprocess, "Popen", sleep)
     programme, _ = bench_lp.programme_of(problem_of(benches_of(*THREE), Limits({"feed_tonnes": 100})), 3)
     found = highs_process.solve(programme, patience=0.3)

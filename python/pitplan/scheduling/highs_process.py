@@ -20,6 +20,8 @@ from .highs import Optimum, Programme
 
 # A linear programme of so few unknowns is solved before a process has begun.
 FEW = 2_000
+# The same for an integer programme. Zero, since HiGHS may go on with any for long; the tests, whose programmes are small, set it higher.
+FEW_WHOLE = 0
 
 
 def solve(programme: Programme, effort: Effort = Effort(), patience: Optional[float] = None) -> Optimum:
@@ -29,8 +31,8 @@ def solve(programme: Programme, effort: Effort = Effort(), patience: Optional[fl
     Raises PlanError where HiGHS finds nothing although its time is not up, and KeyboardInterrupt, with that process ended, where the run
     is interrupted.
     """
-    if len(programme.gain) <= FEW and not programme.whole.any():
-        return here(programme)
+    if len(programme.gain) <= (FEW_WHOLE if programme.whole.any() else FEW):
+        return here(programme, effort)
     with tempfile.TemporaryDirectory(prefix="pitplan-") as name:
         folder = Path(name)
         programme.save(folder)
