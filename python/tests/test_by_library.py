@@ -2,7 +2,6 @@
 
 import json
 import os
-import shutil
 import signal
 import subprocess
 import sys
@@ -16,6 +15,8 @@ import pytest
 from conftest import PROJECT, ROOT, files_in, rows
 from helpers.constraints import FIXED_SECTION, ores_and_fixed, with_section
 from helpers.scenarios import COLUMNS, PRICES, UPRIGHT, pillar
+from helpers.verified import TEXT, deposit
+from helpers.verified_scenarios import SETS, simulated
 
 import pitplan
 from pitplan import PlanError, ProgramError, load
@@ -64,9 +65,18 @@ def without_solver(path: Path) -> dict:
     return record
 
 
-@pytest.mark.parametrize("example", ["plan", "fixed"])
-def test_shells_are_the_same_to_the_byte(tmp_path, example):
-    arrays, texts = by_both(tmp_path, "shells", EXAMPLES / example / "project.toml")
+CONE = ('pattern = "1:5"', "azimuths = [[0, 42], [120, 55]]")
+
+
+@pytest.fixture(params=["free", "fixed"])
+def hill(plan_folder, request):
+    """The project of a hill of 475 blocks with two metals, without constraints and with them."""
+    text = TEXT if request.param == "fixed" else TEXT.partition("\n[constraints]")[0]
+    return plan_folder(deposit(), text, CONE)
+
+
+def test_shells_are_the_same_to_the_byte(tmp_path, hill, with_figures):
+    arrays, texts = by_both(tmp_path, "shells", hill)
     assert {
         "tables/blocks.csv",
         "tables/shells.csv",
@@ -77,7 +87,7 @@ def test_shells_are_the_same_to_the_byte(tmp_path, example):
     assert without_solver(arrays / "plan.json") == without_solver(texts / "plan.json")
     fixed = (
         {"solver/mine.fixed", "solver/rest.blocks", "solver/rest.prec", "solver/pit.upit"}
-        if example == "fixed"
+        if load(hill).constraints
         else set()
     )
     assert set(mine_files.of_program(texts)) == {
@@ -100,17 +110,16 @@ def test_shells_are_the_same_to_the_byte(tmp_path, example):
         )
 
 
-def test_a_pit_with_fixed_blocks_and_without_is_the_same(tmp_path):
-    arrays, _ = by_both(tmp_path, "pit", EXAMPLES / "fixed" / "project.toml")
+def test_a_pit_with_fixed_blocks_and_without_is_the_same(tmp_path, plan_folder):
+    arrays, _ = by_both(tmp_path, "pit", plan_folder(deposit(), TEXT, CONE))
     assert {"tables/blocks.csv", "tables/pits.csv", "project-as-run.toml"} == written(arrays).keys()
 
 
-def test_pushbacks_and_their_schedule_are_the_same(tmp_path):
+def test_pushbacks_and_their_schedule_are_the_same(tmp_path, hill):
     """Of a division that asks the solver again and again for shells of other factors."""
-    shutil.copytree(EXAMPLES / "plan", tmp_path / "plan")
-    with open(tmp_path / "plan" / "project.toml", "a") as file:
-        file.write("\n[pushbacks]\ncount = 3\nmin_mining_width = 40\n[schedule]\nbench_lag = 1\n")
-    arrays, _ = by_both(tmp_path, "schedule", tmp_path / "plan" / "project.toml")
+    with open(hill, "a") as file:
+        file.write("\n[pushbacks]\ncount = 3\nmin_mining_width = 20\n[schedule]\nbench_lag = 1\n")
+    arrays, _ = by_both(tmp_path, "schedule", hill)
     assert {"tables/pushbacks.csv", "tables/schedule.csv", "schedule.json", "tables/blocks.csv"} <= written(
         arrays
     ).keys()
@@ -125,9 +134,10 @@ def test_a_sensitivity_is_the_same_and_keeps_answers_apart(plan_folder, tmp_path
     assert len(answers[0]) == len(answers[1]) == 3 and not answers[0] & answers[1]
 
 
-def test_scenarios_are_the_same_and_keep_answers_apart(tmp_path):
+def test_scenarios_are_the_same_and_keep_answers_apart(tmp_path, plan_folder):
     pytest.importorskip("distributed", reason="needs the Debian package python3-distributed")
-    arrays, texts = by_both(tmp_path, "scenarios", EXAMPLES / "scenarios" / "project.toml", "--workers", "1")
+    path = plan_folder(simulated(), TEXT + '[scenarios]\ncolumns = { copper = "cu_*" }\n' + SETS, CONE)
+    arrays, texts = by_both(tmp_path, "scenarios", path, "--workers", "1")
     assert {
         "tables/probability.csv",
         "tables/scenarios.csv",
@@ -144,10 +154,9 @@ def test_scenarios_are_the_same_and_keep_answers_apart(tmp_path):
     )
 
 
-@pytest.mark.parametrize("example", ["plan", "fixed"])
-def test_rows_are_the_lines_of_the_program_s_files(tmp_path, example):
+def test_rows_are_the_lines_of_the_program_s_files(tmp_path, hill):
     """Of the whole mine, and of what fixed blocks leave of it."""
-    plan = pitplan.Plan.from_project(EXAMPLES / example / "project.toml")
+    plan = pitplan.Plan.from_project(hill)
     written = mine_files.write(plan, tmp_path)
     for needs, name in (
         (plan.needs, "mine.prec"),
@@ -164,11 +173,16 @@ def test_rows_are_the_lines_of_the_program_s_files(tmp_path, example):
         assert found.starts.dtype == found.needs.dtype == np.uint32
 
 
-def test_too_many_needs_are_refused_before_anything_is_solved(monkeypatch):
-    monkeypatch.setattr("pitplan.solver.problem.MOST_PAIRS", 25_000)
-    monkeypatch.setattr("pitplan.plan.MOST_PAIRS", 25_000)
-    plan = pitplan.Plan.from_project(replace(load(EXAMPLES / "plan" / "project.toml"), solver="library"))
-    said = r"25,857 precedences, and the solver takes at most 25,000: reduce \[slopes\] precedence_benches, or a smaller model"
+def test_too_many_needs_are_refused_before_anything_is_solved(plan_folder, tmp_path, monkeypatch):
+    plan = pitplan.Plan.from_project(replace(load(plan_folder(deposit(), TEXT, CONE)), solver="library"))
+    counted = counted_rows(plan.needs, plan)[1]
+    pairs = counted.written + counted.processing
+    for module in ("pitplan.solver.problem", "pitplan.plan"):
+        monkeypatch.setattr(f"{module}.MOST_PAIRS", pairs)
+    assert plan.shells().table["blocks"].sum() > 0
+    for module in ("pitplan.solver.problem", "pitplan.plan"):
+        monkeypatch.setattr(f"{module}.MOST_PAIRS", pairs - 1)
+    said = rf"{pairs:,} precedences, and the solver takes at most {pairs - 1:,}: reduce \[slopes\] precedence_benches, or a smaller model"
     with pytest.raises(PlanError, match=said):
         plan.shells().solution
 
@@ -346,10 +360,10 @@ def test_both_packages_are_of_one_release():
     assert pitshell.__version__ == pitplan.__version__
 
 
-def test_an_audit_of_what_the_library_solved_writes_the_mine_itself(tmp_path):
+def test_an_audit_of_what_the_library_solved_writes_the_mine_itself(tmp_path, plan_folder):
     """Blocks, needs and fixed blocks are those that the program would have read."""
-    arrays, texts = by_both(tmp_path, "shells", EXAMPLES / "fixed" / "project.toml", "--no-verify")
-    first, second = (pitplan.audit(place, 0.8) for place in (arrays, texts))
+    arrays, texts = by_both(tmp_path, "shells", plan_folder(deposit(), TEXT, CONE), "--no-verify")
+    first, second = (pitplan.audit(place, 0.5) for place in (arrays, texts))
     for name in ("shell.upit", "shell.prec", "shell.fixed", "pit.txt", "shell.cert"):
         assert (first / name).read_bytes() == (second / name).read_bytes(), name
     environment = {**os.environ, "PITSHELL": str(program.program()), "PYTHON": sys.executable}
@@ -380,11 +394,11 @@ def test_an_audit_is_refused_where_what_the_mine_was_made_of_has_changed(solved_
     )
 
 
-def test_files_of_an_earlier_run_by_the_program_are_taken_away(plan_folder):
+def test_files_of_an_earlier_run_by_the_program_are_taken_away(plan_folder, with_figures):
     """They would be another mine's beside the new tables; a run that is refused takes none away."""
     path = plan_folder(rows(4, 4, 3, cu=lambda i, j, k: 6 * ((i, j, k) == (2, 2, 1))))
-    project = load(path)
-    pitplan.write_shells(replace(project, solver="program"), writing=pitplan.Writing(verifies=False))
+    project, bare = load(path), pitplan.Writing(verifies=False, figures=False)
+    pitplan.write_shells(replace(project, solver="program"), writing=bare)
     there = {"solver/mine.blocks", "solver/mine.upit", "solver/mine.prec", "solver/shells.txt"}
     assert set(mine_files.of_program(project.folder)) == there
     with pytest.MonkeyPatch.context() as patch:
@@ -392,7 +406,7 @@ def test_files_of_an_earlier_run_by_the_program_are_taken_away(plan_folder):
         with pytest.raises(PlanError, match="no pictures"):
             pitplan.write_shells(replace(project, solver="library"), writing=pitplan.Writing(verifies=False))
     assert set(mine_files.of_program(project.folder)) == there
-    pitplan.write_shells(replace(project, solver="library"), writing=pitplan.Writing(verifies=False))
+    pitplan.write_shells(replace(project, solver="library"), writing=bare)
     assert mine_files.of_program(project.folder) == () and pitplan.verify(project.folder)
 
 
