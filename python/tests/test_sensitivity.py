@@ -12,6 +12,7 @@ from matplotlib.figure import Figure
 import pitplan
 from pitplan import PlanError, Where, load
 from pitplan.cli import main
+from pitplan.commands.writing import Writing
 from pitplan.figures import sensitivity
 from pitplan.studies.sensitivity import cases, perturb
 from pitplan.verification import verify_folder
@@ -401,16 +402,33 @@ def test_shares_have_their_ends(small):
     assert [float(share) for share in asked.changes] == [-0.99, 10.0] and asked.parameters == ("price",)
 
 
-@pytest.fixture(scope="module")
-def answered(tmp_path_factory, without_figures):
-    place = tmp_path_factory.mktemp("varied")
-    text = PROJECT + '\n[sensitivity]\nchanges = [-0.2, 0.2]\npairs = [["price", "capacity"]]\n'
+FEW = '\n[sensitivity]\nchanges = [-0.2, 0.2]\nparameters = ["price", "mining_cost"]\npairs = [["price", "capacity"]]\n'
+
+
+def write_rich(place, words):
+    """Writes a mine of two metals with a section of its own."""
+    text = PROJECT + words
     for old, new in MORE:
         text = text.replace(old, new)
     (place / "project.toml").write_text(text)
     rows(8, 7, 4, **RICH).to_csv(place / "blocks.csv", index=False)
-    pitplan.write_sensitivity(place / "project.toml")
-    return place
+    return place / "project.toml"
+
+
+@pytest.fixture(scope="module")
+def whole(tmp_path_factory):
+    """The folder of a sensitivity to every parameter."""
+    path = write_rich(tmp_path_factory.mktemp("whole"), FEW.replace('parameters = ["price", "mining_cost"]\n', ""))
+    pitplan.write_sensitivity(path, writing=Writing(verifies=False))
+    return path.parent
+
+
+@pytest.fixture(scope="module")
+def answered(tmp_path_factory):
+    """The same with two parameters and their pair: each number of its files is verified as with all."""
+    path = write_rich(tmp_path_factory.mktemp("varied"), FEW)
+    pitplan.write_sensitivity(path, writing=Writing(verifies=False))
+    return path.parent
 
 
 @pytest.fixture
@@ -422,8 +440,10 @@ def wrong(folder):
     return {rule.name: rule.differences for rule in verify_folder(folder) if rule.differences}
 
 
-def test_what_is_right_passes(copied):
-    assert wrong(copied) == {}
+def test_what_is_right_passes(whole, copied):
+    assert wrong(whole / "plan" / "sensitivity") == {} == wrong(copied)
+    parameters = pd.read_csv(whole / "plan" / "sensitivity" / "tables/sensitivity.csv")["parameter"]
+    assert {*perturb.VARIED} - {"haulage"} <= {str(name).split()[0] for name in parameters}
 
 
 def test_grades_ratios_and_years_have_six_decimals_and_amounts_three(copied):
@@ -434,51 +454,69 @@ def test_grades_ratios_and_years_have_six_decimals_and_amounts_three(copied):
     assert max(decimals.values()) == 3
 
 
-@pytest.mark.parametrize("column", ["mining_cost", "revenue", "processing_cost", "revenue_factor"])
-def test_what_blocks_have_as_given_and_is_bent_is_found(copied, column):
+def test_what_blocks_have_as_given_and_is_bent_is_found(copied):
     table = pd.read_csv(copied / "tables/blocks.csv", float_precision="round_trip")
-    at = table.index[table[column] > 0][-1]
-    table.loc[at, column] += 1
+    columns = ["mining_cost", "revenue", "processing_cost", "revenue_factor"]
+    for column in columns:
+        table.loc[table.index[table[column] > 0][-1], column] += 1
     table.to_csv(copied / "tables/blocks.csv", index=False)
-    assert list(wrong(copied)) == ["as given"]
+    ((name, said),) = wrong(copied).items()
+    assert name == "as given" and len(said) == len(columns)
+    assert all(f": {column.replace('_factor', ' factor')} " in one for column, one in zip(columns, said))
 
 
-@pytest.mark.parametrize(
-    "column", ["kept_undiscounted_cash_flow", "kept_npv_best", "kept_npv_worst", "kept_years", "skin_value"]
-)
-def test_what_is_not_told_of_the_pit_as_given_is_found(copied, column):
+def test_what_is_not_told_of_the_pit_as_given_is_found(copied):
+    """Each in a row of its own."""
     table = pd.read_csv(copied / "tables/sensitivity.csv", dtype=str, keep_default_na=False)
-    table.loc[1, column] = ""
+    for row, column in enumerate([*KEPT, "skin_value"], 1):
+        table.loc[row, column] = ""
     table.to_csv(copied / "tables/sensitivity.csv", index=False)
-    assert set(wrong(copied)) == {"skin" if column == "skin_value" else "kept"}
+    found = wrong(copied)
+    assert found.keys() == {"kept", "skin"} and len(found["kept"]) == len(KEPT)
+    cases = ["price -0.2: ", "price +0.2: ", "mining_cost -0.2: ", "mining_cost +0.2: ", "capacity -0.2: "]
+    for said, case, column in zip([*found["kept"], *found["skin"]], cases, [*KEPT, "skin_value"]):
+        assert said.startswith(case) and f"{column.removeprefix('kept_')} nan for " in said
 
 
 AMOUNTS = "blocks tonnes feed_tonnes waste_tonnes strip_ratio processed_at_revenue_factor head_grade_copper recovered_copper head_grade_gold recovered_gold undiscounted_cash_flow".split()
 
 
+OF_PIT = ["npv_best", "npv_worst", "years", "value_at_revenue_factor", *KEPT, "skin_value"]
+
+
 @pytest.mark.parametrize(
-    ("column", "name"),
+    ("columns", "names"),
     [
-        *((column, "shells") for column in AMOUNTS),
-        *((column, "years") for column in ("npv", "npv_best", "npv_worst", "years")),
-        ("value_at_revenue_factor", "values"),
-        *((column, "kept") for column in KEPT),
-        ("skin_value", "skin"),
-        ("revenue_factor", "cases"),
-        ("change", "cases"),
-        ("second_change", "cases"),
+        (AMOUNTS[:6], {"shells"}),
+        (AMOUNTS[6:], {"shells"}),
+        (OF_PIT, {"years", "values", "kept", "skin"}),
+        (["npv"], {"years"}),
     ],
 )
-def test_each_number_that_is_bent_is_found(copied, column, name):
-    """A hundredth more in the last row, which is of a pair."""
+def test_each_number_that_is_bent_is_found(copied, columns, names):
+    """A hundredth more in the last row, which is of a pair: a difference for each number."""
     table = pd.read_csv(copied / "tables/sensitivity.csv", dtype={"value_at_revenue_factor": str})
     at = table.index[-1]
-    bent = float(table.loc[at, column]) + (1 if column in ("blocks", "revenue_factor") else 0.02)
-    table.loc[at, column] = f"{bent:.6f}" if column == "value_at_revenue_factor" else bent
+    for column in columns:
+        bent = float(table.loc[at, column]) + (1 if column == "blocks" else 0.02)
+        table.loc[at, column] = f"{bent:.6f}" if column == "value_at_revenue_factor" else bent
     table.to_csv(copied / "tables/sensitivity.csv", index=False)
     found = wrong(copied)
-    assert name in found
-    assert name == "cases" or all(said.startswith("price +0.2, capacity +0.2: ") for said in found[name])
+    assert found.keys() == names and sum(map(len, found.values())) >= len(columns)
+    assert all(said.startswith("price +0.2, capacity +0.2: ") for of_rule in found.values() for said in of_rule)
+    for column in columns:
+        rules = ["kept"] if column in KEPT else names - {"kept"}
+        assert any(
+            f" {column.removeprefix('kept_')} " in said.replace("kept_", "") for name in rules for said in found[name]
+        )
+
+
+@pytest.mark.parametrize("column", ["revenue_factor", "change", "second_change"])
+def test_a_case_that_is_named_otherwise_is_found(copied, column):
+    table = pd.read_csv(copied / "tables/sensitivity.csv", dtype={"value_at_revenue_factor": str})
+    table.loc[table.index[-1], column] += 1 if column == "revenue_factor" else 0.02
+    table.to_csv(copied / "tables/sensitivity.csv", index=False)
+    assert "cases" in wrong(copied)
 
 
 @pytest.mark.parametrize(
@@ -486,7 +524,7 @@ def test_each_number_that_is_bent_is_found(copied, column, name):
     [
         lambda table: table.iloc[:-1],
         lambda table: pd.concat([table, table.tail(1)]),
-        lambda table: table.replace({"parameter": {"recovery": "selling_cost", "selling_cost": "recovery"}}),
+        lambda table: table.replace({"parameter": {"price": "mining_cost", "mining_cost": "price"}}),
         lambda table: table.iloc[[0, 2, 1, *range(3, len(table))]],
     ],
 )
@@ -559,13 +597,13 @@ def test_walls_of_patterns_that_move_not_are_as_given(plan_folder):
         ("processing_cost", lambda project, by, metal: perturb.mining_cost(project, by, metal)),
     ],
 )
-def test_a_number_that_is_varied_otherwise_is_found(answered, tmp_path, monkeypatch, number, careless):
+def test_a_number_that_is_varied_otherwise_is_found(tmp_path, monkeypatch, number, careless):
     """Of the metals one alone; a recovery above 1; without what depth adds; walls as they are; the mill alone; none; another cost."""
-    place = shutil.copytree(answered, tmp_path / "mine", ignore=shutil.ignore_patterns("plan"))
+    path = write_rich(tmp_path, f'\n[sensitivity]\nchanges = [-0.2, 0.2]\nparameters = ["{number}"]\n')
     monkeypatch.setitem(perturb.VARIED, number, careless)
     with pytest.raises(PlanError, match="verification failed"):
-        pitplan.write_sensitivity(place / "project.toml")
-    assert not (place / "plan" / "sensitivity" / "tables/sensitivity.csv").exists()
+        pitplan.write_sensitivity(path)
+    assert not (tmp_path / "plan" / "sensitivity" / "tables/sensitivity.csv").exists()
 
 
 def test_a_folder_without_its_answers_is_named(copied):
