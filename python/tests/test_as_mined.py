@@ -95,7 +95,7 @@ def test_tonnes_that_the_table_has_cut_already(mine):
     assert mine(slope, text, tonnes=below(slope)).fixed.forced.size == 0
 
 
-def test_what_a_run_writes_of_it_is_verified(plan_folder, tmp_path, without_figures):
+def test_what_a_run_writes_of_it_is_verified(plan_folder, tmp_path):
     write_ground(tmp_path / "ground.csv", slope)
     write_ground(tmp_path / "mined.csv", ground_less(12))
     path = plan_folder(rows(10, 3, 3, cu=lambda i, j, k: 2 * (k == 0)), SURFACE, TOPOGRAPHY)

@@ -20,7 +20,6 @@ from pitplan.figures import block_schedule
 from pitplan.results.folder import read_record
 from pitplan.scheduling.blocks import from_plan, tables
 
-pytestmark = pytest.mark.usefixtures("without_figures")
 RULES = ["block order", "block limits", "block value"]
 
 
@@ -192,7 +191,7 @@ def test_an_interrupted_run_keeps_the_best_so_far(plan_folder, capsys, monkeypat
 
 
 @pytest.fixture(scope="module")
-def written(without_figures, tmp_path_factory):
+def written(tmp_path_factory):
     """A hill under several limits."""
     place = tmp_path_factory.mktemp("scheduled")
     grades = {(3, 4, 1): 6, (7, 4, 1): 2, (5, 2, 2): 0.9, (3, 3, 2): 1.5, (8, 4, 2): 0.8}

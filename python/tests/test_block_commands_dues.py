@@ -11,7 +11,6 @@ from helpers.pushbacks import pillars
 import pitplan
 from pitplan import PlanError, load
 
-pytestmark = pytest.mark.usefixtures("without_figures")
 # Mill and shovels take all three pillars in a year.
 WIDE = YEARLY.replace("processing_capacity = 100", "processing_capacity = 300").replace(
     "mining_capacity = 200", "mining_capacity = 600"

@@ -31,7 +31,6 @@ BY_BLOCK = Request(by="block")
 # The same with the process by its name.
 MILL = '[[processes]]\nname = "mill"\ncost = 10\nrecovery = { copper = 0.5 }\ncapacity = 100\n'
 IN_MILL = [("recovery = 0.5\n", ""), ("processing_capacity = 100\n", "")]
-pytestmark = pytest.mark.usefixtures("without_figures")
 FILES = [
     "tables/schedules.csv",
     "tables/common_schedule.csv",

@@ -35,10 +35,10 @@ def run(*words: object, commands: Path) -> str:
     return said.stdout
 
 
-def plan_and_check(folder: Path, commands: Path) -> None:
+def plan_and_check(folder: Path, commands: Path, *options: str) -> None:
     project = folder / "plan" / "project.toml"
     shutil.copytree(EXAMPLE, project.parent)
-    run(commands / "pitplan", "shells", project, "--out", folder / "out", commands=commands)
+    run(commands / "pitplan", "shells", project, "--out", folder / "out", *options, commands=commands)
     shells = pd.read_csv(folder / "out" / "tables/shells.csv", index_col="revenue_factor")
     # As documents have them, from a run of another day.
     assert shells["blocks"][[0.4, 0.7, 1.0, 1.2]].tolist() == [274, 623, 828, 901]
@@ -54,12 +54,13 @@ def test_wheels_serve_in_an_environment_of_their_own(dist, tmp_path):
     assert run(commands / "python", "-c", SOLVE, commands=commands) == "2.000000\n"
     assert run("pitshell", "--version", commands=commands) == f"pitshell {VERSION}\n"
     plan_and_check(tmp_path, commands)
+    assert (tmp_path / "out" / "figures" / "plans.png").is_file()
 
 
 def test_the_debian_package_serves_where_it_is_unpacked(dist, tmp_path):
     package = next(dist.glob("*.deb"))
     subprocess.run(["dpkg", "-x", package, tmp_path / "root"], check=True)
-    plan_and_check(tmp_path, tmp_path / "root" / "usr" / "bin")
+    plan_and_check(tmp_path, tmp_path / "root" / "usr" / "bin", "--no-figures")
     said = run("dpkg", "--field", package, "Version", "Recommends", commands=tmp_path)
     assert f"Version: {VERSION}\n" in said and "python3-pandas" in said
     held = {line.split()[-1] for line in run("dpkg", "--contents", package, commands=tmp_path).splitlines()}
@@ -106,4 +107,4 @@ def test_nothing_of_the_debian_package_stays_behind(dist, tmp_path):
 def test_the_archive_serves_where_it_is_unpacked(dist, tmp_path):
     archive = next(dist.glob("*.tar.gz"))
     subprocess.run(["tar", "xf", archive, "-C", tmp_path], check=True)
-    plan_and_check(tmp_path, tmp_path / archive.name.removesuffix(".tar.gz") / "bin")
+    plan_and_check(tmp_path, tmp_path / archive.name.removesuffix(".tar.gz") / "bin", "--no-figures")

@@ -10,7 +10,7 @@ from pitplan.verification import verify
 
 
 @pytest.mark.parametrize("seed", range(16))
-def test_what_is_written_is_right(plan_folder, without_figures, monkeypatch, seed):
+def test_what_is_written_is_right(plan_folder, monkeypatch, seed):
     """Each command looks a second time by itself, and raises where a number is not right."""
     rng = np.random.default_rng(seed)
     changes, is_one = project_of(rng)

@@ -49,7 +49,7 @@ def test_a_long_text_is_cut(plan_folder):
     assert "'=" + "9" * 39 + "..' begins" in said
 
 
-def test_csv_files_keep_the_text(plan_folder, without_figures, capsys):
+def test_csv_files_keep_the_text(plan_folder, capsys):
     from pitplan.cli import main
 
     table = rows(3, 3, 2, cu=lambda i, j, k: 6 if (i, j, k) == (1, 1, 0) else 0).astype(object)

@@ -238,7 +238,7 @@ def scheduled(place, words=WORDS, text=TEXT, **more):
 
 
 @pytest.fixture(scope="module")
-def written(without_figures, tmp_path_factory):
+def written(tmp_path_factory):
     place = tmp_path_factory.mktemp("bins")
     pitplan.write_schedule(scheduled(place))
     return place / "plan" / "schedule"
@@ -321,7 +321,7 @@ def test_ore_that_is_reclaimed_before_it_is_stocked_is_found(written):
 
 
 @pytest.mark.parametrize("tonnes", [1, 1_000_000])
-def test_tonnages_great_and_small_are_right_too(without_figures, tmp_path, tonnes):
+def test_tonnages_great_and_small_are_right_too(tmp_path, tonnes):
     """Of a million tonnes a block the solver leaves more open than the files' last digit; of one, a tonne is reclaimed at most."""
     text = TEXT.replace("processing_capacity = 100", f"processing_capacity = {tonnes}")
     project = scheduled(tmp_path, WORDS, text, tonnes=lambda i, j, k: tonnes)
@@ -331,7 +331,7 @@ def test_tonnages_great_and_small_are_right_too(without_figures, tmp_path, tonne
     assert [rule.name for rule in verify(project.folder / "schedule") if rule.differences] == []
 
 
-def test_thousandths_of_tonnes_that_are_worth_much_are_right_too(without_figures, tmp_path):
+def test_thousandths_of_tonnes_that_are_worth_much_are_right_too(tmp_path):
     """A third of 100 t a block, of which a thousandth earns more than a cent."""
     text = TEXT.replace("processing_capacity = 100", "processing_capacity = 33").replace(
         "price = 8000", "price = 80_000_000"

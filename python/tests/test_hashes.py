@@ -12,7 +12,6 @@ from conftest import PROJECT, rows
 import pitplan
 from pitplan import PlanError
 
-pytestmark = pytest.mark.usefixtures("without_figures")
 ORE = {"cu": lambda i, j, k: {(3, 3, 1): 6, (4, 3, 1): 2.5, (3, 4, 0): 9}.get((i, j, k), 0)}
 CUT = ('domain = "region"\n', 'domain = "region"\ntopography = "a/ground.csv"\n')
 MINED = ("[shells]", '[constraints]\nas_mined = "b/ground.csv"\n[shells]')

@@ -59,7 +59,7 @@ def test_roads_are_kept_to_a_millimetre_and_costs_are_exact(plan_folder):
     assert any("haul distances to the pit exit at 15, 45, 30 are" in note for note in plan.notes)
 
 
-def test_a_road_is_rounded_once_and_verified(plan_folder, without_figures):
+def test_a_road_is_rounded_once_and_verified(plan_folder):
     """28.284271 m in plan and a ramp of 40 / 0.12 = 333.333333 m are 361.617604 m: 361.618, where each part alone would be cut down."""
     section = "[haulage]\npit_exit = [25, 25, 40]\nramp_gradient = 0.12\ncost = 0.12\n"
     path = hauled(plan_folder, rows(6, 4, 4, cu=lambda i, j, k: 4.0), section)
@@ -96,7 +96,6 @@ def ore_hill():
     return rows(12, 11, 5, cu=lambda i, j, k: ore.get((i, j, k), 0))
 
 
-@pytest.mark.usefixtures("without_figures")
 def test_an_answer_is_verified_and_a_wrong_road_is_found(plan_folder):
     path = hauled(plan_folder, ore_hill())
     pitplan.write_shells(path)
@@ -116,7 +115,6 @@ def test_an_answer_is_verified_and_a_wrong_road_is_found(plan_folder):
         assert any(column in said for said in differences)
 
 
-@pytest.mark.usefixtures("without_figures")
 def test_the_exit_of_a_turned_model_is_the_planners(plan_folder):
     """Turned by 30 degrees with its exit all roads and pits are those of the straight model."""
     found = []
@@ -132,7 +130,6 @@ def test_the_exit_of_a_turned_model_is_the_planners(plan_folder):
     assert (found[1]["revenue_factor"] == found[0]["revenue_factor"]).all()
 
 
-@pytest.mark.usefixtures("without_figures")
 def test_sensitivity_to_haulage(plan_folder):
     """A tenth more a kilometre is a tenth more of all haulage, of what is dug and what is milled in the kept pit."""
     section = SECTION + '[sensitivity]\nchanges = [0.1]\nparameters = ["haulage"]\n'

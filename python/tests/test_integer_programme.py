@@ -89,7 +89,6 @@ def test_the_solver_is_told_the_gap_and_the_seconds(monkeypatch, seconds, more):
     assert highs.optimum_of(whole, 0.1, seconds).bound == 2 and asked == [{"mip_rel_gap": 0.1} | more]
 
 
-@pytest.mark.usefixtures("without_figures")
 def test_a_programme_that_goes_on_when_its_time_is_up_is_ended(highs_apart, monkeypatch, tmp_path):
     """It would sleep for a minute: it has a quarter of a second, twice that, and half a second more."""
     (tmp_path / "highs.py").write_text("import time\ntime.sleep(60)\n")
@@ -116,7 +115,6 @@ def test_it_is_written_as_a_way_of_its_own(plan_folder):
     assert any("upper bound of milp on the same schedules" in note for note in notes)
 
 
-@pytest.mark.usefixtures("without_figures")
 def test_where_none_is_found_in_time_the_others_stand(plan_folder, monkeypatch):
     monkeypatch.setattr(bench_milp, "solve", lambda programme, effort, patience: highs.Optimum(None, np.inf))
     project = load(plan_folder(pillars(), PUSHBACKS + "[schedule]\nmilp = { seconds = 1 }\n"))

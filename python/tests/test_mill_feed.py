@@ -115,7 +115,7 @@ def test_a_shell_by_hand(plan_folder):
     assert {name: table[name] for name in expected} == pytest.approx(expected)
 
 
-def test_waste_is_never_negative(plan_folder, without_figures):
+def test_waste_is_never_negative(plan_folder):
     """Ore alone, with a tenth of dilution: 110 t come to the mill of 100 t that are dug."""
     path = plan_folder(
         rows(2, 2, 1, cu=lambda i, j, k: 3), PROJECT, ("mining_cost = 2\n", "mining_cost = 2\ndilution = 0.1\n")
@@ -140,7 +140,7 @@ def deposit():
     return rows(9, 9, 4, cu=lambda i, j, k: {(4, 4, 0): 9, (4, 4, 1): 3, (3, 4, 1): 0.6}.get((i, j, k), 0))
 
 
-def test_pushbacks_and_schedules_count_what_comes_to_the_mill(plan_folder, without_figures):
+def test_pushbacks_and_schedules_count_what_comes_to_the_mill(plan_folder):
     """Three blocks of ore in all, and both looks agree."""
     path = plan_folder(deposit(), PROJECT, *SCHEDULED)
     assert write_pushbacks(path)["feed_tonnes"].sum() == pytest.approx(3 * 99)

@@ -12,7 +12,6 @@ from pitplan.pushbacks import nested
 from pitplan.results.folder import read_record
 from pitplan.verification import verify
 
-pytestmark = pytest.mark.usefixtures("without_figures")
 # Of three pushbacks of 200 t, which are worth 2600, 1400 and 600, the second costs 300 more and the third 500.
 ADDED = "count = 3\nmining_cost_added = [0, 1.5, 2.5]"
 AT_ENDS = UPRIGHT.replace("processing_capacity = 100", 'processing_capacity = 100\ndiscounting = "end_of_year"')

@@ -109,7 +109,7 @@ def test_cost_by_elevation(plan_folder):
     assert (plan.values.mining / MILLION).tolist() == [210, 230, 250]
 
 
-def test_cost_by_elevation_at_half_a_millionth(plan_folder, without_figures):
+def test_cost_by_elevation_at_half_a_millionth(plan_folder):
     """1.5 m below 240 m it is 0.37 x 1.5 / 240 = 0.0023125, which is kept as 0.002312: halves go to the even one. Verification, which
     interpolated floats, had 0.002313 for such levels."""
     pairs = ((Decimal(0), Decimal("0.37")), (Decimal(240), Decimal(0)))

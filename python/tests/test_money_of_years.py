@@ -45,7 +45,7 @@ def solved(path):
 
 
 @pytest.fixture
-def mine(plan_folder, without_figures):
+def mine(plan_folder):
     """100 t of ore, worth 2000 once they are dug, under 100 t of waste; each costs 200 to dig, and 0.4 t of copper are sold."""
 
     def write(*changes):
@@ -164,7 +164,7 @@ def test_a_mine_that_costs_more_than_it_earns_is_left():
     assert problem.value(bench_lp.diggable(optimum, problem)) == 0
 
 
-def test_bins_end_before_capital_that_does_not_pay(plan_folder, without_figures):
+def test_bins_end_before_capital_that_does_not_pay(plan_folder):
     """Capital of year 4 is more than all ore that is left then: the mine ends with year 3, worth as much as where there are no more years."""
     table = rows(5, 4, 3, cu=lambda i, j, k: [[0.5, 1.4, 0.9, 2.0, 0.7], [1.1, 0.4, 1.9, 0.8, 1.3]][(j + k) % 2][i])
     changes = [
@@ -248,7 +248,7 @@ def scheduled(plan_folder, way):
 @pytest.mark.parametrize(
     "way", ["", "milp = { seconds = 60 }", "bins = 3", "bins = 3\nstockpile = { reclaim_cost = 1 }"]
 )
-def test_the_second_look_at_schedules_agrees(plan_folder, without_figures, way):
+def test_the_second_look_at_schedules_agrees(plan_folder, way):
     ways = write_schedule(scheduled(plan_folder, way))
     assert (ways["optimality_gap"] >= -1e-9).all()
 
@@ -256,7 +256,7 @@ def test_the_second_look_at_schedules_agrees(plan_folder, without_figures, way):
 @pytest.mark.parametrize(
     ("name", "without", "rule"), [("fixed_cost", 0.0, "value"), ("capex", (), "value"), ("premiums", {}, "amounts")]
 )
-def test_money_that_is_passed_over_is_found(plan_folder, monkeypatch, without_figures, name, without, rule):
+def test_money_that_is_passed_over_is_found(plan_folder, monkeypatch, name, without, rule):
     path, of_project = scheduled(plan_folder, ""), period_costs.of_project
     monkeypatch.setattr(period_costs, "of_project", lambda project: replace(of_project(project), **{name: without}))
     write_schedule(path, writing=pitplan.Writing(verifies=False))

@@ -127,7 +127,7 @@ def test_nodes_of_a_block_that_must_be_dug_by_hand(plan_folder, tmp_path):
 
 
 @pytest.mark.parametrize(("grade", "process", "ore"), [(0.8, "mill", 100), (0.2, "leach", 100), (0.05, "", 0)])
-def test_the_process_of_a_block_by_hand(plan_folder, without_figures, grade, process, ore):
+def test_the_process_of_a_block_by_hand(plan_folder, grade, process, ore):
     """Of 0.2 % leach gains 640 - 300, the mill 1440 - 1300; 0.05 % pay nowhere. Digging is demanded."""
     table = rows(1, 1, 2, cu=lambda i, j, k: 0 if k else grade, must=lambda i, j, k: 1 - k)
     path = plan_folder(table, PROJECT + '[constraints]\nmust_mine = "must"\n', *WITH)
@@ -139,7 +139,7 @@ def test_the_process_of_a_block_by_hand(plan_folder, without_figures, grade, pro
     }
 
 
-def test_worth_by_hand_at_each_factor(plan_folder, without_figures):
+def test_worth_by_hand_at_each_factor(plan_folder):
     """Two blocks are dug for 400. At 0.3 leaching 768 - 300 is worth more than milling 1728 - 1300, at 0.5 milling 2880 - 1300."""
     path = plan_folder(one_column(), PROJECT, *WITH, ("[0.5, 1.0, 1.5]", "[0.27, 0.3, 0.5, 1.0]"))
     shells = pitplan.write_shells(path).set_index("revenue_factor")
@@ -180,7 +180,7 @@ def wrong(folder):
     return {rule.name for rule in verify(folder) if rule.differences}
 
 
-def test_the_second_look_agrees_and_each_process_has_ore(plan_folder, without_figures):
+def test_the_second_look_agrees_and_each_process_has_ore(plan_folder):
     folder = solved(plan_folder)
     assert wrong(folder) == set()
     shells = pd.read_csv(folder / "tables/shells.csv").set_index("revenue_factor")
@@ -193,7 +193,7 @@ def test_the_second_look_agrees_and_each_process_has_ore(plan_folder, without_fi
     assert (np.diff(plan.values.processed) == 0).sum() > 5
 
 
-def test_each_process_keeps_its_capacity(plan_folder, without_figures):
+def test_each_process_keeps_its_capacity(plan_folder):
     folder = solved(plan_folder)
     years = pd.read_csv(folder / "tables/years.csv")
     assert years["feed_tonnes_mill"].max() == pytest.approx(100) and years["feed_tonnes_leach"].max() <= 300 + 1e-6
@@ -224,7 +224,7 @@ def test_shells_are_those_of_the_best_process_at_each_factor(plan_folder, cutoff
 
 
 @pytest.mark.parametrize("column", ["process", "revenue_leach", "processing_cost_mill", "revenue"])
-def test_what_is_bent_in_blocks_is_found(plan_folder, without_figures, column):
+def test_what_is_bent_in_blocks_is_found(plan_folder, column):
     folder = solved(plan_folder)
     table = pd.read_csv(folder / "tables/blocks.csv", keep_default_na=False)
     at = table.index[table["process"] == "mill"][0]
@@ -250,14 +250,12 @@ def both(ways):
 
 
 @pytest.mark.parametrize(("name", "planted", "rule"), [("best_way", worst_way, "money"), ("steps_of", both, "values")])
-def test_other_processes_and_blocks_that_are_processed_twice_are_found(
-    plan_folder, monkeypatch, without_figures, name, planted, rule
-):
+def test_other_processes_and_blocks_that_are_processed_twice_are_found(plan_folder, monkeypatch, name, planted, rule):
     monkeypatch.setattr(block_values, name, planted)
     assert rule in wrong(solved(plan_folder))
 
 
-def test_a_capacity_that_is_passed_over_is_found(plan_folder, monkeypatch, without_figures):
+def test_a_capacity_that_is_passed_over_is_found(plan_folder, monkeypatch):
     years = pitplan.pits.best_worst_case.capacity_years
     monkeypatch.setattr(
         pitplan.pits.best_worst_case,
@@ -267,7 +265,7 @@ def test_a_capacity_that_is_passed_over_is_found(plan_folder, monkeypatch, witho
     assert "years" in wrong(solved(plan_folder))
 
 
-def test_pushbacks_and_schedules_keep_to_the_capacities(plan_folder, without_figures):
+def test_pushbacks_and_schedules_keep_to_the_capacities(plan_folder):
     text = "[pushbacks]\ncount = 2\n[schedule]\nbench_lag = 1\nramp_up = [0.5, 1.0]\n[shells]"
     ways = write_schedule(plan_folder(deposit(), PROJECT, *MORE, ("[shells]", text)))
     assert ways["method"].tolist() == ["rule", "lp"] and (ways["optimality_gap"] >= -1e-9).all()

@@ -14,7 +14,6 @@ from pitplan import PlanError, Request, load, verify
 from pitplan.cli import main
 from pitplan.core.atomic_files import hash_of
 
-pytestmark = pytest.mark.usefixtures("without_figures")
 ORE = {"cu": lambda i, j, k: {(3, 3, 1): 6, (4, 3, 1): 2.5, (3, 4, 0): 9}.get((i, j, k), 0)}
 MORE = '[pushbacks]\ncount = 2\n[schedule]\nmining_capacity = 2000\n[sensitivity]\nchanges = [0.1]\nparameters = ["price", "mining_cost"]\n'
 FIXED = '[constraints]\nmust_mine = "due"\n'

@@ -18,8 +18,6 @@ from pitplan.results.folder import read_record
 from pitplan.slopes import closure
 from pitplan.verification.pushback_widths import blocks_across, cells_in
 
-pytestmark = pytest.mark.usefixtures("without_figures")
-
 
 def pushed(plan_folder, table, words, text=PROJECT):
     """The pushbacks, of the pit of revenue factor 1.00 unless the words name another, with each block's pushback and the notes of widths."""
@@ -232,7 +230,7 @@ def test_what_is_refused(plan_folder, words, said):
 
 
 @pytest.fixture(scope="module")
-def divided(without_figures, tmp_path_factory):
+def divided(tmp_path_factory):
     place = tmp_path_factory.mktemp("wide")
     grades = dict.fromkeys(square(3, 2, 3) - {(5, 3)}, RICH) | dict.fromkeys(square(10, 2, 2), 0.6)
     floor(grades, columns=15).to_csv(place / "blocks.csv", index=False)

@@ -17,8 +17,6 @@ from pitplan.config.pushbacks import PushbackRules
 from pitplan.pushbacks import nested
 from pitplan.results.folder import read_record
 
-pytestmark = pytest.mark.usefixtures("without_figures")
-
 
 def test_three_shells_of_like_tonnage_are_three_pushbacks(plan_folder):
     """The greatest factors whose shells have 200 and 400 of 600 t are 0.5 and 0.7."""
@@ -251,7 +249,7 @@ def test_pushbacks_of_random_mines_are_closed_nested_and_even(tmp_path_factory, 
 
 
 @pytest.fixture(scope="module")
-def divided(without_figures, tmp_path_factory):
+def divided(tmp_path_factory):
     place = tmp_path_factory.mktemp("divided")
     table = rows(11, 9, 4, cu=lambda i, j, k: {(3, 4, 1): 6, (7, 4, 1): 2, (5, 2, 2): 0.9}.get((i, j, k), 0))
     table["must"], table["never"] = (table["name"] == "b1-1-3").astype(int), (table["x"] > 100).astype(int)

@@ -144,7 +144,7 @@ FIXED = '[constraints]\nmust_mine = "must"\nexclude = "never"\n'
 
 
 @pytest.fixture
-def solved_hill(plan_folder, without_figures):
+def solved_hill(plan_folder):
     def solve():
         path = plan_folder(hill(), PROJECT + FIXED, ('file = "blocks.csv"', 'file = "blocks.csv"\nreblock = [2, 2, 2]'))
         pitplan.write_shells(path, writing=pitplan.Writing(verifies=False))
@@ -217,7 +217,7 @@ def test_a_table_that_is_too_large_by_itself(plan_folder, monkeypatch):
     assert plan.grid.shape == (3, 6, 7)
 
 
-def test_a_corner_that_is_no_multiple_of_the_size_is_right(plan_folder, without_figures):
+def test_a_corner_that_is_no_multiple_of_the_size_is_right(plan_folder):
     """All as it was, 5 m to the east."""
     moved = (PARENTS[0], PARENTS[1].replace("corner = [60,", "corner = [65,"))
     path = plan_folder(sub_blocks().assign(x=lambda it: it["x"] + 5), PROJECT, moved, SIZE)

@@ -130,7 +130,7 @@ def wrong(path):
     return {rule.name for rule in verify(path.parent / "plan") if rule.differences}
 
 
-def test_the_second_look_agrees(plan_folder, without_figures):
+def test_the_second_look_agrees(plan_folder):
     pitplan.write_shells(plan_folder(deposit(), PROJECT, *TEXT))
 
 
@@ -146,16 +146,14 @@ of_rows = recovery_curves.of_rows
 
 
 @pytest.mark.parametrize(("name", "planted"), [("of_rows", at_own_grade), ("nearest", down)])
-def test_a_recovery_at_another_grade_or_rounded_otherwise_is_found(
-    plan_folder, monkeypatch, without_figures, name, planted
-):
+def test_a_recovery_at_another_grade_or_rounded_otherwise_is_found(plan_folder, monkeypatch, name, planted):
     path = plan_folder(deposit(), PROJECT, *TEXT)
     monkeypatch.setattr(recovery_curves, name, planted)
     pitplan.write_shells(path, writing=pitplan.Writing(verifies=False))
     assert "money" in wrong(path)
 
 
-def test_a_tail_that_is_passed_over_is_found(plan_folder, monkeypatch, without_figures):
+def test_a_tail_that_is_passed_over_is_found(plan_folder, monkeypatch):
     path, weigh = plan_folder(deposit(), PROJECT, *TEXT), block_values.values_of
 
     def without(frame, grid, project, *more):

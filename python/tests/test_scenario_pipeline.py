@@ -24,7 +24,6 @@ from pitplan.verification import verify_folder
 from pitplan.verification.put_together import mean_grades
 from pitplan.verification.scenarios import verify
 
-pytestmark = pytest.mark.usefixtures("without_figures")
 SOME = examples(12, suppress_health_check=[HealthCheck.function_scoped_fixture])
 COLUMNS = '[scenarios]\ncolumns = { copper = "cu_*" }\n'
 SETS = COLUMNS + "[[scenarios.prices]]\ncopper = 4000\n[[scenarios.prices]]\ncopper = 11_000\ngold = 80\n"

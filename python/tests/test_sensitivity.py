@@ -19,7 +19,6 @@ from pitplan.verification import verify_folder
 
 # Two blocks of ore at the surface, each with 1,000 for processing and 200 for mining: one of 24,000, and one of 1,200, which just does not pay.
 ORE = {"cu": lambda i, j, k: {(1, 1): 6, (3, 1): 0.3}.get((i, j), 0)}
-pytestmark = pytest.mark.usefixtures("without_figures")
 KEPT = ["kept_undiscounted_cash_flow", "kept_npv_best", "kept_npv_worst", "kept_years"]
 
 

@@ -13,7 +13,6 @@ from pitplan import PlanError, load
 from pitplan.config.economics import Curve
 from pitplan.studies.sensitivity import perturb
 
-pytestmark = pytest.mark.usefixtures("without_figures")
 BY = "processing_capacity = 100", "processing_capacity = 100\nselected = 1.0"
 RULES = "\n[sensitivity]\nchanges = [-0.1, 0.2]\n"
 

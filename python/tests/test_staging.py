@@ -17,7 +17,6 @@ from pitplan.core import atomic_files, staging
 from pitplan.export import registry
 from pitplan.results.folder import read_record
 
-pytestmark = pytest.mark.usefixtures("without_figures")
 ORE = {"cu": lambda i, j, k: {(3, 3, 1): 6, (4, 3, 1): 2.5, (3, 4, 0): 9}.get((i, j, k), 0)}
 MORE = '[pushbacks]\ncount = 2\n[schedule]\nmining_capacity = 2000\n[sensitivity]\nchanges = [0.1]\nparameters = "price"\n[constraints]\nmust_mine = "due"\n'
 SCENARIOS = '[scenarios]\ncolumns = { copper = ["cu", "cu2"] }\n'

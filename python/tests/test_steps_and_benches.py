@@ -121,14 +121,14 @@ def wrong(path):
 
 
 @pytest.mark.parametrize("text", [f"offsets = {[list(step) for step in LEANING]}", BENCH])
-def test_the_second_look_agrees(plan_folder, without_figures, text):
+def test_the_second_look_agrees(plan_folder, text):
     path = plan_folder(deposit(), PROJECT, walls(text))
     pitplan.write_shells(path)
     assert wrong(path) == set()
     assert (pd.read_csv(path.parent / "plan" / "tables/shells.csv")["blocks"] > 5).all()
 
 
-def test_a_step_that_is_passed_over_is_found(plan_folder, monkeypatch, without_figures):
+def test_a_step_that_is_passed_over_is_found(plan_folder, monkeypatch):
     path, pattern_of = (
         plan_folder(deposit(), PROJECT, walls(f"offsets = {[list(step) for step in LEANING]}")),
         slope_patterns.pattern_of,
@@ -141,7 +141,7 @@ def test_a_step_that_is_passed_over_is_found(plan_folder, monkeypatch, without_f
     assert "walls" in wrong(path)
 
 
-def test_berms_that_are_passed_over_are_found(plan_folder, monkeypatch, without_figures):
+def test_berms_that_are_passed_over_are_found(plan_folder, monkeypatch):
     monkeypatch.setattr(Bench, "angle", property(lambda bench: bench.face_angle))
     path = plan_folder(deposit(), PROJECT, walls(BENCH))
     pitplan.write_shells(path, writing=pitplan.Writing(verifies=False))

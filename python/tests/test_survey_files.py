@@ -153,7 +153,7 @@ def test_strings_have_north_before_east(tmp_path):
     assert "1 polygons of the layer 7, read by pitplan" in areas(tmp_path / "topo.str").notes[0]
 
 
-def test_strings_that_are_written_are_read(plan_folder, tmp_path, without_figures):
+def test_strings_that_are_written_are_read(plan_folder, tmp_path):
     """The toes and crests of a pit, which the export has in two forms."""
     path = plan_folder(rows(7, 7, 3, cu=lambda i, j, k: 9 * ((i, j, k) == (3, 3, 1))), PROJECT)
     pitplan.write_shells(path)

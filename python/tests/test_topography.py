@@ -338,7 +338,6 @@ def wrong(folder):
     return {rule.name: rule.differences[0] for rule in verify(folder) if rule.differences}
 
 
-@pytest.mark.usefixtures("without_figures")
 def test_the_second_look_agrees(cut_hill):
     rules = {rule.name: rule for rule in verify(cut_hill)}
     assert not any(rule.differences for rule in rules.values())
@@ -352,7 +351,6 @@ def test_the_second_look_agrees(cut_hill):
     assert set(read_record(cut_hill)["inputs"]) == {"project.toml", "blocks.csv", "topo.csv"}
 
 
-@pytest.mark.usefixtures("without_figures")
 @pytest.mark.parametrize("more", [1e-4, -1e-4, 60])
 def test_tonnes_that_are_bent_are_found(cut_hill, more):
     blocks = pd.read_csv(cut_hill / "tables/blocks.csv", dtype={"region": str})
@@ -362,7 +360,6 @@ def test_tonnes_that_are_bent_are_found(cut_hill, more):
     assert f"block {blocks['name'][row]}: " in wrong(cut_hill)["topography"]
 
 
-@pytest.mark.usefixtures("without_figures")
 def test_many_columns_are_looked_at_by_heights(cut_hill, monkeypatch):
     """Of a block of which but a few columns are looked at exactly a fifth is missed."""
     from pitplan.verification import topography as second
@@ -375,7 +372,6 @@ def test_many_columns_are_looked_at_by_heights(cut_hill, monkeypatch):
     assert f"block {blocks['name'][row]}: " in wrong(cut_hill)["topography"]
 
 
-@pytest.mark.usefixtures("without_figures")
 @pytest.mark.parametrize("tonnes", [150, -1])
 def test_no_block_has_more_than_the_table_gives_or_less_than_nothing(cut_hill, monkeypatch, tonnes):
     """Of a column that is not looked at otherwise."""
@@ -402,7 +398,6 @@ def test_a_run_that_cuts_wrong_is_refused(plan_folder, tmp_path, monkeypatch, be
         pitplan.write_shells(plan_folder(rows(6, 5, 3, cu=lambda i, j, k: 2), PROJECT, CUT))
 
 
-@pytest.mark.usefixtures("without_figures")
 def test_a_model_too_large_for_the_program(plan_folder, tmp_path, monkeypatch):
     """Ore far from the pit and above the ground is air and left out with the rest; the second look says so too."""
     monkeypatch.setattr(pitplan.blockmodel.grid, "MOST_BLOCKS", 3000)
@@ -416,7 +411,6 @@ def test_a_model_too_large_for_the_program(plan_folder, tmp_path, monkeypatch):
     assert not wrong(path.parent / "plan")
 
 
-@pytest.mark.usefixtures("without_figures")
 def test_a_sensitivity_of_blocks_that_are_cut(plan_folder, tmp_path):
     plane(tmp_path, lambda x, y: 5)
     text = (

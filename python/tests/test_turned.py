@@ -48,7 +48,6 @@ def planned(plan_folder, table, text=PROJECT, *changes):
 
 
 @pytest.mark.parametrize("degrees", [30, -12.5, 44])
-@pytest.mark.usefixtures("without_figures")
 def test_a_turned_model_has_the_pit_of_the_straight_one(plan_folder, degrees):
     """Every shell, row by row, with walls that differ by azimuth, which are turned along."""
     _, straight = planned(plan_folder, hill(), PROJECT, walls_at(0), NO_SIZE)
@@ -63,7 +62,6 @@ def test_a_turned_model_has_the_pit_of_the_straight_one(plan_folder, degrees):
     assert abs(grid["azimuth"] - degrees) < 0.01 and grid["shape"] == [6, 11, 12] and grid["size"] == [10, 10, 10]
 
 
-@pytest.mark.usefixtures("without_figures")
 def test_walls_that_are_not_turned_along_make_another_pit(plan_folder):
     """So the walls tell which way the grid is turned: straight ones, and such as are turned the other way."""
     _, straight = planned(plan_folder, hill(), PROJECT, walls_at(0), NO_SIZE)
@@ -281,7 +279,6 @@ def turned_points(points, degrees):
     return moved.to_csv(index=False)
 
 
-@pytest.mark.usefixtures("without_figures")
 def test_surfaces_and_areas_are_the_planners(plan_folder, tmp_path):
     """A cut of two blocks to 40 m, and a lease whose edge leaves out what lies in the east; each turned along."""
     surface = [(x, y, 40 if x < 30 and y < 20 else 70) for x in range(5, 120, 10) for y in range(5, 110, 10)]
@@ -300,7 +297,6 @@ def test_surfaces_and_areas_are_the_planners(plan_folder, tmp_path):
     pd.testing.assert_series_equal(found[1], found[0])
 
 
-@pytest.mark.usefixtures("without_figures")
 def test_pushbacks_widths_and_schedules_are_those_of_the_straight_model(plan_folder):
     text = (
         PROJECT
@@ -364,7 +360,6 @@ def test_a_simulated_model_is_matched_by_the_planners_centres(plan_folder, tmp_p
     assert next(iter(realisations.models(base))).grades[:, 0].tolist() == table["cu"].tolist()
 
 
-@pytest.mark.usefixtures("without_figures")
 def test_the_second_look_sees_a_wrong_azimuth(plan_folder, tmp_path, capsys):
     path = plan_folder(turned(hill(), 30), PROJECT, walls_at(30), ("size = [10, 10, 10]", "azimuth = 30"))
     pitplan.write_shells(path)
@@ -397,7 +392,6 @@ def test_no_file_of_the_answer_has_other_coordinates(one_block):
     assert blocks["x"].between(1000, 1064).all() and blocks["y"].between(4970, 5032).all()
 
 
-@pytest.mark.usefixtures("without_figures")
 def test_what_no_shell_can_reach_is_left_out_of_a_turned_model(plan_folder, monkeypatch):
     """Of 30 x 28 x 6 cells no more than 3,000 are taken; the second look, which is part of each run, finds the same sides."""
     monkeypatch.setattr(pitplan.blockmodel.grid, "MOST_BLOCKS", 3000)

@@ -42,7 +42,7 @@ def test_cut_blocks_do_not_make_a_model_light(plan_folder):
     assert not [note for note in warnings_of(plan_folder(table)) if "density" in note]
 
 
-def test_warnings_come_last_and_apart(plan_folder, capsys, without_figures):
+def test_warnings_come_last_and_apart(plan_folder, capsys):
     """Behind a line without words, also those of the table, which were told in the middle of the run."""
     path = plan_folder(ore().assign(cu=140.0), PROJECT)
     assert main(["shells", str(path)]) == 0

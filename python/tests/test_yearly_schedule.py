@@ -17,7 +17,6 @@ from pitplan.results.folder import read_record
 from pitplan.scheduling import pushback_schedule
 from pitplan.verification import verify
 
-pytestmark = pytest.mark.usefixtures("without_figures")
 # What each pillar is worth: 40 a per cent and tonne, less 10 for processing and 4 for mining.
 WORTHS = [2600, 1400, 600]
 
@@ -146,7 +145,7 @@ def test_the_size_of_the_programme_is_told_before_it_is_solved(plan_folder, caps
 
 
 @pytest.fixture(scope="module")
-def written(without_figures, tmp_path_factory):
+def written(tmp_path_factory):
     """A hill in three pushbacks under several limits."""
     place = tmp_path_factory.mktemp("scheduled")
     table = rows(
