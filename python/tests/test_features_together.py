@@ -4,14 +4,14 @@ import numpy as np
 import pytest
 from conftest import PROJECT
 from helpers.random_projects import haulage, pick, project_of, table_of
+from helpers.random_tests import seeds
 
 import pitplan
 from pitplan.verification import verify
 
 
-@pytest.mark.parametrize("seed", range(16))
+@pytest.mark.parametrize("seed", seeds(8, 200))
 def test_what_is_written_is_right(plan_folder, monkeypatch, seed):
-    """Each command looks a second time by itself, and raises where a number is not right."""
     rng = np.random.default_rng(seed)
     changes, is_one = project_of(rng)
     if rng.random() < 0.3:
@@ -33,5 +33,5 @@ def test_what_is_written_is_right(plan_folder, monkeypatch, seed):
         (pitplan.write_pit, "plan/pit"),
     ]
     command, folder = ways[seed % 4]
-    table = command(path)
+    table = command(path, writing=pitplan.Writing(verifies=False))
     assert len(table) and not any(rule.differences for rule in verify(path.parent / folder))

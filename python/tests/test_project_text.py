@@ -9,6 +9,7 @@ import numpy as np
 import pytest
 from conftest import PROJECT, ROOT
 from helpers.random_projects import haulage, pick, project_of
+from helpers.random_tests import seeds
 
 from pitplan import PlanError, load
 from pitplan.config import project_writer
@@ -129,7 +130,7 @@ def table_keys(rng):
     return text + pick(rng, "", 'density = "sg"\n', 'density = "sg"\nvolume = "vol"\n', 'tonnes = "t"\n')
 
 
-@pytest.mark.parametrize("seed", range(8))
+@pytest.mark.parametrize("seed", seeds(3, 40))
 def test_random_projects_read_back_as_themselves(plan_folder, tmp_path, seed):
     """Fifty of each seed; those in which sections do not go with each other are no projects."""
     rng, done = np.random.default_rng(seed), 0

@@ -8,6 +8,7 @@ import numpy as np
 import pandas as pd
 import pytest
 from conftest import PROJECT, ROOT, rows
+from helpers.random_tests import examples
 from hypothesis import given, strategies as st
 
 import pitplan
@@ -172,6 +173,7 @@ WALL = st.one_of(
 ).map(lambda angles: Wall(None, None, angles))
 
 
+@examples(8)
 @given(WALL, st.sampled_from([CUBE, FLAT, (5.0, 10.0, 4.0)]))
 def test_levels_left_out_are_the_fewest_that_hold_the_walls_to_half_a_degree(wall, size):
     chosen = slope_patterns.pattern_of(wall, size, Slopes(None, False, (wall,)))
