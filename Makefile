@@ -1,5 +1,5 @@
 # `make try` runs the program at once, unproved; `make` proves it, builds it and solves the small mine; `make test` runs the gate.
-.PHONY: all try build library dist demo install test style test-program test-plan test-library mutants sweep storm bench setup
+.PHONY: all try build library dist demo install test style test-program test-plan thorough test-library mutants sweep storm bench setup
 
 SMALL_MINE = examples/small_mine
 PROGRAM = build/pitshell
@@ -70,6 +70,7 @@ style: setup
 	/usr/bin/python3 -m isort --check-only --quiet python
 	/usr/bin/python3 -m pyflakes python/pitplan python/minelib python/tests
 	/usr/bin/python3 -m mypy -p pitplan -p minelib -p pitshell
+	MYPYPATH=python/tests /usr/bin/python3 -m mypy -p oracle
 
 # The tests of the built program and of the tools beside it alone.
 test-program: setup
@@ -81,6 +82,15 @@ test-program: setup
 test-plan: setup
 	test -x build/pitshell || $(MAKE) build
 	/usr/bin/python3 -m pytest python/tests -q -p no:cacheprovider -n auto --dist loadfile
+
+# The same with many random cases that no run had before, a thousand projects against the oracle of tests/oracle, and
+# 25 times as many examples of each property. SEED repeats a run.
+SEED := $(shell date +%s)
+thorough: setup
+	test -x build/pitshell || $(MAKE) build
+	@echo "to repeat this run: make thorough SEED=$(SEED)"
+	PITPLAN_TESTS=thorough PITPLAN_SEED=$(SEED) /usr/bin/python3 -m pytest python/tests -q -p no:cacheprovider -n auto --dist loadfile \
+	  --hypothesis-seed=$(SEED)
 
 # Tries all mutants, for an hour or two, and renews their table. tools/mutants.py CRATE tries those of a crate.
 mutants:

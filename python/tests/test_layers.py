@@ -96,3 +96,14 @@ def test_no_module_is_long():
 def test_tests_share_helpers_and_no_module_of_tests(module):
     """What two modules of tests need lies in tests/helpers, so that each can be moved and run by itself."""
     assert not {name for name in modules_of(module.read_text(encoding="utf-8")) if name.startswith("test_")}
+
+
+@pytest.mark.parametrize("module", sorted((TESTS / "oracle").glob("*.py")), ids=lambda it: it.name)
+def test_the_oracle_shares_nothing_with_what_it_checks(module):
+    assert not modules_of(module.read_text(encoding="utf-8")) & {
+        "pitplan",
+        "pitshell",
+        "minelib",
+        "conftest",
+        "helpers",
+    }

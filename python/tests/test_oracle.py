@@ -1,230 +1,134 @@
-"""Small random projects, planned by the layer and by an oracle of the tests' own: block for block the same.
-
-The oracle reads the table by Python's csv, takes needs from the definition of the cone, unreduced, and finds each pit as the least
-minimum cut of a plain maximum flow (Picard 1976).
-"""
+"""Random small projects with every feature at once: what pitplan writes is what an oracle of the tests' own finds (tests/oracle)."""
 
 import csv
-import math
-from collections import deque
-from decimal import ROUND_HALF_EVEN, Decimal
+from fractions import Fraction
 
-import numpy as np
 import pytest
-from conftest import rows
-from hypothesis import HealthCheck, given, settings, strategies as st
-from scipy.sparse import csr_matrix
-from scipy.sparse.csgraph import maximum_flow
+from helpers.random_tests import seeds
+from oracle import closures, pits, projects, tables
+from oracle.mine import Mine
 
 import pitplan
 
-SIZE = (10, 12, 8)
-SHAPE = (7, 6, 6)  # columns, rows, levels
-FACTORS = (0.6, 1.0, 1.4)
-PROJECT = """
-[table]
-file = "blocks.csv"
-id = "name"
-rock_type = "rock"
-domain = "region"
-[grid]
-size = [10, 12, 8]
-[economics]
-mining_cost = {{ R = 2, S = 3 }}
-mining_cost_per_bench = 0.5
-mining_cost_reference = 48
-processing_cost = {{ R = 4, S = 5 }}
-decimals = 0
-cutoff = "{cutoff}"
-[[metals]]
-name = "copper"
-column = "cu"
-unit = "percent"
-price = 900
-selling_cost = 20
-recovery = {{ R = 0.8, S = 0.5 }}
-[slopes]
-precedence_benches = {levels}
-{walls}
-[shells]
-revenue_factors = [0.6, 1.0, 1.4]
-discount_rate = 0.1
-processing_capacity = 100
-[constraints]
-must_mine = "must"
-exclude = "never"
-"""
+PUSHBACKS = "[pushbacks]\nrevenue_factors = [0.5, 1.0]\n"
+CONSTRAINTS = '[constraints]\nmust_mine = "must"\nexclude = "never"\n'
+CLASH = "is must-mine and depends on|is both must-mine and excluded"
+# Decimals of columns in files; of the others three. Sums of floats keep a billionth of themselves.
+DECIMALS = {"strip_ratio": 6, "years": 6, "value_at_revenue_factor": 9, "revenue_factor": 3}
+KEPT = 1e-9
 
 
-def text_of_wall(region, wall):
-    if isinstance(wall, str):
-        return f'[[slopes.domains]]\ndomain = "{region}"\npattern = "{wall}"\n'
-    azimuths = ", ".join(f"[{azimuth}, {angle}]" for azimuth, angle in wall)
-    return f'[[slopes.domains]]\ndomain = "{region}"\nazimuths = [{azimuths}]\n'
+def written(folder, seed, more=""):
+    """The mine of a seed, whose files are written into a folder."""
+    drawn = projects.draw(seed)
+    (folder / "project.toml").write_text(drawn.text + more)
+    for name, text in drawn.files.items():
+        (folder / name).write_text(text)
+    return Mine(folder / "project.toml")
 
 
-def cells():
-    return [(i, j, k) for k in range(SHAPE[2]) for j in range(SHAPE[1]) for i in range(SHAPE[0])]
+def rows_of(path):
+    with open(path, newline="") as file:
+        return list(csv.DictReader(file))
 
 
-def cotangent(wall, azimuth):
-    """Between two azimuths that are named the cotangent goes linearly, round the circle."""
-    points = sorted((float(at), 1 / math.tan(math.radians(angle))) for at, angle in wall)
-    points = [(points[-1][0] - 360, points[-1][1]), *points, (points[0][0] + 360, points[0][1])]
-    for (low, first), (high, then) in zip(points, points[1:]):
-        if low <= azimuth <= high:
-            return first + (then - first) * ((azimuth - low) / (high - low) if high > low else 0)
-    raise AssertionError(azimuth)
-
-
-def is_needed(wall, east, north, up, levels):
-    """Whether a block needs the one that lies so many blocks east, north and up."""
-    if isinstance(wall, str):
-        return up == 1 and (abs(east) + abs(north) <= 1 if wall == "1:5" else max(abs(east), abs(north)) <= 1)
-    if not 1 <= up <= levels:
-        return False
-    x, y = east * SIZE[0], north * SIZE[1]
-    flat = cotangent(wall, math.degrees(math.atan2(x, y)) % 360)
-    return math.hypot(x, y) <= up * SIZE[2] * flat + 1e-7
-
-
-def needs_of(table, walls, levels):
-    """For each cell the cells that it needs. A cell without a row is of the region of the next block below it."""
-    region = {place: row["region"] for place, row in table.items()}
-    for i, j, k in cells():
-        below = [region[i, j, other] for other in range(k, -1, -1) if (i, j, other) in region]
-        region[i, j, k] = below[0]
-    lists = {
-        name: [
-            (east, north, up)
-            for up in range(1, levels + 1)
-            for north in range(-SHAPE[1], SHAPE[1] + 1)
-            for east in range(-SHAPE[0], SHAPE[0] + 1)
-            if is_needed(wall, east, north, up, levels)
-        ]
-        for name, wall in walls.items()
-    }
+def differences(expected, row):
+    """The numbers of a row of a file that are not the expected ones to the decimals of their columns."""
     found = {}
-    for i, j, k in cells():
-        steps = ((i + a, j + b, k + c) for a, b, c in lists[region[i, j, k]])
-        found[i, j, k] = [to for to in steps if 0 <= to[0] < SHAPE[0] and 0 <= to[1] < SHAPE[1] and to[2] < SHAPE[2]]
+    for name, number in expected.items():
+        if number is None:
+            right = row[name] == ""
+        else:
+            decimals = DECIMALS.get(name, 6 if name.startswith("head_grade") else 3)
+            right = row[name] != "" and abs(float(row[name]) - number) <= 0.5001 * 10**-decimals + KEPT * abs(number)
+        if not right:
+            found[name] = (number, row[name])
     return found
 
 
-def whole(amount):
-    return int(amount.quantize(Decimal(1), ROUND_HALF_EVEN))
+def demand_rows(expected, rows):
+    assert len(rows) == len(expected)
+    assert [it for it in (differences(want, row) for want, row in zip(expected, rows)) if it] == []
 
 
-def amounts_of(row, k):
-    """Revenue, processing and mining cost of a block, in whole money."""
-    rock, tonnes = row["rock"], Decimal(row["tonnes"])
-    metal = tonnes * Decimal(row["cu"]) / 100 * {"R": Decimal("0.8"), "S": Decimal("0.5")}[rock]
-    revenue = whole(metal * 900)
-    processing = whole(tonnes * {"R": 4, "S": 5}[rock] + metal * 20) if revenue else 0
-    mining = whole(tonnes * ({"R": 2, "S": 3}[rock] + Decimal("0.5") * (SHAPE[2] - 1 - k)))
-    return revenue, processing, mining
+def demand_blocks(mine, factors, shells, path):
+    """Each block has its exact money, and the least revenue factors at which it is mined and processed."""
+    rows = {row["name"]: row for row in rows_of(path)}
+    assert rows.keys() == {block.name for block in mine.blocks.values()} and len(rows) == len(mine.blocks)
+    for place, block in mine.blocks.items():
+        row = rows[block.name]
+        least = [factor for factor, shell in zip(factors, shells) if place in shell]
+        pays = [factor for factor in least if pits.is_processed(mine, place, factor)]
+        best = mine.best_way(place, Fraction(1))
+        expected = {
+            "tonnes": block.tonnes,
+            "mining_cost": mine.mining[place],
+            "revenue": best.revenue,
+            "processing_cost": best.cost,
+            "revenue_factor": min(least, default=0),
+            "process_revenue_factor": min(pays, default=0),
+        }
+        assert {name: Fraction(row[name]) for name in expected} == expected, block.name
 
 
-def value_at(row, k, factor, cutoff):
-    """What a block is worth once it is dug, in thousandths."""
-    revenue, processing, mining = amounts_of(row, k)
-    gain = round(1000 * factor) * revenue - 1000 * processing
-    pays = gain > 0 if cutoff == "per_revenue_factor" else revenue > processing
-    return (gain if pays else 0) - 1000 * mining
+def demand_years(expected, rows):
+    found = {(row["case"], float(row["revenue_factor"]), int(row["year"])): row for row in rows}
+    assert found.keys() == expected.keys()
+    money = ("fixed_cost", "capex")
+    for key, row in found.items():
+        wanted = {name: number for name, number in expected[key].items() if name in row or name not in money}
+        assert not any(expected[key][name] for name in money if name not in row)
+        assert differences(wanted, row) == {}, key
 
 
-def least_best_pit(values, needs):
-    """The smallest set of greatest worth that holds what its cells need."""
-    places = list(values)
-    number = {place: at for at, place in enumerate(places)}
-    source, sink, most = len(places), len(places) + 1, sum(value for value in values.values() if value > 0) + 1
-    edges = [(number[u], number[p], most) for u in places for p in needs[u] if p in number]
-    edges += [(source, number[u], value) for u, value in values.items() if value > 0]
-    edges += [(number[u], sink, -value) for u, value in values.items() if value < 0]
-    tail, head, capacity = (np.array(part) for part in zip(*edges))
-    graph = csr_matrix((capacity.astype(np.int32), (tail, head)), shape=(sink + 1, sink + 1))
-    left = (graph - maximum_flow(graph, source, sink).flow).tolil().rows
-    rest = (graph - maximum_flow(graph, source, sink).flow).tolil()
-    reached, queue = {source}, deque([source])
-    while queue:
-        at = queue.popleft()
-        for to, free in zip(left[at], rest.data[at]):
-            if free > 0 and to not in reached:
-                reached.add(to)
-                queue.append(to)
-    return {places[at] for at in reached if at < len(places)}
-
-
-def closure(start, leads):
-    found, queue = set(start), list(start)
-    while queue:
-        new = set(leads[queue.pop()]) - found
-        found |= new
-        queue += new
-    return found
-
-
-def pit_of(table, needs, factor, cutoff):
-    """The cells of the best pit that keeps to the fixed blocks; None where there is none."""
-    users = {place: [] for place in needs}
-    for place, needed in needs.items():
-        for to in needed:
-            users[to].append(place)
-    forced, barred = ({place for place, row in table.items() if row[name] == "1"} for name in ("must", "never"))
-    dug, left = closure(forced, needs), closure(barred, users)
-    if dug & left:
-        return None
-    rest = [place for place in needs if place not in dug and place not in left]
-    values = {place: value_at(table[place], place[2], factor, cutoff) if place in table else 0 for place in rest}
-    return dug | least_best_pit(values, needs)
-
-
-wall = st.one_of(
-    st.sampled_from(["1:5", "1:9"]),
-    st.lists(st.integers(25, 65), min_size=1, max_size=3).map(
-        lambda angles: [(100 * k, angle) for k, angle in enumerate(angles)]
-    ),
-)
-
-
-@settings(max_examples=40, suppress_health_check=[HealthCheck.function_scoped_fixture])
-@given(
-    st.integers(0, 10**6),
-    st.lists(wall, min_size=3, max_size=3),
-    st.integers(1, 6),
-    st.sampled_from(["per_revenue_factor", "base_price"]),
-    st.booleans(),
-)
-def test_plans_are_those_of_the_oracle(tmp_path, seed, three, levels, cutoff, is_fixed):
-    rng = np.random.default_rng(seed)
-    ground = rng.integers(2, SHAPE[2] + 1, SHAPE[:2])
-    middle = rng.random((3, 3)) * SHAPE
-    draw = {place: rng.random(5) for place in cells()}
-    table = rows(
-        *SHAPE,
-        tonnes=lambda i, j, k: 1 + int(3 * draw[i, j, k][0]),
-        cu=lambda i, j, k: round(6 * draw[i, j, k][1], 2) if draw[i, j, k][2] < 0.12 else 0.0,
-        rock=lambda i, j, k: "RS"[int(draw[i, j, k][3] < 0.3)],
-        region=lambda i, j, k: "abc"[int(((middle - (i, j, k)) ** 2).sum(axis=1).argmin())],
-        must=lambda i, j, k: int(is_fixed and draw[i, j, k][4] < 0.004),
-        never=lambda i, j, k: int(is_fixed and draw[i, j, k][4] > 0.99),
-    ).assign(x=lambda it: it["x"] - 5, y=lambda it: (it["y"] - 5) * 1.2, z=lambda it: (it["z"] - 5) * 0.8 + 4)
-    keep = [k < ground[i, j] for i, j, k in cells()]
-    table[keep].to_csv(tmp_path / "blocks.csv", index=False)
-    walls = dict(zip("abc", three))
-    text = PROJECT.format(cutoff=cutoff, levels=levels, walls="".join(text_of_wall(*pair) for pair in walls.items()))
-    (tmp_path / "project.toml").write_text(text)
-
-    with open(tmp_path / "blocks.csv", newline="") as file:
-        read = {tuple(map(int, row["name"][1:].split("-"))): row for row in csv.DictReader(file)}
-    needs = needs_of(read, walls, levels)
-    pits = [pit_of(read, needs, factor, cutoff) for factor in FACTORS]
-    if pits[0] is None:
-        with pytest.raises(pitplan.PlanError, match="is must-mine and depends on|is both must-mine and excluded"):
-            pitplan.Plan.from_project(tmp_path / "project.toml")
+@pytest.mark.parametrize("seed", seeds(20, 1000))
+def test_a_plan_is_the_oracles(tmp_path, seed):
+    """Shells or pushbacks with their tables, block for block and year for year; the verification accepts them."""
+    with_pushbacks = seed % 3 == 2
+    mine = written(tmp_path, seed, PUSHBACKS if with_pushbacks else "")
+    factors = [Fraction("0.5"), Fraction(1)] if with_pushbacks else pits.factors_of(mine)
+    shells = pits.shells_of(mine, factors)
+    if shells is None:
+        with pytest.raises(pitplan.PlanError, match=CLASH):
+            pitplan.write_shells(tmp_path / "project.toml")
         return
-    plan = pitplan.Plan.from_project(tmp_path / "project.toml")
-    blocks = plan.shells().blocks
-    for factor, pit in zip(FACTORS, pits):
-        inside = (blocks["revenue_factor"] > 0.0) & (blocks["revenue_factor"] <= factor)
-        assert set(blocks["name"][inside]) == {f"b{i}-{j}-{k}" for i, j, k in pit if (i, j, k) in read}, factor
+    if with_pushbacks:
+        kept = pits.growing(mine, factors, shells)
+        factors, shells = list(kept), list(kept.values())
+        if not kept:
+            with pytest.raises(pitplan.PlanError, match="is empty"):
+                pitplan.write_pushbacks(tmp_path / "project.toml")
+            return
+    (pitplan.write_pushbacks if with_pushbacks else pitplan.write_shells)(tmp_path / "project.toml", tmp_path / "out")
+    folder = tmp_path / "out" / "tables"
+    demand_blocks(mine, factors, shells, folder / "blocks.csv")
+    demand_rows(tables.shells(mine, factors, shells), rows_of(folder / "shells.csv"))
+    demand_years(tables.years(mine, factors, shells), rows_of(folder / "years.csv"))
+    if with_pushbacks:
+        demand_rows(tables.pushbacks(mine, shells), rows_of(folder / "pushbacks.csv"))
+
+
+@pytest.mark.parametrize("seed", seeds(5, 200))
+def test_a_pit_with_its_constraints_and_without_is_the_oracles(tmp_path, seed):
+    mine = written(tmp_path, seed, "" if "[constraints]" in projects.draw(seed).text else CONSTRAINTS)
+    factors = [factor for factor in pits.factors_of(mine) if factor <= 1]
+    kept, free = (pits.shells_of(mine, factors, is_free) for is_free in (False, True))
+    if kept is None:
+        with pytest.raises(pitplan.PlanError, match=CLASH):
+            pitplan.write_pit(tmp_path / "project.toml")
+        return
+    pitplan.write_pit(tmp_path / "project.toml", folder=tmp_path / "out")
+    rows = rows_of(tmp_path / "out" / "tables" / "pits.csv")
+    assert [row["fixed_blocks"] for row in rows] == ["kept", "free"]
+    demand_rows([tables.shells(mine, factors, shells)[-1] for shells in (kept, free)], rows)
+
+
+@pytest.mark.parametrize("seed", range(20))
+def test_maximum_flow_and_trying_every_set_agree(seed):
+    """The oracle's own two ways to a pit, and its two maximum flows."""
+    rng = projects.Random(seed)
+    needs = {at: [to for to in range(at) if rng.random() < 0.25] for at in range(10)}
+    values = {at: rng.randint(-5, 5) for at in needs}
+    pit = closures.least_best_by_trying(values, needs)
+    assert closures.least_best_pit(values, needs) == pit
+    assert closures.least_best_pit({at: value * 10**12 for at, value in values.items()}, needs) == pit

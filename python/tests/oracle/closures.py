@@ -102,9 +102,11 @@ def layers(rest: list[dict[int, int]], source: int) -> dict[int, int]:
 
 def least_best_by_trying(values: Mapping[Block, int], needs: Mapping[Block, Iterable[Block]]) -> set[Block]:
     """The same as `least_best_pit` by trying every set, of at most a dozen blocks."""
-    places, best, worth = list(values), set(), 0
+    places, worth = list(values), 0
+    best: set[Block] = set()
     for count in range(1, len(places) + 1):
-        for some in map(set, combinations(places, count)):
+        for chosen in combinations(places, count):
+            some = set(chosen)
             total = sum(values[it] for it in some)
             if total > worth and all(to in some or to not in values for it in some for to in needs[it]):
                 best, worth = some, total

@@ -33,10 +33,10 @@ def angles_of(domain: dict[str, Any]) -> list[tuple[float, float]]:
 def steps_of(domain: dict[str, Any], size: tuple[float, float, float], benches: int, shape: Step) -> list[Step]:
     """The blocks east, north and up of a block that it depends on, within a grid of a shape (columns, rows, levels)."""
     if "offsets" in domain:
-        return [tuple(step) for step in domain["offsets"]]
+        return [(int(east), int(north), int(up)) for east, north, up in domain["offsets"]]
     if "pattern" in domain:
         nine = {(east, north) for east in (-1, 0, 1) for north in (-1, 0, 1)}
-        return [(*flat, 1) for flat in (FIVE if domain["pattern"] == "1:5" else nine)]
+        return [(east, north, 1) for east, north in (FIVE if domain["pattern"] == "1:5" else nine)]
     wall = angles_of(domain)
     found = []
     for up in range(1, min(benches, shape[2] - 1) + 1):

@@ -1,0 +1,160 @@
+"""Random small projects with every feature at once, as the text of a project.toml and of its files."""
+
+from __future__ import annotations
+
+from dataclasses import dataclass
+from random import Random
+from typing import Any
+
+
+@dataclass(frozen=True)
+class Drawn:
+    """A project: the text of its project.toml, and of each other file by name."""
+
+    text: str
+    files: dict[str, str]
+
+
+def draw(seed: int) -> Drawn:
+    """The project of a seed. Each feature is there in some of the projects, in any combination that pitplan takes."""
+    rng = Random(seed)
+    size = (rng.choice([8, 10, 12.5]), rng.choice([8, 10]), rng.choice([5, 8, 10]))
+    shape = rng.choice([(3, 2, 2), (5, 4, 3), (6, 5, 4), (7, 3, 5), (7, 6, 6)])
+    several = rng.choice([0, 0, 2, 3])
+    files = {"blocks.csv": table(rng, size, shape)}
+    sections = [
+        table_section(rng, files, size, shape),
+        f"[grid]\nsize = [{size[0]}, {size[1]}, {size[2]}]",
+        economics(rng, several, size[2] * shape[2]),
+        *metals(rng, several),
+        *(process(rng, number) for number in range(several)),
+        slopes(rng),
+        shells(rng, several),
+        '[constraints]\nmust_mine = "must"\nexclude = "never"' if rng.random() < 0.5 else "",
+    ]
+    return Drawn("\n\n".join(filter(None, sections)) + "\n", files)
+
+
+def table(rng: Random, size: tuple[float, float, float], shape: tuple[int, int, int]) -> str:
+    """A hill of two rocks and two domains, with ore of two metals, at coordinates of a mine or of a country."""
+    west, south, floor = rng.choice([(0, 0, 0), (512_000.5, 6_203_500, 1200)])
+    rows = ["name,x,y,z,tonnes,cu,au,rock,region,must,never"]
+    rich = rng.choice([0.08, 0.25, 0.6])
+    for i in range(shape[0]):
+        for j in range(shape[1]):
+            for k in range(rng.randint(max(1, shape[2] - 2), shape[2])):
+                x, y, z = (low + at * edge for low, at, edge in zip((west, south, floor), (i, j, k), size))
+                cu = round(rng.lognormvariate(-1.2, 0.9), rng.choice([1, 3])) if rng.random() < rich else 0
+                au = round(rng.lognormvariate(-1.5, 0.9), 2) if rng.random() < rich / 2 else 0
+                tonnes = rng.choice([0, 900.5, 1000, 1187.5]) if rng.random() < 0.3 else 1000
+                marks = f"{int(rng.random() < 0.01)},{int(rng.random() < 0.02)}"
+                codes = f"{rng.choice('RRS')},{'12'[i * 2 > shape[0]]}"
+                rows.append(f"b{i}-{j}-{k},{x},{y},{z},{tonnes},{cu},{au},{codes},{marks}")
+    return "\n".join(rows) + "\n"
+
+
+def table_section(rng: Random, files: dict[str, str], size: Any, shape: Any) -> str:
+    text = '[table]\nfile = "blocks.csv"\nid = "name"\nrock_type = "rock"\ndomain = "region"\nmissing_blocks = "air"'
+    if rng.random() < 0.4:
+        files["ground.csv"] = ground(rng, files["blocks.csv"], size, shape)
+        text += '\ntopography = "ground.csv"'
+    return text
+
+
+def ground(rng: Random, blocks: str, size: Any, shape: Any) -> str:
+    """A surface that rises and falls from west to east only, over the whole model and a block beyond it."""
+    rows = [row.split(",") for row in blocks.splitlines()[1:]]
+    low = [min(float(row[axis]) for row in rows) for axis in (1, 2, 3)]
+    ends = [(low[axis] - 1.5 * size[axis], low[axis] + (shape[axis] + 0.5) * size[axis]) for axis in (0, 1)]
+    bends = [ends[0][0], low[0] + rng.choice([0.5, 1, 2.25]) * size[0], ends[0][1]]
+    top = low[2] + (shape[2] - 0.5) * size[2]
+    heights = [round(top - rng.choice([0, 0.3, 0.71, 1.43]) * size[2], 3) for _ in bends]
+    points = [f"{x},{y},{z}" for x, z in zip(bends, heights) for y in ends[1]]
+    return "\n".join(["x,y,z", *points]) + "\n"
+
+
+def pick(rng: Random, *texts: str) -> str:
+    return rng.choice(texts)
+
+
+def recovery(rng: Random) -> str:
+    curve = "[[0.2, 0.4], [1, 0.72], [6, 0.91]]"
+    return pick(rng, "0.83", curve, "{ R = 0.87, S = 0.61 }", f"{{ R = {curve}, S = 0.61 }}")
+
+
+def economics(rng: Random, several: int, high: float) -> str:
+    lines = ["[economics]", "mining_cost = " + pick(rng, "2", "{ R = 2, S = 2.35 }")]
+    lines.append(
+        pick(
+            rng,
+            "",
+            "mining_cost_per_bench = 0.11",
+            f"mining_cost_per_bench = 0.07\nmining_cost_reference = {high / 2}",
+            f"mining_cost_by_elevation = [[{-rng.randint(1, 9)}, {rng.randint(1, 99) / 100}], [{30 + rng.randint(0, 30)}, 0]]",
+        )
+    )
+    lines.append("" if several else "processing_cost = " + pick(rng, "10", "{ R = 9, S = 11.5 }"))
+    lines.append(pick(rng, "", "mining_recovery = 0.943", "mining_recovery = { domain = { 1 = 0.91, 2 = 0.97 } }"))
+    lines.append(pick(rng, "", "dilution = 0.057", "dilution = { R = 0.04, S = 0.11 }"))
+    lines.append(pick(rng, "", "royalty = 0.035"))
+    lines.append(pick(rng, "", "royalty_per_tonne = 0.37"))
+    lines.append(pick(rng, "", "fixed_cost_per_year = 777.5"))
+    lines.append(pick(rng, "", "capex = [[1, 4000], [3, 990]]"))
+    lines.append(pick(rng, "", "decimals = 2", "decimals = 0"))
+    lines.append(pick(rng, "", "", 'cutoff = "base_price"'))
+    return "\n".join(filter(None, lines))
+
+
+def metals(rng: Random, several: int) -> list[str]:
+    price = pick(rng, "price = 8000", 'price = 3.6287\nprice_per = "lb"', 'price = 8\nprice_per = "kg"')
+    yearly = pick(rng, "", "prices = [{0}, {1}, {2}]")
+    if yearly:
+        base = float(price.split("\n")[0].split(" = ")[1])
+        yearly = yearly.format(*(round(base * share, 4) for share in (1, 1.14, 0.91)))
+    own = (
+        []
+        if several
+        else [f"recovery = {recovery(rng)}", pick(rng, "", "tail_grade = 0.08", "tail_grade = { R = 0.05 , S = 0.1 }")]
+    )
+    copper = ["[[metals]]", 'name = "copper"', 'column = "cu"', 'unit = "percent"', price, yearly, *own]
+    found = ["\n".join(filter(None, copper))]
+    if several or rng.random() < 0.5:
+        gold = ["[[metals]]", 'name = "gold"', 'column = "au"', 'unit = "gram_per_tonne"']
+        gold += [pick(rng, "price = 60\nselling_cost = 1.5", 'price = 1866.21\nprice_per = "oz"\nselling_cost = 46.5')]
+        found.append("\n".join([*gold, *([] if several else [f"recovery = {recovery(rng)}"])]))
+    return found
+
+
+def process(rng: Random, number: int) -> str:
+    """Each costs more than the one before, and recovers gold but for the first."""
+    gold = f", gold = {recovery(rng)}" if number else ""
+    cost = pick(rng, str(2 + 5 * number), f"{{ R = {2 + 5 * number}, S = {2.5 + 5 * number} }}")
+    name, copper = ("leach", "mill", "fine")[number], pick(rng, "0.5", recovery(rng))
+    return f'[[processes]]\nname = "{name}"\ncost = {cost}\ncapacity = {2500 * (number + 1)}\nrecovery = {{ copper = {copper}{gold} }}'
+
+
+def slopes(rng: Random) -> str:
+    def domain() -> str:
+        return pick(
+            rng,
+            'pattern = "1:5"',
+            'pattern = "1:9"',
+            f"angle = {rng.randint(30, 70)}",
+            f"azimuths = [[0, {rng.randint(35, 60)}], [90, {rng.randint(35, 60)}], [220, {rng.randint(35, 60)}]]",
+            f'azimuths = [[10, {rng.randint(35, 60)}], [200, {rng.randint(35, 60)}]]\nazimuth_of = "dip"',
+            "bench = { height = 10, face_angle = 66, berm_width = 4 }",
+            "offsets = [[0, 0, 1], [1, 0, 1], [-1, 1, 2]]",
+        )
+
+    first = "[slopes]\nprecedence_benches = " + str(rng.randint(1, 5))
+    second = f'[[slopes.domains]]\ndomain = "2"\n{domain()}' if rng.random() < 0.5 else ""
+    return "\n".join(filter(None, [first, second, f"[[slopes.domains]]\n{domain()}"]))
+
+
+def shells(rng: Random, several: int) -> str:
+    factors = sorted({0.5, 1.0, rng.choice([0.25, 0.731, 0.9]), rng.choice([1.2, 1.75])})
+    lines = ["[shells]", f"revenue_factors = {factors}", f"discount_rate = {rng.choice([0.08, 0.1, 0.125])}"]
+    lines.append("" if several else f"processing_capacity = {rng.choice([1500, 2600, 9000])}")
+    lines.append(pick(rng, "", f"mining_capacity = {rng.choice([3300, 7000])}"))
+    lines.append(pick(rng, "", 'discounting = "continuous"', 'discounting = "mid_year"'))
+    return "\n".join(filter(None, lines))

@@ -1,0 +1,84 @@
+"""The tables that a plan must have: shells.csv, years.csv and pushbacks.csv, as numbers that are not rounded."""
+
+from __future__ import annotations
+
+from fractions import Fraction
+from typing import Any, Optional
+
+from .mine import Mine, Place
+from .pits import is_processed, value_at
+from .years import CASH, FEED, TOTAL, Amounts, amounts_of, capacities, earned, mined, pieces_of
+
+Row = dict[str, Optional[float]]
+
+
+def ratio(amount: Fraction, whole: Fraction) -> Optional[float]:
+    return float(amount / whole) if whole else None
+
+
+def totals(mine: Mine, places: set[Place]) -> Row:
+    """The tonnes, grades and cash flow of some blocks."""
+    amounts = amounts_of(mine, places)
+    of: Any = lambda name: amounts.get(name, Fraction(0))
+    row: Row = {
+        "blocks": sum(1 for it in places if it in mine.blocks and mine.blocks[it].tonnes),
+        "tonnes": float(of(TOTAL)),
+        "feed_tonnes": float(of(FEED)),
+        "in_situ_ore_tonnes": float(of("in_situ")),
+        "waste_tonnes": float(of(TOTAL) - of("in_situ")),
+        "strip_ratio": ratio(of(TOTAL) - of("in_situ"), of("in_situ")),
+        "undiscounted_cash_flow": float(of(CASH)),
+    }
+    for number, process in enumerate(mine.project.get("processes", [])):
+        row[f"feed_tonnes_{process['name']}"] = float(of(f"process {number}"))
+    for metal in mine.project["metals"]:
+        row[f"head_grade_{metal['name']}"] = ratio(of(f"content {metal['name']}"), of(FEED))
+        row[f"recovered_{metal['name']}"] = float(of(f"recovered_{metal['name']}"))
+    return row
+
+
+def shells(mine: Mine, factors: list[Fraction], pits: list[set[Place]]) -> list[Row]:
+    """A row for each shell."""
+    found, limits = [], capacities(mine)
+    for number, (factor, pit) in enumerate(zip(factors, pits), 1):
+        best = mined(pieces_of(mine, pits[:number]), limits)
+        worst = mined(pieces_of(mine, [pit]), limits)
+        row = {"revenue_factor": float(factor)} | totals(mine, pit)
+        row |= {f"npv_{case}": npv(mine, years) for case, years in (("best", best), ("worst", worst))}
+        row["years"] = float(len(best) - 1 + best[-1].length)
+        row["value_at_revenue_factor"] = float(sum(value_at(mine, place, factor) for place in pit))
+        row["processed_at_revenue_factor"] = float(
+            sum(mine.blocks[it].feed for it in pit if is_processed(mine, it, factor))
+        )
+        found.append(row)
+    return found
+
+
+def npv(mine: Mine, years: Any) -> float:
+    return sum(row["discounted_cash_flow"] for row in earned(mine, years))
+
+
+def years(mine: Mine, factors: list[Fraction], pits: list[set[Place]]) -> dict[tuple[str, float, int], Row]:
+    """The rows of years.csv of each shell with material, by case, factor and year."""
+    limits = capacities(mine)
+    found: dict[tuple[str, float, int], Row] = {}
+    for number, (factor, pit) in enumerate(zip(factors, pits), 1):
+        if not amounts_of(mine, pit).get(TOTAL):
+            continue
+        for case, pieces in (("best", pieces_of(mine, pits[:number])), ("worst", pieces_of(mine, [pit]))):
+            for year, row in enumerate(earned(mine, mined(pieces, limits)), 1):
+                found[case, float(factor), year] = dict(row)
+    return found
+
+
+def pushbacks(mine: Mine, pits: list[set[Place]]) -> list[Row]:
+    """What each of the shells adds to those before."""
+    before: set[Place] = set()
+    found = []
+    for pit in pits:
+        found.append(totals(mine, pit - before))
+        before |= pit
+    return found
+
+
+__all__ = ["Amounts", "Row", "pushbacks", "shells", "totals", "years"]
