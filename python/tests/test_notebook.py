@@ -15,6 +15,7 @@ from helpers.scenarios import COLUMNS, PRICES, UPRIGHT, pillar
 from matplotlib.figure import Figure
 
 import pitplan
+import pitplan.figures.scenarios  # as help(pitplan) says
 from pitplan import PlanError, Request
 
 # The lines that the package's own help shows.
