@@ -51,7 +51,7 @@ install:
 	  install -D -m 644 completions/_$$name $(DESTDIR)$(PREFIX)/share/zsh/site-functions/_$$name || exit; \
 	  install -D -m 644 completions/$$name.fish $(DESTDIR)$(PREFIX)/share/fish/vendor_completions.d/$$name.fish || exit; \
 	done
-	cd python && find pitplan minelib pitshell -type f ! -name "*.pyc" -exec install -D -m 644 {} $(LAYER)/{} ";"
+	cd python && find pitplan planaudit minelib pitshell -type f ! -name "*.pyc" -exec install -D -m 644 {} $(LAYER)/{} ";"
 	install -D -m 755 -t $(LAYER)/pitplan/checkers tools/check_certificate.py tools/replay_journal.py
 	test ! -e build/libpitshell.so || install -D -m 644 -t $(DESTDIR)$(PREFIX)/lib build/libpitshell.so build/libpitshell.a
 	test ! -e build/libpitshell.so || install -D -m 644 include/pitshell.h $(DESTDIR)$(PREFIX)/include/pitshell.h
@@ -68,8 +68,8 @@ test: setup
 style: setup
 	/usr/bin/python3 -m black --check --quiet python
 	/usr/bin/python3 -m isort --check-only --quiet python
-	/usr/bin/python3 -m pyflakes python/pitplan python/minelib python/tests
-	/usr/bin/python3 -m mypy -p pitplan -p minelib -p pitshell
+	/usr/bin/python3 -m pyflakes python/pitplan python/planaudit python/minelib python/tests
+	/usr/bin/python3 -m mypy -p pitplan -p planaudit -p minelib -p pitshell
 	MYPYPATH=python/tests /usr/bin/python3 -m mypy -p oracle
 
 # The tests of the built program and of the tools beside it alone.

@@ -116,7 +116,7 @@ def wheel(name: str, files: dict[str, pathlib.Path], tag: str) -> pathlib.Path:
     stage = BUILD / "stage"
     shutil.rmtree(stage, ignore_errors=True)
     stage.mkdir(parents=True)
-    for package in ("pitshell", "pitplan", "minelib"):
+    for package in ("pitshell", "pitplan", "planaudit", "minelib"):
         shutil.copytree(TOP / "python" / package, stage / package, ignore=shutil.ignore_patterns("__pycache__"))
     for place, file in files.items():
         (stage / place).parent.mkdir(exist_ok=True)

@@ -17,7 +17,9 @@ ALL = ["python/tests", "--ignore", "python/tests/test_library.py"]
 CONTEXT = "PITPLAN_TEST"
 NOTES = "PITPLAN_NOTES"
 SETTINGS = """[run]
-source = {copy}/python/pitplan
+source =
+    {copy}/python/pitplan
+    {copy}/python/planaudit
 data_file = {notes}/coverage
 parallel = true
 sigterm = true

@@ -4,7 +4,7 @@
     tools/planted_changes.py [--seeds 1,2,3] [--count 100] [--jobs 2] [--pictures] [--results FILE]      some 20 minutes a seed
 
 A change is a comparison turned or its edge moved, a sign, a whole number, `and` for `or`, or an `if` that is never taken, at a place
-that the seed draws among all of python/pitplan. What stands on other lines does not alter whether a change is drawn. The modules that
+that the seed draws among all of python/pitplan and python/planaudit. What stands on other lines does not alter whether a change is drawn. The modules that
 draw pictures (PICTURES) are left out, since most of their numbers are looks: widths, sizes of type, colours. --pictures draws
 among these alone, and asks for no share. The tests are those of python/tests but for the library's. They run once without a change,
 by which is known what tests run each line; on a change these run, the quick ones first, until one fails, in a fork of a process that
@@ -32,7 +32,7 @@ from crates import TOP
 from line_coverage import Lines
 from warm_tests import Runner
 
-LAYER = pathlib.Path("python") / "pitplan"
+LAYER, AUDIT = (pathlib.Path("python") / name for name in ("pitplan", "planaudit"))
 DRAWING = ("plans_sections", "schedule", "block_schedule", "sensitivity", "map_marks", "annual", "scenarios")
 PICTURES = {LAYER / "figures" / f"{name}.py" for name in DRAWING}
 WANTED = 0.95
@@ -161,7 +161,7 @@ def main() -> int:
     parser.add_argument("--pictures", action="store_true")
     parser.add_argument("--results", type=pathlib.Path)
     given = parser.parse_args()
-    all_changes = [change for change in changes(LAYER) if (change.file in PICTURES) == given.pictures]
+    all_changes = [change for change in [*changes(LAYER), *changes(AUDIT)] if (change.file in PICTURES) == given.pictures]
     found = {}
     with trial(given.jobs) as tried:
         if tried is None or tried.fails_unchanged():

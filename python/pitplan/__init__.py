@@ -67,6 +67,7 @@ if TYPE_CHECKING:
     from .api.plan import Plan
     from .api.results import BlockSchedule, Pushbacks, PushbackSchedule, Shells
     from .commands.audit import audit
+    from .commands.audited import Rule
     from .commands.check import check
     from .commands.export import write_export
     from .commands.pit import write_pit
@@ -80,7 +81,6 @@ if TYPE_CHECKING:
     from .commands.view import view
     from .commands.writing import Writing
     from .errors import BudgetUsedUp, InputWarning, MissingPackage, PlanError, PlanWarning, ProgramError, ResultWarning
-    from .verification.rules import Rule
 else:
 
     def __getattr__(name: str) -> Any:
@@ -103,6 +103,7 @@ MODULES = {
     "api.plan": ("Plan",),
     "api.results": ("BlockSchedule", "Pushbacks", "PushbackSchedule", "Shells"),
     "commands.audit": ("audit",),
+    "commands.audited": ("Rule",),
     "commands.check": ("check",),
     "commands.export": ("write_export",),
     "commands.pit": ("write_pit",),
@@ -125,7 +126,6 @@ MODULES = {
     "studies.dask_pool": ("Where",),
     "studies.scenarios.request": ("Request",),
     "studies.scenarios.result": ("ScenarioResult",),
-    "verification.rules": ("Rule",),
 }
 PLACES = {name: module for module, names in MODULES.items() for name in names}
 

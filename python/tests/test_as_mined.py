@@ -5,8 +5,7 @@ import pandas as pd
 import pytest
 from conftest import PROJECT, rows
 
-from pitplan import Plan, PlanError, load, write_shells
-from pitplan.verification import verify
+from pitplan import Plan, PlanError, load, verify, write_shells
 
 TOPOGRAPHY = ('file = "blocks.csv"', 'file = "blocks.csv"\ntopography = "ground.csv"')
 SURFACE = PROJECT + '\n[constraints]\nas_mined = "mined.csv"\n'

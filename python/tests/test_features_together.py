@@ -7,7 +7,7 @@ from helpers.random_projects import haulage, pick, project_of, table_of
 from helpers.random_tests import seeds
 
 import pitplan
-from pitplan.verification import verify
+from pitplan import verify
 
 
 @pytest.mark.parametrize("seed", seeds(8, 200))

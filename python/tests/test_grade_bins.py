@@ -14,11 +14,11 @@ from hypothesis import given, strategies as st
 from scipy.optimize import linprog
 
 import pitplan
-from pitplan import PlanError, load
+from pitplan import PlanError, load, verify
 from pitplan.scheduling import cutoff_lp
 from pitplan.scheduling.bench_sequencing import Limits, by_rule
 from pitplan.scheduling.value_bins import Parcels, bins_of, edges_of
-from pitplan.verification import milling, verify
+from planaudit.schedules import mill_feed as milling
 
 NAMES = ("feed_tonnes", "recovered_copper", "gain")
 

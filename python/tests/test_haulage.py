@@ -10,7 +10,8 @@ from conftest import PROJECT, rows
 from helpers.turned import turned
 
 import pitplan
-from pitplan import PlanError, verification
+import planaudit
+from pitplan import PlanError
 from pitplan.cli import main
 from pitplan.config.project import load
 
@@ -100,7 +101,7 @@ def test_an_answer_is_verified_and_a_wrong_road_is_found(plan_folder):
     path = hauled(plan_folder, ore_hill())
     pitplan.write_shells(path)
     folder = path.parent / "plan"
-    assert [rule.name for rule in verification.verify(folder) if rule.name == "haulage"] == ["haulage"]
+    assert [rule.name for rule in planaudit.verify(folder) if rule.name == "haulage"] == ["haulage"]
     blocks = pd.read_csv(folder / "tables/blocks.csv")
     for column, by in (
         ("haul_distance", 0.002),
@@ -111,7 +112,7 @@ def test_an_answer_is_verified_and_a_wrong_road_is_found(plan_folder):
         blocks.assign(**{column: blocks[column] + by * (blocks.index == 7)}).to_csv(
             folder / "tables/blocks.csv", index=False
         )
-        differences = [said for rule in verification.verify(folder) for said in rule.differences]
+        differences = [said for rule in planaudit.verify(folder) for said in rule.differences]
         assert any(column in said for said in differences)
 
 

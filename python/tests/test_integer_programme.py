@@ -16,12 +16,11 @@ from hypothesis import given, strategies as st
 from scipy.sparse import csr_matrix
 
 import pitplan
-from pitplan import PlanError, load
+from pitplan import PlanError, load, verify
 from pitplan.config.schedule import Effort
 from pitplan.results.folder import read_record
 from pitplan.scheduling import bench_milp, highs, highs_process
 from pitplan.scheduling.bench_sequencing import Limits
-from pitplan.verification import verify
 
 
 @pytest.fixture(scope="module")

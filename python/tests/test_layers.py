@@ -1,6 +1,8 @@
 """The packages of pitplan are layers: each imports only itself and earlier ones, and no module is long."""
 
 import ast
+import subprocess
+import sys
 from pathlib import Path
 
 import pytest
@@ -17,7 +19,6 @@ LAYERS = (
         "pushbacks",
         "scheduling",
         "results",
-        "verification",
         "studies",
         "export",
         "figures",
@@ -90,6 +91,39 @@ def test_every_module_has_a_layer():
 def test_no_module_is_long():
     long = {str(it.relative_to(PACKAGE)): len(it.read_text().splitlines()) for it in MODULES}
     assert {name: lines for name, lines in long.items() if lines > MOST_LINES} == {}
+
+
+AUDIT = ROOT / "python" / "planaudit"
+
+
+def roots_of(module: Path) -> set[str]:
+    """The packages that a module imports; "planaudit" for relative imports."""
+    found = set()
+    for node in ast.walk(ast.parse(module.read_text(encoding="utf-8"))):
+        if isinstance(node, ast.ImportFrom):
+            found.add("planaudit" if node.level else (node.module or "").split(".")[0])
+        elif isinstance(node, ast.Import):
+            found |= {alias.name.split(".")[0] for alias in node.names}
+    return found
+
+
+def test_the_audit_imports_nothing_of_what_it_checks():
+    """By the imports of each module, and by the modules that are loaded when each of them is."""
+    modules = sorted(AUDIT.rglob("*.py"))
+    assert len(modules) > 40
+    assert not {
+        str(it)
+        for it in modules
+        if {"pitplan", "pitshell", "minelib", "importlib"} & (roots_of(it) - NAMES.get(it.name, set()))
+    }
+    names = [".".join(it.relative_to(AUDIT.parent).with_suffix("").parts).removesuffix(".__init__") for it in modules]
+    code = f"import importlib, sys; [importlib.import_module(it) for it in {names}]; print(*sys.modules)"
+    ran = subprocess.run([sys.executable, "-c", code], cwd=AUDIT.parent, capture_output=True, text=True, check=True)
+    assert not {name.split(".")[0] for name in ran.stdout.split()} & {"pitplan", "pitshell", "minelib"}
+
+
+# The modules that name others by texts: ezdxf and GDAL, and functions that are imported on first use.
+NAMES = {"drawings.py": {"importlib"}, "__init__.py": {"importlib"}}
 
 
 @pytest.mark.parametrize("module", sorted(TESTS.rglob("*.py")), ids=lambda it: str(it.relative_to(TESTS)))

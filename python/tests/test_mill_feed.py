@@ -7,9 +7,8 @@ import pytest
 from conftest import PROJECT, rows
 
 import pitplan
-from pitplan import PlanError, write_pushbacks, write_schedule
+from pitplan import PlanError, verify, write_pushbacks, write_schedule
 from pitplan.economics import block_values
-from pitplan.verification import verify
 
 MILLION = 10**6
 TEXT = "mining_cost = 2\nmining_recovery = 0.9\ndilution = 0.1\nroyalty = 0.05\nroyalty_per_tonne = 0.5\n"

@@ -7,10 +7,9 @@ from conftest import PROJECT
 from helpers.pushbacks import RICH, UPRIGHT, floor, pillars, square, with_pushbacks
 
 import pitplan
-from pitplan import PlanError
+from pitplan import PlanError, verify
 from pitplan.pushbacks import nested
 from pitplan.results.folder import read_record
-from pitplan.verification import verify
 
 # Of three pushbacks of 200 t, which are worth 2600, 1400 and 600, the second costs 300 more and the third 500.
 ADDED = "count = 3\nmining_cost_added = [0, 1.5, 2.5]"

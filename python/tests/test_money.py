@@ -12,7 +12,7 @@ import pitplan
 from pitplan import PlanError
 from pitplan.economics.weighing import added_cost
 from pitplan.solver import mine_files
-from pitplan.verification import money as verified_money
+from planaudit.money import block_values as verified_money
 
 MILLION = 10**6
 

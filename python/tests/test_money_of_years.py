@@ -14,14 +14,13 @@ from helpers.random_tests import examples
 from hypothesis import given, strategies as st
 
 import pitplan
-from pitplan import PlanError, write_schedule
+from pitplan import PlanError, verify, write_schedule
 from pitplan.config.schedule import Effort
 from pitplan.economics import period_costs
 from pitplan.economics.period_costs import YearlyMoney
 from pitplan.pushbacks.bench_table import PushbackBenches
 from pitplan.scheduling import bench_lp, bench_milp, cutoff_lp, value_bins
 from pitplan.scheduling.bench_sequencing import Limits, Problem, by_rule
-from pitplan.verification import verify
 
 MONEY = ("mining_cost = 2\n", "mining_cost = 2\nfixed_cost_per_year = 100\ncapex = [[3, 1000], [1, 300], [2, 50]]\n")
 PRICES = ("price = 8000", "price = 8000\nprices = [8000, 9000]")

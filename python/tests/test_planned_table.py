@@ -3,9 +3,7 @@
 import csv
 import gzip
 import shutil
-from dataclasses import replace
 
-import numpy as np
 import pandas as pd
 import pytest
 from conftest import PROJECT, rows
@@ -13,8 +11,6 @@ from conftest import PROJECT, rows
 import pitplan
 from pitplan import PlanError
 from pitplan.cli import main
-from pitplan.export import registry
-from pitplan.verification import answer as answers, planned_table, verify
 
 FOUND = ["revenue_factor", "process_revenue_factor"]
 
@@ -22,10 +18,6 @@ FOUND = ["revenue_factor", "process_revenue_factor"]
 def lines(path, separator=",", encoding="utf-8"):
     with open(path, newline="", encoding=encoding) as file:
         return list(csv.reader(file, delimiter=separator))
-
-
-def wrong(folder):
-    return {rule.name for rule in verify(folder) if rule.differences}
 
 
 @pytest.fixture(scope="module")
@@ -47,7 +39,6 @@ def test_rows_and_fields_are_the_planners_and_numbers_those_of_their_block(solve
     assert [line[: len(before[0])] for line in after] == before
     blocks = pd.read_csv(folder / "tables/blocks.csv", dtype=str).set_index("name")
     assert [line[-2:] for line in after[1:]] == [list(blocks.loc[line[0], FOUND]) for line in before[1:]]
-    assert wrong(folder) == set()
 
 
 def test_a_schedule_gives_each_row_its_pushback_and_year(scheduled):
@@ -127,70 +118,6 @@ def test_rows_that_are_put_together_have_the_numbers_of_their_block(plan_folder)
     # The ore, and above it the block itself and those beside it, each of four rows.
     assert (after["revenue_factor"] == 0.5).sum() == 4 * 6 and (after["process_revenue_factor"] == 0.5).sum() == 4
     assert after[after["process_revenue_factor"] > 0]["name"].tolist() == ["b5-5-1", "b4-5-1", "b5-4-1", "b4-4-1"]
-
-
-def bent(path, bend):
-    table = [line.split(",") for line in path.read_text().splitlines()]
-    bend(table)
-    path.write_text("".join(",".join(line) + "\n" for line in table))
-
-
-def swap(table):
-    table[3][:-2], table[4][:-2] = table[4][:-2], table[3][:-2]
-
-
-@pytest.mark.parametrize(
-    ("bend", "said"),
-    [
-        (
-            lambda table: table[6].__setitem__(-1, "7"),
-            "row 7: b5-0-0,55.0,5.0,5.0,100,0.0,R,1,0.0,7 for b5-0-0,55.0,5.0,5.0,100,0.0,R,1,0.0,0.0",
-        ),
-        (lambda table: table[6].__setitem__(5, "0"), "row 7: b5-0-0,55.0,5.0,5.0,100,0,R,1,0.0,0.0 for "),
-        (lambda table: table[0].__setitem__(-2, "shell"), "row 1: "),
-        (lambda table: table.pop(), "row 406: no such row for b4-8-4,"),
-        (lambda table: table.append(["b10-9-9"]), "row 407: b10-9-9 for no such row"),
-        (swap, "row 4: b3-0-0,"),
-    ],
-)
-def test_a_table_that_is_bent_is_found(solved, bend, said):
-    _, folder = solved
-    bent(pitplan.write_export(folder, "table"), bend)
-    (rule,) = [rule for rule in verify(folder) if rule.differences]
-    assert rule.name == "table" and rule.differences[0].startswith(said)
-
-
-def test_rows_of_no_block_of_the_answer_are_due_0(solved):
-    """Without the blocks of the last column from the west, of which the grid knows nothing, and without one that is dug."""
-    answer = answers.read(solved[1])
-    dug = (answer.said["revenue_factor"] > 0.0).to_numpy()
-    kept = (answer.rows["x"] < 90).to_numpy() & (np.arange(len(dug)) != dug.argmax())
-    box = answer.record["grid"]
-    record = answer.record | {"grid": box | {"shape": [*box["shape"][:2], box["shape"][2] - 1]}}
-    part = replace(
-        answer,
-        rows=answer.rows[kept].reset_index(drop=True),
-        said=answer.said[kept].reset_index(drop=True),
-        record=record,
-    )
-    whole, found = planned_table.found_of(answer), planned_table.found_of(part)
-    assert np.array_equal(found, np.where(kept[:, None], whole, 0)) and list(found) == FOUND
-    assert (whole[~kept] > 0).any(axis=None) and (whole[kept] > 0).any(axis=None)
-
-
-def test_a_table_that_is_not_right_is_not_written(solved, monkeypatch):
-    """Numbers by rising id, as blocks.csv has them, in place of those of each row."""
-    _, folder = solved
-
-    def careless(path, result, factor):
-        table = pd.read_csv(folder.parent / "blocks.csv")
-        table[FOUND] = result.blocks[FOUND]
-        table.to_csv(path, index=False)
-
-    monkeypatch.setitem(registry.WRITERS, "table", careless)
-    with pytest.raises(PlanError, match="verification failed:"):
-        pitplan.write_export(folder, "table")
-    assert not (folder / "table.csv").exists()
 
 
 def test_a_project_or_a_table_that_has_changed_is_refused(solved, tmp_path, capsys):

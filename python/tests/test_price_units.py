@@ -10,7 +10,7 @@ from conftest import PROJECT, rows
 import pitplan
 from pitplan.config.project import load
 from pitplan.errors import PlanError
-from pitplan.verification.prices import converted
+from planaudit.money.prices import converted
 
 COPPER = ("price = 8000", 'price = {}\nselling_cost = {}\nprices = [{}]\nprice_per = "{}"')
 GOLD = ('unit = "percent"', 'unit = "gram_per_tonne"')

@@ -10,12 +10,11 @@ from helpers.processes import WITH
 from hypothesis import given, strategies as st
 
 import pitplan
-from pitplan import PlanError, write_schedule
+from pitplan import PlanError, verify, write_schedule
 from pitplan.economics import block_values, process_routing
 from pitplan.economics.process_routing import Way, best_way, steps_of
 from pitplan.pits import shell_tables
 from pitplan.solver import mine_files
-from pitplan.verification import verify
 
 
 def ways_of(*lines):

@@ -10,6 +10,7 @@ import pytest
 from conftest import PROJECT, ROOT
 from helpers.random_projects import haulage, pick, project_of
 from helpers.random_tests import seeds
+from helpers.read_alike import demand_read_alike
 
 from pitplan import PlanError, load
 from pitplan.config import project_writer
@@ -40,6 +41,7 @@ def read_back(project, place):
 
 def demand_same(project, place):
     assert read_back(project, place) == resolved(project)
+    demand_read_alike(place / "again.toml", load(place / "again.toml"))
     # And once more from there: the text is the same to the letter.
     assert load(place / "again.toml").to_toml() == (place / "again.toml").read_text(encoding="utf-8")
 

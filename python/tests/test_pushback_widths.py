@@ -16,7 +16,7 @@ from pitplan.config.pushbacks import PushbackRules
 from pitplan.pushbacks import mining_width, nested
 from pitplan.results.folder import read_record
 from pitplan.slopes import closure
-from pitplan.verification.pushback_widths import blocks_across, cells_in
+from planaudit.pits.pushback_widths import blocks_across, cells_in
 
 
 def pushed(plan_folder, table, words, text=PROJECT):

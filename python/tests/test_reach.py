@@ -8,11 +8,10 @@ import pytest
 from conftest import PROJECT, rows
 
 import pitplan
-from pitplan import PlanError, crop
+from pitplan import PlanError, crop, verify
 from pitplan.blockmodel.grid import Grid
 from pitplan.crop import Box
 from pitplan.pits import shell_tables
-from pitplan.verification import verify
 
 ANGLES = ('pattern = "1:5"', "angle = 50")
 

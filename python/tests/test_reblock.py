@@ -8,9 +8,8 @@ import pytest
 from conftest import PROJECT, rows
 
 import pitplan
-from pitplan import PlanError
+from pitplan import PlanError, verify
 from pitplan.blockmodel import reblock
-from pitplan.verification import verify
 
 TWOS = ('file = "blocks.csv"', 'file = "blocks.csv"\nreblock = [2, 2, 1]')
 # Of these four blocks of 10 m 100, 300, 200 and 400 t are of copper 1, 0, 2 and 0.5 %: 7 t in 1000, 0.7 %.

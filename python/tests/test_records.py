@@ -7,7 +7,7 @@ import re
 import pytest
 
 import pitplan
-from pitplan import PlanError, verification
+from pitplan import PlanError
 from pitplan.results import json_records
 from pitplan.results.folder import read_folder, read_record
 
@@ -141,7 +141,7 @@ def test_what_is_found_and_what_is_expected(solved, place, value, said):
 def test_what_is_no_record(solved, text):
     _, folder = solved
     (folder / "plan.json").write_bytes(text.encode("latin-1"))
-    for read in (read_folder, verification.verify_folder):
+    for read in (read_folder, pitplan.verify):
         with pytest.raises(
             PlanError,
             match="plan.json: (cannot be read as JSON|found .*, expected a table).*: run pitplan shells again",
@@ -179,7 +179,7 @@ def bends():
 def test_records_that_do_not_fit_what_stands_beside_them(solved):
     _, folder = solved
     whole = read_record(folder)
-    calls = (verification.verify_folder, lambda it: pitplan.write_export(it, "csv"), pitplan.view)
+    calls = (pitplan.verify, lambda it: pitplan.write_export(it, "csv"), pitplan.view)
     refusals = 0
     for place, value in bends():
         (folder / "plan.json").write_text(
@@ -207,4 +207,4 @@ def test_a_bent_record_of_a_schedule_is_named(folder, text):
         else r"does not match the tables of the folder \(.*\): run pitplan schedule again"
     )
     with pytest.raises(PlanError, match=f"schedule.json: {why}"):
-        verification.verify(folder)
+        pitplan.verify(folder)

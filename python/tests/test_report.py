@@ -14,13 +14,12 @@ from browser import Browser, needs_chromium
 from conftest import PROJECT, rows
 
 import pitplan
-from pitplan import PlanError
+from pitplan import PlanError, verify
 from pitplan.cli import main
 from pitplan.core.atomic_files import hash_of, read_json, write_json
 from pitplan.report import columns, html
 from pitplan.results import names
 from pitplan.results.folder import read_record
-from pitplan.verification import verify
 
 CHROMIUM, PDFTOTEXT = shutil.which("chromium"), shutil.which("pdftotext")
 PARTS = ["Key results", "Confidence", "Figures", "Tables", "Inputs"]

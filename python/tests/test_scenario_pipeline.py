@@ -12,7 +12,7 @@ from helpers.random_tests import examples
 from hypothesis import HealthCheck, given, strategies as st
 
 import pitplan
-from pitplan import PlanError, load
+from pitplan import PlanError, load, verify as verify_folder
 from pitplan.blockmodel import depletion, reblock, topography_cut
 from pitplan.core.progress import silent
 from pitplan.economics import process_routing
@@ -20,9 +20,9 @@ from pitplan.pits import shell_tables
 from pitplan.solver import problem
 from pitplan.solver.choice import LIBRARY, PROGRAM
 from pitplan.studies.scenarios import pit_probability, prepare, realisations, worker
-from pitplan.verification import verify_folder
-from pitplan.verification.put_together import mean_grades
-from pitplan.verification.scenarios import verify
+from planaudit import AuditError
+from planaudit.inputs.reblocking import mean_grades
+from planaudit.studies.scenarios import verify
 
 SOME = examples(12, suppress_health_check=[HealthCheck.function_scoped_fixture])
 COLUMNS = '[scenarios]\ncolumns = { copper = "cu_*" }\n'
@@ -438,10 +438,10 @@ def test_grades_that_are_kept_of_other_blocks_are_found(plan_folder):
     (rule,) = [rule for rule in verify(shared.folder) if rule.differences]
     assert rule.name == "reblocked" and rule.count == 1 and "scenario 2, cu_b: block " in rule.differences[0]
     np.save(file, grades[1:])
-    with pytest.raises(PlanError, match="has grades of 17 blocks, and the table 18"):
+    with pytest.raises(AuditError, match="has grades of 17 blocks, and the table 18"):
         verify(shared.folder)
     file.write_bytes(b"no grades")
-    with pytest.raises(PlanError, match="cannot be read as grades"):
+    with pytest.raises(AuditError, match="cannot be read as grades"):
         verify(shared.folder)
 
 

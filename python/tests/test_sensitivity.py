@@ -10,12 +10,11 @@ from conftest import PROJECT, files_in, rows
 from matplotlib.figure import Figure
 
 import pitplan
-from pitplan import PlanError, Where, load
+from pitplan import PlanError, Where, load, verify as verify_folder
 from pitplan.cli import main
 from pitplan.commands.writing import Writing
 from pitplan.figures import sensitivity
 from pitplan.studies.sensitivity import cases, perturb
-from pitplan.verification import verify_folder
 
 # Two blocks of ore at the surface, each with 1,000 for processing and 200 for mining: one of 24,000, and one of 1,200, which just does not pay.
 ORE = {"cu": lambda i, j, k: {(1, 1): 6, (3, 1): 0.3}.get((i, j), 0)}

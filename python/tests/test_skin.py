@@ -8,9 +8,8 @@ import pytest
 from conftest import PROJECT, rows
 
 import pitplan
-from pitplan import PlanError, load
+from pitplan import PlanError, load, verify as verify_folder
 from pitplan.cli import main
-from pitplan.verification import verify_folder
 
 # Of 100 t each: 24,000 and 2,000 of revenue, 1,000 for processing and 200 for mining. The poor one breaks even at 1,200 / 2,000.
 ORE = {"cu": lambda i, j, k: {(1, 1): 6, (3, 1): 0.5}.get((i, j), 0)}

@@ -9,11 +9,10 @@ import pytest
 from conftest import PROJECT, rows
 
 import pitplan
-from pitplan import PlanError
+from pitplan import PlanError, verify
 from pitplan.config.slopes import Bench
 from pitplan.pits import shell_tables
 from pitplan.slopes import slope_patterns
-from pitplan.verification import verify
 
 WALL = '[[slopes.domains]]\npattern = "1:5"'
 

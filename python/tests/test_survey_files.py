@@ -7,6 +7,7 @@ import pandas as pd
 import pytest
 from conftest import PROJECT, rows
 from ezdxf.render import MeshBuilder
+from helpers.read_alike import compare_surveys
 from helpers.surveys import AREA, HOLED, LEASE, SURFACE, areas, drawing, gis, layer, read, tiff
 from helpers.verified import looked_at
 from osgeo import gdal, ogr
@@ -17,6 +18,11 @@ from pitplan.blockmodel import tin as terrain
 
 gdal.UseExceptions()
 ogr.UseExceptions()
+
+
+@pytest.fixture(autouse=True)
+def read_by_both(monkeypatch):
+    compare_surveys(monkeypatch)
 
 
 PLANE = [(x, y, 21 - 0.4 * x + 0.3 * y) for x in (-17, 91) for y in (-23, 64)]

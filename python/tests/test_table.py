@@ -7,10 +7,16 @@ import numpy as np
 import pandas as pd
 import pytest
 from conftest import PROJECT, rows
+from helpers.read_alike import compare_tables
 
 import pitplan
 from pitplan import PlanError
 from pitplan.blockmodel.reader import read
+
+
+@pytest.fixture(autouse=True)
+def read_by_both(monkeypatch):
+    compare_tables(monkeypatch)
 
 
 def refused(project):

@@ -11,12 +11,11 @@ from hypothesis import given, strategies as st
 from scipy.interpolate import LinearNDInterpolator
 
 import pitplan
-from pitplan import PlanError
+from pitplan import PlanError, verify
 from pitplan.blockmodel import tin, topography_cut
 from pitplan.cli import main
 from pitplan.results.folder import read_record
 from pitplan.survey.readers import NO_FACES, Topography
-from pitplan.verification import verify
 
 CUT = ('file = "blocks.csv"', 'file = "blocks.csv"\ntopography = "topo.csv"')
 FAR = [(-100, -100), (-100, 200), (200, -100), (200, 200)]
@@ -362,7 +361,7 @@ def test_tonnes_that_are_bent_are_found(cut_hill, more):
 
 def test_many_columns_are_looked_at_by_heights(cut_hill, monkeypatch):
     """Of a block of which but a few columns are looked at exactly a fifth is missed."""
-    from pitplan.verification import topography as second
+    from planaudit.ground import topography as second
 
     monkeypatch.setattr(second, "EXACTLY", 2)
     blocks = pd.read_csv(cut_hill / "tables/blocks.csv", dtype={"region": str})
@@ -375,7 +374,7 @@ def test_many_columns_are_looked_at_by_heights(cut_hill, monkeypatch):
 @pytest.mark.parametrize("tonnes", [150, -1])
 def test_no_block_has_more_than_the_table_gives_or_less_than_nothing(cut_hill, monkeypatch, tonnes):
     """Of a column that is not looked at otherwise."""
-    from pitplan.verification import topography as second
+    from planaudit.ground import topography as second
 
     monkeypatch.setattr(second, "EXACTLY", 1)
     monkeypatch.setattr(second, "MANY", 1)

@@ -2,6 +2,7 @@
 
 import json
 import shutil
+from dataclasses import replace
 from decimal import Decimal
 from pathlib import Path
 
@@ -14,20 +15,20 @@ from helpers.verified import TEXT, deposit, looked_at, ore_everywhere, wrong
 from hypothesis import HealthCheck, given, strategies as st
 
 import pitplan
-from pitplan import Plan, PlanError, constraints, load
+from pitplan import Plan, PlanError, constraints, load, verify
 from pitplan.blockmodel import missing_blocks, reader
 from pitplan.cli import main
+from pitplan.commands.audited import demand
 from pitplan.config.slopes import Wall
 from pitplan.economics import block_values
 from pitplan.pits import best_worst_case
 from pitplan.results.folder import read_record
 from pitplan.slopes import slope_patterns
-from pitplan.verification import demand, sums, verify
-from pitplan.verification.answer import read
-from pitplan.verification.money import sample
-from pitplan.verification.read_tables import read_blocks
-from pitplan.verification.rules import rule
-from pitplan.verification.walls import flatness, high_walls
+from planaudit.ground.slopes import flatness, high_walls
+from planaudit.inputs import project_file
+from planaudit.inputs.matching import read_blocks
+from planaudit.pits import sums
+from planaudit.rules import rule
 
 
 @pytest.fixture(scope="module")
@@ -60,6 +61,7 @@ def test_what_is_right_is_told_rule_by_rule(answered, copied, capsys):
         "values",
         "years",
         "conventions",
+        "inputs",
     ]
     assert len(answered[1]["verified"]) == 10
     assert "no block of any shell lacks a block of its slope cone" in (copied / "report.html").read_text()
@@ -300,20 +302,30 @@ def test_one_place_is_told_as_one():
         demand([rule("money", "revenue follows", ["block 7: revenue 1 for 2"])])
 
 
-def test_amounts_are_looked_at_exactly_at_the_edges_of_shells(copied, monkeypatch):
-    """A block that is dug and has one beside, above or below it that is dug at another factor or not at all, or none."""
-    monkeypatch.setattr("pitplan.verification.money.SAMPLE", 0)
-    answer = read(copied)
-    first = dict(zip(zip(*(axis.tolist() for axis in answer.cells)), answer.said["revenue_factor"]))
-    inside = [axis.max() for axis in answer.cells]
-    edge = []
-    for row, cell in enumerate(zip(*answer.cells)):
-        beside = [tuple(np.add(cell, step)) for step in np.vstack([np.eye(3, dtype=int), -np.eye(3, dtype=int)])]
-        there = [other for other in beside if all(0 <= place <= most for place, most in zip(other, inside))]
-        if first[cell] > 0 and any(first.get(other) != first[cell] for other in there):
-            edge.append(row)
-    assert sample(answer).tolist() == edge
-    assert 0 < len(edge) < (answer.said["revenue_factor"] > 0.0).sum()
+def halves():
+    """Tonnes of which the mining cost at 2 and 2.5 has halves of a cent among its amounts."""
+    tonnes = {0: 100.0, 1: 0.0025, 2: 100.0075, 3: 33.333, 4: 99.9925}
+    return rows(
+        5, 5, 2, tonnes=lambda i, j, k: tonnes[(i + j) % 5], cu=lambda i, j, k: 6 if (i, j, k) == (2, 2, 1) else 0
+    )
+
+
+@pytest.mark.parametrize("sampled", [0, 2_000])
+def test_a_last_digit_is_found_at_any_block(plan_folder, monkeypatch, sampled):
+    """Also far from any shell, and where an amount lies halfway between two cents: it is rounded to the even one."""
+    monkeypatch.setattr("planaudit.money.block_values.SAMPLE", sampled)
+    path = plan_folder(halves(), PROJECT.replace("mining_cost = 2\n", "mining_cost = 2\ndecimals = 2\n"))
+    pitplan.write_shells(path)
+    blocks = path.parent / "plan" / "tables/blocks.csv"
+    whole = pd.read_csv(blocks)
+    assert set(whole["mining_cost"]) == {200.0, 0.0, 200.02, 66.67, 199.98}
+    for row in range(0, len(whole), 7):
+        for more in (0.01, -0.01):
+            bent = whole.copy()
+            bent.loc[row, "mining_cost"] = round(bent.loc[row, "mining_cost"] + more, 2)
+            bent.to_csv(blocks, index=False)
+            (found,) = [rule for rule in verify(path.parent / "plan") if rule.name == "money"]
+            assert len(found.differences) == 1 and "mining_cost" in found.differences[0]
 
 
 def test_a_table_that_has_changed_is_found(copied):
@@ -336,22 +348,34 @@ def refused(plan_folder, table=None, text=TEXT, *changes):
     return str(said.value)
 
 
-def test_a_run_reads_its_table_once_and_a_later_look_reads_it_again(plan_folder, monkeypatch):
-    """The second look of a run takes the rows as they were read, and would see what a later look sees."""
-    path, reads, read_table = plan_folder(deposit(), TEXT), [], reader.read
-    monkeypatch.setattr(reader, "read", lambda project: reads.append(project) or read_table(project))
-    pitplan.write_shells(path)
-    assert len(reads) == 1 and wrong(path.parent / "plan") == set() and len(reads) == 2
-    table = read_table(load(path)).frame
-    bent = table.assign(cu=table["cu"].where(table["cu"] < 6, 5.9))
-    assert {rule.name for rule in verify(path.parent / "plan", None, bent) if rule.differences} == {
+def test_a_misread_table_fails_the_verification_of_the_run(plan_folder, monkeypatch):
+    """The audit reads the table itself: what the planner's reader misreads is seen."""
+    path, read_table = plan_folder(deposit(), TEXT), reader.read
+
+    def misread(project):
+        table = read_table(project)
+        return replace(table, frame=table.frame.assign(cu=table.frame["cu"].where(table.frame["cu"] < 6, 5.9)))
+
+    monkeypatch.setattr(reader, "read", misread)
+    with pytest.raises(PlanError, match="verification failed") as said:
+        pitplan.write_shells(path)
+    assert {line.split(":")[0].strip() for line in str(said.value).splitlines()[1:]} == {
         "blocks",
         "money",
         "shells",
         "years",
     }
-    deposit().assign(cu=bent["cu"].to_numpy()).to_csv(path.parent / "blocks.csv", index=False)
-    assert wrong(path.parent / "plan") == {"blocks", "money", "shells", "years"}
+    monkeypatch.undo()
+    pitplan.write_shells(path)
+    assert wrong(path.parent / "plan") == set()
+
+
+def test_a_table_that_changed_since_the_run_is_read_again(plan_folder):
+    path = plan_folder(deposit(), TEXT)
+    pitplan.write_shells(path)
+    table = deposit()
+    table.assign(cu=table["cu"].where(table["cu"] < 6, 5.9)).to_csv(path.parent / "blocks.csv", index=False)
+    assert wrong(path.parent / "plan") == {"blocks", "inputs", "money", "shells", "years"}
 
 
 def two_regions():
@@ -407,7 +431,7 @@ def test_a_block_without_an_id_is_called_by_its_centre(plan_folder):
     assert [rule.differences for rule in looked_at(plan)] == [()] * 10
     path = plan.project.folder / "tables/blocks.csv"
     plus_one(pd.read_csv(path), "mining_cost").to_csv(path, index=False)
-    (rule,) = [rule for rule in verify(plan.project.folder, plan.project) if rule.name == "money"]
+    (rule,) = [rule for rule in verify(plan.project.folder) if rule.name == "money"]
     assert rule.differences[0] == "the block at 600005, 6512005, 5: mining_cost 201 for 200"
 
 
@@ -422,7 +446,7 @@ def test_a_folder_without_an_answer_is_named(copied, tmp_path):
     with pytest.raises(PlanError, match="1 blocks of the table are not in it: has the table changed since?"):
         verify(copied)
     (copied / "plan.json").write_text("{}")
-    with pytest.raises(PlanError, match="plan.json: grid: is missing: run pitplan shells again"):
+    with pytest.raises(PlanError, match="plan.json: grid: expected a table: run pitplan shells again"):
         verify(copied)
 
 
@@ -502,7 +526,7 @@ def test_what_is_left_of_great_amounts_is_as_uncertain_as_they_are(plan_folder, 
     shells = pd.read_csv(path, dtype={"value_at_revenue_factor": str})
     assert shells["undiscounted_cash_flow"].tolist() == [1.0] * 3
     shells.assign(undiscounted_cash_flow=shells["undiscounted_cash_flow"] + float(more)).to_csv(path, index=False)
-    (rule,) = [rule for rule in verify(plan.project.folder, plan.project) if rule.name == "shells"]
+    (rule,) = [rule for rule in verify(plan.project.folder) if rule.name == "shells"]
     assert bool(rule.differences) == differs
 
 
@@ -634,14 +658,20 @@ def test_each_rows_own_columns_alone_are_read(plan_folder, tmp_path):
     path = plan_folder(rows(3, 3, 2))
     blocks = rows(3, 3, 2).assign(id=range(18), revenue_factor=0)
     blocks.to_csv(tmp_path / "written.csv", index=False)
-    few = read_blocks(tmp_path / "written.csv", load(path), ("id", "revenue_factor", "free_revenue_factor"))
+    few = read_blocks(
+        tmp_path / "written.csv", project_file.load(path), ("id", "revenue_factor", "free_revenue_factor")
+    )
     assert list(few.columns) == ["x", "y", "z", "id", "revenue_factor"]
     path.write_text(
         path.read_text().replace(
             'id = "name"', 'id = "name"\nmissing_blocks = { tonnes = 1, rock_type = "R", domain = "1" }'
         )
     )
-    whole = read_blocks(tmp_path / "written.csv", load(path), ("id", "revenue_factor", "free_revenue_factor"))
+    whole = read_blocks(
+        tmp_path / "written.csv", project_file.load(path), ("id", "revenue_factor", "free_revenue_factor")
+    )
     assert (
-        list(whole.columns) == list(blocks.columns) == list(read_blocks(tmp_path / "written.csv", load(path)).columns)
+        list(whole.columns)
+        == list(blocks.columns)
+        == list(read_blocks(tmp_path / "written.csv", project_file.load(path)).columns)
     )

@@ -13,12 +13,11 @@ from helpers.random_projects import pick, project_of, table_of
 from helpers.verified import TEXT
 from helpers.verified_scenarios import SETS, answer_of, bend, simulated
 
-from pitplan import PlanError, gather
+from pitplan import PlanError, gather, verify as verify_folder
 from pitplan.cli import main
 from pitplan.studies.scenarios import worker as work
 from pitplan.studies.scenarios.blocks import common_schedule, problem, worker
-from pitplan.verification import verify_folder
-from pitplan.verification.best_ore import most_earned
+from planaudit.schedules.best_ore import most_earned
 
 LIMITS = ("processing_capacity = 150\nmining_capacity = 1000", "processing_capacity = 300\nmining_capacity = 9000")
 YEARLY = TEXT.replace("discount_rate = 0.1", 'discount_rate = 0.1\ndiscounting = "mid_year"').replace(*LIMITS)

@@ -16,11 +16,10 @@ from helpers.scenarios import COLUMNS, UPRIGHT, pillar, prepared, solved_in_turn
 from helpers.verified import looked_at, ore_everywhere, wrong
 
 import pitplan
-from pitplan import Plan, PlanError, constraints, load
+from pitplan import Plan, PlanError, constraints, load, verify
 from pitplan.blockmodel import missing_blocks, tin
 from pitplan.results.folder import read_record
 from pitplan.solver import problem
-from pitplan.verification import verify
 
 
 def holed():

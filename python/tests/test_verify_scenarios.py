@@ -17,8 +17,9 @@ import pitplan
 from pitplan import PlanError, Request
 from pitplan.cli import main
 from pitplan.studies.scenarios import realisations, worker
-from pitplan.verification.scenarios import Verification, verify
-from pitplan.verification.simulated import read
+from planaudit import AuditError
+from planaudit.studies.realisations import read
+from planaudit.studies.scenarios import Verification, verify
 
 
 @pytest.fixture(scope="module")
@@ -79,7 +80,7 @@ def test_a_run_may_leave_it_out_and_says_so(copied, capsys):
 
 def test_a_folder_in_which_nothing_is_gathered_is_named(copied):
     (copied / "tables/probability.csv").unlink()
-    with pytest.raises(PlanError, match="probability.csv: cannot be read: run pitplan scenarios or gather first"):
+    with pytest.raises(AuditError, match="probability.csv: cannot be read: run pitplan scenarios or gather first"):
         verify(copied)
 
 
@@ -221,7 +222,7 @@ def test_a_table_that_has_changed_is_found(copied):
     assert wrong(copied) == {"shells", "values"}
     table[table.index != ore].to_csv(path, index=False)
     with pytest.raises(
-        PlanError, match="probability.csv: 1 of its blocks are not in the table: has the table changed since?"
+        AuditError, match="probability.csv: 1 of its blocks are not in the table: has the table changed since?"
     ):
         verify(copied)
 
@@ -242,7 +243,7 @@ def test_models_of_a_folder_are_read_by_id_and_by_place(plan_folder):
     write_models(path, by_id=model[["name", "cu"]].assign(name=model["name"][::-1].to_numpy()))
     assert wrong(folder) == {"shells", "values"}
     write_models(path, by_id=model[["name", "cu"]].assign(name=["nobody", *model["name"][1:]]))
-    with pytest.raises(PlanError, match="by_id.csv: 1 of its blocks are not in the table: has it changed since?"):
+    with pytest.raises(AuditError, match="by_id.csv: 1 of its blocks are not in the table: has it changed since?"):
         verify(folder)
 
 
@@ -357,27 +358,27 @@ def test_a_density_and_ground_without_rows_are_looked_at(plan_folder):
 
 def test_a_folder_that_is_none_of_scenarios_is_named(copied, tmp_path):
     with pytest.raises(
-        PlanError, match="nowhere/scenarios.json: cannot be read: run pitplan scenarios or gather first"
+        AuditError, match="nowhere/scenarios.json: cannot be read: run pitplan scenarios or gather first"
     ):
         verify(tmp_path / "nowhere")
     record = json.loads((copied / "scenarios.json").read_text())
     for name in ("revenue_factors", "grid", "project"):
         (copied / "scenarios.json").write_text(json.dumps({key: value for key, value in record.items() if key != name}))
         with pytest.raises(
-            PlanError, match=f"plan: not an output folder of pitplan scenarios and pitplan gather: '{name}' is missing"
+            AuditError, match=f"plan: not an output folder of pitplan scenarios and pitplan gather: '{name}' is missing"
         ):
             verify(copied)
     (copied / "scenarios.json").write_text("no record")
-    with pytest.raises(PlanError, match="plan: not an output folder of pitplan scenarios"):
+    with pytest.raises(AuditError, match="scenarios.json: cannot be read as JSON"):
         verify(copied)
 
 
 def test_answers_that_are_none_are_named(copied):
     answer_of(copied, 3).write_bytes(b"nothing")
-    with pytest.raises(PlanError, match=r"\.npz: is not a result of scenario 3, cu_b at copper 8000"):
+    with pytest.raises(AuditError, match=r"\.npz: is not a result of scenario 3, cu_b at copper 8000"):
         verify(copied)
     bend(answer_of(copied, 2), places=lambda it: it[1:])
-    with pytest.raises(PlanError, match=r"\.npz: found 458 blocks, expected the 459 of the table"):
+    with pytest.raises(AuditError, match=r"\.npz: found 458 blocks, expected the 459 of the table"):
         verify(copied)
 
 
@@ -419,7 +420,7 @@ def test_random_scenarios_are_right(plan_folder, seed, cutoff, deeper):
 
 def test_tables_and_models_that_are_gone_are_named(copied, plan_folder):
     (copied / "tables/quantiles.csv").unlink()
-    with pytest.raises(PlanError, match="plan/tables/quantiles.csv: cannot be read: No such file or directory"):
+    with pytest.raises(AuditError, match="plan/tables/quantiles.csv: cannot be read: No such file or directory"):
         verify(copied)
     table, model = hill()
     path = plan_folder(table, MODELS)
@@ -427,7 +428,7 @@ def test_tables_and_models_that_are_gone_are_named(copied, plan_folder):
     solved_in_turn(prepared(path))
     pitplan.gather(prepared(path).folder)
     shutil.rmtree(path.parent / "realisations")
-    with pytest.raises(PlanError, match="/realisations: cannot be read: No such file or directory"):
+    with pytest.raises(AuditError, match="/realisations: cannot be read: No such file or directory"):
         verify(path.parent / "plan")
 
 

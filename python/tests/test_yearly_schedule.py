@@ -11,11 +11,10 @@ from conftest import PROJECT, rows
 from helpers.pushbacks import PUSHBACKS, UPRIGHT, pillars, with_pushbacks
 
 import pitplan
-from pitplan import PlanError, load
+from pitplan import PlanError, load, verify
 from pitplan.cli import main
 from pitplan.results.folder import read_record
 from pitplan.scheduling import pushback_schedule
-from pitplan.verification import verify
 
 # What each pillar is worth: 40 a per cent and tonne, less 10 for processing and 4 for mining.
 WORTHS = [2600, 1400, 600]

@@ -85,7 +85,8 @@ def placed(plan: preparing.Plan, asked: Plan, folder: Path) -> preparing.Plan:
         return plan
     project = replace(plan.project, path=folder / PROJECT)
     if asked.model is not None:
-        project = replace(project, table=replace(project.table, file=folder / MODEL))
+        as_text = {"separator": None, "decimal": None, "encoding": "utf-8-sig"}
+        project = replace(project, table=replace(project.table, file=folder / MODEL, **as_text))
     return replace(plan, project=project)
 
 

@@ -234,8 +234,8 @@ def audit(options: Namespace) -> int:
 
 def verify(options: Namespace) -> int:
     """Prints a line for each rule that holds. Raises PlanError if one does not."""
+    from ..commands.audited import demand
     from ..commands.verify import verify as recalculate
-    from ..verification import demand
 
     rules = recalculate(options.folder)
     demand(rules)

@@ -61,10 +61,6 @@ def write_export(
     target = folder_of(out, default, result) if registry.is_folder(kind, shape) else file_of(out, default, result)
     with progress.step(f"writing {target.name}"), registry.staged(target, kind, shape) as path:
         notes = registry.WRITERS[kind](path, result, shape)
-        if kind == "table":
-            from pitplan import verification
-
-            verification.demand([verification.verify_table(result.path, path)])
     return noted(target, notes or ())
 
 

@@ -8,6 +8,7 @@ from typing import TYPE_CHECKING
 import numpy as np
 import pandas as pd
 
+import planaudit
 from pitplan.config.figures import FigureRules
 from pitplan.core import csv_writer
 from pitplan.core.atomic_files import staged, write_json
@@ -26,6 +27,7 @@ from pitplan.studies.scenarios.store import Shared
 
 from ..errors import MissingPackage
 from ..plan import codes_of
+from .audited import verified
 from .writing import Writing, in_all_formats
 
 if TYPE_CHECKING:
@@ -121,16 +123,11 @@ def note_verified(shared: Shared, missing: dict[int, str], writing: Writing, sta
     PlanError
         If a result differs.
     """
-    verified: list[str] = []
+    rules: list[str] = []
     if writing.verifies:
-        from pitplan import verification
-
-        with writing.progress.step("verifying"):
-            rules = verification.verify_scenarios(shared.folder, stage)
-        verification.demand(rules)
-        verified = [f"{rule.name}: {rule.holds}" for rule in rules]
+        rules = verified(lambda: planaudit.verify_scenarios(shared.folder, stage), writing.progress)
     answered = [scenario.number for scenario in shared.scenarios if scenario.number not in missing]
-    write_json(stage / GATHERED, {"answers": answered, "verified": verified, "figures": writing.draws})
+    write_json(stage / GATHERED, {"answers": answered, "verified": rules, "figures": writing.draws})
     return [] if writing.verifies else [f"the results were not verified: run pitplan verify {shared.folder}"]
 
 

@@ -8,6 +8,7 @@ from typing import Optional
 
 import pandas as pd
 
+import planaudit
 from pitplan.config import project_writer
 from pitplan.core import csv_writer, layout, staging
 from pitplan.core.atomic_files import staged, write_json
@@ -20,6 +21,7 @@ from pitplan.studies.sensitivity import cases as varied_cases, store
 from pitplan.studies.sensitivity.cases import Case, Sensitivity
 from pitplan.studies.sensitivity.store import RECORD, TABLE
 
+from .audited import verified
 from .writing import Place, Source, Writing, demand_apart, in_all_formats, read
 
 
@@ -84,12 +86,7 @@ def write_cases(found: Sensitivity, folder: Path, writing: Writing) -> pd.DataFr
         project_writer.write(found.asked, stage / project_writer.AS_RUN, folder)
         write_json(stage / RECORD, record)
         if writing.verifies:
-            from pitplan import verification
-
-            with progress.step("verifying"):
-                rules = verification.verify_sensitivity(stage, folder)
-            verification.demand(rules)
-            record["verified"] = [f"{rule.name}: {rule.holds}" for rule in rules]
+            record["verified"] = verified(lambda: planaudit.verify_sensitivity(stage, folder), progress)
         if writing.draws:
             with progress.step("drawing"):
                 draw(found, cases, stage)

@@ -5,8 +5,10 @@ from __future__ import annotations
 from pathlib import Path
 from typing import Union
 
-from .. import verification
-from ..verification.rules import Rule
+import planaudit
+from planaudit import Rule
+
+from .audited import as_plan_errors
 
 
 def verify(folder: Union[str, Path]) -> list[Rule]:
@@ -22,4 +24,5 @@ def verify(folder: Union[str, Path]) -> list[Rule]:
     PlanError
         If the folder has no answer, or the table has changed since the run.
     """
-    return verification.verify_folder(Path(folder))
+    with as_plan_errors():
+        return planaudit.verify_folder(Path(folder))

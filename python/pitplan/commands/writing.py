@@ -10,6 +10,7 @@ from typing import Any, Iterable, Iterator, Optional, Union
 
 import pandas as pd
 
+import planaudit
 from pitplan.blockmodel.figure_bounds import demand_within
 from pitplan.config import project_writer
 from pitplan.config.figures import FORMATS
@@ -26,6 +27,7 @@ from pitplan.solver.problem import Mine
 
 from ..errors import InputWarning, PlanError, ResultWarning
 from ..plan import Plan, prepared
+from .audited import verified
 
 # A project, or the path of its project.toml; and a folder.
 Source = Union[str, Path, Project]
@@ -181,20 +183,14 @@ def note_verified(plan: Plan, run: Run) -> None:
     record["project"] = os.path.relpath(plan.project.path, stage.parent)
     record["verified"] = []
     if run.writing.verifies:
-        # Only a run that is verified takes the time of these imports.
-        from pitplan import verification
-
         write_json(stage / names.RECORD, record)
-        with run.writing.progress.step("verifying"):
-            rules = verification.verify(stage, plan.project, plan.read)
-        verification.demand(rules)
-        record["verified"] = [f"{rule.name}: {rule.holds}" for rule in rules]
+        record["verified"] = verified(lambda: planaudit.verify(stage, stage.parent), run.writing.progress)
 
 
 def staged_input(path: Path, stage: Path) -> Path:
     """The place of an input while a run goes on: in the stage if the run writes it, otherwise its own."""
-    place = stage / os.path.relpath(path, stage.parent)
-    return place if place.is_file() else path
+    name = os.path.relpath(path, stage.parent)
+    return stage / name if not name.startswith(os.pardir) and (stage / name).is_file() else path
 
 
 def write_table(blocks: pd.DataFrame, stage: Path) -> None:

@@ -23,6 +23,7 @@ from pitplan.results import names
 from pitplan.results.folder import read_record
 from pitplan.results.names import SENSITIVITY, SENSITIVITY_RECORD
 from pitplan.scheduling import methods
+from planaudit import NOT_VERIFIED
 
 from . import columns as report
 from .columns import TEMPLATES, Columns
@@ -158,6 +159,7 @@ def write(path: Path, folder: Path, project: Project, sensitivity: Optional[Path
         project_file=project_writer.AS_RUN if project_writer.AS_RUN in record["files"] else project.path.name,
         project_text=text_of(folder, project, record),
         count=len(record["shells"]["revenue_factors"]),
+        not_verified=NOT_VERIFIED,
         inputs=record["inputs"],
         outputs=record["files"],
         **{name: record["shells"][name] for name in ("selected", "solver")},

@@ -3,8 +3,7 @@
 import pandas as pd
 
 import pitplan
-from pitplan import load
-from pitplan.verification import verify
+from pitplan import load, verify
 
 from .processes import WITH
 from .pushbacks import UPRIGHT, pillars

@@ -3,7 +3,7 @@
 import pandas as pd
 from conftest import PROJECT, rows
 
-from pitplan.verification import verify
+from pitplan import verify
 
 UPRIGHT = PROJECT.replace('pattern = "1:5"', "angle = 90").replace(
     "precedence_benches = 3\n", "precedence_benches = 1\n"
@@ -35,7 +35,8 @@ def blocks_of(folder):
 
 
 def wrong(folder):
-    return {rule.name: rule for rule in verify(folder) if rule.differences}
+    """The rules that do not hold, but for that of the hashes of inputs, which tests change."""
+    return {rule.name: rule for rule in verify(folder) if rule.differences and rule.name != "inputs"}
 
 
 RICH, POOR = 2, 0.4

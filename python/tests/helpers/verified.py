@@ -1,13 +1,14 @@
 """A deposit of two metals, and what the verification says of a plan or a folder."""
 
 import json
+import os
 
 from conftest import PROJECT, rows
 
+from pitplan import verify
 from pitplan.commands.answers import Answered, write_tables
 from pitplan.core.layout import FOLDERS, SOLVER
 from pitplan.solver import mine_files
-from pitplan.verification import verify
 
 TEXT = (
     PROJECT.replace(
@@ -50,8 +51,9 @@ def looked_at(plan):
     record = plan.record(mine_files.write(plan, folder / SOLVER))
     write_tables(Answered(plan, plan.shells().solution), folder)
     record["shells"] = {"revenue_factors": list(plan.project.shells.revenue_factors)}
+    record["project"] = os.path.relpath(plan.project.path, folder)
     (folder / "plan.json").write_text(json.dumps(record))
-    return verify(folder, plan.project)
+    return verify(folder)
 
 
 def ore_everywhere():

@@ -1,0 +1,1 @@
+"""The blocks of the table and those of the results."""

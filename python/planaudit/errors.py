@@ -1,0 +1,33 @@
+"""Errors of the audit."""
+
+from __future__ import annotations
+
+import re
+from collections.abc import Sequence
+
+# Whatever ends a line, by str.splitlines.
+LINE_ENDS = re.compile("[\n\r\v\f\x1c\x1d\x1e\x85\u2028\u2029]")
+
+
+class AuditError(Exception):
+    """A folder cannot be audited, or its results differ from the recalculation.
+
+    Parameters
+    ----------
+    text : str
+        What is wrong, with the file, on one line.
+    details : sequence of str
+        Further lines.
+    """
+
+    def __init__(self, text: str, details: Sequence[str] = ()) -> None:
+        self.text, self.details = text, tuple(details)
+        super().__init__("\n  ".join(map(on_one_line, (text, *details))))
+
+
+class PackageError(AuditError):
+    """A package that reads an input is not installed."""
+
+
+def on_one_line(text: str) -> str:
+    return LINE_ENDS.sub(lambda end: end[0].encode("unicode_escape").decode(), text)

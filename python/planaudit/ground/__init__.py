@@ -1,0 +1,1 @@
+"""Slopes, topographies and as-mined surfaces."""

@@ -1,0 +1,199 @@
+"""Verifies slopes by their definition: a mined block leaves no block in the whole cone above it."""
+
+from __future__ import annotations
+
+import math
+from dataclasses import dataclass
+
+import numpy as np
+from scipy.ndimage import maximum_filter1d
+from scipy.spatial import ConvexHull, QhullError
+
+from planaudit.inputs.answer import NOTHING, UNDUG, Answer
+from planaudit.inputs.project import Wall
+from planaudit.revenue_factors import factor_text
+from planaudit.rules import TOLD, Rule, rule
+
+NEIGHBOURS = {"1:5": 1, "1:9": 2}
+HAIR = 1e-9
+STEEPER = 0.5
+MOST_LEVELS = 40
+
+
+@dataclass(frozen=True)
+class Run:
+    """Adjacent cells of a level above: `north` blocks north, and from `west` to `east` blocks east, inclusive."""
+
+    north: int
+    west: int
+    east: int
+
+
+def flatness(wall: Wall, azimuth: np.ndarray) -> np.ndarray:
+    """Returns the cotangent of the slope angle at azimuths in degrees: linear between those given, and around the circle."""
+    if wall.bench:
+        return np.full(
+            np.shape(azimuth),
+            1 / math.tan(math.radians(wall.bench.face_angle)) + wall.bench.berm_width / wall.bench.height,
+        )
+    # A face dips away from its wall.
+    turned = 180 if wall.azimuth_of == "dip" else 0
+    pairs = sorted(((azimuth + turned) % 360, angle) for azimuth, angle in wall.angles)
+    given = [azimuth for azimuth, _ in pairs]
+    back = [math.cos(math.radians(angle)) / math.sin(math.radians(angle)) for _, angle in pairs]
+    return np.interp(azimuth, [given[-1] - 360, *given, given[0] + 360], [back[-1], *back, back[0]])
+
+
+def cone(wall: Wall, size: tuple[float, float, float], up: int, turn: float = 0.0) -> np.ndarray:
+    """Returns which cells lie in the cone a number of levels up: a boolean square, rows from the south, around the cell above. `turn` is the azimuth
+    of the grid's north in degrees."""
+    if wall.pattern:
+        corner = NEIGHBOURS[wall.pattern]
+        return np.array([[abs(north) + abs(east) <= corner for east in (-1, 0, 1)] for north in (-1, 0, 1)])
+    if wall.offsets:
+        steps = {(north, east) for east, north, above in wall.offsets if above == up}
+        far = max((max(abs(north), abs(east)) for north, east in steps), default=0)
+        return np.array([[(north, east) in steps for east in range(-far, far + 1)] for north in range(-far, far + 1)])
+    back = up * size[2] * max(flatness(wall, np.arange(0.0, 360.0, 0.25)))
+    far = int(back / min(size[0], size[1])) + 1
+    north, east = np.mgrid[-far : far + 1, -far : far + 1] * np.array([size[1], size[0]])[:, None, None]
+    allowed = up * size[2] * flatness(wall, (np.degrees(np.arctan2(east, north)) + turn) % 360)
+    return np.hypot(north, east) <= allowed * (1 + HAIR) + HAIR
+
+
+def runs(inside: np.ndarray) -> list[Run]:
+    """Returns the cells of a boolean square as runs from west to east."""
+    far, found = len(inside) // 2, []
+    for north, row in enumerate(inside):
+        edges = np.flatnonzero(np.diff(np.concatenate([[0], row.astype(np.int8), [0]])))
+        found += [Run(north - far, west - far, east - 1 - far) for west, east in zip(edges[::2], edges[1::2])]
+    return found
+
+
+def latest(above: np.ndarray, run: Run) -> np.ndarray:
+    """Returns for each cell the largest value in a run of cells above it; cells outside the model count as 0."""
+    levels, rows, columns = above.shape
+    found = np.zeros(above.shape, dtype=above.dtype)
+    to = slice(max(0, -run.north), rows + min(0, -run.north))
+    of = slice(max(0, run.north), rows + min(0, run.north))
+    if to.start >= to.stop:
+        return found
+    wide, margin = run.east - run.west + 1, max(abs(run.west), abs(run.east)) + 1
+    # np.pad takes longer than the filter on small levels.
+    padded = np.zeros((levels, to.stop - to.start, columns + 2 * margin), dtype=above.dtype)
+    padded[:, :, margin : margin + columns] = above[:, of]
+    first = margin + run.west + wide // 2
+    found[:, to] = maximum_filter1d(padded, wide, axis=2, mode="constant", cval=0)[:, :, first : first + columns]
+    return found
+
+
+def verify(answer: Answer) -> Rule:
+    """Verifies that no shell leaves a block with tonnes, or unknown ground, in the whole cone of a block that it mines."""
+    dug, entry = answer.dug, answer.entries
+    wrong = np.zeros(answer.shape, dtype=bool)
+    for number, wall in enumerate(answer.project.slopes.domains):
+        mine = (entry == number) & (dug != UNDUG) & (dug != NOTHING)
+        if not mine.any():
+            continue
+        for up in range(1, min(answer.levels(wall), answer.shape[0] - 1) + 1):
+            below = box(mine[up:])
+            if below is None:
+                continue
+            inside = runs(cone(wall, answer.size, up, answer.azimuth))
+            if not inside:
+                continue
+            reach = max(max(abs(run.north), abs(run.west), abs(run.east)) for run in inside)
+            wide = tuple(
+                slice(max(0, it.start - reach * (axis > 0)), it.stop + reach * (axis > 0))
+                for axis, it in enumerate(below)
+            )
+            part = dug[:-up][wide]
+            standing = np.maximum.reduce([latest(part, run) for run in inside]) > dug[up:][wide]
+            wrong[up:][wide] |= standing & mine[up:][wide]
+    return rule("walls", holds(answer), *told(answer, wrong))
+
+
+def verify_steepness(answer: Answer) -> Rule:
+    """Verifies that without `precedence_benches` no slope error exceeds half a degree, unless their number is the largest."""
+    slopes, differences = answer.project.slopes, []
+    if slopes.precedence_benches is not None:
+        return rule(
+            "levels", f"slope precedences reach over {slopes.precedence_benches} benches, as in the project", []
+        )
+    for number, wall in enumerate(slopes.domains):
+        levels = answer.levels(wall)
+        steeper = 0.0
+        if not wall.pattern and not wall.offsets:
+            steeper = float((high_walls(wall, answer.size, levels, answer.azimuth) - asked(wall, answer.azimuth)).max())
+        if steeper > STEEPER + 1e-6 and levels < MOST_LEVELS:
+            differences.append(
+                f"domain entry {number + 1}: over {levels} benches the slope is {steeper:.2f} degrees steeper than its angle"
+            )
+    return rule(
+        "levels",
+        f"no slope is more than {STEEPER} degrees steeper than its angle, or precedences reach over {MOST_LEVELS} benches",
+        differences,
+    )
+
+
+def asked(wall: Wall, turn: float) -> np.ndarray:
+    """Returns the required angles in degrees, by whole azimuth from the grid's north, which has the azimuth `turn`."""
+    return np.degrees(np.arctan2(1.0, flatness(wall, (np.arange(360.0) + turn) % 360)))
+
+
+def high_walls(wall: Wall, size: tuple[float, float, float], levels: int, turn: float = 0.0) -> np.ndarray:
+    """Returns the angles of high slopes, of cones upon cones, in the same way: those of the convex hull of the cone."""
+    points = []
+    for up in range(1, levels + 1):
+        inside = cone(wall, size, up, turn)
+        north, east = (np.argwhere(inside) - len(inside) // 2).T
+        points.append(np.stack([east * size[0], north * size[1]], axis=1) / (up * size[2]))
+    try:
+        sides = ConvexHull(np.concatenate(points)).equations
+    except QhullError:
+        return np.full(360, 90.0)
+    azimuth = np.radians(np.arange(360.0))
+    along = sides[:, :2] @ np.stack([np.sin(azimuth), np.cos(azimuth)])
+    reach = np.where(along > 1e-12, -sides[:, 2:] / np.where(along > 1e-12, along, 1.0), np.inf).min(axis=0)
+    return np.degrees(np.arctan2(1.0, np.maximum(reach, 0.0)))
+
+
+def needed_by(answer: Answer, blocks: np.ndarray) -> np.ndarray:
+    """Returns the given blocks and all their predecessors, a boolean mask over cells."""
+    found = blocks.copy()
+    entries = answer.entries
+    walls, turn = answer.project.slopes.domains, answer.azimuth
+    cones = [[runs(cone(wall, answer.size, up, turn)) for up in range(1, answer.levels(wall) + 1)] for wall in walls]
+    for level in range(answer.shape[0] - 1, 0, -1):
+        for number, of_wall in enumerate(cones):
+            mine = found[level] & (entries[level] == number)
+            for up, inside in enumerate(of_wall[:level] if mine.any() else [], 1):
+                for run in inside:
+                    back = Run(-run.north, -run.east, -run.west)
+                    found[level - up] |= latest(mine[None].astype(np.int8), back)[0] > 0
+    return found
+
+
+def box(mask: np.ndarray) -> tuple[slice, slice, slice] | None:
+    """Returns the smallest box around all marked cells; None without any."""
+    if not mask.any():
+        return None
+    found = []
+    for axis in range(3):
+        some = np.flatnonzero(mask.any(axis=tuple(other for other in range(3) if other != axis)))
+        found.append(slice(int(some[0]), int(some[-1]) + 1))
+    return found[0], found[1], found[2]
+
+
+def told(answer: Answer, wrong: np.ndarray) -> tuple[list[str], int]:
+    rows = np.flatnonzero(wrong[answer.cells])
+    said = [
+        f"{answer.called(row)}, mined at revenue factor {factor_text(answer.said['revenue_factor'].iloc[row])}, depends on a block that is not"
+        for row in rows[:TOLD]
+    ]
+    return said, len(rows)
+
+
+def holds(answer: Answer) -> str:
+    most = max(answer.levels(wall) for wall in answer.project.slopes.domains)
+    return f"no block of any shell lacks a block of its slope cone, up to {most} benches above it"

@@ -1,0 +1,1 @@
+"""What is read: the project, its table, surveys, and the results of a folder."""

@@ -1,0 +1,331 @@
+"""Reads the results of a folder, and matches them with the project and its table."""
+
+from __future__ import annotations
+
+from dataclasses import dataclass, field, replace
+from functools import cached_property
+from pathlib import Path
+from typing import Any, Optional
+
+import numpy as np
+import pandas as pd
+
+from planaudit.errors import AuditError
+from planaudit.inputs.matching import (
+    FREE,
+    PROCESS,
+    PUSHBACK,
+    YEAR,
+    TableRows,
+    beside,
+    own_columns,
+    own_name,
+    read_blocks,
+    rows_of,
+    said_of,
+    shares_of,
+)
+from planaudit.inputs.project import GRADE_UNITS, Project, Wall
+from planaudit.inputs.record import PLAN, read_plan
+from planaudit.inputs.rotated_grid import steps_of
+from planaudit.inputs.run import Run
+from planaudit.inputs.tables import demand_factors, read_table
+from planaudit.money.feed import by_code, recovered
+
+
+def read_shells(
+    folder: Path, record: dict[str, Any], project: Project, written: pd.DataFrame, table: TableRows
+) -> Answer:
+    """Reads the results of `pitplan shells`, `pitplan pushbacks` or `pitplan schedule`."""
+    shells = read_table(folder / "tables/shells.csv")
+    demand_factors(shells, record["shells"]["revenue_factors"], "shells.csv")
+    shells, years = (
+        shells.set_index("revenue_factor"),
+        read_table(folder / "tables/years.csv", ["case"]) if (folder / "tables/years.csv").exists() else None,
+    )
+    frame, parts, beyond = table
+    rows, known, order = beside(frame, written, project, record["grid"], "blocks.csv")
+    pushbacks = read_table(folder / "tables/pushbacks.csv").set_index("pushback") if "pushbacks" in record else None
+    schedule = read_table(folder / "tables/schedule.csv", ["method"]) if "schedule" in record else None
+    is_by_block = "by_block" in record
+    shares = shares_of(project) if is_by_block else []
+    more = [
+        *([PUSHBACK] if pushbacks is not None else []),
+        *([YEAR] if schedule is not None or is_by_block else []),
+        *shares,
+    ]
+    said, factors = written[[*said_of(project), *more]].iloc[order].reset_index(drop=True), tuple(
+        record["shells"]["revenue_factors"]
+    )
+    found = {"pushbacks": pushbacks, "schedule": schedule, "parts": parts, "beyond": beyond, "is_by_block": is_by_block}
+    found["own"] = own_columns(written, rows, order)
+    return Answer(folder, project, rows, known, said, shells, years, record, factors, **found)
+
+
+def read_pits(
+    folder: Path, record: dict[str, Any], project: Project, written: pd.DataFrame, table: TableRows
+) -> Answer:
+    """Reads the results of `pitplan pit`: the pit with constraints and, in `free`, the one without."""
+    pits = read_table(folder / "tables/pits.csv", ["fixed_blocks"])
+    demand_factors(pits, [record["revenue_factors"][-1]] * 2, "pits.csv")
+    kept, free = (pits[pits["fixed_blocks"] == name].set_index("revenue_factor") for name in ("kept", "free"))
+    if len(kept) != len(free):
+        raise AuditError("pits.csv: has not a row that keeps to the fixed blocks and one that is free")
+    frame, parts, beyond = table
+    rows, known, order = beside(frame, written, project, record["grid"], "blocks.csv")
+    said = written[[*said_of(project), *FREE]].iloc[order].reset_index(drop=True)
+    other = said.assign(**{name: said[f"free_{name}"] for name in ("revenue_factor", "process_revenue_factor")})
+    factors = tuple(record["revenue_factors"])
+    alone = Answer(folder, replace(project, constraints=None), rows, known, other, free, None, record, factors)
+    own = own_columns(written, rows, order)
+    return Answer(
+        folder, project, rows, known, said, kept, None, record, factors, alone, parts=parts, beyond=beyond, own=own
+    )
+
+
+# Instead of a revenue factor: a cell that is never mined, and one without material.
+UNDUG, NOTHING = np.inf, 0.0
+
+
+@dataclass(frozen=True)
+class Answer:
+    """The results of a folder.
+
+    Attributes
+    ----------
+    folder : Path
+    project : Project
+    rows : DataFrame
+        One row per block: the planner's columns of the table, followed by filled missing blocks.
+    known : int
+        How many of the rows are those of the table.
+    said : DataFrame
+        The results of blocks.csv in the same rows, with pushback, year and shares if there are any.
+    shells : DataFrame
+        shells.csv by revenue factor; for `pitplan pit` the row of pits.csv with constraints.
+    years : DataFrame, optional
+        years.csv.
+    record : dict
+        plan.json.
+    factors : tuple of float
+        The revenue factors with shells.
+    free : Answer, optional
+        For `pitplan pit` the results without constraints.
+    found : dict
+        Cached intermediate results, by name.
+    pushbacks, schedule : DataFrame, optional
+        pushbacks.csv by pushback, and schedule.csv.
+    parts : DataFrame, optional
+        With reblocking the rows of the table; `rows` are then the blocks.
+    beyond : DataFrame, optional
+        The rows of the table outside the grid, if some were removed.
+    is_by_block : bool
+        Whether blocks are scheduled.
+    own : DataFrame
+        The planner's columns of blocks.csv in these rows, by their names in the table.
+    """
+
+    folder: Path
+    project: Project
+    rows: pd.DataFrame
+    known: int
+    said: pd.DataFrame
+    shells: pd.DataFrame
+    years: pd.DataFrame | None
+    record: dict[str, Any]
+    factors: tuple[float, ...]
+    free: Optional[Answer] = None
+    found: dict[str, Any] = field(default_factory=dict)
+    pushbacks: Optional[pd.DataFrame] = None
+    schedule: Optional[pd.DataFrame] = None
+    parts: Optional[pd.DataFrame] = None
+    beyond: Optional[pd.DataFrame] = None
+    is_by_block: bool = False
+    own: pd.DataFrame = field(default_factory=pd.DataFrame)
+
+    @property
+    def shape(self) -> tuple[int, int, int]:
+        levels, rows, columns = self.record["grid"]["shape"]
+        return levels, rows, columns
+
+    @property
+    def size(self) -> tuple[float, float, float]:
+        """Block size east, north and up, metres."""
+        east, north, up = self.record["grid"]["size"]
+        return east, north, up
+
+    @cached_property
+    def tonnes(self) -> np.ndarray:
+        return self.rows[self.project.table.tonnes].to_numpy()
+
+    @property
+    def azimuth(self) -> float:
+        """Azimuth of the grid's north, degrees clockwise."""
+        return float(self.record["grid"].get("azimuth", 0.0))
+
+    @cached_property
+    def elevations(self) -> np.ndarray:
+        """Elevation of the centroids of each level, from the top, metres."""
+        return self.record["grid"]["origin"][2] - np.arange(self.shape[0]) * self.size[2]
+
+    @cached_property
+    def undiluted(self) -> np.ndarray:
+        """In-situ tonnes of each block that reach the mill if it is processed, without dilution."""
+        return self.tonnes * by_code(self.project.economics.mining_recovery, self.rows, self.project.table)
+
+    @cached_property
+    def feed(self) -> np.ndarray:
+        """Mill feed of each block if it is processed, in tonnes."""
+        return self.undiluted * (1 + by_code(self.project.economics.dilution, self.rows, self.project.table))
+
+    @cached_property
+    def quantities(self) -> dict[str, np.ndarray]:
+        """Recovered metal of each block if it is processed, by metal, in tonnes or grams."""
+        found = {}
+        for number, metal in enumerate(self.project.metals):
+            grades = [recovered(way.metals[number], self.rows, way) for way in self.project.by_process]
+            found[metal.name] = self.undiluted * np.choose(self.process, grades) * float(GRADE_UNITS[metal.unit])
+        return found
+
+    @cached_property
+    def process(self) -> np.ndarray:
+        """The number of each block's process at the base price, by blocks.csv; 0 with one process, or for waste."""
+        names = [process.name for process in self.project.processes]
+        if not names:
+            return np.zeros(len(self.rows), dtype=np.int64)
+        return self.said[PROCESS].map({name: k for k, name in enumerate(names)}).fillna(0).to_numpy(dtype=np.int64)
+
+    @cached_property
+    def feeds(self) -> dict[str, np.ndarray]:
+        """Mill feed of each of several processes, by the name of the amount."""
+        names = [process.name for process in self.project.processes]
+        return {
+            f"feed_tonnes_{name}": np.where(self.ore & (self.process == k), self.feed, 0.0)
+            for k, name in enumerate(names)
+        }
+
+    @property
+    def amounts_of_ways(self) -> list[tuple[str, str]]:
+        """The columns of revenue and processing cost of each process."""
+        names = [process.name for process in self.project.processes]
+        return [(f"revenue_{name}", f"processing_cost_{name}") for name in names] or [("revenue", "processing_cost")]
+
+    @cached_property
+    def whole(self) -> dict[str, np.ndarray]:
+        """A cache of the amounts of `said` as whole numbers, by name."""
+        return {}
+
+    @cached_property
+    def ore(self) -> np.ndarray:
+        """Whether each block is ore at the base price once it is mined."""
+        return (self.said["revenue"] > self.said["processing_cost"]).to_numpy()
+
+    @cached_property
+    def worths(self) -> np.ndarray:
+        """Value of each block at the base price once it is mined, in the currency."""
+        gain = (self.said["revenue"] - self.said["processing_cost"]).to_numpy()
+        return np.where(self.ore, gain, 0.0) - self.said["mining_cost"].to_numpy()
+
+    @cached_property
+    def earned(self) -> np.ndarray:
+        """Block values less `mining_cost_added` of their pushback."""
+        rules = self.project.pushbacks
+        if PUSHBACK not in self.said or rules is None or not rules.mining_cost_added:
+            return self.worths
+        a_tonne = np.array([0.0, *map(float, rules.mining_cost_added)])
+        return self.worths - a_tonne[np.clip(self.said[PUSHBACK].to_numpy(), 0, len(a_tonne) - 1)] * self.tonnes
+
+    @cached_property
+    def cells(self) -> tuple[np.ndarray, np.ndarray, np.ndarray]:
+        """Level from the top, row from the south and column from the west of each block, by its centroid."""
+        east, north, up = (np.rint(axis).astype(np.int64) for axis in self.steps)
+        return up, north, east
+
+    @property
+    def steps(self) -> tuple[np.ndarray, np.ndarray, np.ndarray]:
+        """Blocks east, north and down from the first block; whole numbers up to the tolerance."""
+        columns = self.project.table
+        east, north, up = steps_of(self.rows[[columns.x, columns.y, columns.z]].to_numpy(), self.record["grid"]).T
+        return east, north, -up
+
+    @cached_property
+    def dug(self) -> np.ndarray:
+        """The least revenue factor at which each cell is mined, shape (levels, rows, columns). UNDUG if it never is, or the ground is unknown;
+        NOTHING without material."""
+        cube = np.full(self.shape, UNDUG)
+        factor = self.said["revenue_factor"].to_numpy()
+        known = np.zeros(self.shape, dtype=bool)
+        known[self.cells] = True
+        cube[self.cells] = np.where(self.tonnes > 0, np.where(factor > 0, factor, UNDUG), NOTHING)
+        highest = np.where(known.any(axis=0), known.argmax(axis=0), 0)
+        air = np.arange(self.shape[0])[:, None, None] < highest
+        if self.project.table.missing_blocks == "air":
+            air = ~known
+        cube[air] = NOTHING
+        return cube
+
+    @cached_property
+    def entries(self) -> np.ndarray:
+        """The index of each cell's entry in `[[slopes.domains]]`, shape (levels, rows, columns). A cell without a row has the domain of the next
+        block below it, otherwise above."""
+        column, walls = self.project.table.domain, self.project.slopes.domains
+        others = next((k for k, wall in enumerate(walls) if wall.domains is None), 0)
+        by_region = {name: k for k, wall in enumerate(walls) for name in wall.domains or ()}
+        place, names = pd.factorize(self.rows[column].astype(str) if column else np.full(len(self.rows), ""))
+        cube = np.full(self.shape, np.nan)
+        cube[self.cells] = np.array([by_region.get(name, others) for name in names])[place]
+        columns = pd.DataFrame(cube.reshape(self.shape[0], -1))
+        return columns.bfill().ffill().fillna(others).to_numpy(dtype=np.int16).reshape(self.shape)
+
+    def levels(self, wall: Wall) -> int:
+        """Returns the precedence benches of an entry of `[[slopes.domains]]`."""
+        if wall.pattern:
+            return 1
+        if wall.offsets:
+            return max(up for _, _, up in wall.offsets)
+        number = self.project.slopes.domains.index(wall)
+        return int(self.record["walls"][number].get("levels", self.project.slopes.precedence_benches))
+
+    def called(self, row: int) -> str:
+        """Returns the name of a block: the planner's id, otherwise its centroid."""
+        name = self.project.table.id
+        if name:
+            return f"block {self.rows[name].iloc[row]}"
+        columns = self.project.table
+        return "the block at " + ", ".join(
+            f"{self.rows[axis].iloc[row]:.10g}" for axis in (columns.x, columns.y, columns.z)
+        )
+
+
+def read(written: Path, folder: Optional[Path] = None) -> Answer:
+    """Reads the results of a plan. If the project's file has changed since the run, they must fit that file.
+
+    Parameters
+    ----------
+    written : Path
+        The folder with the files.
+    folder : Path, optional
+        While the run goes on the output folder, to which the files will be moved.
+
+    Raises
+    ------
+    AuditError
+        If the folder has no results of `pitplan shells` or `pit`, or the project or its table cannot be read.
+    """
+    run = Run(folder or written, written)
+    try:
+        record = read_plan(written)
+        project = run.project(record)
+        found, expected = len(record.get("walls", project.slopes.domains)), len(project.slopes.domains)
+        if found < expected:
+            why = f"walls: found {found}, expected {expected} as in the project"
+            raise AuditError(f"{written / PLAN}: {why}: run pitplan shells again")
+        own = [own_name(name) for name in (*project.columns, project.table.tonnes)]
+        results = (*said_of(project), *FREE, PUSHBACK, YEAR, *shares_of(project), *own)
+        blocks = read_blocks(written / "tables/blocks.csv", project, results)
+        rows = rows_of(project, blocks, record["grid"])
+        return (read_shells if "shells" in record else read_pits)(written, record, project, blocks, rows)
+    except OSError as error:
+        raise AuditError(f"{error.filename}: cannot be read: run pitplan shells first") from error
+    except (ValueError, KeyError) as error:
+        raise AuditError(f"{written}: not an output folder of pitplan shells or pitplan pit: {error}") from error

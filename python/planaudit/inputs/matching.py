@@ -1,0 +1,158 @@
+"""Reads blocks.csv and matches it with the rows of the planner's table."""
+
+from __future__ import annotations
+
+from pathlib import Path
+from typing import Any, Optional
+
+import numpy as np
+import pandas as pd
+
+from planaudit.errors import AuditError
+from planaudit.inputs import block_table
+from planaudit.inputs.project import MissingRock, Project
+from planaudit.inputs.reblocking import divided, together, written_rows
+from planaudit.inputs.rotated_grid import steps_of
+from planaudit.inputs.tables import demand_numbers
+
+# The columns of results in blocks.csv.
+SAID = ("id", "mining_cost", "revenue", "processing_cost", "revenue_factor", "process_revenue_factor")
+# With several processes the best one of each block at the base price, "" for waste; there are amounts of each process too.
+PROCESS = "process"
+# With `[haulage]` haul distance and haulage costs.
+HAULED = ("haul_distance", "haulage_cost", "ore_haulage_cost")
+# Further columns of `pitplan pit`, of the pit without constraints.
+FREE = ("free_revenue_factor", "free_process_revenue_factor")
+# Further columns of `pitplan pushbacks` and `pitplan schedule`.
+PUSHBACK, YEAR = "pushback", "year"
+# If a surface cuts blocks: the tonnes of the table. Results have the tonnes below the surface.
+UNCUT = "tonnes before the cut"
+# With a schedule by block the share of each block that goes to a process.
+SHARE = "share_"
+# The result of `rows_of`.
+TableRows = tuple[pd.DataFrame, Optional[pd.DataFrame], Optional[pd.DataFrame]]
+
+
+def shares_of(project: Project) -> list[str]:
+    """Returns the columns of blocks.csv with the share of a block that goes to each process; to the mill if the project names no process."""
+    return [f"{SHARE}{name}" for name in [process.name for process in project.processes] or ["mill"]]
+
+
+def said_of(project: Project) -> tuple[str, ...]:
+    """Returns the columns of results in blocks.csv for a project."""
+    hauled = HAULED if project.haulage else ()
+    if not project.processes:
+        return (*SAID, *hauled)
+    of_each = (f"{name}_{process.name}" for process in project.processes for name in ("revenue", "processing_cost"))
+    return (*SAID, *hauled, PROCESS, *of_each)
+
+
+def rows_of(
+    project: Project,
+    written: pd.DataFrame,
+    grid: dict[str, Any],
+    table: Optional[pd.DataFrame] = None,
+    source: str = "blocks.csv",
+) -> TableRows:
+    """Returns the blocks of the table in the grid of the results; with reblocking the rows before it, otherwise None; and the blocks outside the
+    grid if some were removed, otherwise None. The table is read unless it is given. Raises AuditError as `beside`."""
+    frame = block_table.read(project) if table is None else table
+    if project.table.reblock is None:
+        inside, beyond = divided(frame, project, grid)
+        return inside, None, beyond
+    inside, beyond = divided(together(frame, project, grid), project, grid)
+    own = written.rename(columns={own_name(name): name for name in frame.columns})
+    found = written_rows(inside, own.loc[:, ~own.columns.duplicated(keep="last")], project, grid, source)
+    # Blocks are cut after reblocking.
+    tonnes = project.table.tonnes
+    return (
+        found if not project.cuts_blocks else found.assign(**{tonnes: inside[tonnes].to_numpy().round(6)}),
+        frame,
+        beyond,
+    )
+
+
+def read_blocks(path: Path, project: Project, said: Optional[tuple[str, ...]] = None) -> pd.DataFrame:
+    """Reads centroids and the given columns of blocks.csv, as far as it has them; all columns by default, and if blocks may be filled, reblocked
+    or cut. Raises AuditError if a field of a numeric column is not a number.
+    """
+    columns = project.table
+    codes = {own_name(name): str for name in (columns.id, columns.rock_type, columns.domain) if name}
+    wanted = {*(said or ()), *(own_name(name) for name in (columns.x, columns.y, columns.z))}
+    is_whole = (
+        said is None or isinstance(columns.missing_blocks, MissingRock) or bool(columns.reblock or project.cuts_blocks)
+    )
+    usecols = None if is_whole else wanted.__contains__
+    found = pd.read_csv(
+        path,
+        dtype=codes,
+        keep_default_na=False,
+        na_values={},
+        float_precision="round_trip",
+        usecols=usecols,
+        low_memory=False,
+    )
+    demand_numbers(found, path.name, [*codes, PROCESS])
+    return found
+
+
+def own_columns(written: pd.DataFrame, rows: pd.DataFrame, order: np.ndarray) -> pd.DataFrame:
+    """Returns the planner's columns of blocks.csv by their names in the table, in the order of `rows`."""
+    there = [name for name in rows.columns if own_name(name) in written]
+    return pd.DataFrame({name: written[own_name(name)].to_numpy()[order] for name in there})
+
+
+def own_name(column: str) -> str:
+    """Returns the name of a planner's column in blocks.csv."""
+    return f"planner_{column}" if column in (*SAID, *FREE, *HAULED, PUSHBACK, YEAR, PROCESS) else column
+
+
+def beside(
+    table: pd.DataFrame, written: pd.DataFrame, project: Project, grid: dict[str, Any], source: str
+) -> tuple[pd.DataFrame, int, np.ndarray]:
+    """Matches the rows of the table with those of blocks.csv.
+
+    Returns
+    -------
+    rows : DataFrame
+        The rows of the table, followed by filled missing blocks. If a surface cuts blocks, tonnes are those of blocks.csv, and UNCUT those of the
+        table.
+    known : int
+        How many rows are those of the table.
+    order : array of int, shape (rows,)
+        The row of blocks.csv for each.
+
+    Raises
+    ------
+    AuditError
+        If a block of one is not in the other; `source` names the file of results.
+    """
+    columns = project.table
+    axes = (columns.x, columns.y, columns.z)
+    centres, answered = table[list(axes)].to_numpy(), written[[own_name(name) for name in axes]].to_numpy()
+    row_of = np.full(int(np.prod(grid["shape"])), -1, dtype=np.int64)
+    row_of[nearest_cells(answered, grid)] = np.arange(len(written))
+    at = row_of[nearest_cells(centres, grid)]
+    lost = np.count_nonzero((at < 0) | (answered[at] != centres).any(axis=1))
+    if lost or len(np.unique(at)) < len(at):
+        raise AuditError(f"{source}: {lost:,} blocks of the table are not in it: has the table changed since?")
+    more = np.setdiff1d(np.arange(len(written)), at)
+    if len(more) and not isinstance(columns.missing_blocks, MissingRock):
+        raise AuditError(f"{source}: {len(more):,} of its blocks are not in the table: has the table changed since?")
+    known, rows, order = len(table), table, np.concatenate([at, more])
+    if len(more):
+        own = written.rename(columns={own_name(name): name for name in table.columns})
+        own = own.loc[:, ~own.columns.duplicated(keep="last")]
+        rows = pd.concat([table, own.iloc[more].reindex(columns=table.columns, fill_value=0.0)], ignore_index=True)
+    if project.cuts_blocks:
+        uncut = np.concatenate(
+            [table[columns.tonnes], np.full(len(more), getattr(columns.missing_blocks, "tonnes", 0.0))]
+        )
+        rows = rows.assign(**{UNCUT: uncut, columns.tonnes: written[own_name(columns.tonnes)].to_numpy()[order]})
+    return rows, known, order
+
+
+def nearest_cells(centres: np.ndarray, grid: dict[str, Any]) -> np.ndarray:
+    """Returns the cells with the nearest centres to rows x, y, z in metres."""
+    east, north, up = np.rint(steps_of(centres, grid)).astype(np.int64).T
+    return np.ravel_multi_index((-up, north, east), grid["shape"], mode="clip")

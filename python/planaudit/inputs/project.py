@@ -1,0 +1,316 @@
+"""What a project says, as far as its results depend on it.
+
+The audit has its own types and its own reader (`project_file.py`), so that a misread project does not pass.
+"""
+
+from __future__ import annotations
+
+from dataclasses import dataclass, field, replace
+from decimal import Decimal
+from pathlib import Path
+from typing import Optional, Union
+
+# Mass of metal per tonne of ore and unit of grade, in tonnes, or grams if the grade is in grams per tonne.
+GRADE_UNITS = {"percent": Decimal("0.01"), "fraction": Decimal("1"), "gram_per_tonne": Decimal("1")}
+# The years of a cash flow that are counted.
+MOST_YEARS = 1000
+
+
+@dataclass(frozen=True)
+class ByDomain:
+    """A number for each domain, by its code."""
+
+    values: dict[str, Decimal]
+
+
+@dataclass(frozen=True)
+class Curve:
+    """Recoveries by head grade: pairs of both, by rising grade."""
+
+    points: tuple[tuple[Decimal, Decimal], ...]
+
+
+# A number for all blocks, or by rock type; and one that may be by domain.
+ByRock = Union[Decimal, dict[str, Decimal]]
+ByCode = Union[Decimal, dict[str, Decimal], ByDomain]
+Recovery = Union[Decimal, Curve]
+
+
+@dataclass(frozen=True)
+class SurveyFile:
+    """A file of heights or areas, its layers if some are named, and the field of a map with heights."""
+
+    path: Path
+    layers: tuple[str, ...] = ()
+    height: Optional[str] = None
+
+
+@dataclass(frozen=True)
+class MissingRock:
+    """The block in place of a missing row: tonnes, rock type and domain."""
+
+    tonnes: float
+    rock_type: str
+    domain: str
+
+
+@dataclass(frozen=True)
+class Reblock:
+    """Rows per block east, north and up; or block sizes in metres from a corner."""
+
+    counts: Optional[tuple[int, int, int]]
+    size: Optional[tuple[float, float, float]] = None
+    corner: Optional[tuple[float, float, float]] = None
+
+
+@dataclass(frozen=True)
+class TableColumns:
+    """`[table]`: the file, its columns and its text format."""
+
+    file: Path
+    x: str
+    y: str
+    z: str
+    tonnes: str
+    density: Optional[str]
+    volume: Optional[str]
+    id: Optional[str]
+    rock_type: Optional[str]
+    domain: Optional[str]
+    separator: Optional[str]
+    decimal: Optional[str]
+    encoding: str
+    empty: str
+    missing_blocks: Union[str, MissingRock]
+    reblock: Optional[Reblock]
+    topography: Optional[SurveyFile]
+
+
+@dataclass(frozen=True)
+class GridRules:
+    """`[grid]`: block size, tolerance in metres, and azimuth of grid north in degrees."""
+
+    size: Optional[tuple[float, float, float]]
+    tolerance: float
+    azimuth: Optional[float]
+
+
+@dataclass(frozen=True)
+class Economics:
+    """`[economics]`: costs per tonne, and decimals of the currency."""
+
+    mining_cost: ByRock
+    mining_cost_per_bench: Decimal
+    mining_cost_reference: Optional[Decimal]
+    mining_cost_by_elevation: tuple[tuple[Decimal, Decimal], ...]
+    processing_cost: ByRock
+    decimals: int
+    cutoff: str
+    mining_recovery: ByCode
+    dilution: ByCode
+    royalty: Decimal
+    royalty_per_tonne: Decimal
+    fixed_cost_per_year: Decimal
+    capex: tuple[tuple[int, Decimal], ...]
+
+
+@dataclass(frozen=True)
+class Metal:
+    """An entry of `[[metals]]`."""
+
+    name: str
+    column: str
+    unit: str
+    price: Decimal
+    selling_cost: Decimal
+    recovery: Union[Recovery, dict[str, Recovery]]
+    tail_grade: ByRock
+    prices: tuple[Decimal, ...]
+    price_per: Optional[str]
+
+
+@dataclass(frozen=True)
+class Process:
+    """An entry of `[[processes]]`."""
+
+    name: str
+    cost: ByRock
+    recovery: dict[str, Union[Recovery, dict[str, Recovery]]]
+    capacity: float
+
+
+@dataclass(frozen=True)
+class Bench:
+    """Bench height and berm width in metres, and face angle in degrees."""
+
+    height: float
+    face_angle: float
+    berm_width: float
+
+
+@dataclass(frozen=True)
+class Wall:
+    """An entry of `[[slopes.domains]]`: angles by azimuth in degrees, or one of pattern, offsets and bench."""
+
+    domains: Optional[tuple[str, ...]]
+    pattern: Optional[str]
+    angles: tuple[tuple[float, float], ...]
+    offsets: tuple[tuple[int, int, int], ...]
+    bench: Optional[Bench]
+    azimuth_of: str
+
+
+@dataclass(frozen=True)
+class Slopes:
+    """`[slopes]`."""
+
+    precedence_benches: Optional[int]
+    domains: tuple[Wall, ...]
+
+
+@dataclass(frozen=True)
+class ShellRules:
+    """`[shells]`."""
+
+    revenue_factors: tuple[float, ...]
+    selected: Optional[float]
+    discount_rate: float
+    processing_capacity: float
+    mining_capacity: Optional[float]
+    discounting: str
+
+
+@dataclass(frozen=True)
+class Area:
+    """An entry of `[[constraints.areas]]`."""
+
+    polygon: SurveyFile
+    exclude: str
+
+
+@dataclass(frozen=True)
+class ConstraintRules:
+    """`[constraints]`."""
+
+    must_mine: Optional[str]
+    exclude: Optional[str]
+    as_mined: Optional[SurveyFile]
+    areas: tuple[Area, ...]
+    topography: Optional[SurveyFile]
+
+
+@dataclass(frozen=True)
+class PushbackRules:
+    """`[pushbacks]`."""
+
+    count: Optional[int]
+    revenue_factors: Optional[tuple[float, ...]]
+    ultimate_pit: Optional[float]
+    min_mining_width: Optional[float]
+    min_bottom_width: Optional[float]
+    mining_cost_added: tuple[Decimal, ...]
+
+
+@dataclass(frozen=True)
+class Sum:
+    """An entry of `[[schedule.limits]]`."""
+
+    name: str
+    column: str
+    of: str
+    per_tonne: bool
+    min: Optional[float]
+    max: Optional[float]
+
+
+@dataclass(frozen=True)
+class ScheduleRules:
+    """`[schedule]`."""
+
+    processing_capacity: Optional[float] = None
+    mining_capacity: Optional[float] = None
+    max_metal_per_year: dict[str, float] = field(default_factory=dict)
+    vertical_advance_rate: Optional[float] = None
+    bench_lag: int = 0
+    ramp_up: tuple[float, ...] = (1.0,)
+    years: Optional[int] = None
+    minimum: dict[str, float] = field(default_factory=dict)
+    limits: tuple[Sum, ...] = ()
+
+
+@dataclass(frozen=True)
+class Road:
+    """Haulage cost per tonne and kilometre, and metres beyond the pit exit."""
+
+    cost: Decimal
+    ex_pit_distance: Decimal
+
+
+@dataclass(frozen=True)
+class Haulage:
+    """`[haulage]`."""
+
+    pit_exit: tuple[Decimal, Decimal, Decimal]
+    ramp_gradient: Decimal
+    ore: Road
+    waste: Road
+
+
+@dataclass(frozen=True)
+class Scenarios:
+    """`[scenarios]`: a folder of realisations or their columns by metal, and price decks."""
+
+    folder: Optional[Path]
+    columns: dict[str, tuple[str, ...]]
+    prices: tuple[dict[str, Decimal], ...]
+
+
+@dataclass(frozen=True)
+class Project:
+    """A project."""
+
+    table: TableColumns
+    grid: GridRules
+    economics: Economics
+    metals: tuple[Metal, ...]
+    slopes: Slopes
+    shells: ShellRules
+    processes: tuple[Process, ...] = ()
+    scenarios: Optional[Scenarios] = None
+    constraints: Optional[ConstraintRules] = None
+    pushbacks: Optional[PushbackRules] = None
+    schedule: Optional[ScheduleRules] = None
+    haulage: Optional[Haulage] = None
+
+    @property
+    def by_process(self) -> tuple[Project, ...]:
+        """The project with each of its processes as the only one; itself without `[[processes]]`."""
+        return tuple(self.with_process(process) for process in self.processes) or (self,)
+
+    def with_process(self, process: Process) -> Project:
+        """Returns the project with one process."""
+        metals = tuple(replace(it, recovery=process.recovery.get(it.name, Decimal(0))) for it in self.metals)
+        economics = replace(self.economics, processing_cost=process.cost)
+        return replace(self, economics=economics, metals=metals, processes=())
+
+    @property
+    def cuts_blocks(self) -> bool:
+        """Whether a topography or an as-mined surface cuts blocks."""
+        return self.table.topography is not None or bool(self.constraints and self.constraints.as_mined)
+
+    @property
+    def codes(self) -> list[str]:
+        """The columns of the table with codes: id, rock type and domain."""
+        table = self.table
+        return [name for name in (table.id, table.rock_type, table.domain) if name]
+
+    @property
+    def columns(self) -> list[str]:
+        """The columns of the table that the project names."""
+        table, rules = self.table, self.constraints
+        tonnes = [table.density, table.volume] if table.density else [table.tonnes]
+        marks = [rules.must_mine, rules.exclude] if rules else []
+        limited = [it.column for it in self.schedule.limits] if self.schedule else []
+        grades = [metal.column for metal in self.metals]
+        named = [table.x, table.y, table.z, *tonnes, *self.codes, *grades, *marks, *limited]
+        return [name for name in dict.fromkeys(named) if name]

@@ -1,0 +1,67 @@
+"""Reads the tables of a folder, and demands a number in each field of a numeric column."""
+
+from __future__ import annotations
+
+from collections.abc import Iterable, Sequence
+from pathlib import Path
+
+import pandas as pd
+
+from planaudit.errors import AuditError
+from planaudit.revenue_factors import factor_texts, in_thousandths
+
+# Prefixes of columns with empty fields if the amount is not defined: a ratio to no ore, the width of an empty pushback, a bound that was not
+# computed, or columns of other cases.
+MAY_LACK = ("strip_ratio", "head_grade_", "min_width", "upper_bound", "optimality_gap", "sum_", "kept_", "skin_value")
+# Exact numbers stay texts.
+EXACT = "value_at_revenue_factor"
+# The folder of an output folder in which its tables lie, and the row of a table below its header.
+TABLES, FIRST_ROW = "tables", 2
+# Text columns, which have a rule of their own.
+WORDS = ("discounting", "outline")
+
+
+def read_table(path: Path, texts: Sequence[str] = ()) -> pd.DataFrame:
+    """Reads a table without its WORDS.
+
+    Parameters
+    ----------
+    path : Path
+    texts : sequence of str
+        Its other text columns.
+
+    Raises
+    ------
+    AuditError
+        With file, row and column, if a field of a numeric column is not a number.
+    """
+    frame = pd.read_csv(path, dtype=dict.fromkeys([*texts, EXACT], str), keep_default_na=False, na_values=[""])
+    frame = in_thousandths(frame.drop(columns=frame.columns.intersection(WORDS)))
+    demand_numbers(frame, path.name, texts)
+    return frame
+
+
+def demand_numbers(frame: pd.DataFrame, source: str, texts: Iterable[str]) -> None:
+    """Raises AuditError as `read_table` does."""
+    for name in frame.columns.difference([*texts], sort=False):
+        column = frame[name]
+        if column.dtype.kind in "iuf" and not column.isna().any():
+            continue
+        lacking = pd.to_numeric(column.astype(str), errors="coerce").isna()
+        if name.startswith(MAY_LACK):
+            lacking &= column.notna()
+        if lacking.any():
+            row = int(lacking.to_numpy().argmax())
+            why = (
+                f'"{column.iloc[row]}" is not a number'
+                if column.notna().iloc[row] and column.iloc[row] != ""
+                else "is empty"
+            )
+            raise AuditError(f"{source} row {row + FIRST_ROW} column {name}: {why}")
+
+
+def demand_factors(frame: pd.DataFrame, factors: Iterable[float], source: str) -> None:
+    """Raises AuditError if a table does not have one row per revenue factor, in their order."""
+    there, due = frame["revenue_factor"].tolist(), list(factors)
+    if there != due:
+        raise AuditError(f"{source}: has rows of the revenue factors {factor_texts(there)} for {factor_texts(due)}")

@@ -1,0 +1,1 @@
+"""Mill feed, block values and annual cash flow."""

@@ -1,0 +1,277 @@
+"""Verifies costs and revenue of blocks: all by floats, and by exact decimals those at the edges of shells and a sample of the others."""
+
+from __future__ import annotations
+
+import math
+from bisect import bisect
+from dataclasses import dataclass, field, replace
+from decimal import ROUND_HALF_EVEN, Decimal
+from fractions import Fraction
+
+import numpy as np
+
+from planaudit.ground.slopes import needed_by
+from planaudit.inputs.answer import Answer
+from planaudit.inputs.matching import PROCESS
+from planaudit.inputs.project import GRADE_UNITS, Curve, Project, Recovery
+from planaudit.money import haulage
+from planaudit.money.feed import at_grade, by_code, of_code
+from planaudit.money.prices import converted
+from planaudit.rules import TOLD, Rule, rule
+
+# Blocks of which the amounts are near a half of the last decimal, so that floats do not tell its rounding: so many are computed exactly, and so
+# many others.
+NEAR_HALVES, SAMPLE = 20_000, 2_000
+# The error of an amount by floats, in units of its last decimal and as a share.
+HAIR, REL = 1e-6, 1e-12
+MINING = "mining_cost"
+# Mining cost, revenue and processing cost.
+Amounts = tuple[Decimal, Decimal, Decimal]
+
+
+def verify(answer: Answer) -> Rule:
+    """Verifies that each amount of blocks.csv is the product of numbers of the table and the project, rounded once."""
+    # With one process these are the results themselves, which have cached some parts.
+    parts = [answer if way is answer.project else replace(answer, project=way) for way in answer.project.by_process]
+    found = [unlike(part, names) for part, names in zip(parts, answer.amounts_of_ways)]
+    differences, count = [said for told, _, _ in found for said in told], sum(count for _, count, _ in found)
+    if not count and answer.project.processes:
+        differences = unlike_best(answer)
+        count = len(differences)
+    exactly = len(answer.rows) - max(left for _, _, left in found)
+    holds = f"costs and revenue of all blocks follow from the project, exactly so for {exactly:,} of them"
+    return rule("money", holds, differences, count)
+
+
+def unlike(answer: Answer, names: tuple[str, str]) -> tuple[list[str], int, int]:
+    """Returns the first ten differences of each amount, their number, and how many blocks are not compared exactly.
+
+    Floats tell the rounding of an amount unless it is near a half of its last decimal. These amounts are computed by exact decimals.
+    """
+    unit, rows, differences, count = 10.0**-answer.project.economics.decimals, len(answer.rows), [], 0
+    near = np.zeros(rows, dtype=bool)
+    for name, due in zip((MINING, *names), by_floats(answer, names[0])):
+        said, units = answer.said[name].to_numpy(), due / unit
+        hair = HAIR + REL * np.abs(units)
+        is_half = np.abs(np.abs(units - np.floor(units)) - 0.5) < hair
+        off = np.abs(said / unit - np.where(is_half, units, np.rint(units))) > np.where(is_half, 0.5, 0.0) + hair
+        off |= np.abs(said / unit - np.rint(said / unit)) > hair
+        wrong = np.flatnonzero(off)
+        differences += [f"{answer.called(row)}: {name} {said[row]:.10g} for {due[row]:.10g}" for row in wrong[:TOLD]]
+        count, near = count + len(wrong), near | is_half
+    halves = np.flatnonzero(near)
+    chosen = halves[:: -(-len(halves) // NEAR_HALVES) or 1]
+    if not count:
+        differences = not_exact(answer, np.union1d(chosen, sample(answer)), names)
+        count = len(differences)
+    return differences, count, len(halves) - len(chosen)
+
+
+def unlike_best(answer: Answer) -> list[str]:
+    """Returns blocks whose process, or its revenue and cost, are not those of the best process at the base price."""
+    names = [process.name for process in answer.project.processes]
+    unit = 10**answer.project.economics.decimals
+    told = [np.rint(answer.said[list(pair)].to_numpy() * unit).astype(np.int64) for pair in answer.amounts_of_ways]
+    gains = np.stack([amounts[:, 0] - amounts[:, 1] for amounts in told])
+    # Of several with equal value it is the one with the least revenue.
+    tied = gains == gains.max(axis=0)
+    best = np.where(tied, np.stack([amounts[:, 0] for amounts in told]), np.iinfo(np.int64).max).argmin(axis=0)
+    of_best = np.stack(told)[best, np.arange(len(best))]
+    said = np.rint(answer.said[["revenue", "processing_cost"]].to_numpy() * unit).astype(np.int64)
+    expected = np.where(gains.max(axis=0) > 0, np.array(names, dtype=object)[best], "")
+    # A sensitivity does not name it.
+    process = answer.said[PROCESS].to_numpy() if PROCESS in answer.said else expected
+    off = np.flatnonzero((said != of_best).any(axis=1) | (process != expected))
+    return [f"{answer.called(row)}: process {process[row]!r} for {expected[row]!r}, or its amounts" for row in off]
+
+
+def not_exact(answer: Answer, chosen: np.ndarray, names: tuple[str, str]) -> list[str]:
+    """Returns any difference of these rows, by exact decimals."""
+    read, differences = Exactly.of(answer), []
+    told = [answer.said[name].to_numpy() for name in (MINING, *names)]
+    for row in chosen.tolist():
+        for name, column, amount in zip((MINING, *names), told, read.amounts(row)):
+            said = column[row]
+            if not math.isclose(float(amount), said, rel_tol=1e-15):
+                differences.append(f"{answer.called(row)}: {name} {said:.10g} for {amount}")
+    return differences
+
+
+def sample(answer: Answer) -> np.ndarray:
+    """Returns some rows, the same each time."""
+    return np.sort(np.random.default_rng(0).permutation(len(answer.rows))[:SAMPLE])
+
+
+def highest_needed(answer: Answer) -> float:
+    """Returns the elevation of the top of the highest block in a cone of ore; without ore, of the highest block."""
+    if "highest" not in answer.found:
+        ore, known = np.zeros(answer.shape, dtype=bool), np.zeros(answer.shape, dtype=bool)
+        ore[answer.cells], known[answer.cells] = answer.ore, True
+        levels = np.flatnonzero((needed_by(answer, ore) & known).any(axis=(1, 2)))
+        answer.found["highest"] = answer.elevations[levels[0] if len(levels) else 0] + answer.size[2] / 2
+    return answer.found["highest"]
+
+
+def more_for_depth(answer: Answer, elevation: float) -> Decimal:
+    """Returns the mining cost per tonne that is added for depth, by the elevation of the centroid."""
+    money = answer.project.economics
+    if money.mining_cost_by_elevation:
+        return between(money.mining_cost_by_elevation, Fraction(repr(round(float(elevation), 6))))
+    if not money.mining_cost_per_bench:
+        return Decimal(0)
+    reference = money.mining_cost_reference
+    height = answer.size[2]
+    at = float(highest_needed(answer) if reference is None else reference)
+    top = elevation + height / 2
+    return money.mining_cost_per_bench * max(0, math.ceil((at - top) / height - 1e-9))
+
+
+def between(pairs: tuple[tuple[Decimal, Decimal], ...], elevation: Fraction) -> Decimal:
+    """Returns the cost at an elevation, interpolated exactly and rounded to a millionth, halves to even."""
+    heights, costs = ([Fraction(pair[k]) for pair in pairs] for k in (0, 1))
+    if len(pairs) == 1:
+        return pairs[0][1]
+    upper = min(max(bisect(heights, elevation), 1), len(pairs) - 1)
+    span = heights[upper] - heights[upper - 1]
+    share = min(max((elevation - heights[upper - 1]) / span, Fraction(0)), Fraction(1))
+    return Decimal(round((costs[upper - 1] + share * (costs[upper] - costs[upper - 1])) * 10**6)).scaleb(-6)
+
+
+@dataclass(frozen=True)
+class Costs:
+    """Costs of a rock type and domain: mining cost per tonne without depth, processing cost per tonne, mining recovery and dilution, and recovery
+    and tail grade of each metal."""
+
+    mining: Decimal
+    processing: Decimal
+    mining_recovery: Decimal
+    dilution: Decimal
+    recoveries: tuple[Recovery, ...]
+    tails: tuple[Decimal, ...]
+
+    @staticmethod
+    def of(project: Project, rock: str, region: str) -> Costs:
+        money, metals = project.economics, project.metals
+        shares = [
+            metal.recovery.get(rock, Decimal(0)) if isinstance(metal.recovery, dict) else metal.recovery
+            for metal in metals
+        ]
+        tails = [of_code(metal.tail_grade, rock, "") for metal in metals]
+        return Costs(
+            of_code(money.mining_cost, rock, region),
+            of_code(money.processing_cost, rock, region),
+            of_code(money.mining_recovery, rock, region),
+            of_code(money.dilution, rock, region),
+            tuple(shares),
+            tuple(tails),
+        )
+
+    def recovered(self, number: int, grade: Decimal) -> Decimal:
+        """Returns the recovered grade of a metal per undiluted tonne that reaches the mill."""
+        share, tail = self.recoveries[number], self.tails[number]
+        if isinstance(share, Curve):
+            share = at_grade(share, Fraction(grade) / Fraction(1 + self.dilution))
+        return max(grade - tail * (1 + self.dilution), Decimal(0)) * share
+
+
+@dataclass(frozen=True)
+class Exactly:
+    """Exact numbers of the table, for block values by decimals.
+
+    codes   rock type and domain of each block
+    costs   by these codes
+    depths  added mining cost per tonne, by level from the top
+    roads   haul distances of blocks, in metres; 0 without haulage
+    weighed a cache of amounts by their numbers, since many blocks of waste are equal
+    """
+
+    answer: Answer
+    tonnes: list[float]
+    grades: list[list[float]]
+    codes: list[tuple[str, str]]
+    costs: dict[tuple[str, str], Costs]
+    level: list[int]
+    depths: list[Decimal]
+    roads: list[float]
+    weighed: dict[tuple, Amounts] = field(default_factory=dict)
+
+    @staticmethod
+    def of(answer: Answer) -> "Exactly":
+        project, columns = answer.project, answer.project.table
+        named = [
+            answer.rows[name].astype(str).tolist() if name else [""] * len(answer.rows)
+            for name in (columns.rock_type, columns.domain)
+        ]
+        codes = list(zip(*named))
+        costs = {code: Costs.of(project, *code) for code in set(codes)}
+        grades = [answer.rows[metal.column].tolist() for metal in project.metals]
+        depths = [more_for_depth(answer, z) for z in answer.elevations]
+        rules = project.haulage
+        roads = (haulage.roads_of(answer, rules) if rules else np.zeros(len(answer.rows))).tolist()
+        return Exactly(answer, answer.tonnes.tolist(), grades, codes, costs, answer.cells[0].tolist(), depths, roads)
+
+    def amounts(self, row: int) -> Amounts:
+        """Returns mining cost, revenue and processing cost of a block."""
+        place = self.level[row], self.roads[row]
+        grades = tuple(grades[row] for grades in self.grades)
+        numbers = (self.tonnes[row], self.codes[row], place, grades)
+        if numbers not in self.weighed:
+            self.weighed[numbers] = self.of_numbers(self.tonnes[row], self.codes[row], place, *grades)
+        return self.weighed[numbers]
+
+    def of_numbers(self, rock: float, codes: tuple[str, str], place: tuple[int, float], *grades: float) -> Amounts:
+        """Returns the amounts of a block with given tonnes, codes, level, haul distance and grades."""
+        project, tonnes, (level, road) = self.answer.project, Decimal(repr(rock)), place
+        costs, rules = self.costs[codes], self.answer.project.haulage
+        waste, ore = (
+            (haulage.a_tonne(road, kind) for kind in (rules.waste, rules.ore)) if rules else (Decimal(0), Decimal(0))
+        )
+        mining = tonnes * (costs.mining + self.depths[level] + waste)
+        revenue = selling = Decimal(0)
+        for number, (metal, told) in enumerate(zip(project.metals, grades)):
+            if not told:
+                continue
+            grade = costs.recovered(number, Decimal(repr(told)))
+            quantity = tonnes * costs.mining_recovery * grade * GRADE_UNITS[metal.unit]
+            revenue += quantity * converted(metal, metal.price)
+            selling += quantity * converted(metal, metal.selling_cost)
+        unit = Decimal(1).scaleb(-project.economics.decimals)
+        processing = (
+            tonnes
+            * costs.mining_recovery
+            * (1 + costs.dilution)
+            * (costs.processing + project.economics.royalty_per_tonne + ore - waste)
+        )
+        amounts = (mining, revenue - revenue * project.economics.royalty, processing + selling)
+        mining, revenue, processing = (amount.quantize(unit, ROUND_HALF_EVEN) for amount in amounts)
+        return mining, revenue, processing if revenue else Decimal(0)
+
+
+def by_floats(answer: Answer, revenue: str | None = None) -> tuple[np.ndarray, np.ndarray, np.ndarray]:
+    """Returns mining cost, revenue, and processing and selling cost of each block, as unrounded floats.
+
+    Processing costs nothing where the results have no revenue, if its column is named.
+    """
+    money, columns = answer.project.economics, answer.project.table
+    deeper = np.array([float(more_for_depth(answer, z)) for z in answer.elevations])
+    a_tonne = by_code(money.mining_cost, answer.rows, columns) + deeper[answer.cells[0]]
+    if rules := answer.project.haulage:
+        a_tonne = a_tonne + haulage.rate(haulage.roads_of(answer, rules), rules.waste)
+    gain, cost = gains_by_floats(answer)
+    if revenue is not None:
+        cost = np.where(answer.said[revenue] > 0, cost, 0.0)
+    return answer.tonnes * a_tonne, gain, cost
+
+
+def gains_by_floats(answer: Answer) -> tuple[np.ndarray, np.ndarray]:
+    """Returns revenue, and processing and selling cost of each block, as unrounded floats."""
+    project, money, columns = answer.project, answer.project.economics, answer.project.table
+    revenue, selling = np.zeros(len(answer.rows)), np.zeros(len(answer.rows))
+    for metal in project.metals:
+        quantity = answer.quantities[metal.name]
+        revenue += quantity * float(converted(metal, metal.price)) * (1 - float(money.royalty))
+        selling += quantity * float(converted(metal, metal.selling_cost))
+    a_tonne = by_code(money.processing_cost, answer.rows, columns) + float(money.royalty_per_tonne)
+    if rules := project.haulage:
+        a_tonne = a_tonne + haulage.rate(haulage.roads_of(answer, rules), rules.ore, rules.waste)
+    return revenue, answer.feed * a_tonne + selling

@@ -1,0 +1,74 @@
+"""Recomputes the mill feed of blocks: mining recovery, dilution, and recovered metal."""
+
+from __future__ import annotations
+
+from decimal import Decimal
+from fractions import Fraction
+
+import numpy as np
+import pandas as pd
+
+from planaudit.inputs.project import ByCode, ByDomain, Curve, Metal, Project, Recovery, TableColumns
+
+# A recovery this close to a half, in millionths, is computed exactly.
+NEAR = 1e-3
+
+
+def by_code(value: ByCode, rows: pd.DataFrame, columns: TableColumns) -> np.ndarray:
+    """Returns a number per row by its rock type or domain, shape (rows,); 0 if the code has none."""
+    if isinstance(value, Decimal):
+        return np.full(len(rows), float(value))
+    column, numbers = (columns.domain, value.values) if isinstance(value, ByDomain) else (columns.rock_type, value)
+    return (
+        rows[column].astype(str).map({code: float(number) for code, number in numbers.items()}).fillna(0.0).to_numpy()
+    )
+
+
+def of_code(value: ByCode, rock: str, region: str) -> Decimal:
+    """Returns the number of a block of these codes; 0 if they have none."""
+    if isinstance(value, Decimal):
+        return value
+    return value.values.get(region, Decimal(0)) if isinstance(value, ByDomain) else value.get(rock, Decimal(0))
+
+
+def recovered(metal: Metal, rows: pd.DataFrame, project: Project) -> np.ndarray:
+    """Returns the recovered grade of each row per undiluted tonne that reaches the mill, in the unit of the column."""
+    grades, table = rows[metal.column].to_numpy(), project.table
+    tonnes_of = 1 + by_code(project.economics.dilution, rows, table)
+    codes = [
+        rows[name].astype(str).to_numpy() if name else np.full(len(rows), "")
+        for name in (table.rock_type, table.domain)
+    ]
+    of_rocks = (
+        metal.recovery if isinstance(metal.recovery, dict) else dict.fromkeys(np.unique(codes[0]), metal.recovery)
+    )
+    share = np.zeros(len(rows))
+    for code, recovery in of_rocks.items():
+        mine = np.flatnonzero(codes[0] == code)
+        share[mine], close = by_grade(recovery, grades[mine] / tonnes_of[mine])
+        for row in mine[close].tolist():
+            whole = 1 + of_code(project.economics.dilution, codes[0][row], codes[1][row])
+            share[row] = float(at_grade(recovery, Fraction(repr(float(grades[row]))) / Fraction(whole)))
+    return np.maximum(grades - by_code(metal.tail_grade, rows, table) * tonnes_of, 0.0) * share
+
+
+def by_grade(recovery: Recovery, head: np.ndarray) -> tuple[np.ndarray, np.ndarray]:
+    """Returns recoveries at head grades, to a millionth if they depend on these, and whether each is near a half."""
+    if not isinstance(recovery, Curve):
+        return np.full(len(head), float(recovery)), np.zeros(len(head), dtype=bool)
+    parts = 1e6 * np.interp(head, *np.array(recovery.points, dtype=np.float64).T)
+    return np.rint(parts) / 1e6, np.abs(parts - np.floor(parts) - 0.5) < NEAR
+
+
+def at_grade(recovery: Recovery, head: Fraction) -> Decimal:
+    """Returns the exact recovery at a head grade, to a millionth if it depends on that."""
+    if not isinstance(recovery, Curve):
+        return recovery
+    points = [(Fraction(grade), Fraction(share)) for grade, share in recovery.points]
+    ahead = next((k for k, (grade, _) in enumerate(points) if head <= grade), len(points))
+    if ahead in (0, len(points)):
+        share = points[min(ahead, len(points) - 1)][1]
+    else:
+        (low, first), (high, last) = points[ahead - 1 : ahead + 1]
+        share = first + (last - first) * (head - low) / (high - low)
+    return Decimal(round(share * 10**6)).scaleb(-6)

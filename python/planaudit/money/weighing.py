@@ -1,0 +1,85 @@
+"""Computes costs and revenue of blocks for results that have none of their own."""
+
+from __future__ import annotations
+
+from dataclasses import dataclass, replace
+from decimal import Decimal
+from typing import Any
+
+import numpy as np
+import pandas as pd
+
+from planaudit.inputs.answer import Answer
+from planaudit.inputs.matching import PROCESS
+from planaudit.money import block_values as money
+from planaudit.pits import sums
+
+
+def weighed(whole: Answer) -> Answer:
+    """Returns the blocks that are mined at any revenue factor, with exact costs and revenue."""
+    dug = (whole.said["revenue_factor"] > 0).to_numpy()
+    part = replace(whole, rows=whole.rows[dug].reset_index(drop=True), said=whole.said[dug].reset_index(drop=True))
+    told: dict[str, Any] = {}
+    for way, names in zip(part.project.by_process, part.amounts_of_ways):
+        exactly = money.Exactly.of(replace(part, project=way))
+        amounts = [[float(amount) for amount in exactly.amounts(row)] for row in range(len(part.rows))]
+        told |= dict(zip((money.MINING, *names), np.array(amounts, dtype=np.float64).reshape(-1, 3).T))
+    part = replace(part, said=pd.concat([part.said, with_best(pd.DataFrame(told), part)], axis=1))
+    return replace(part, said=part.said.assign(process_revenue_factor=sums.first_processed(part)))
+
+
+def with_best(told: pd.DataFrame, answer: Answer) -> pd.DataFrame:
+    """Returns the amounts of several processes with those of the best one, and its name; of equal ones that of least revenue."""
+    processes = answer.project.processes
+    if not processes:
+        return told
+    revenue, cost = (told[list(names)].to_numpy() for names in zip(*answer.amounts_of_ways))
+    gain = (revenue - cost).round(6)
+    best = np.where(gain == gain.max(axis=1, keepdims=True), revenue, np.inf).argmin(axis=1)
+    at = np.arange(len(told)), best
+    name = np.where(gain[at] > 0, np.array([process.name for process in processes], dtype=object)[best], "")
+    return told.assign(revenue=revenue[at], processing_cost=cost[at], **{PROCESS: name})
+
+
+@dataclass(frozen=True)
+class AtPrice:
+    """Amounts of blocks at the base price, arrays of shape (rows,): mining cost, and if processing pays its gain, the mill feed, and the recovered
+    metals; otherwise 0."""
+
+    mining: np.ndarray
+    gain: np.ndarray
+    ore: np.ndarray
+    metals: dict[str, np.ndarray]
+
+
+def at_price(answer: Answer) -> AtPrice:
+    """Returns the amounts of blocks with one process, with money rounded as the project sets it: by floats, and exactly if these are near a half."""
+    unit = 10.0**-answer.project.economics.decimals
+    amounts = np.stack(money.by_floats(answer)) / unit
+    rounded = np.rint(amounts)
+    close = np.abs(np.abs(amounts - np.floor(amounts)) - 0.5) < 1e-9 + 1e-14 * np.abs(amounts)
+    rows = np.flatnonzero(close.any(axis=0)).tolist()
+    exactly = money.Exactly.of(answer) if rows else None
+    for row in rows:
+        assert exactly is not None
+        rounded[:, row] = [
+            float(amount / Decimal(1).scaleb(-answer.project.economics.decimals)) for amount in exactly.amounts(row)
+        ]
+    mining, revenue, processing = rounded * unit
+    pays = revenue > np.where(revenue > 0, processing, 0.0)
+    metals = {name: np.where(pays, quantity, 0.0) for name, quantity in answer.quantities.items()}
+    return AtPrice(mining, np.where(pays, revenue - processing, 0.0), np.where(pays, answer.feed, 0.0), metals)
+
+
+def gains(answer: Answer) -> pd.DataFrame:
+    """Returns revenue and processing cost of each block: by floats, and exactly if the two are close."""
+    told: dict[str, np.ndarray] = {}
+    unit = 10.0**-answer.project.economics.decimals
+    for way, names in zip(answer.project.by_process, answer.amounts_of_ways):
+        part = replace(answer, project=way)
+        revenue, processing = money.gains_by_floats(part)
+        exactly = money.Exactly.of(part)
+        for row in np.flatnonzero((revenue > 0) & (np.abs(revenue - processing) <= 2 * unit + 1e-9 * revenue)).tolist():
+            revenue[row], processing[row] = (float(amount) for amount in exactly.amounts(row)[1:])
+        told |= dict(zip(names, (revenue, np.where(revenue > 0, processing, 0.0))))
+    return answer.said.assign(**with_best(pd.DataFrame(told), answer))

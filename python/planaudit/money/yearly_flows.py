@@ -1,0 +1,95 @@
+"""Recomputes the annual cash flow of a pit by following its pieces: a year ends when one of its capacities is used up."""
+
+from __future__ import annotations
+
+from dataclasses import dataclass
+
+import numpy as np
+import pandas as pd
+
+from planaudit.inputs.project import MOST_YEARS, Project
+from planaudit.money.period_costs import HAIR, capex, premiums
+
+
+@dataclass(frozen=True)
+class Parts:
+    """Pieces cut at the ends of years.
+
+    Attributes
+    ----------
+    piece, year, share : array, shape (parts,)
+        The piece of each part, its year from 1, and its share of the piece.
+    life : float
+        Years to the end of the last piece.
+    """
+
+    piece: np.ndarray
+    year: np.ndarray
+    share: np.ndarray
+    life: float
+
+
+def parts_of(uses: list[list[float]]) -> Parts:
+    """Returns the parts of pieces. `uses` has, for each piece, the years of each capacity that it uses."""
+    found: list[tuple[int, int, float]] = []
+    room, year = [1.0] * len(uses[0]), 1
+    for piece, use in enumerate(uses):
+        left = 1.0
+        while left > 0 and year <= MOST_YEARS:
+            fits = min([left, *(max(free, 0.0) / used for free, used in zip(room, use) if used > 0)])
+            if all(left * used <= free + HAIR for free, used in zip(room, use)):
+                fits = left
+            found.append((piece, year, fits))
+            room = [free - fits * used for free, used in zip(room, use)]
+            left -= fits
+            if left > 0:
+                room, year = [1.0] * len(room), year + 1
+    pieces, years, shares = (np.array(column) for column in zip(*found))
+    return Parts(pieces, years, shares, year - 1 + max(1 - free for free in room))
+
+
+def discounts(until: np.ndarray, years: np.ndarray, project: Project) -> np.ndarray:
+    """Returns the discount factor of each year, which lasts until a moment."""
+    rate, how = project.shells.discount_rate, project.shells.discounting
+    if how != "continuous":
+        return np.asarray((1 + rate) ** -(years - (0.5 if how == "mid_year" else 0.0)))
+    since = years - 1.0
+    is_moment = (until - since < HAIR) | (rate == 0)
+    mean = ((1 + rate) ** -since - (1 + rate) ** -until) / np.where(is_moment, 1.0, np.log1p(rate) * (until - since))
+    return np.where(is_moment, (1 + rate) ** -until, mean)
+
+
+def uses_of(pieces: pd.DataFrame, project: Project) -> list[list[float]]:
+    """Returns the years of each capacity that each piece uses."""
+    schedule = project.shells
+    capacities = {
+        "ore": schedule.processing_capacity,
+        **{f"feed_tonnes_{process.name}": process.capacity for process in project.processes},
+    }
+    capacities |= {} if schedule.mining_capacity is None else {"rock": schedule.mining_capacity}
+    return np.column_stack([pieces[name] / capacity for name, capacity in capacities.items()]).tolist()
+
+
+def years_of(pieces: pd.DataFrame, project: Project) -> tuple[pd.DataFrame, float]:
+    """Returns one row per year and the life in years. Columns are the amounts of the pieces, fixed_cost and capex if the project has any, the
+    cash flow after these at the prices of the year, and the discounted cash flow.
+    """
+    parts = parts_of(uses_of(pieces, project))
+    years = np.arange(1, int(parts.year.max()) + 1)
+    flows = {name: amounts[parts.piece] * parts.share for name, amounts in zip(pieces, pieces.to_numpy().T)}
+    sums = {name: np.bincount(parts.year, flow, minlength=len(years) + 1)[1:] for name, flow in flows.items()}
+    found = pd.DataFrame(sums, index=pd.Index(years, name="year"))
+    for name in premiums(project, 1):
+        found["cash_flow"] += found[name] * [premiums(project, int(year))[name] for year in years]
+    money, until = project.economics, np.clip(parts.life, years - 1.0, years)
+    fixed, spent = float(money.fixed_cost_per_year) * (until - (years - 1.0)), np.array(
+        [capex(project, int(year)) for year in years]
+    )
+    present = (found["cash_flow"] - fixed) * discounts(until, years, project) - spent * (
+        1 + project.shells.discount_rate
+    ) ** -(years - 1.0)
+    of_years = {"fixed_cost": fixed, "capex": spent} if money.fixed_cost_per_year or money.capex else {}
+    return (
+        found.assign(**of_years, cash_flow=found["cash_flow"] - fixed - spent, discounted_cash_flow=present),
+        parts.life,
+    )

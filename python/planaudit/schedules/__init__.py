@@ -1,0 +1,1 @@
+"""Schedules of pushbacks and of blocks."""

@@ -1,0 +1,154 @@
+"""Verifies a schedule by block from the years of blocks, the project and its table: order, limits, annual sums, and NPV."""
+
+from __future__ import annotations
+
+import json
+import math
+from dataclasses import replace
+from itertools import product
+from typing import Any, Optional
+
+import numpy as np
+import pandas as pd
+
+from planaudit.blocks import constraints as fixed
+from planaudit.ground import slopes as walls
+from planaudit.inputs.answer import Answer
+from planaudit.inputs.matching import YEAR
+from planaudit.money.period_costs import premiums
+from planaudit.rules import TOLD, Rule, rule
+from planaudit.schedules import methods as ways_table
+from planaudit.schedules.limits import amounts_of, least_of, limits_of, shares_of
+from planaudit.schedules.pushback_schedule import CENT, discount
+
+FILE, CASE = "block_schedule.json", "block"
+SLIGHT = 1e-6
+
+
+def verify(answer: Answer) -> list[Rule]:
+    """Verifies constraints, order, limits and values."""
+    told = json.loads((answer.folder / FILE).read_text(encoding="utf-8"))
+    flows = flows_of(answer)
+    sums = flows.groupby(answer.said[YEAR].to_numpy()).sum()
+    rules = [
+        verify_order(answer, told),
+        verify_limits(answer, told, sums),
+        verify_fixed(answer),
+        verify_value(answer, told, sums),
+    ]
+    return [found for found in rules if found is not None]
+
+
+def verify_fixed(answer: Answer) -> Optional[Rule]:
+    """Verifies that must-mine blocks are mined, and excluded blocks and those that depend on them are not."""
+    if answer.project.constraints is None:
+        return None
+    year, (must, never) = answer.said[YEAR].to_numpy(), fixed.demanded(answer, answer.project.constraints)
+    left, dug = np.flatnonzero(must & (year == 0)), np.flatnonzero(never & (year > 0))
+    differences = [f"{answer.called(row)} is must-mine, and is in no year" for row in left[:TOLD]]
+    differences += [f"{answer.called(row)} is excluded, and is in year {year[row]}" for row in dug[:TOLD]]
+    return rule(
+        "block fixed",
+        "must-mine blocks are mined in some year, and excluded blocks in none",
+        differences,
+        len(left) + len(dug),
+    )
+
+
+def flows_of(answer: Answer) -> pd.DataFrame:
+    """Returns the amounts of each mined block with tonnes, and its cash flow at the prices of its year."""
+    shares, said = shares_of(answer), answer.said
+    frame, amounts = amounts_of(answer, shares), zip(shares, answer.amounts_of_ways)
+    gain = sum(share * (said[revenue] - said[cost]).to_numpy() for (_, share), (revenue, cost) in amounts)
+    return frame.assign(cash_flow=gain - said["mining_cost"].to_numpy() + more_by_years(answer, frame))
+
+
+def more_by_years(answer: Answer, flows: pd.DataFrame) -> np.ndarray:
+    """Returns the gain of each block by the prices of its year."""
+    year, more = answer.said[YEAR].to_numpy(), np.zeros(len(flows))
+    for each in np.unique(year[year > 0]).tolist():
+        premium = sum(
+            (price * flows[name].to_numpy() for name, price in premiums(answer.project, each).items()),
+            np.zeros(len(flows)),
+        )
+        more += np.where(year == each, premium, 0.0)
+    return more
+
+
+def verify_order(answer: Answer, told: dict[str, Any]) -> Rule:
+    """Verifies that no block is mined before its whole cone or after the last year, and that its shares sum to at most 1."""
+    year = answer.said[YEAR].to_numpy()
+    dated = replace(answer, said=answer.said.assign(revenue_factor=year))
+    found = walls.verify(dated)
+    differences = [
+        difference.replace("mined at revenue factor", "mined in year", 1) for difference in found.differences
+    ]
+    wrong = (year < 0) | (year > told["years"])
+    shares = [share for _, share in shares_of(answer)]
+    whole = np.sum(shares, axis=0)
+    wrong |= (whole > 1 + SLIGHT) | (np.min(shares, axis=0) < -SLIGHT)
+    wrong |= (year == 0) & (whole > SLIGHT)
+    rows = np.flatnonzero(wrong)[:TOLD]
+    differences += [f"{answer.called(row)}: year {year[row]}, share processed {whole[row]:.6g}" for row in rows]
+    holds = "no block is mined before all blocks of its slope cone"
+    return rule("block order", holds, differences, found.count + int(wrong.sum()))
+
+
+def verify_limits(answer: Answer, told: dict[str, Any], sums: pd.DataFrame) -> Rule:
+    """Verifies that no year exceeds a limit, ramp-up included, or falls below a minimum."""
+    differences = []
+    for name, ramps, most in limits_of(answer):
+        if told["limits"].get(name) != most:
+            differences.append(f"limit of {name} is recorded as {told['limits'].get(name)} for {most:.10g}")
+        for year, amount in sums[name][sums.index > 0].items():
+            allowed = most * ramps[min(int(year), len(ramps)) - 1]
+            if amount > allowed * (1 + 1e-8) + CENT:
+                differences.append(f"year {year}: {name} {amount:.10g} above {allowed:.10g}")
+    rules = answer.project.schedule
+    expected = {"ramp_up": list(rules.ramp_up) if rules else [1.0]} | (
+        {"years": rules.years} if rules and rules.years else {}
+    )
+    differences += [
+        f"{FILE}: {name} {told[name]} for {amount}" for name, amount in expected.items() if told[name] != amount
+    ]
+    due = dict(least_of(answer))
+    if told.get("least", {}) != due:
+        differences.append(f"minimums are recorded as {told.get('least', {})} for {due}")
+    for (name, least), year in product(due.items(), range(1, told["years"] + 1)):
+        of_mill = rules.ramp_up if rules and name.startswith("feed_tonnes") else (1.0,)
+        amount, owed = float(sums[name].get(year, 0.0)), least * of_mill[min(year, len(of_mill)) - 1]
+        if amount < owed * (1 - 1e-8) - CENT:
+            differences.append(f"year {year}: {name} {amount:.10g} below {owed:.10g}")
+    return rule(
+        "block limits",
+        "no year exceeds a limit of feed, total material, metal or a sum, nor falls below a minimum",
+        differences,
+    )
+
+
+def verify_value(answer: Answer, told: dict[str, Any], sums: pd.DataFrame) -> Rule:
+    """Verifies that years.csv has the sums of blocks and discounted cash flow, and that the NPV is their sum and at most the bound."""
+    assert answer.years is not None
+    said = answer.years[answer.years["case"] == CASE].set_index("year")
+    last = int(sums.index.max()) if len(sums) else 0
+    differences = (
+        [] if said.index.tolist() == list(range(1, last + 1)) else [f"years {said.index.tolist()} for 1 to {last}"]
+    )
+    sums = sums.reindex(range(1, last + 1), fill_value=0.0)
+    sums["discounted_cash_flow"] = sums["cash_flow"] * [discount(answer, year) for year in sums.index]
+    for name in sums.columns:
+        off = (said[name].reindex(sums.index) - sums[name]).abs() > CENT + 1e-9 * sums[name].abs()
+        pairs = [(year, said[name].get(year, math.nan), sums[name][year]) for year in sums.index[off]]
+        differences += [f"year {year}: {name} {told_of:.12g} for {expected:.12g}" for year, told_of, expected in pairs]
+    value, bound = sums["discounted_cash_flow"].sum(), told["upper_bound"]
+    if abs(told["npv"] - value) > CENT + 1e-9 * abs(value):
+        differences.append(f"value {told['npv']:.12g} for {value:.12g}")
+    if value > bound + CENT + 1e-9 * abs(bound):
+        differences.append(f"value {value:.12g} is above bound {bound:.12g}")
+    gap = (bound - told["npv"]) / abs(bound) if bound else 0.0
+    if abs(told["gap"] - gap) > 1e-6:
+        differences.append(f"gap {told['gap']:.9g} for {gap:.9g}")
+    dug = int(((answer.said[YEAR] > 0) & (answer.tonnes > 0)).sum())
+    differences += ways_table.differences(answer, {CASE: {"npv": told["npv"], "upper_bound": bound, "blocks": dug}})
+    holds = "cash flows are discounted as in the project, years and NPV are sums over blocks, and the NPV is within its bound"
+    return rule("block value", holds, differences)

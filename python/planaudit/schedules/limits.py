@@ -1,0 +1,82 @@
+"""The limited amounts of a schedule by block: what each block adds to them, and their limits by year."""
+
+from __future__ import annotations
+
+from collections.abc import Iterator
+
+import numpy as np
+import pandas as pd
+
+from planaudit.inputs.answer import Answer
+from planaudit.inputs.matching import SHARE
+from planaudit.inputs.project import GRADE_UNITS, Sum
+from planaudit.money.feed import recovered
+
+# The share of each block that goes to a process, by process.
+Shares = list[tuple[str, np.ndarray]]
+
+
+def shares_of(answer: Answer) -> Shares:
+    """Returns the share of each block that goes to a process, by process; without named processes the name is empty."""
+    names = {process.name: process.name for process in answer.project.processes} or {"": "mill"}
+    return [(name, answer.said[SHARE + column].to_numpy()) for name, column in names.items()]
+
+
+def amounts_of(answer: Answer, shares: Shares) -> pd.DataFrame:
+    """Returns what each block adds to each limited amount, by the shares of it that go to processes."""
+    columns = {"total_tonnes": answer.tonnes, "feed_tonnes": sum(share for _, share in shares) * answer.feed}
+    columns |= {f"feed_tonnes_{name}": share * answer.feed for name, share in shares if name}
+    columns |= {f"sum_{it.name}": sum_of(answer, it, shares) for it in sums_asked(answer)}
+    columns |= {
+        f"recovered_{metal.name}": quantity(answer, number, shares)
+        for number, metal in enumerate(answer.project.metals)
+    }
+    return pd.DataFrame(columns)
+
+
+def sums_asked(answer: Answer) -> tuple[Sum, ...]:
+    rules = answer.project.schedule
+    return rules.limits if rules else ()
+
+
+def sum_of(answer: Answer, asked: Sum, shares: Shares) -> np.ndarray:
+    """Returns what each block adds to a limited sum of a column: of total material, of mill feed, or of one process."""
+    milled = sum((share for name, share in shares if asked.of in ("feed", name)), np.zeros(len(answer.rows)))
+    counted = np.ones(len(answer.rows)) if asked.of == "total" else milled
+    tonnes = answer.tonnes if asked.of == "total" else answer.undiluted
+    return answer.rows[asked.column].to_numpy() * counted * (tonnes if asked.per_tonne else 1.0)
+
+
+def quantity(answer: Answer, number: int, shares: Shares) -> np.ndarray:
+    """Returns the recovered metal of each block, in tonnes or grams."""
+    grades = [recovered(way.metals[number], answer.rows, way) for way in answer.project.by_process]
+    whole = sum(share * grade for (_, share), grade in zip(shares, grades))
+    return whole * answer.undiluted * float(GRADE_UNITS[answer.project.metals[number].unit])
+
+
+def limits_of(answer: Answer) -> Iterator[tuple[str, tuple[float, ...], float]]:
+    """Yields the name of an amount, its ramp-up, and its limit."""
+    rules, shells = answer.project.schedule, answer.project.shells
+    of_mill = rules.ramp_up if rules else (1.0,)
+    yield "feed_tonnes", of_mill, (rules and rules.processing_capacity) or shells.processing_capacity
+    rock = (rules and rules.mining_capacity) or shells.mining_capacity
+    if rock:
+        yield "total_tonnes", (1.0,), rock
+    for process in answer.project.processes:
+        yield f"feed_tonnes_{process.name}", of_mill, process.capacity
+    for name, most in (rules.max_metal_per_year if rules else {}).items():
+        yield f"recovered_{name}", (1.0,), most
+    for it in sums_asked(answer):
+        if it.max is not None:
+            yield f"sum_{it.name}", (1.0,), it.max
+
+
+def least_of(answer: Answer) -> Iterator[tuple[str, float]]:
+    """Yields the name of an amount with a minimum, and its minima by year."""
+    rules = answer.project.schedule
+    for name, least in (rules.minimum if rules else {}).items():
+        kind = "feed_tonnes" if name == "feed" else "total_tonnes" if name == "total" else f"recovered_{name}"
+        kind = f"feed_tonnes_{name}" if name in {process.name for process in answer.project.processes} else kind
+        if least:
+            yield kind, least
+    yield from ((f"sum_{it.name}", it.min) for it in sums_asked(answer) if it.min)

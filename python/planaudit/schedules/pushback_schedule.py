@@ -1,0 +1,328 @@
+"""Verifies a schedule of pushbacks from its rows, the pushbacks of blocks and the project: order, limits, amounts, and NPV."""
+
+from __future__ import annotations
+
+import json
+import math
+from collections.abc import Iterator
+from dataclasses import dataclass
+from functools import cached_property
+from typing import Any
+
+import numpy as np
+import pandas as pd
+
+from planaudit.inputs.answer import Answer
+from planaudit.money.period_costs import capex, more_by_prices, most_premium
+from planaudit.pits import years
+from planaudit.revenue_factors import factor_texts
+from planaudit.rules import TOLD, Rule, rule
+from planaudit.schedules import methods as ways_table, mill_feed as milling
+
+FILE = "schedule.json"
+CENT, SLIGHT = 0.01, 1e-6
+# The last decimal places of amounts and shares in schedule.csv.
+AMOUNT, SHARE = 0.6e-3, 0.6e-9
+
+
+@dataclass(frozen=True)
+class Way:
+    """The schedule of one method.
+
+    rows  the rows of schedule.csv, with the `level` of their bench, from 0 at the top; -1 if there is none
+    said  its entry in schedule.json
+    """
+
+    answer: Answer
+    name: str
+    rows: pd.DataFrame
+    said: dict[str, Any]
+
+    @property
+    def project_rules(self) -> Any:
+        return self.answer.project.schedule
+
+    @property
+    def last(self) -> int:
+        return int(self.rows["year"].max()) if len(self.rows) else 0
+
+    @cached_property
+    def done(self) -> np.ndarray:
+        """The share of each bench that is mined by the end of each year, shape (pushbacks from 0, levels, years from 0)."""
+        pushbacks, levels = int(self.answer.said["pushback"].max()), self.answer.shape[0]
+        dug = np.zeros((pushbacks + 1, levels, self.last + 1))
+        place = tuple(self.rows[name].to_numpy() for name in ("pushback", "level", "year"))
+        np.add.at(dug, place, self.rows["share"].to_numpy())
+        return dug.cumsum(axis=2)
+
+
+def verify(answer: Answer) -> list[Rule]:
+    """Verifies order, amounts, limits, values, and the years of blocks."""
+    told = json.loads((answer.folder / FILE).read_text(encoding="utf-8"))
+    sums = sums_of_benches(answer)
+    misplaced, ways = ways_of(answer, told)
+    return [
+        verify_amounts(ways, told, sums, misplaced),
+        verify_order(ways, sums),
+        verify_limits(ways, told),
+        verify_value(ways, told, sums),
+        verify_years_of_blocks(ways, told, sums),
+    ]
+
+
+def ways_of(answer: Answer, told: dict[str, Any]) -> tuple[list[str], list[Way]]:
+    """Returns rows with an unknown place, as differences, and the other rows by method."""
+    assert answer.schedule is not None
+    rows = answer.schedule.copy()
+    steps = (answer.elevations[0] - rows["bench"]) / answer.size[2]
+    rows["level"] = np.rint(steps).astype(int)
+    lost = (abs(steps - rows["level"]) > SLIGHT) | ~rows["level"].between(0, answer.shape[0] - 1)
+    # Reclaiming ore from a stockpile mines nothing.
+    nothing = (rows["share"] < 0) | (
+        (rows["share"] == 0) & ((rows["feed_tonnes"] <= 0) | ~rows["method"].isin(told["bins"]))
+    )
+    lost |= ~rows["pushback"].between(1, answer.said["pushback"].max()) | (rows["year"] < 1) | nothing
+    differences = [
+        f"{row.method}, year {row.year}: no bench {row.bench:.10g} of pushback {row.pushback}, or no share {row.share:g}"
+        for row in rows[lost].itertuples()
+    ]
+    if not set(rows["method"]) <= set(told["methods"]):
+        differences.append(f"methods {sorted(set(rows['method']))} for {sorted(told['methods'])}")
+    rows = rows[~lost]
+    return differences, [
+        Way(answer, name, rows[rows["method"] == name], said) for name, said in told["methods"].items()
+    ]
+
+
+def sums_of_benches(answer: Answer) -> pd.DataFrame:
+    """Returns the sums over the blocks of each bench with tonnes, by pushback and level."""
+    columns = {
+        "total_tonnes": answer.tonnes,
+        "feed_tonnes": np.where(answer.ore, answer.feed, 0.0),
+        "cash_flow": answer.earned,
+    }
+    columns |= answer.feeds
+    columns |= {f"recovered_{name}": np.where(answer.ore, metal, 0.0) for name, metal in answer.quantities.items()}
+    frame = pd.DataFrame(columns | {"pushback": answer.said["pushback"].to_numpy(), "level": answer.cells[0]})
+    return frame[(frame["pushback"] > 0) & (frame["total_tonnes"] > 0)].groupby(["pushback", "level"]).sum()
+
+
+def verify_amounts(ways: list[Way], told: dict[str, Any], sums: pd.DataFrame, misplaced: list[str]) -> Rule:
+    """Verifies that each row is a share of its bench, or what is milled of it, and that the shares of a bench sum to at most 1."""
+    differences = list(misplaced)
+    for way in ways:
+        whole = (
+            sums.reindex(pd.MultiIndex.from_frame(way.rows[["pushback", "level"]])).fillna(0.0).reset_index(drop=True)
+        )
+        rows = way.rows.reset_index(drop=True)
+        amounts, slack = whole.mul(rows["share"], axis=0), AMOUNT + SHARE * whole.abs()
+        if way.name in told["bins"]:
+            amounts, more, wrong = milling.amounts(way.answer, rows, amounts, told["bins"][way.name])
+            slack, differences = slack + more, [*differences, *wrong]
+        amounts["cash_flow"] += more_by_prices(way.answer.project, amounts.assign(year=rows["year"]))
+        slack["cash_flow"] += AMOUNT * most_premium(way.answer.project)
+        for name in sums.columns:
+            expected = amounts[name]
+            off = (rows[name] - expected).abs() > slack[name] + 1e-9 * expected.abs()
+            differences += [
+                f"{place(row)}: {name} {getattr(row, name):.10g} for {expected[row.Index]:.10g}"
+                for row in rows[off].itertuples()
+            ]
+        twice = np.argwhere(way.done[:, :, -1] > 1 + SLIGHT)
+        differences += [
+            f"{way.name}: pushback {pushback}, level {level} is mined {way.done[pushback, level, -1]:.9g} times"
+            for pushback, level in twice
+        ]
+    holds = "each row of the schedule is a share of the blocks of its bench, and no tonne is mined twice"
+    return rule("schedule amounts", holds, differences[:TOLD], len(differences))
+
+
+def place(row: Any) -> str:
+    return f"{row.method}, year {row.year}, pushback {row.pushback}, bench {row.bench:.10g}"
+
+
+def verify_order(ways: list[Way], sums: pd.DataFrame) -> Rule:
+    """Verifies that no bench starts before all benches above it in its pushback, and those of earlier pushbacks down to `lag` below it, are mined."""
+    differences = []
+    for way in ways:
+        lag = way.project_rules.bench_lag if way.project_rules else 0
+        is_there = np.zeros(way.done.shape[:2], dtype=bool)
+        is_there[tuple(np.array(sums.index.to_list()).T)] = True
+        # The smallest mined share from the top of each pushback down; a level without a bench delays nothing.
+        least = np.minimum.accumulate(np.where(is_there[:, :, None], way.done, 1.0), axis=1)
+        for row in way.rows.itertuples():
+            down = min(row.level + lag, least.shape[1] - 1)
+            waited = [
+                1.0,
+                *([least[row.pushback, row.level - 1, row.year]] if row.level else []),
+                *least[: row.pushback, down, row.year],
+            ]
+            if min(waited) < 1 - SLIGHT:
+                differences.append(f"{place(row)}: begins when a predecessor is mined to {min(waited):.6g}")
+    holds = "no bench begins before its predecessors are complete"
+    return rule("schedule order", holds, differences[:TOLD], len(differences))
+
+
+def limits_of(way: Way) -> Iterator[tuple[str, float, float]]:
+    """Yields the name of an amount, its annual limit, and the rounding error of its sum."""
+    rules, shells = way.project_rules, way.answer.project.shells
+    ore, rock = (rules and rules.processing_capacity) or shells.processing_capacity, (
+        rules and rules.mining_capacity
+    ) or shells.mining_capacity
+    yield "feed_tonnes", ore, CENT
+    yield "total_tonnes", rock or math.inf, CENT
+    for process in way.answer.project.processes:
+        yield f"feed_tonnes_{process.name}", process.capacity, CENT
+    for name, most in (rules.max_metal_per_year if rules else {}).items():
+        yield f"recovered_{name}", most, CENT
+
+
+def unlike_limits(way: Way, told: dict[str, Any]) -> Iterator[str]:
+    """Yields differences of limits and years in schedule.json from the project."""
+    rules = way.project_rules
+    due: dict[str, Any] = {"limits": {name: most for name, most, _ in limits_of(way) if most < math.inf}}
+    due |= {
+        "ramp_up": list(rules.ramp_up) if rules else [1.0],
+        "lag": rules.bench_lag if rules else 0,
+        "vertical_advance_rate": rules and rules.vertical_advance_rate,
+    }
+    due |= {"years": rules.years} if rules and rules.years else {}
+    yield from (
+        f"schedule.json: {name} {told[name]} for {amount}" for name, amount in due.items() if told[name] != amount
+    )
+
+
+def verify_limits(ways: list[Way], told: dict[str, Any]) -> Rule:
+    """Verifies that no year exceeds a limit, ramp-up and vertical advance rate included, or the last year, and that the record has these
+    limits."""
+    differences = list(unlike_limits(ways[0], told)) if ways else []
+    for way in ways:
+        rules = way.project_rules
+        ramp_up = rules.ramp_up if rules else (1.0,)
+        by_year = way.rows.groupby("year")
+        for name, most, slack in limits_of(way):
+            for year, amount in by_year[name].sum().items():
+                share = ramp_up[min(int(year), len(ramp_up)) - 1] if name.startswith("feed_tonnes") else 1.0
+                if amount > most * share * (1 + 1e-8) + slack:
+                    differences.append(f"{way.name}, year {year}: {name} {amount:.10g} above {most * share:.10g}")
+        sunk = way.rows.groupby(["pushback", "year"])["share"].sum()
+        deepest = (rules and rules.vertical_advance_rate) or math.inf
+        differences += [
+            f"{way.name}: pushback {at[0]} advances {by:.9g} benches in year {at[1]}"
+            for at, by in sunk[sunk > deepest + SLIGHT].items()
+        ]
+        if way.last > told["years"]:
+            differences.append(f"{way.name}: material is mined in year {way.last}")
+    holds = "no year exceeds a limit of feed, total material, metal or vertical advance"
+    return rule("schedule limits", holds, differences[:TOLD], len(differences))
+
+
+def verify_value(ways: list[Way], told: dict[str, Any], sums: pd.DataFrame) -> Rule:
+    """Verifies discounting, the sums of values and years.csv, and that no NPV exceeds the bound."""
+    differences = []
+    for way in ways:
+        rows = way.rows
+        present = rows["cash_flow"] * rows["year"].map(lambda year: discount(way.answer, int(year)))
+        off = (rows["discounted_cash_flow"] - present).abs() > 2 * AMOUNT + 1e-9 * present.abs()
+        differences += [
+            f"{place(row)}: discounted_cash_flow {row.discounted_cash_flow:.10g} for {present[row.Index]:.10g}"
+            for row in rows[off].itertuples()
+        ]
+        left = sums["total_tonnes"].sum() - rows["total_tonnes"].sum()
+        costs = sum(present_costs(way.answer, year) for year in range(1, way.last + 1))
+        expected = {"npv": rows["discounted_cash_flow"].sum() - costs, "years": way.last, "unmined_tonnes": left}
+        for name, amount in expected.items():
+            if abs(way.said[name] - amount) > CENT + AMOUNT * len(rows) + 1e-9 * abs(amount):
+                differences.append(f"{way.name}: {name} {way.said[name]:.12g} for {amount:.12g}")
+        if (
+            way.name == "rule"
+            and not (way.project_rules and way.project_rules.years)
+            and left > CENT + AMOUNT * len(rows)
+        ):
+            differences.append(f"{way.name} leaves {left:.10g} t")
+        for name in ("upper_bound", "milp_upper_bound"):
+            if told[name] is not None and way.said["npv"] > told[name] + CENT + 1e-7 * abs(told[name]):
+                differences.append(f"{way.name}: value {way.said['npv']:.12g} is above {name} {told[name]:.12g}")
+        differences += unlike_years(way, told["revenue_factor"])
+    if ways:
+        of_record = {
+            way.name: {
+                "npv": way.said["npv"],
+                "upper_bound": told["upper_bound"],
+                "unmined_tonnes": way.said["unmined_tonnes"],
+            }
+            for way in ways
+        }
+        differences += ways_table.differences(ways[0].answer, of_record)
+    holds = "cash flows are discounted as in the project, NPVs and years are their sums, and no NPV exceeds its bound"
+    return rule("schedule value", holds, differences[:TOLD], len(differences))
+
+
+def discount(answer: Answer, year: int) -> float:
+    """Returns the discount factors of years."""
+    settings = answer.project.shells
+    if settings.discounting == "continuous":
+        return years.mean(year - 1, year, settings.discount_rate)
+    return (1 + settings.discount_rate) ** -(year - (0.5 if settings.discounting == "mid_year" else 0.0))
+
+
+def present_costs(answer: Answer, year: int) -> float:
+    """Returns fixed cost and capex of a whole year, discounted."""
+    of_year = float(answer.project.economics.fixed_cost_per_year) * discount(answer, year)
+    return of_year + capex(answer.project, year) * (1 + answer.project.shells.discount_rate) ** -(year - 1)
+
+
+def unlike_years(way: Way, factor: float) -> list[str]:
+    """Returns differences between years.csv and the sums of a method's rows."""
+    assert way.answer.years is not None
+    said = way.answer.years[way.answer.years["case"] == way.name].set_index("year")
+    found = (
+        []
+        if set(said["revenue_factor"]) <= {factor}
+        else [f"{way.name}: years of revenue factors {factor_texts(sorted(set(said['revenue_factor'])))}"]
+    )
+    if said.index.tolist() != list(range(1, way.last + 1)):
+        return [*found, f"{way.name}: years {said.index.tolist()} for 1 to {way.last}"]
+    for name in [name for name in said.columns if name not in ("case", "revenue_factor")]:
+        total = of_years(way, name, said.index)
+        off = (said[name] - total).abs() > CENT + AMOUNT * len(way.rows) + 1e-9 * total.abs()
+        found += [
+            f"{way.name}, year {year}: {name} {said[name][year]:.12g} for {total[year]:.12g}"
+            for year in said.index[off]
+        ]
+    return found
+
+
+def of_years(way: Way, name: str, years: pd.Index) -> pd.Series:
+    """Returns an amount of years.csv by year: the sum of the schedule's rows, with period costs."""
+    project = way.answer.project
+    fixed = pd.Series(float(project.economics.fixed_cost_per_year), index=years)
+    spent = pd.Series([capex(project, int(year)) for year in years], index=years, dtype=float)
+    if name in ("fixed_cost", "capex"):
+        return fixed if name == "fixed_cost" else spent
+    total = way.rows.groupby("year")[name].sum().reindex(years, fill_value=0.0)
+    if name == "cash_flow":
+        return total - fixed - spent
+    return total - [present_costs(way.answer, int(year)) for year in years] if name == "discounted_cash_flow" else total
+
+
+def verify_years_of_blocks(ways: list[Way], told: dict[str, Any], sums: pd.DataFrame) -> Rule:
+    """Verifies that each block has the year in which its bench is completed, by the method with the highest NPV."""
+    values = {name: way["npv"] for name, way in told["methods"].items()}
+    best = max(values, key=values.__getitem__)
+    # Methods whose values differ by rounding only may be in either order.
+    differences = (
+        [] if values.get(told["shown"], -math.inf) > values[best] - CENT else [f"shown is {told['shown']} for {best}"]
+    )
+    for way in ways:
+        if way.name != told["shown"]:
+            continue
+        through = way.done > 1 - SLIGHT
+        year = np.where(through.any(axis=2), through.argmax(axis=2), 0)
+        expected = year[way.answer.said["pushback"].to_numpy(), way.answer.cells[0]]
+        off = np.flatnonzero(expected != way.answer.said["year"].to_numpy())
+        differences += [
+            f"{way.answer.called(row)}: year {way.answer.said['year'][row]} for {expected[row]}" for row in off
+        ]
+    holds = f"each block has the year in which its bench is complete, by the method {told['shown']}"
+    return rule("years of blocks", holds, differences[:TOLD], len(differences))

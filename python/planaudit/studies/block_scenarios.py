@@ -1,0 +1,400 @@
+"""Recomputes schedules by block over scenarios from the project, its table, its realisations and the years of blocks.
+
+Block values are recomputed for every scenario; slope cones for the common schedule and a sample of the others."""
+
+from __future__ import annotations
+
+import json
+import math
+from collections.abc import Iterator
+from dataclasses import dataclass, replace
+from functools import cached_property
+from itertools import product
+from pathlib import Path
+from typing import Any, Optional
+
+import numpy as np
+import pandas as pd
+
+from planaudit.blocks import constraints as fixed
+from planaudit.errors import AuditError
+from planaudit.ground import slopes as walls
+from planaudit.inputs.answer import Answer
+from planaudit.inputs.kept_arrays import read_arrays
+from planaudit.inputs.tables import TABLES
+from planaudit.money.weighing import at_price
+from planaudit.rules import TOLD, Rule, rule
+from planaudit.schedules.best_ore import most_earned
+from planaudit.schedules.limits import limits_of
+from planaudit.schedules.pushback_schedule import CENT, discount
+from planaudit.studies.realisations import ONE, Scenario, read
+from planaudit.studies.scenarios import SHARES, Verification, between, named
+
+RECORD, TABLE, YEARS, QUANTILES = "common_schedule.json", "schedules.csv", "common_schedule_years.csv", "quantiles.csv"
+VALUES = ("npv", "upper_bound", "common_npv")
+ROCK, ORE, LEFT, PLANNED = "total_tonnes", "feed_tonnes", "unprocessed_tonnes", "planned_feed_tonnes"
+SLIGHT = 1e-6
+
+
+def is_by_block(folder: Path) -> bool:
+    """Returns whether the scenarios of a folder are schedules."""
+    try:
+        return json.loads((folder / "scenarios.json").read_text(encoding="utf-8")).get("by") == "block"
+    except (OSError, ValueError, AttributeError):
+        return False
+
+
+def verify(folder: Path, written: Optional[Path] = None) -> list[Rule]:
+    """Verifies schedules over scenarios. Raises AuditError as `scenarios.verify`."""
+    with named(folder):
+        return Schedules(Verification(read(folder, written or folder))).rules()
+
+
+@dataclass(frozen=True)
+class Kept:
+    """A schedule as written: year of each row, from 1 (0: never), the share of each that is milled, and amounts by name."""
+
+    year: np.ndarray
+    share: np.ndarray
+    row: dict[str, float]
+
+    @staticmethod
+    def of(file: Path) -> Kept:
+        try:
+            said = read_arrays(file, file.stem)
+            row = dict(zip(said["names"].tolist(), said["amounts"].tolist()))
+            return Kept(said["year"].astype(np.int64), said["share"], row)
+        except (ValueError, KeyError, TypeError) as error:
+            raise AuditError(f"{file}: is not a result of a schedule: {error}: run pitplan scenarios again") from error
+
+
+@dataclass(frozen=True)
+class Schedules:
+    """A folder of schedules that is verified."""
+
+    whole: Verification
+
+    @property
+    def ground(self) -> Answer:
+        return self.whole.ground
+
+    @cached_property
+    def one(self) -> Kept:
+        folder = self.whole.folder
+        return Kept.of(folder.folder / "done" / f"{folder.record['mean']['key']}.npz")
+
+    @cached_property
+    def limits(self) -> list[tuple[str, tuple[float, ...], float]]:
+        """Name of an amount, its ramp-up, and its limit."""
+        return list(limits_of(self.ground))
+
+    def rules(self) -> list[Rule]:
+        return [*self.whole.of_ground(), self.whole.listed(), self.order(), *self.values()]
+
+    def order(self) -> Rule:
+        """Verifies cones, constraints, years and shares, of the common schedule and of a sample of the others."""
+        sample = [(scenario.label, Kept.of(scenario.file)) for scenario in self.whole.sample]
+        differences = [
+            f"{name}: {said}"
+            for name, kept in [("the common schedule", self.one), *sample]
+            for said in self.out_of_order(kept)
+        ]
+        count = f"{len(sample):,} of {len(self.whole.folder.answered):,} others"
+        holds = f"in the common schedule and {count} no block is mined before its slope cone"
+        return rule(
+            "block order", f"{holds}, must-mine blocks are in some year, and excluded blocks in none", differences
+        )
+
+    def out_of_order(self, kept: Kept) -> list[str]:
+        answer = replace(self.ground, said=self.ground.said.assign(revenue_factor=kept.year))
+        found = [
+            difference.replace("mined at revenue factor", "mined in year", 1)
+            for difference in walls.verify(answer).differences
+        ]
+        wrong = (kept.year < 0) | (kept.year > self.whole.folder.record["years"])
+        wrong |= (kept.share < -SLIGHT) | (kept.share > (kept.year > 0) + SLIGHT)
+        if answer.project.constraints is not None:
+            must, never = fixed.demanded(answer, answer.project.constraints)
+            wrong |= (must & (kept.year == 0)) | (never & (kept.year > 0))
+        rows = np.flatnonzero(wrong)[:TOLD]
+        return found + [
+            f"{answer.called(row)}: year {kept.year[row]}, share milled {kept.share[row]:.6g}" for row in rows
+        ]
+
+    def values(self) -> list[Rule]:
+        """Verifies amounts and NPV of every schedule, by its scenario, and the tables with them."""
+        folder, own, dug = self.whole.folder, [], []
+        total = pd.DataFrame()
+        for scenario in folder.scenarios:
+            kept = Kept.of(scenario.file) if scenario.file.is_file() else None
+            held = self.held(scenario, (self.one.year > 0) | (kept is not None and kept.year > 0))
+            total = held if total.empty else total + held
+            own += [] if kept is None else [f"{scenario.label}: {said}" for said in self.unlike(held, kept)]
+            dug.append(self.dug(held))
+        mean = total / len(dug)
+        own += [f"the common schedule, as planned: {said}" for said in self.unlike(mean, self.one)]
+        tables = Tables(self, dug, by_year(mean[ORE] * self.one.share, self.one.year))
+        words = f"{len(folder.answered):,} schedules and the common one, at mean block values, keep limits, "
+        of_one = "in each scenario its years process the best feed, and its NPV is within the upper bound"
+        return [
+            rule("block value", f"{words}add up, and are within their upper bounds", own),
+            rule("one schedule", of_one, tables.of_one()),
+            rule("tables", "every row follows from the schedules", tables.of_all()),
+        ]
+
+    def held(self, scenario: Scenario, is_dug: np.ndarray) -> pd.DataFrame:
+        """Returns the amounts of each block in a scenario: total_tonnes, feed_tonnes and metals if it pays, mining cost, and gain by processing."""
+        whole = self.whole.in_scenario(scenario)
+        part = replace(
+            whole, rows=whole.rows[is_dug].reset_index(drop=True), said=whole.said[is_dug].reset_index(drop=True)
+        )
+        found = at_price(part)
+        columns = {ROCK: part.tonnes, ORE: found.ore, **{f"recovered_{name}": it for name, it in found.metals.items()}}
+        frame = pd.DataFrame(columns | {"mining": found.mining, "gain": found.gain})
+        return frame.set_index(np.flatnonzero(is_dug)).reindex(range(len(is_dug)), fill_value=0.0)
+
+    def unlike(self, held: pd.DataFrame, kept: Kept) -> Iterator[str]:
+        """Yields differences of a schedule: limits, upper bound, amounts and NPV."""
+        milled = held.drop(columns=[ROCK, "mining"]).mul(kept.share, axis=0).assign(**{ROCK: held[ROCK]})
+        sums = milled.groupby(kept.year).sum().drop(index=0, errors="ignore")
+        yield from self.above_limits(sums)
+        cash = sums["gain"] - held["mining"].groupby(kept.year).sum().drop(index=0, errors="ignore")
+        value, bound = (
+            float(sum(amount * discount(self.ground, int(year)) for year, amount in cash.items())),
+            kept.row["upper_bound"],
+        )
+        is_dug = kept.year > 0
+        expected = {"npv": value, "years": int(kept.year.max()), "blocks": int((is_dug & (held[ROCK] > 0)).sum())}
+        expected |= {
+            "tonnes": held[ROCK][is_dug].sum(),
+            "optimality_gap": (bound - value) / abs(bound) if bound else 0.0,
+        }
+        expected |= {name: sums[name].sum() for name in sums if name == ORE or name.startswith("recovered_")}
+        for name, amount in expected.items():
+            if abs(kept.row[name] - amount) > (SLIGHT if name == "optimality_gap" else CENT) + 1e-9 * abs(amount):
+                yield f"{name} {kept.row[name]:.12g} for {amount:.12g}"
+        if value > bound + CENT + 1e-9 * abs(bound):
+            yield f"value {value:.12g} is above bound {bound:.12g}"
+
+    def above_limits(self, sums: pd.DataFrame) -> Iterator[str]:
+        """Yields the years of a schedule that exceed a limit."""
+        for (name, ramps, most), year in product(self.limits, sums.index):
+            amount, allowed = sums[name][year], most * ramps[min(int(year), len(ramps)) - 1]
+            if amount > allowed * (1 + 1e-8) + CENT:
+                yield f"year {year}: {name} {amount:.10g} above {allowed:.10g}"
+
+    def dug(self, held: pd.DataFrame) -> pd.DataFrame:
+        """Returns one row per year of the common schedule in a scenario; mill feed is nan if several limits select it."""
+        rows = []
+        of_mill = [(name, ramps, most) for name, ramps, most in self.limits if name != ROCK]
+        for year in range(1, int(self.one.year.max()) + 1):
+            blocks = held[self.one.year == year]
+            takes = np.stack([blocks[name].to_numpy() for name, _, _ in of_mill])
+            most = np.array([most * ramps[min(year, len(ramps)) - 1] for _, ramps, most in of_mill])
+            ore = float(blocks[ORE].sum())
+            milled = min(ore, most[0]) if len(of_mill) == 1 else ore if (takes.sum(axis=1) <= most).all() else math.nan
+            cash = most_earned(blocks["gain"].to_numpy(), takes, most) - blocks["mining"].sum()
+            rows.append(
+                {
+                    "year": year,
+                    ROCK: blocks[ROCK].sum(),
+                    ORE: milled,
+                    LEFT: ore - milled,
+                    "total": ore,
+                    "cash_flow": cash,
+                }
+            )
+        frame = pd.DataFrame(rows, columns=["year", ROCK, ORE, LEFT, "total", "cash_flow"]).set_index("year")
+        return frame.assign(
+            discounted_cash_flow=frame["cash_flow"] * [discount(self.ground, year) for year in frame.index]
+        )
+
+
+def by_year(amounts: pd.Series, year: np.ndarray) -> np.ndarray:
+    """Returns sums by year, from the first."""
+    return np.bincount(year, amounts, minlength=1)[1:]
+
+
+@dataclass(frozen=True)
+class Tables:
+    """The tables of schedules, with the expected values.
+
+    dug      one row per year of the common schedule, for each scenario
+    planned  mill feed of each year of the common schedule at the mean block values, in tonnes
+    """
+
+    schedules: Schedules
+    dug: list[pd.DataFrame]
+    planned: np.ndarray
+
+    @property
+    def scenarios(self) -> list[Scenario]:
+        return self.schedules.whole.folder.scenarios
+
+    def read(self, name: str) -> pd.DataFrame:
+        path, codes = self.schedules.whole.folder.tables / TABLES / name, {"realisation": str, "status": str}
+        return pd.read_csv(path, dtype=codes, keep_default_na=False, na_values=[""])
+
+    @cached_property
+    def rows(self) -> pd.DataFrame:
+        return self.read(TABLE)
+
+    @property
+    def solved(self) -> pd.DataFrame:
+        """The rows of scenarios with a result."""
+        return self.rows[self.rows["scenario"].isin([it.number for it in self.schedules.whole.folder.answered])]
+
+    @cached_property
+    def years(self) -> pd.DataFrame:
+        return self.read(YEARS)
+
+    def of_one(self) -> list[str]:
+        """Returns differences of the years of the common schedule in a scenario, and an NPV above the scenario's bound."""
+        found: list[str] = []
+        for scenario, dug in zip(self.scenarios, self.dug):
+            said = self.years[self.years["scenario"] == scenario.number].set_index("year")
+            if said.index.tolist() != dug.index.tolist():
+                found.append(f"{scenario.label}: years {said.index.tolist()} for 1 to {len(dug)}")
+                continue
+            found += [f"{scenario.label}, {difference}" for difference in self.unlike_years(said, dug)]
+            bound = Kept.of(scenario.file).row["upper_bound"] if scenario.file.is_file() else math.inf
+            value = dug["discounted_cash_flow"].sum()
+            if value > bound + CENT + 1e-7 * abs(bound):
+                found.append(
+                    f"{scenario.label}: the common schedule has an NPV of {value:.12g}, above the bound {bound:.12g}"
+                )
+        return found
+
+    def unlike_years(self, said: pd.DataFrame, dug: pd.DataFrame) -> Iterator[str]:
+        expected = dug.assign(**{PLANNED: self.planned[: len(dug)]})
+        # With several limits any selection with equal gain may be milled.
+        expected[ORE], expected[LEFT] = (expected[name].fillna(said[name]) for name in (ORE, LEFT))
+        for name in (ROCK, ORE, LEFT, PLANNED, "cash_flow", "discounted_cash_flow"):
+            slack = CENT + (1e-7 if name in ("cash_flow", "discounted_cash_flow") else 1e-9) * expected[name].abs()
+            for year in said.index[~((said[name] - expected[name]).abs() <= slack)]:
+                yield f"year {year}: {name} {said[name][year]:.12g} for {expected[name][year]:.12g}"
+        whole = dug["total"]
+        off = said.index[(said[ORE] + said[LEFT] - whole).abs() > CENT + 1e-9 * whole]
+        yield from (
+            f"year {year}: {said[ORE][year]:.12g} and {said[LEFT][year]:.12g} t of ore for {whole[year]:.12g}"
+            for year in off
+        )
+
+    def of_all(self) -> list[str]:
+        """Returns differences of schedules.csv, blocks, quantiles and record."""
+        if self.rows["scenario"].tolist() != [scenario.number for scenario in self.scenarios]:
+            return [f"{TABLE}: has rows of scenarios {self.rows['scenario'].tolist()[:TOLD]} and so on"]
+        rows = self.rows.set_index("scenario")
+        found = [
+            f"{TABLE}: {it.label}: {said}" for it in self.scenarios for said in self.unlike_row(rows.loc[it.number], it)
+        ]
+        for scenario in self.scenarios:
+            years = self.years[self.years["scenario"] == scenario.number]
+            heads: dict[str, str | float] = {
+                "realisation": scenario.model.name,
+                **{f"price_{metal}": float(price) for metal, price in scenario.prices.items()},
+            }
+            found += [
+                f"{YEARS}: {scenario.label}: {name}"
+                for name, value in heads.items()
+                if not (years[name] == value).all()
+            ]
+        return [*found, *self.unlike_blocks(), *self.unlike_quantiles(), *self.unlike_record()]
+
+    def unlike_row(self, row: Any, scenario: Scenario) -> Iterator[str]:
+        """Yields differences of a row of schedules.csv."""
+        years = self.years[self.years["scenario"] == scenario.number]
+        expected: dict[str, float] = {f"price_{metal}": float(price) for metal, price in scenario.prices.items()}
+        expected |= {
+            "common_npv": years["discounted_cash_flow"].sum(),
+            "common_feed_tonnes": years[ORE].sum(),
+            "common_unprocessed_tonnes": years[LEFT].sum(),
+        }
+        expected["common_years_short"] = int((years[ORE] < years[PLANNED] * (1 - 1e-9)).sum())
+        own = Kept.of(scenario.file).row if scenario.file.is_file() else {}
+        expected |= own or dict.fromkeys(("npv", "upper_bound", "optimality_gap"), math.nan)
+        if (row["status"] == "solved") != bool(own) or row["realisation"] != scenario.model.name:
+            yield f"status {row['status']!r} of model {row['realisation']}"
+        for name, amount in expected.items():
+            if not np.isclose(
+                row[name], amount, rtol=1e-9, atol=1e-9 if name == "optimality_gap" else CENT, equal_nan=True
+            ):
+                yield f"{name} {row[name]:.12g} for {amount:.12g}"
+
+    def unlike_blocks(self) -> list[str]:
+        """Returns differences of years and shares of blocks from the common schedule."""
+        told, one, ground = self.schedules.whole.folder.told, self.schedules.one, self.schedules.ground
+        off = (told["year"].to_numpy() != one.year) | ~(np.abs(told["share_mill"].to_numpy() - one.share) <= SLIGHT)
+        rows = np.flatnonzero(off)[:TOLD]
+        return [
+            f"{ONE}: {ground.called(row)}: year {told['year'][row]} for {one.year[row]}, or its share of the mill"
+            for row in rows
+        ]
+
+    def unlike_quantiles(self) -> list[str]:
+        """Returns differences of quantiles.csv from the rows, by price deck."""
+        written, solved = self.read(QUANTILES), self.solved
+        names = [name for name in solved if name.startswith("price_")]
+        sets = [
+            dict(zip(names, values))
+            for values in (solved[names].drop_duplicates().to_numpy().tolist() if names else [()])
+        ]
+        found = [] if len(written) == len(sets) else [f"{QUANTILES}: has {len(written):,} rows for {len(sets):,}"]
+        for prices in sets:
+            rows, mine = at_prices(solved, prices), at_prices(written, prices)
+            if len(mine) != 1 or mine["realisations"].iloc[0] != len(rows):
+                found.append(f"{QUANTILES}: {prices}: expected one row, of {len(rows)} realisations")
+                continue
+            said = {
+                name: {word: float(mine[f"{name}_{word}"].iloc[0]) for word in spread(rows[name])} for name in VALUES
+            }
+            found += [f"{QUANTILES}: {prices}: {difference}" for difference in unlike_spreads(said, rows)]
+        return found
+
+    def unlike_record(self) -> Iterator[str]:
+        """Yields differences of common_schedule.json."""
+        told = json.loads((self.schedules.whole.folder.tables / RECORD).read_text(encoding="utf-8"))
+        solved, one = self.solved, self.schedules.one.row
+        ramps = next(ramps for name, ramps, _ in self.schedules.limits if name == ORE)
+        expected = {
+            "scenarios": len(self.rows),
+            "answered": len(solved),
+            "years": self.schedules.whole.folder.record["years"],
+        }
+        expected |= {"limits": {name: most for name, _, most in self.schedules.limits}, "ramp_up": list(ramps)}
+        yield from (
+            f"{RECORD}: {name} {told[name]} for {value}" for name, value in expected.items() if told[name] != value
+        )
+        known = float(solved["upper_bound"].mean() - solved["common_npv"].mean())
+        amounts = {
+            "npv_as_planned": one["npv"],
+            "upper_bound_as_planned": one["upper_bound"],
+            "perfect_information": known,
+        }
+        for name, amount in amounts.items():
+            if not abs(told[name] - amount) <= CENT + 1e-8 * abs(one["upper_bound"]):
+                yield f"{RECORD}: {name} {told[name]:.12g} for {amount:.12g}"
+        yield from (f"{RECORD}: {difference}" for difference in unlike_spreads(told, solved))
+
+
+def at_prices(rows: pd.DataFrame, prices: dict[str, float]) -> pd.DataFrame:
+    """Returns the rows of a price deck, given by the names of columns."""
+    mine = np.ones(len(rows), dtype=bool)
+    for name, price in prices.items():
+        mine &= (rows[name] == price).to_numpy()
+    return rows[mine]
+
+
+def spread(values: pd.Series) -> dict[str, float]:
+    """Returns mean, minimum, maximum and quantiles."""
+    rising = sorted(values.tolist())
+    found = {"mean": math.fsum(rising) / len(rising), "least": rising[0], "greatest": rising[-1]}
+    return found | {name: between(rising, share) for name, share in SHARES.items()}
+
+
+def unlike_spreads(said: dict[str, Any], rows: pd.DataFrame) -> Iterator[str]:
+    """Yields differences of the statistics of NPVs, bounds and the common schedule."""
+    for name in VALUES:
+        for word, amount in spread(rows[name]).items():
+            if not abs(said[name][word] - amount) <= CENT + 1e-9 * abs(amount):
+                yield f"{name}_{word} {said[name][word]:.12g} for {amount:.12g}"

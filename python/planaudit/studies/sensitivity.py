@@ -1,0 +1,393 @@
+"""Verifies a sensitivity: each case from the project's text with its numbers changed there, the table, and the written pits."""
+
+from __future__ import annotations
+
+import math
+from collections.abc import Iterator
+from copy import deepcopy
+from dataclasses import dataclass, replace
+from decimal import Decimal
+from itertools import product
+from pathlib import Path
+from typing import Any, Optional
+
+import numpy as np
+import pandas as pd
+
+from planaudit.blocks import constraints as fixed, missing_blocks as absent
+from planaudit.errors import AuditError
+from planaudit.ground import depletion, slopes as walls
+from planaudit.inputs.answer import Answer
+from planaudit.inputs.kept_arrays import read_arrays
+from planaudit.inputs.matching import beside, own_columns, read_blocks, rows_of, said_of
+from planaudit.inputs.project import Project
+from planaudit.inputs.project_file import Places, of_data, parsed
+from planaudit.inputs.record import AS_RUN, read_json
+from planaudit.inputs.run import Run
+from planaudit.inputs.tables import read_table
+from planaudit.money import block_values as money, haulage
+from planaudit.money.weighing import gains, weighed
+from planaudit.pits import sums, years
+from planaudit.revenue_factors import factor_text
+from planaudit.rules import TOLD, Rule, rule
+
+SHARES = ("-0.2", "-0.1", "0.1", "0.2")
+AXES = ("parameter", "change", "second_parameter", "second_change")
+KEPT = ("undiscounted_cash_flow", "npv_best", "npv_worst", "years")
+OF_EACH = {
+    "walls": "no block of any pit lacks a block of its slope cone, at the slope angles of the case",
+    "steepness": "unless the project sets precedence_benches, no slope of a case is more than half a degree steeper than its angle",
+    "fixed": "must-mine blocks are in every pit, and excluded blocks in none",
+    "shells": "tonnes, grades, metal and cash flow of each pit are the sums over its blocks at the parameters of the case",
+    "values": "the solver's value of each pit equals the sum over its blocks",
+    "years": "NPVs follow from the benches at the capacities of the case",
+    "kept": "so do those of the base-case pit at the parameters of each case",
+    "skin": "the value of that pit's skin is the sum over its blocks at these parameters",
+}
+Data = dict[str, Any]
+
+
+@dataclass(frozen=True)
+class Case:
+    """A case: its changes, as pairs of parameter and share; the least revenue factor of each cell; slopes; and for the base case a mask of its
+    skin."""
+
+    changes: tuple[tuple[str, Decimal], ...]
+    entry: np.ndarray
+    walls: list[Data]
+    skin: Optional[np.ndarray] = None
+
+    @property
+    def label(self) -> str:
+        return ", ".join(f"{name} {share:+f}" for name, share in self.changes) or "base case"
+
+
+def verify(written: Path, folder: Path) -> list[Rule]:
+    """Verifies tables in `written`, and the results of cases in `folder`. Raises AuditError if a file is missing, or the table has changed
+    since."""
+    try:
+        return Told.read(written, folder).rules()
+    except OSError as error:
+        raise AuditError(f"{error.filename}: cannot be read: run pitplan sensitivity first") from error
+    except (ValueError, KeyError) as error:
+        raise AuditError(f"{written}: not an output folder of pitplan sensitivity: {error}") from error
+
+
+@dataclass(frozen=True)
+class Text:
+    """The sections of the project that was run, and the places of the files that it names."""
+
+    sections: Data
+    place: Places
+
+    @staticmethod
+    def of(run: Run, record: Data) -> Text:
+        """Returns the text of a run; for a folder without one that of the planner's file."""
+        text, first = run.written / AS_RUN, run.folder / record["project"]
+        return Text(parsed(text), run.place) if text.is_file() else Text(parsed(first), first.parent.joinpath)
+
+    @property
+    def data(self) -> Data:
+        """Returns a copy of the sections, which the caller may change."""
+        return deepcopy(self.sections)
+
+
+@dataclass(frozen=True)
+class Told:
+    """A folder as read: the blocks as if none were mined, and with the results of blocks.csv; the rows of cases, and their records; and the text
+    of the project."""
+
+    ground: Answer
+    told: Answer
+    rows: pd.DataFrame
+    cases: list[Case]
+    factor: float
+    text: Text
+
+    @staticmethod
+    def read(written: Path, folder: Path) -> "Told":
+        record, run = read_json(written / "sensitivity.json", "pitplan sensitivity"), Run(folder, written)
+        project, text = run.as_run(record), Text.of(run, record)
+        blocks = read_blocks(written / "tables/blocks.csv", project)
+        frame, parts, beyond = rows_of(project, blocks, record["grid"])
+        known, count, order = beside(frame, blocks, project, record["grid"], "blocks.csv")
+        factor = float(record["revenue_factor"])
+        factors = tuple(it for it in project.shells.revenue_factors if it <= factor)
+        said = blocks[[name for name in said_of(project) if name in blocks]].iloc[order].reset_index(drop=True)
+        record |= {"walls": record["cases"][0]["walls"]}
+        found = {"parts": parts, "beyond": beyond, "own": own_columns(blocks, known, order)}
+        told = Answer(folder, project, known, count, said, pd.DataFrame(), None, record, factors, **found)
+        ground = replace(told, said=said[["id"]].assign(revenue_factor=0))
+        rows = read_table(written / "tables/sensitivity.csv", ["parameter", "second_parameter"])
+        rows[["parameter", "second_parameter"]] = rows[["parameter", "second_parameter"]].fillna("")
+        return Told(ground, told, rows, list(cases_in(folder, record)), factor, text)
+
+    def rules(self) -> list[Rule]:
+        found: dict[str, list[Rule]] = {name: [] for name in OF_EACH}
+        listed = self.listed()
+        if not listed.differences:
+            for number, case in enumerate(self.cases):
+                for name, it in self.of_case(case, self.rows.iloc[[number]]).items():
+                    found[name].append(
+                        replace(it, differences=tuple(f"{case.label}: {said}" for said in it.differences))
+                    )
+        of_ground = [
+            fixed.verify_places(self.ground),
+            absent.verify(self.ground),
+            self.as_given(),
+            listed,
+            self.outside_skin(),
+        ]
+        of_ground += depletion.verify_cuts(self.ground)
+        count = f"in {len(self.cases):,} cases: "
+        return [*of_ground, *(joined(name, count + holds, found[name]) for name, holds in OF_EACH.items())]
+
+    def listed(self) -> Rule:
+        """Verifies that the base case, each parameter with each change, and each pair have a row, and that there are no others."""
+        due, differences = sorted(due_of(self.text)), []
+        there = [tuple(row) for row in self.rows[list(AXES)].itertuples(index=False)]
+        noted = [padded([(name, float(share)) for name, share in case.changes]) for case in self.cases]
+        if sorted(there) != due:
+            differences.append(f"sensitivity.csv has {len(there):,} cases, and the project {len(due):,} or others")
+        if there != noted:
+            differences.append("sensitivity.json lists other cases than sensitivity.csv")
+        if not (self.rows["revenue_factor"] == self.factor).all():
+            differences.append(f"sensitivity.csv has another revenue factor than {factor_text(self.factor)}")
+        return rule(
+            "cases", "each parameter has a row for each change, and each pair for each two changes", differences
+        )
+
+    def as_given(self) -> Rule:
+        """Verifies blocks.csv for the base case: costs, revenue and haul distances, and the least revenue factor of each block."""
+        told = self.told
+        found = [money.verify(told), *([haulage.verify(told, money.sample(told))] if told.project.haulage else [])]
+        said, due = told.said["revenue_factor"].to_numpy(), self.cases[0].entry[told.said["id"].to_numpy()]
+        off = np.flatnonzero(said != due)
+        differences = [difference for it in found for difference in it.differences]
+        differences += [
+            f"{told.called(row)}: revenue factor {factor_text(said[row])} for {factor_text(due[row])}"
+            for row in off[:TOLD]
+        ]
+        holds = "costs and revenue of blocks follow from the base case, and their revenue factors are those of its pits"
+        return rule("as given", holds, differences, sum(it.count for it in found) + len(off))
+
+    def outside_skin(self) -> Rule:
+        """Verifies that the base case's pit without its skin is a shell with all must-mine blocks and at most the other share of the tonnes."""
+        given, record, tonnes = self.cases[0], self.ground.record["skin"], self.ground.tonnes
+        assert given.skin is not None
+        shell = self.dug(np.where(given.skin, 0, given.entry), self.ground.project, given.walls)
+        differences = [
+            *walls.verify(shell).differences,
+            *(fixed.verify(shell).differences if record["revenue_factor"] else ()),
+        ]
+        ids = self.ground.said["id"].to_numpy()
+        if (given.skin & (given.entry == 0)).any():
+            differences.append("a block of the skin is not in the pit")
+        whole, part = (float(tonnes[inside[ids]].sum()) for inside in (given.entry > 0, given.skin))
+        if abs(part - record["tonnes"]) > 1e-6 * whole or part < float(share_of(self.text)) * whole * (1 - 1e-9):
+            differences.append(
+                f"the skin has {part:,.0f} t of {whole:,.0f}, and sensitivity.json says {record['tonnes']:,.0f}"
+            )
+        expected = {
+            "share": part / whole if part else 0.0,
+            "undiscounted_cash_flow": float(self.rows["skin_value"].iloc[0]),
+        }
+        differences += [
+            f"the skin's {name} {record[name]:.12g} for {it:.12g}"
+            for name, it in expected.items()
+            if abs(record[name] - it) > 6e-4
+        ]
+        return rule(
+            "skin's shell",
+            "the pit without its skin is a shell, and the skin has at least the required share",
+            differences,
+        )
+
+    def of_case(self, case: Case, row: pd.DataFrame) -> dict[str, Rule]:
+        """Verifies a row of a case."""
+        project = changed(self.text, case.changes)
+        whole = self.dug(case.entry, project, case.walls)
+        pit = replace(weighed(whole), shells=row.set_index("revenue_factor"))
+        mean = (row["npv_best"] + row["npv_worst"]) / 2
+        unlike = (
+            []
+            if np.allclose(mean, row["npv"], rtol=0, atol=2e-3)
+            else [f"npv {row['npv'].iloc[0]:.12g} for {mean.iloc[0]:.12g}"]
+        )
+        npv = years.verify(pit)
+        return {
+            "walls": walls.verify(whole),
+            "steepness": walls.verify_steepness(whole),
+            "fixed": fixed.verify(whole),
+            "shells": sums.verify(pit),
+            "values": rule("values", "", sums.unlike_worth(pit)),
+            "years": rule("years", "", [*npv.differences, *unlike], npv.count + len(unlike)),
+            "kept": self.kept(
+                project, row.set_index("revenue_factor"), any(name == "slopes" for name, _ in case.changes)
+            ),
+            "skin": self.skin(
+                project, float(row["skin_value"].iloc[0]), any(name == "slopes" for name, _ in case.changes)
+            ),
+        }
+
+    def kept(self, project: Project, row: pd.DataFrame, moves_walls: bool) -> Rule:
+        """Verifies the base case's pit at the parameters of a case; nothing if the slopes change."""
+        said = row[[f"kept_{name}" for name in KEPT]].set_axis(list(KEPT), axis=1)
+        if moves_walls:
+            return rule(
+                "kept",
+                "",
+                [] if said.isna().all(axis=None) else ["kept_ amounts are given, although the slopes differ"],
+            )
+        pit = replace(weighed(self.dug(self.cases[0].entry, project, self.cases[0].walls)), shells=said)
+        worth, gross = sums.sums(pit, self.factor)["undiscounted_cash_flow"], float(np.abs(pit.worths).sum())
+        off = abs(float(said["undiscounted_cash_flow"].iloc[0]) - worth) > 6e-4 + 1e-12 * gross
+        wrong = (
+            [f"kept_undiscounted_cash_flow {said['undiscounted_cash_flow'].iloc[0]:.12g} for {worth:.12g}"]
+            if off or said["undiscounted_cash_flow"].isna().any()
+            else []
+        )
+        return rule("kept", "", [*wrong, *years.verify(pit).differences])
+
+    def skin(self, project: Project, said: float, moves_walls: bool) -> Rule:
+        """Verifies the value of the skin at the parameters of a case; nothing if the slopes change."""
+        if moves_walls:
+            return rule("skin", "", [] if np.isnan(said) else ["skin_value is given, although the slopes differ"])
+        given = self.cases[0]
+        assert given.skin is not None
+        skin = weighed(self.dug(np.where(given.skin, self.factor, 0), project, given.walls))
+        worth, gross = sums.sums(skin, self.factor)["undiscounted_cash_flow"], float(np.abs(skin.worths).sum())
+        is_near = abs(said - worth) <= 6e-4 + 1e-12 * gross
+        return rule("skin", "", [] if is_near else [f"skin_value {said:.12g} for {worth:.12g}"])
+
+    def dug(self, entry: np.ndarray, project: Project, patterns: list[Data]) -> Answer:
+        """Returns the blocks with pits, at the parameters of a case."""
+        said = self.ground.said.assign(revenue_factor=entry[self.ground.said["id"].to_numpy()])
+        record = {**self.ground.record, "walls": patterns}
+        whole = replace(self.ground, project=project, said=said, record=record, found={})
+        if project.economics.mining_cost_per_bench and project.economics.mining_cost_reference is None:
+            # Ore does not depend on mining costs, and its cones are found from all blocks.
+            flat = replace(project, economics=replace(project.economics, mining_cost_per_bench=Decimal(0)))
+            at = money.highest_needed(replace(whole, project=flat, said=gains(replace(whole, project=flat)), found={}))
+            charges = replace(project.economics, mining_cost_reference=Decimal(repr(float(at))))
+            whole = replace(whole, project=replace(project, economics=charges))
+        return whole
+
+
+def joined(name: str, holds: str, found: list[Rule]) -> Rule:
+    return rule(name, holds, [said for it in found for said in it.differences], sum(it.count for it in found))
+
+
+def cases_in(folder: Path, record: Data) -> Iterator[Case]:
+    for entry in record["cases"]:
+        path = folder / "cases" / f"{entry['key']}.npz"
+        try:
+            said = read_arrays(path, entry["key"])
+            case = Case(
+                tuple((name, Decimal(share)) for name, share in entry["changes"]),
+                said["entry"],
+                entry["walls"],
+                said.get("skin"),
+            )
+        except (ValueError, KeyError, TypeError) as error:
+            raise AuditError(f"{path}: is not a result of a case: {error}: run pitplan sensitivity again") from error
+        yield case
+
+
+def padded(changes: list[tuple[str, float]]) -> tuple[str, float, str, float]:
+    (one, by), (other, also) = [*changes, ("", 0.0), ("", 0.0)][:2]
+    return one, by, other, also
+
+
+def due_of(text: Text) -> list[tuple[str, float, str, float]]:
+    """Returns the cases that the text of the project sets."""
+    asked = text.data.get("sensitivity", {})
+    changes = [float(share) for share in asked.get("changes", map(Decimal, SHARES))]
+    names = asked.get("parameters") or [name for name in NUMBERS if is_given(text, name)]
+    names, pairs = [names] if isinstance(names, str) else names, asked.get("pairs", [])
+    alone = {*names, *(name for pair in pairs for name in pair)}
+    due = [padded([]), *(padded([(name, share)]) for name, share in product(alone, changes))]
+    return due + [
+        padded([(one, first), (other, second)]) for one, other in pairs for first, second in product(changes, changes)
+    ]
+
+
+def share_of(text: Text) -> Decimal:
+    return text.data.get("sensitivity", {}).get("skin", Decimal("0.05"))
+
+
+def is_given(text: Text, name: str) -> bool:
+    data = text.data
+    if name == "selling_cost":
+        return any(metal.get(name, 0) != 0 for metal in data["metals"])
+    if name == "haulage":
+        return "haulage" in data
+    return name != "slopes" or any({"angle", "azimuths", "bench"} & {*wall} for wall in data["slopes"]["domains"])
+
+
+def changed(text: Text, changes: tuple[tuple[str, Decimal], ...]) -> Project:
+    """Returns the project of the text with these numbers changed there."""
+    data = text.data
+    for name, share in changes:
+        kind, _, metal = name.partition(" ")
+        NUMBERS[kind](data, 1 + share, metal)
+    return of_data(data, text.place)
+
+
+def times(value: Any, by: Decimal, most: Decimal = Decimal("Infinity")) -> Any:
+    """Returns a number times a factor, or all numbers of a table by rock type or of a list; of pairs the second ones."""
+    if isinstance(value, dict):
+        return {key: times(it, by, most) for key, it in value.items()}
+    if isinstance(value, list):
+        return [[it[0], times(it[1], by, most)] if isinstance(it, list) else times(it, by, most) for it in value]
+    return min(value * by, most)
+
+
+def in_section(section: str, *keys: str, of_process: str = "") -> Any:
+    """Changes keys of a section, and a key of each process."""
+
+    def change(data: Data, by: Decimal, metal: str) -> None:
+        data[section] |= {key: times(data[section][key], by) for key in keys if key in data[section]}
+        for process in data.get("processes", []) if of_process else []:
+            process[of_process] = times(process[of_process], by)
+
+    return change
+
+
+def in_metals(*keys: str, most: Decimal = Decimal("Infinity")) -> Any:
+    def change(data: Data, by: Decimal, metal: str) -> None:
+        for one in data["metals"]:
+            if metal in ("", one["name"]):
+                one |= {key: times(one[key], by, most) for key in keys if key in one}
+
+    return change
+
+
+def in_recoveries(data: Data, by: Decimal, metal: str) -> None:
+    """Changes recoveries of metals, or of these in each process."""
+    in_metals("recovery", most=Decimal(1))(data, by, metal)
+    for process in data.get("processes", []):
+        process["recovery"] |= {
+            name: times(it, by, Decimal(1)) for name, it in process["recovery"].items() if metal in ("", name)
+        }
+
+
+def in_walls(data: Data, by: Decimal, metal: str) -> None:
+    for wall in data["slopes"]["domains"]:
+        if "bench" in wall:
+            bench = wall.pop("bench")
+            back = 1 / math.tan(math.radians(float(bench["face_angle"]))) + float(bench["berm_width"] / bench["height"])
+            wall["angle"] = Decimal(repr(math.degrees(math.atan2(1.0, back))))
+        wall |= {key: times(wall[key], by) for key in ("angle", "azimuths") if key in wall}
+
+
+NUMBERS: dict[str, Any] = {
+    "price": in_metals("price", "prices"),
+    "mining_cost": in_section("economics", "mining_cost", "mining_cost_per_bench", "mining_cost_by_elevation"),
+    "processing_cost": in_section("economics", "processing_cost", of_process="cost"),
+    "selling_cost": in_metals("selling_cost"),
+    "recovery": in_recoveries,
+    "slopes": in_walls,
+    "capacity": in_section("shells", "processing_capacity", "mining_capacity", of_process="capacity"),
+    "haulage": in_section("haulage", "cost"),
+}

@@ -1,0 +1,84 @@
+"""Compares what the planner and the audit read: projects, tables and surveys."""
+
+from dataclasses import fields, is_dataclass, replace
+from decimal import Decimal
+from pathlib import Path
+
+import numpy as np
+import tomllib
+
+from pitplan.blockmodel import reader
+from pitplan.survey import readers
+from planaudit.inputs import block_table, drawings, project_file, surveys
+from planaudit.inputs.project import SurveyFile, Wall
+
+
+def differences(audit, planner, where="project"):
+    """Yields where the audit's reading of a project differs from the planner's."""
+    if isinstance(audit, Wall) and audit.bench:
+        # The planner adds the angle of benches; the audit computes with the benches themselves.
+        planner = replace(planner, angles=())
+    if is_dataclass(audit):
+        for field in fields(audit):
+            yield from differences(getattr(audit, field.name), getattr(planner, field.name), f"{where}.{field.name}")
+    elif isinstance(audit, (tuple, list)) and isinstance(planner, (tuple, list)) and len(audit) == len(planner):
+        for number, (one, other) in enumerate(zip(audit, planner)):
+            yield from differences(one, other, f"{where}[{number}]")
+    elif isinstance(audit, dict) and isinstance(planner, dict) and audit.keys() == planner.keys():
+        for name in audit:
+            yield from differences(audit[name], planner[name], f"{where}.{name}")
+    elif audit != planner or isinstance(audit, Path) != isinstance(planner, Path):
+        yield f"{where}: {audit!r} for {planner!r}"
+
+
+def demand_read_alike(path, planner):
+    """Fails if the audit reads another project from a file than the planner."""
+    found = list(differences(project_file.load(path), planner))
+    assert not found, found
+
+
+def compare_tables(monkeypatch):
+    """Lets the audit read each table that the planner reads from a file, and fails if a field differs."""
+    read = reader.read
+
+    def read_twice(project):
+        table, sections = read(project), tomllib.loads(project.to_toml(project.path.parent), parse_float=Decimal)
+        again = block_table.read(project_file.of_data(sections, project.path.parent.joinpath))
+        for name in table.frame:
+            assert np.array_equal(again[name].to_numpy(), table.frame[name].to_numpy()), name
+        return table
+
+    monkeypatch.setattr(reader, "read", read_twice)
+
+
+def compare_surveys(monkeypatch):
+    """Lets the audit read each survey file that the planner reads, and fails if points, triangles or polygons differ."""
+    topography, areas = readers.topography, readers.areas
+
+    def heights_twice(file, around):
+        found, again = topography(file, around), SurveyFile(file.path, file.layers, file.height)
+        if file.path.suffix.lower() in drawings.RASTERS:
+            (west, east, south, north), ending = around, again.path
+            points, faces = drawings.of_raster(ending, np.array([west, south]), np.array([east, north]))
+        else:
+            points, faces = surveys.heights(again, {})
+        if len(found.faces):
+            assert triangles(found.points, found.faces) <= triangles(points, faces)
+        else:
+            assert set(map(tuple, found.points.tolist())) == set(map(tuple, points.tolist()))
+        return found
+
+    def areas_twice(file):
+        found, again = areas(file), surveys.polygons(SurveyFile(file.path, file.layers, file.height))
+        assert [[ring.tolist() for ring in it] for it in found.polygons] == [
+            [ring.tolist() for ring in it] for it in again
+        ]
+        return found
+
+    monkeypatch.setattr(readers, "topography", heights_twice)
+    monkeypatch.setattr(readers, "areas", areas_twice)
+
+
+def triangles(points, faces):
+    """Triangles as sets of corners."""
+    return {frozenset(map(tuple, points[face].tolist())) for face in faces}
