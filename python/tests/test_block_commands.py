@@ -14,13 +14,13 @@ from helpers.pushbacks import pillars
 from matplotlib.figure import Figure
 
 import pitplan
-from pitplan import Plan, PlanError, load
+from pitplan import Plan, PlanError, load, verify
 from pitplan.cli import main
 from pitplan.figures import block_schedule
 from pitplan.results.folder import read_record
 from pitplan.scheduling.blocks import from_plan, tables
 
-RULES = ["block order", "block limits", "block value"]
+RULES = ["block order", "block limits", "block value", "upper bound"]
 
 
 def test_three_pillars_by_hand(plan_folder):
@@ -215,7 +215,7 @@ def test_what_is_right_passes(copied, capsys):
     assert wrong(copied) == set()
     assert main(["verify", str(copied)]) == 0
     told = [line.split(":")[0] for line in capsys.readouterr().out.splitlines()]
-    assert told[-3:] == RULES
+    assert told[-4:] == RULES
     record = read_record(copied)
     assert "block_schedule.json" in record["files"] and any(
         line.startswith("block order") for line in record["verified"]
@@ -264,11 +264,58 @@ def test_a_year_that_is_not_the_sum_of_its_blocks_is_found(copied, name):
     assert "block value" in wrong(copied)
 
 
-@pytest.mark.parametrize(("key", "change"), [("npv", 1), ("upper_bound", -1e9), ("gap", 0.01)])
-def test_a_value_or_a_bound_that_is_not_so_is_found(copied, key, change):
+@pytest.mark.parametrize(
+    ("key", "change", "rules"),
+    [
+        ("npv", 1, {"block value"}),
+        ("upper_bound", -1e9, {"block value", "upper bound"}),
+        ("gap", 0.01, {"block value"}),
+    ],
+)
+def test_a_value_or_a_bound_that_is_not_so_is_found(copied, key, change, rules):
     told = json.loads((copied / "block_schedule.json").read_text())
     (copied / "block_schedule.json").write_text(json.dumps(told | {key: told[key] + change}))
-    assert wrong(copied) == {"block value"}
+    assert wrong(copied) == rules
+
+
+@pytest.mark.parametrize("more", [1.0, -1.0])
+def test_a_bound_that_does_not_follow_from_its_multipliers_is_found(copied, more):
+    """With the gap that belongs to it, so that nothing else is wrong."""
+    told = json.loads((copied / "block_schedule.json").read_text())
+    bound = told["upper_bound"] + more
+    changed = {"upper_bound": bound, "gap": (bound - told["npv"]) / bound}
+    (copied / "block_schedule.json").write_text(json.dumps(told | changed))
+    methods = pd.read_csv(copied / "tables/methods.csv").assign(upper_bound=bound, optimality_gap=changed["gap"])
+    methods.to_csv(copied / "tables/methods.csv", index=False)
+    assert wrong(copied) == {"upper bound"}
+
+
+@pytest.mark.parametrize("times", [0.0, 0.9, 1.5])
+def test_multipliers_that_are_others_are_found(copied, times):
+    """All together. Any multipliers give a bound, and these a greater one."""
+    table = pd.read_csv(copied / "tables/bound.csv", float_precision="round_trip")
+    table.assign(price=table["price"] * times).to_csv(copied / "tables/bound.csv", index=False)
+    assert wrong(copied) == {"upper bound"}
+
+
+@pytest.mark.parametrize(
+    ("change", "said"),
+    [
+        (lambda table: table.iloc[1:], "bound.csv has "),
+        (lambda table: table.assign(limit="nothing"), "bound.csv has "),
+        (lambda table: table.assign(year=table["year"] + 1), "bound.csv has "),
+        (lambda table: table.assign(price=float("nan")), "price nan"),
+        (lambda table: table.iloc[:0], " for 0: bound.csv has no rows"),
+    ],
+)
+def test_multipliers_of_other_limits_are_found(copied, change, said):
+    path = copied / "tables/bound.csv"
+    change(pd.read_csv(path)).to_csv(path, index=False)
+    (rule,) = [rule for rule in verify(copied) if rule.differences]
+    assert rule.name == "upper bound" and said in rule.differences[0]
+    path.unlink()
+    (rule,) = [rule for rule in verify(copied) if rule.differences]
+    assert rule.differences == ("bound.csv is missing",)
 
 
 def test_a_limit_that_is_not_the_projects_is_found(copied):

@@ -112,7 +112,7 @@ def tables_of(answered: Answered) -> list[str]:
     """The names of the tables that an answer has."""
     found = [names.TABLE, names.SHELLS, names.YEARS, *([names.PUSHBACKS] if answered.pushbacks else [])]
     found += [names.SCHEDULE, names.SCHEDULE_RECORD, names.WORKBOOK] if answered.schedule else []
-    found += [names.BLOCK_SCHEDULE] if answered.blocks else []
+    found += [names.BLOCK_SCHEDULE, names.BOUND] if answered.blocks else []
     found += [names.METHODS] if answered.schedule or answered.blocks else []
     return [*found, names.MILLING] if answered.schedule and answered.schedule.milling else found
 
@@ -153,6 +153,7 @@ def write_tables(answered: Answered, stage: Path) -> tuple[pd.DataFrame, pd.Data
         blocks, years = answered.blocks.beside(blocks), pd.concat([years, answered.blocks.years], ignore_index=True)
         write_json(stage / names.BLOCK_SCHEDULE, answered.blocks.record)
         write_csv(shown(answered.blocks.methods), stage / names.METHODS, plan.project)
+        answered.blocks.multipliers.to_csv(stage / names.BOUND, index=False)
     write_table(blocks, stage)
     for found, name in ((table, names.SHELLS), (years, names.YEARS)):
         write_csv(shown(found if pushbacks is None else with_outline(found, plan.project)), stage / name, plan.project)

@@ -248,6 +248,21 @@ MILL_FEED = Table(
     ),
 )
 METHODS = Table("methods.csv", "a row per method", (METHOD, NPV, BOUND, GAP, *SCHEDULED, DISCOUNTS))
+MULTIPLIERS = Table(
+    "bound.csv",
+    "of a schedule by block: a row per limit and year; the upper bound follows from these",
+    (
+        Column("limit", TEXT, "the amount that is limited, as in `years.csv`; `must_mine` for must-mine blocks"),
+        Column("side", TEXT, "`max`, or `min` for a minimum"),
+        Column("year", COUNT, "from 1; 0 for all years"),
+        Column(
+            "price",
+            Unit("currency per unit of the amount"),
+            "its Lagrange multiplier, discounted; below 0 for a minimum",
+        ),
+    ),
+    digits=0,
+)
 SENSITIVITY = Table(
     "sensitivity.csv",
     "a row per case; the first is the base case",
@@ -361,7 +376,7 @@ BLOCK_TABLE = Table(
     digits=0,
 )
 TABLES: tuple[Table, ...] = (BLOCK_TABLE, SHELLS, YEARLY, PITS, PUSHBACKS, SCHEDULE, MILL_FEED, METHODS, SENSITIVITY)
-TABLES += (PROBABILITY, SCENARIOS, QUANTILES, COMMON, COMMON_YEARS, SCHEDULES, BLOCK_QUANTILES)
+TABLES += (MULTIPLIERS, PROBABILITY, SCENARIOS, QUANTILES, COMMON, COMMON_YEARS, SCHEDULES, BLOCK_QUANTILES)
 
 
 @cache

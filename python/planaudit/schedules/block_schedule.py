@@ -17,7 +17,7 @@ from planaudit.inputs.answer import Answer
 from planaudit.inputs.matching import YEAR
 from planaudit.money.period_costs import premiums
 from planaudit.rules import TOLD, Rule, rule
-from planaudit.schedules import methods as ways_table
+from planaudit.schedules import bounds, methods as ways_table
 from planaudit.schedules.limits import amounts_of, least_of, limits_of, shares_of
 from planaudit.schedules.pushback_schedule import CENT, discount
 
@@ -35,6 +35,7 @@ def verify(answer: Answer) -> list[Rule]:
         verify_limits(answer, told, sums),
         verify_fixed(answer),
         verify_value(answer, told, sums),
+        bounds.verify(answer, told),
     ]
     return [found for found in rules if found is not None]
 

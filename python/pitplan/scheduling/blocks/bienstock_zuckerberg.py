@@ -53,7 +53,8 @@ class Relaxation:
 
     bound        in money: no schedule earns more
     cumulative   the share of each block that is dug by the end of each year: shape (blocks, years)
-    prices       of a unit of each limit in each year, in money, and of each due: shape (limits and dues, years)
+    prices       of a unit of each limit in each year, in money, and of each due, in the last round: shape (limits and dues, years)
+    multipliers  those at which the closure gave the bound
     rounds       what each round found
     interrupted  whether it was ended by an interruption
     """
@@ -61,6 +62,7 @@ class Relaxation:
     bound: float
     cumulative: NDArray[np.float64]
     prices: NDArray[np.float64]
+    multipliers: NDArray[np.float64]
     rounds: tuple[Round, ...]
     interrupted: bool = False
 
@@ -98,6 +100,7 @@ class Solver:
     began: float
     rounds: list[Round] = field(default_factory=list)
     bound: float = np.inf
+    multipliers: NDArray[np.float64] = field(default_factory=lambda: np.zeros((0, 0)))
     restricted: Restricted | None = None
     label: NDArray[np.int32] | None = None
 
@@ -108,7 +111,9 @@ class Solver:
             restricted = self.master.solve(self.groups)
             closure = priced(self.nodes, restricted.prices)
             self.restricted, self.label = restricted, self.groups.label
-            self.bound, count = min(self.bound, closure.bound), self.groups.count
+            if closure.bound < self.bound:
+                self.bound, self.multipliers = closure.bound, restricted.prices
+            count = self.groups.count
             self.groups = self.groups.divided(closure.in_closure)
             self.rounds.append(
                 Round(len(self.rounds) + 1, self.bound, restricted.value, count, time.monotonic() - self.began)
@@ -119,7 +124,8 @@ class Solver:
         """As far as it is solved, by one round at least."""
         assert self.restricted is not None and self.label is not None
         cumulative = self.nodes.gathered(self.restricted.share[self.label])[:, -1]
-        return Relaxation(self.bound, cumulative, self.restricted.prices, tuple(self.rounds), interrupted)
+        prices = self.restricted.prices
+        return Relaxation(self.bound, cumulative, prices, self.multipliers, tuple(self.rounds), interrupted)
 
 
 def keeping_dues(nodes: Nodes, groups: Groups) -> Groups:

@@ -47,6 +47,7 @@ class Scheduled:
     nodes        of the relaxation: such a block by a year in which it can be dug
     rounds       of the relaxation
     interrupted  whether the run was ended before it was through
+    multipliers  prices of a unit of each limit and due by year, in money, from which the bound follows: shape (limits and dues, years)
     """
 
     schedule: BlockSchedule
@@ -56,6 +57,7 @@ class Scheduled:
     nodes: int
     rounds: tuple[Round, ...] = ()
     interrupted: bool = False
+    multipliers: NDArray[np.float64] = field(default_factory=lambda: np.zeros((0, 0)))
 
     @property
     def gap(self) -> float:
@@ -255,9 +257,8 @@ class Search:
         year, share = np.full(problem.blocks, problem.years), np.zeros((problem.blocks, problem.destinations))
         year[self.part.kept], share[self.part.kept] = self.best.year, self.best.share
         schedule, size = BlockSchedule(year, share), (self.problem.blocks, len(self.part.nodes))
-        return Scheduled(
-            schedule, schedule.value(problem), self.relaxation.bound, *size, self.relaxation.rounds, interrupted
-        )
+        found, value = self.relaxation, schedule.value(problem)
+        return Scheduled(schedule, value, found.bound, *size, found.rounds, interrupted, found.multipliers)
 
 
 def gap_of(value: float, bound: float) -> float:

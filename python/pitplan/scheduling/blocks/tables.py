@@ -24,6 +24,8 @@ from .scheduler import Scheduled, gap_of, solve
 
 # What years.csv calls the case, and how the names of blocks.csv's columns of shares begin.
 CASE, SHARE = "block", "share_"
+# What bound.csv calls the minimum of must-mine blocks.
+MUST_MINE = "must_mine"
 
 
 @dataclass(frozen=True)
@@ -96,6 +98,20 @@ class ScheduledBlocks:
         table = self.table
         table.insert(0, "method", CASE)
         return table
+
+    @property
+    def multipliers(self) -> pd.DataFrame:
+        """A row per limit and year: the prices from which the upper bound follows. Empty if nothing can be mined."""
+        problem, prices = self.planned.problem, self.found.multipliers
+        if not prices.size:
+            return pd.DataFrame(columns=["limit", "side", "year", "price"])
+        rows = [
+            (limit.name, "max" if np.isfinite(limit.most).all() else "min", year, price)
+            for limit, by_year in zip(problem.limits, prices)
+            for year, price in enumerate(by_year, 1)
+        ]
+        rows += [(MUST_MINE, "min", 0, by_year[0]) for _, by_year in zip(problem.dues, prices[len(problem.limits) :])]
+        return pd.DataFrame(rows, columns=["limit", "side", "year", "price"])
 
     @property
     def record(self) -> dict[str, Any]:

@@ -1,0 +1,212 @@
+"""Recomputes the upper bound of a schedule by block from its Lagrange multipliers, tables/bound.csv.
+
+With a price on each limit in each year no schedule earns more than the sum of the prices times the limits and the value of the best closure of
+blocks by years, where each block earns its discounted cash flow less the prices of what it uses. This holds for any prices.
+"""
+
+from __future__ import annotations
+
+from collections.abc import Iterator
+from dataclasses import dataclass
+from functools import cached_property
+from typing import Any
+
+import numpy as np
+import pandas as pd
+
+from planaudit.blocks import constraints
+from planaudit.inputs.answer import Answer
+from planaudit.inputs.tables import TABLES
+from planaudit.money.period_costs import premiums
+from planaudit.rules import Rule, rule
+from planaudit.schedules.closure import Closure, maximum_closure
+from planaudit.schedules.limits import amounts_of, least_of, limits_of, shares_of
+from planaudit.schedules.precedences import Precedences, precedences_of
+from planaudit.schedules.pushback_schedule import CENT, discount
+
+FILE, MUST_MINE = "bound.csv", "must_mine"
+MAX, MIN = "max", "min"
+NAME = "upper bound"
+HOLDS = "the upper bound follows from the multipliers of bound.csv by one maximum closure: no schedule has a higher NPV"
+# Sums of tonnes may exceed a limit by a hair, and sums of money differ by so much in another order.
+HAIR, SLIGHT = 1e-9, 1e-7
+# With more precedences the bound is not recomputed.
+MOST_ARCS = 20_000_000
+
+
+def verify(answer: Answer, told: dict[str, Any]) -> Rule:
+    """Verifies the upper bound of block_schedule.json."""
+    path = answer.folder / TABLES / FILE
+    if not path.is_file():
+        return rule(NAME, HOLDS, [f"{FILE} is missing"])
+    prices = pd.read_csv(path, float_precision="round_trip", dtype={"limit": str, "side": str})
+    if prices.empty:
+        differences = [] if told["upper_bound"] == 0 else [f"{told['upper_bound']:.12g} for 0: {FILE} has no rows"]
+        return rule(NAME, HOLDS, differences)
+    bound = Bound(answer, prices, int(told["years"]))
+    differences = list(bound.unlike_limits())
+    if differences:
+        return rule(NAME, HOLDS, differences)
+    if bound.arcs is None:
+        return rule(NAME, f"not recomputed: the blocks have more than {MOST_ARCS:,} slope precedences", [])
+    value, slack = bound.value
+    off = abs(told["upper_bound"] - value) > slack + CENT + SLIGHT * abs(value)
+    return rule(NAME, HOLDS, [f"{told['upper_bound']:.12g} for {value:.12g}"] if off else [])
+
+
+@dataclass(frozen=True)
+class Bound:
+    """A bound that is recomputed.
+
+    Attributes
+    ----------
+    answer : Answer
+    prices : DataFrame
+        bound.csv: limit, side, year and price.
+    years : int
+        The years in which blocks may be mined.
+    """
+
+    answer: Answer
+    prices: pd.DataFrame
+    years: int
+
+    @cached_property
+    def limits(self) -> dict[tuple[str, str, int], float]:
+        """The limits of the project by name, side and year."""
+        found: dict[tuple[str, str, int], float] = {}
+        ramps = {name: ramp for name, ramp, _ in limits_of(self.answer)}
+        for name, ramp, most in limits_of(self.answer):
+            found |= {(name, MAX, year): most * at(ramp, year) for year in self.every_year}
+        for name, least in least_of(self.answer):
+            ramp = ramps["feed_tonnes"] if name.startswith("feed_tonnes") else (1.0,)
+            found |= {(name, MIN, year): least * at(ramp, year) for year in self.every_year}
+        if self.must.any():
+            found[MUST_MINE, MIN, 0] = float(np.count_nonzero(self.must))
+        return found
+
+    @property
+    def every_year(self) -> range:
+        return range(1, self.years + 1)
+
+    @cached_property
+    def fixed(self) -> tuple[np.ndarray, np.ndarray]:
+        """Masks of must-mine and excluded blocks, shape (rows,)."""
+        rules, nothing = self.answer.project.constraints, np.zeros(len(self.answer.rows), dtype=bool)
+        return (nothing, nothing) if rules is None else constraints.demanded(self.answer, rules)
+
+    @property
+    def must(self) -> np.ndarray:
+        return self.fixed[0]
+
+    def unlike_limits(self) -> Iterator[str]:
+        """Yields the rows of bound.csv without a limit of the project, and prices of the wrong sign."""
+        rows = list(self.prices.itertuples(index=False))
+        there = [(it.limit, it.side, it.year) for it in rows]
+        if sorted(there) != sorted(self.limits):
+            yield f"{FILE} has {len(there)} rows for the {len(self.limits)} limits and years of the project, or others"
+        wrong = [it for it in rows if not np.isfinite(it.price) or it.side == MIN and it.price > 0]
+        yield from (f"{FILE}: {it.limit} {it.side}, year {it.year}: price {it.price}" for it in wrong)
+
+    @cached_property
+    def of_limits(self) -> float:
+        """The prices times the limits. A maximum at a price below 0 counts as 0: its minimum."""
+        rows = self.prices.itertuples(index=False)
+        return sum(it.price * self.limits[it.limit, it.side, it.year] for it in rows if it.side == MIN or it.price > 0)
+
+    @cached_property
+    def earned(self) -> np.ndarray:
+        """What each block earns in each year where it earns most, less the prices of what it uses, shape (rows, years)."""
+        best = np.full((len(self.answer.rows), self.years), -np.inf)
+        for name in (None, *(name for name, _ in shares_of(self.answer))):
+            best = np.maximum(best, self.earned_as(name))
+        return best
+
+    def earned_as(self, process: str | None) -> np.ndarray:
+        """Returns the same of blocks that are all sent to one process, or are waste."""
+        answer, said, names = self.answer, self.answer.said, [name for name, _ in shares_of(self.answer)]
+        shares = [(name, np.full(len(said), float(name == process))) for name in names]
+        amounts, cash, pays = amounts_of(answer, shares), -said["mining_cost"].to_numpy(), np.zeros(len(said), bool)
+        if process is not None:
+            revenue, cost = answer.amounts_of_ways[names.index(process)]
+            cash, pays = cash + (said[revenue] - said[cost]).to_numpy(), (said[revenue] > 0).to_numpy()
+        found = np.empty((len(said), self.years))
+        for year in self.every_year:
+            more = sum(price * amounts[it].to_numpy() for it, price in premiums(answer.project, year).items())
+            found[:, year - 1] = (cash + more) * discount(answer, year)
+        return found - self.priced(amounts, pays)
+
+    def priced(self, amounts: pd.DataFrame, pays: np.ndarray) -> np.ndarray:
+        """Returns the prices of what blocks use, shape (rows, years). Without revenue processed ore does not count towards a minimum."""
+        found = np.zeros((len(amounts), self.years))
+        for it in self.prices.itertuples(index=False):
+            if it.limit == MUST_MINE:
+                found += it.price * self.must[:, None]
+                continue
+            used = amounts[it.limit].to_numpy()
+            if it.side == MIN and not is_of_all(self.answer, it.limit):
+                used = np.where(pays, used, 0.0)
+            found[:, it.year - 1] += it.price * used
+        return found
+
+    @cached_property
+    def arcs(self) -> Precedences | None:
+        """The blocks that a best closure may hold, with their precedences; None if these are too many."""
+        gains = -np.diff(self.earned, axis=1, append=0.0)
+        return precedences_of(self.answer, (gains > 0).any(axis=1), self.fixed[1], MOST_ARCS)
+
+    @cached_property
+    def first(self) -> np.ndarray:
+        """The first year, from 1, by which the limits let each block of `arcs` be mined with all that it needs, shape (nodes,)."""
+        assert self.arcs is not None
+        nothing = [(name, np.zeros(len(self.answer.rows))) for name, _ in shares_of(self.answer)]
+        waste, first = amounts_of(self.answer, nothing), np.ones(len(self.arcs), dtype=np.int64)
+        for name in {name for name, side, _ in self.limits if side == MAX and is_of_all(self.answer, name)}:
+            most = np.cumsum([self.limits[name, MAX, year] for year in self.every_year]) * (1 + HAIR)
+            first = np.maximum(first, 1 + np.searchsorted(most, self.arcs.cone_sums(self.arcs.spread(waste[name]))))
+        return first
+
+    @cached_property
+    def value(self) -> tuple[float, float]:
+        """The bound, and by how much it may be larger: the closures of years, those solved together that are not nested."""
+        parts = [(year, year, self.closure(year, year)) for year in self.every_year]
+        while True:
+            number = next((k for k in range(len(parts) - 1) if not self.is_nested(parts[k], parts[k + 1])), None)
+            if number is None:
+                found = [part for _, _, part in parts]
+                return self.of_limits + sum(it.value for it in found), sum(it.slack for it in found)
+            years = parts[number][0], parts[number + 1][1]
+            parts[number : number + 2] = [(*years, self.closure(*years))]
+
+    def closure(self, first: int, last: int) -> Closure:
+        """Returns the best closure of the blocks that can be mined by each of some years, year by year."""
+        assert self.arcs is not None
+        gains = self.arcs.spread(pd.DataFrame(-np.diff(self.earned, axis=1, append=0.0)))
+        count = len(self.arcs)
+        values, arcs = [], []
+        for place, year in enumerate(range(first, last + 1)):
+            can = self.first <= year
+            values.append(np.where(can, gains[:, year - 1], 0.0))
+            inner = can[self.arcs.nodes]
+            arcs.append(place * count + np.stack([self.arcs.nodes[inner], self.arcs.needed[inner]]))
+            if year < last:
+                arcs.append(place * count + np.stack([np.arange(count), np.arange(count) + count])[:, can])
+        nodes, needed = np.concatenate(arcs, axis=1)
+        return maximum_closure(np.concatenate(values), nodes, needed)
+
+    def is_nested(self, one: tuple[int, int, Closure], other: tuple[int, int, Closure]) -> bool:
+        """Returns whether the blocks of a part by its last year are among those of the next part by its first."""
+        assert self.arcs is not None
+        count = len(self.arcs)
+        return bool((one[2].inside[-count:] <= other[2].inside[:count]).all())
+
+
+def at(ramp: tuple[float, ...], year: int) -> float:
+    return ramp[min(year, len(ramp)) - 1]
+
+
+def is_of_all(answer: Answer, name: str) -> bool:
+    """Returns whether an amount counts all material, and not only what is processed."""
+    rules = answer.project.schedule
+    totals = {f"sum_{it.name}" for it in (rules.limits if rules else ()) if it.of == "total"}
+    return name == "total_tonnes" or name in totals
