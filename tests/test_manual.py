@@ -120,7 +120,7 @@ def test_install_puts_all_in_place(tmp_path: pathlib.Path) -> None:
     assert {"docs/PLANNING.md", "examples/plan/project.toml"} <= set(documents)
     places |= {f"share/doc/pitshell/{name}": TOP / name for name in documents}
     layer = "lib/pitshell/python"
-    packages = [TOP / "python" / name for name in ("pitplan", "minelib", "pitshell")]
+    packages = [TOP / "python" / name for name in ("pitplan", "planaudit", "minelib", "pitshell")]
     sources = [file for package in packages for file in package.rglob("*") if file.is_file() and file.suffix != ".pyc"]
     places |= {f"{layer}/{file.relative_to(TOP / 'python')}": file for file in sources}
     places |= {f"{layer}/pitplan/checkers/{name}": TOP / "tools" / name for name in ("check_certificate.py", "replay_journal.py")}
