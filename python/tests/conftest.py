@@ -1,6 +1,7 @@
 """What the tests share: small projects and tables, written where a test may write."""
 
 import io
+import os
 import shutil
 import signal
 import sys
@@ -148,6 +149,14 @@ def highs_here():
         yield
 
 
+@pytest.fixture(scope="session", autouse=True)
+def one_processor():
+    """Dask takes one process where a test names no number, since each imports all libraries."""
+    with pytest.MonkeyPatch.context() as patch:
+        patch.setattr(os, "sched_getaffinity", lambda pid: {0})
+        yield
+
+
 @pytest.fixture
 def highs_apart(monkeypatch):
     """HiGHS solves each programme in a process of its own, as large ones for a planner."""
@@ -163,6 +172,14 @@ def with_figures(monkeypatch):
     from pitplan.commands import writing
 
     monkeypatch.setattr(writing, "DRAWS", True)
+
+
+@pytest.fixture
+def with_blank_figures(with_figures, monkeypatch):
+    """The same, but the files of figures are blank: they are laid out and not rendered, which takes most of the time."""
+    from matplotlib.figure import Figure
+
+    monkeypatch.setattr(Figure, "savefig", lambda figure, path, **options: Path(path).write_bytes(b"blank"))
 
 
 @pytest.fixture(scope="session")
