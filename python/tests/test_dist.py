@@ -50,7 +50,8 @@ def plan_and_check(folder: Path, commands: Path, *options: str) -> None:
 def test_wheels_serve_in_an_environment_of_their_own(dist, tmp_path):
     subprocess.run(["/usr/bin/python3", "-m", "venv", "--system-site-packages", tmp_path / "venv"], check=True)
     commands = tmp_path / "venv" / "bin"
-    run(commands / "pip", "install", "--quiet", "--no-index", "--no-deps", *dist.glob("*.whl"), commands=commands)
+    options = ("--quiet", "--no-index", "--no-deps", "--no-compile", "--disable-pip-version-check")
+    run(commands / "pip", "install", *options, *dist.glob("*.whl"), commands=commands)
     assert run(commands / "python", "-c", SOLVE, commands=commands) == "2.000000\n"
     assert run("pitshell", "--version", commands=commands) == f"pitshell {VERSION}\n"
     plan_and_check(tmp_path, commands)

@@ -39,7 +39,8 @@ def folder(tmp_path_factory):
         "--out",
         place,
         "--workers",
-        "2",
+        "1",
+        "--no-figures",
         "--quiet",
     ]
     subprocess.run([sys.executable, *words], check=True)
@@ -146,7 +147,8 @@ def scheduled(tmp_path_factory):
         "--out",
         place,
         "--workers",
-        "2",
+        "1",
+        "--no-figures",
         "--quiet",
     ]
     subprocess.run([sys.executable, *words], check=True)

@@ -56,6 +56,7 @@ def test_a_run_without_figures_removes_those_of_an_earlier_run(mine, command, na
     page, record = (folder / "report.html").read_text(), json.loads((folder / "plan.json").read_text())
     assert figures_in(folder) == {*drawn.values()} < {*record["files"]} and record["figures"] is True
     assert page.count("data:image/png") == len(drawn) and "<h2>Figures</h2>" in page
+    assert all((folder / figure).read_bytes().startswith(b"\x89PNG") for figure in drawn.values())
     assert all(f"<h3>{heading}</h3>" in page for heading in headings)
     second = command(mine, writing=BARE)
     page, record = (folder / "report.html").read_text(), json.loads((folder / "plan.json").read_text())
@@ -65,7 +66,7 @@ def test_a_run_without_figures_removes_those_of_an_earlier_run(mine, command, na
     assert first.to_csv() == second.to_csv()
 
 
-def test_figures_of_other_formats_are_removed_too(mine):
+def test_figures_of_other_formats_are_removed_too(mine, with_blank_figures):
     mine.write_text(mine.read_text() + '[figures]\nformats = ["svg"]\n')
     pitplan.write_shells(mine, writing=ONCE)
     folder = mine.parent / "plan"
@@ -105,6 +106,7 @@ def test_scenarios_without_figures(mine, by, names):
     pytest.importorskip("distributed")
     result = pitplan.write_scenarios(mine, request=pitplan.Request(workers=1, by=by), writing=ONCE)
     assert figures_in(result.folder) == names
+    assert all((result.folder / name).read_bytes().startswith(b"\x89PNG") for name in names)
     assert json.loads((result.folder / "gathered.json").read_text())["figures"] is True
     assert main(["gather", str(result.folder), "--no-figures", "--no-verify", "--quiet"]) == 0
     assert figures_in(result.folder) == set()

@@ -13,7 +13,7 @@ from pitplan import PlanError
 from pitplan.blockmodel.grid import Grid
 from pitplan.config.figures import FigureRules
 from pitplan.figures import map_marks, plans_sections, pushbacks, scenarios
-from pitplan.figures.style import ALSO, panels
+from pitplan.figures.style import ALSO, also_as, panels
 
 METALS = '[[metals]]\nname = "gold"\ncolumn = "au"\nunit = "gram_per_tonne"\nprice = 60\nrecovery = 0.9\n[slopes]\n'
 
@@ -233,27 +233,33 @@ def test_grades_are_those_of_the_metal_asked_for(project):
     )
 
 
-def test_pictures_are_written_as_pdf_and_svg_too_the_same_each_time(project, with_figures):
-    path = project('formats = ["pdf", "svg"]')
-    written = []
-    for _ in range(2):
-        pitplan.write_shells(path, writing=pitplan.Writing(verifies=False))
-        folder = path.parent / "plan"
-        record = json.loads((folder / "plan.json").read_text())["files"]
-        names = {
-            f"figures/{name}.{kind}"
-            for name in ("pit_by_pit", "years", "plans", "sections")
-            for kind in ("png", "pdf", "svg")
-        }
-        assert names <= set(record) and all(
-            hashlib.sha256((folder / name).read_bytes()).hexdigest() == record[name] for name in names
-        )
-        written.append({name: record[name] for name in names})
-    assert written[0] == written[1]
-    assert (folder / "figures/plans.pdf").read_bytes().startswith(b"%PDF-") and b"<svg" in (
-        folder / "figures/plans.svg"
-    ).read_bytes()[:500]
+def test_figures_are_written_as_pdf_and_svg_too(project, with_blank_figures):
+    pitplan.write_shells(project('formats = ["pdf", "svg"]'), writing=pitplan.Writing(verifies=False))
+    folder = project("").parent / "plan"
+    record = json.loads((folder / "plan.json").read_text())["files"]
+    names = {
+        f"figures/{name}.{kind}"
+        for name in ("pit_by_pit", "years", "plans", "sections")
+        for kind in ("png", "pdf", "svg")
+    }
+    assert names <= set(record) and all(
+        hashlib.sha256((folder / name).read_bytes()).hexdigest() == record[name] for name in names
+    )
     assert ALSO.get() == (), "the next run draws PNG alone"
+
+
+def test_a_figure_has_the_same_bytes_each_time_in_each_format(project, tmp_path):
+    plan = pitplan.Plan.from_project(project(""))
+    scene_of = plans_sections.scene_of(plan, plan.shells().solution, 1.0)
+    written = []
+    for name in ("one", "two"):
+        (tmp_path / name).mkdir()
+        with also_as(("pdf", "svg")):
+            plans_sections.write_sections(scene_of, tmp_path / name / "sections.png")
+        written.append({path.suffix: path.read_bytes() for path in (tmp_path / name).iterdir()})
+    assert written[0] == written[1]
+    assert written[0][".png"].startswith(b"\x89PNG") and written[0][".pdf"].startswith(b"%PDF-")
+    assert b"<svg" in written[0][".svg"][:500]
 
 
 def test_pushbacks_are_drawn_where_the_project_asks_for(project, monkeypatch, with_figures):

@@ -229,7 +229,7 @@ def turns(folder: Path, count: int) -> None:
         "report.html",
     ],
 )
-def test_a_folder_in_place_of_a_file_is_refused_before_anything_is_replaced(mine, name):
+def test_a_folder_in_place_of_a_file_is_refused_before_anything_is_replaced(mine, name, with_blank_figures):
     folder = mine.parent / "out"
     pitplan.write_shells(mine, folder, writing=pitplan.Writing(verifies=False, figures=name.endswith(".png")))
     (folder / name).unlink(missing_ok=True)
@@ -319,7 +319,7 @@ def test_scenarios_do_not_replace_the_project_of_another_mine(mine):
     assert {path.name: path.read_text() for path in other.iterdir()} == {"project.toml": "title = 'another mine'\n"}
 
 
-def test_a_run_removes_what_an_earlier_one_wrote_and_it_does_not(mine, with_figures):
+def test_a_run_removes_what_an_earlier_one_wrote_and_it_does_not(mine, with_blank_figures):
     """Tables, records, figures and pages of a schedule show other results than the shells; exports stay."""
     folder, bare = mine.parent / "out", pitplan.Writing(verifies=False)
     pitplan.write_schedule(mine, folder, writing=bare)
