@@ -15,6 +15,7 @@ from helpers.block_problems import (
     random_problem,
     without_first,
 )
+from helpers.random_tests import seeds
 from hypothesis import given, strategies as st
 from scipy.optimize import linprog
 
@@ -49,9 +50,9 @@ def first_years(problem):
     return found
 
 
-@pytest.mark.parametrize("batch", range(10))
+@pytest.mark.parametrize("batch", seeds(3, 50))
 def test_bound_and_relaxation_are_the_optimum_of_the_whole_programme(batch):
-    """Of 200 cases of up to 60 blocks and 4 years."""
+    """Twenty cases of up to 60 blocks and 4 years."""
     for seed in range(20 * batch, 20 * batch + 20):
         problem = random_problem(seed)
         found = relaxed(without_first(problem), EXACT)
@@ -63,7 +64,7 @@ def test_bound_and_relaxation_are_the_optimum_of_the_whole_programme(batch):
         assert all(one.bound >= optimum - slack >= one.value - 2 * slack for one in found.rounds), seed
 
 
-@pytest.mark.parametrize("batch", range(4))
+@pytest.mark.parametrize("batch", seeds(2, 20))
 def test_what_is_left_out_changes_no_optimum(batch):
     """The programme knows only the first years."""
     for seed in range(1000 + 20 * batch, 1020 + 20 * batch):

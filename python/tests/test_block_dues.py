@@ -6,6 +6,7 @@ from itertools import product
 import numpy as np
 import pytest
 from helpers.block_problems import EXACT, demand_sound, pairs_of, problem_of, programme, random_problem, without_first
+from helpers.random_tests import seeds
 from scipy.optimize import Bounds, LinearConstraint, linprog, milp
 
 from pitplan import PlanError
@@ -76,9 +77,9 @@ def integer_optimum(problem):
     return -found.fun if found.status == 0 else None
 
 
-@pytest.mark.parametrize("batch", range(5))
+@pytest.mark.parametrize("batch", range(2))
 def test_the_bound_is_the_optimum_of_the_whole_programme(batch):
-    """Of 100 cases of up to 40 blocks: some keep nothing, and that is told."""
+    """Twenty cases of up to 40 blocks: some keep nothing, and that is told."""
     kept = 0
     for seed in range(20 * batch, 20 * batch + 20):
         problem = with_dues(random_problem(seed, most=40), seed)
@@ -97,7 +98,7 @@ def test_the_bound_is_the_optimum_of_the_whole_programme(batch):
     assert 3 <= kept <= 19
 
 
-@pytest.mark.parametrize("batch", range(3))
+@pytest.mark.parametrize("batch", seeds(1, 20))
 def test_what_is_left_out_changes_no_optimum(batch):
     for seed in range(500 + 20 * batch, 520 + 20 * batch):
         problem = with_dues(random_problem(seed, most=30), seed)
@@ -106,7 +107,7 @@ def test_what_is_left_out_changes_no_optimum(batch):
         assert optimum is None or whole == pytest.approx(optimum, abs=1e-6 * max(1.0, abs(optimum)))
 
 
-@pytest.mark.parametrize("batch", range(3))
+@pytest.mark.parametrize("batch", seeds(2, 20))
 def test_at_any_prices_the_bound_is_above_the_optimum(batch):
     for seed in range(700 + 20 * batch, 720 + 20 * batch):
         problem, rng = with_dues(random_problem(seed, most=20), seed), np.random.default_rng(seed)
@@ -129,7 +130,7 @@ def keeps_dues(problem, schedule):
         assert (due.amounts * schedule.share).sum() >= due.least * (1 - 1e-8)
 
 
-@pytest.mark.parametrize("batch", range(4))
+@pytest.mark.parametrize("batch", range(2))
 def test_small_schedules_are_the_best_that_keep_what_is_due(batch):
     """Of up to 12 blocks, which one window holds; where no whole blocks keep it that is told too."""
     kept = 0
@@ -152,7 +153,7 @@ def test_small_schedules_are_the_best_that_keep_what_is_due(batch):
     assert kept
 
 
-@pytest.mark.parametrize("batch", range(3))
+@pytest.mark.parametrize("batch", seeds(2, 20))
 def test_schedules_of_several_destinations_keep_what_is_due(batch):
     """Without integer programmes but those that what is due asks for."""
     for seed in range(3000 + 8 * batch, 3008 + 8 * batch):

@@ -173,7 +173,7 @@ def earned(year, grades, years, ore):
 grades_of = st.lists(st.sampled_from([0, 0, 0.3, 0.5, 0.8, 1.5]), min_size=6, max_size=6)
 
 
-@examples(12)
+@examples(5)
 @given(grades_of, grades_of, st.sampled_from([100, 150]), st.sampled_from([300, 400]))
 def test_no_schedule_of_all_earns_more_than_a_scenario_s_bound(tmp_path_factory, one, other, ore, rock):
     """Of six blocks in two years every schedule is tried, each milling its best ore: the bounds hold for all of them, and so the mean of

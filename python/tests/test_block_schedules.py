@@ -8,6 +8,7 @@ from threading import Timer
 import numpy as np
 import pytest
 from helpers.block_problems import demand_sound, integer_optimum, pairs_of, problem_of, random_problem
+from helpers.random_tests import seeds
 
 from pitplan.config.schedule import Effort
 from pitplan.scheduling import highs_process
@@ -23,7 +24,7 @@ from pitplan.scheduling.blocks.toposort import Sequence, in_order, sequences
 from pitplan.scheduling.blocks.window_milp import window_of
 
 
-@pytest.mark.parametrize("batch", range(4))
+@pytest.mark.parametrize("batch", seeds(2, 20))
 def test_small_schedules_are_the_best_that_there_are(batch):
     """Of up to 12 blocks, since one window holds them all; with several destinations shares may earn more than whole blocks."""
     for seed in range(2000 + 10 * batch, 2010 + 10 * batch):
@@ -73,7 +74,7 @@ def test_what_was_filled_in_either_way_is_moved():
     assert min(gained) > 0
 
 
-@pytest.mark.parametrize("batch", range(4))
+@pytest.mark.parametrize("batch", seeds(2, 20))
 def test_schedules_without_integer_programmes_keep_to_all(batch):
     for seed in range(3000 + 10 * batch, 3010 + 10 * batch):
         problem = random_problem(seed, most=50)

@@ -185,7 +185,7 @@ def bound_of(problem):
     return -answer.fun
 
 
-@examples(25)
+@examples(12)
 @given(mines, limits, st.integers(0, 1), st.sampled_from([None, 0.0, 0.5]))
 def test_the_bound_and_what_is_made_of_it(pits, limits, lag, cost):
     benches, parcels = mine_of(pits, lag)

@@ -31,7 +31,7 @@ def without_orders():
         yield
 
 
-@examples(25)
+@examples(12)
 @given(small, limits, st.integers(0, 1))
 def test_it_is_the_best_schedule_of_all(without_orders, pit, limits, lag):
     benches, years = random_benches(pit, lag), 5

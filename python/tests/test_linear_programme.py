@@ -63,7 +63,7 @@ def test_a_mill_that_stands_still_in_all_years():
     assert optimum.bound == pytest.approx(0) and shares.shape == (3, 0)
 
 
-@examples(40)
+@examples(20)
 @given(small, limits, st.integers(0, 1))
 def test_rule_and_programme_are_at_most_the_best_schedule_and_this_at_most_the_bound(pit, limits, lag):
     benches, years = random_benches(pit, lag), 5
@@ -79,7 +79,7 @@ def test_rule_and_programme_are_at_most_the_best_schedule_and_this_at_most_the_b
     assert value >= 0
 
 
-@examples(15)
+@examples(8)
 @given(pits, limits, st.integers(0, 1))
 def test_the_bound_is_that_of_another_solver(pit, limits, lag):
     pulp = pytest.importorskip("pulp", reason="python3-pulp is not installed")

@@ -201,7 +201,7 @@ def padded(pair):
     )
 
 
-@examples(25)
+@examples(12)
 @given(
     small,
     limits,

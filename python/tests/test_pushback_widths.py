@@ -183,7 +183,7 @@ def random_plan(seed, plan_text):
     return plan, pushback
 
 
-@examples(30)
+@examples(12)
 @given(st.integers(0, 10**6), st.sampled_from([(20, None), (30, None), (None, 20), (20, 30), (30, 20)]))
 def test_random_pushbacks_are_wide_closed_and_nested(tmp_path_factory, seed, asked):
     place = tmp_path_factory.mktemp("random")

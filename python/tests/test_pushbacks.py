@@ -224,7 +224,7 @@ def random_table(seed):
     return table
 
 
-@examples(10)
+@examples(5)
 @given(st.integers(0, 10**6))
 def test_pushbacks_of_random_mines_are_closed_nested_and_even(tmp_path_factory, seed):
     place = tmp_path_factory.mktemp("random")

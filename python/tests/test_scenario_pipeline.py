@@ -24,7 +24,7 @@ from planaudit import AuditError
 from planaudit.inputs.reblocking import mean_grades
 from planaudit.studies.scenarios import verify
 
-SOME = examples(12, suppress_health_check=[HealthCheck.function_scoped_fixture])
+SOME = examples(5, suppress_health_check=[HealthCheck.function_scoped_fixture])
 COLUMNS = '[scenarios]\ncolumns = { copper = "cu_*" }\n'
 SETS = COLUMNS + "[[scenarios.prices]]\ncopper = 4000\n[[scenarios.prices]]\ncopper = 11_000\ngold = 80\n"
 MODELS = '[scenarios]\nrealisations = "realisations"\n'

@@ -11,6 +11,7 @@ import numpy as np
 import pandas as pd
 import pytest
 from conftest import PROJECT, rows
+from helpers.random_tests import examples
 from hypothesis import given, strategies as st
 
 import pitplan
@@ -148,6 +149,7 @@ def plan_of(mine, project):
     return dug(project, tonnes, [Decimal(grade) for grade in grades], entry)
 
 
+@examples(15)
 @given(blocks, capacities)
 def test_years_are_those_of_a_walk_through_the_pieces(mine, capacity):
     project = project_of(*capacity)
@@ -169,6 +171,7 @@ def test_years_are_those_of_a_walk_through_the_pieces(mine, capacity):
                 assert shells["years"][factor] == pytest.approx(float(end), abs=1e-8)
 
 
+@examples(15)
 @given(blocks, capacities, st.sampled_from(["continuous", "end_of_year", "mid_year"]))
 def test_years_keep_the_capacities_and_add_up_to_the_shell(mine, capacity, discounting):
     project = project_of(*capacity, discounting)

@@ -615,7 +615,7 @@ def test_a_shell_of_other_blocks_is_found(plan_folder, monkeypatch):
     assert "walls: " in refused(plan_folder, None, TEXT, ('[constraints]\nmust_mine = "must"\nexclude = "never"\n', ""))
 
 
-@examples(12, suppress_health_check=[HealthCheck.function_scoped_fixture])
+@examples(5, suppress_health_check=[HealthCheck.function_scoped_fixture])
 @given(
     st.integers(0, 10**6),
     st.sampled_from(["per_revenue_factor", "base_price"]),

@@ -10,6 +10,7 @@ import pytest
 from conftest import PROJECT
 from helpers.block_scenarios import TWO_YEARS, pillars, prepared, solved_in_turn
 from helpers.random_projects import pick, project_of, table_of
+from helpers.random_tests import seeds
 from helpers.verified import TEXT
 from helpers.verified_scenarios import SETS, answer_of, bend, simulated
 
@@ -313,7 +314,7 @@ HAULAGE = "[haulage]\npit_exit = [400, 60, 60]\nramp_gradient = 0.1\ncost = { or
 REFUSED = re.compile(r"^(fixed_cost_per_year|capex|prices|reblock) = .*\n", re.MULTILINE)
 
 
-@pytest.mark.parametrize("seed", range(6))
+@pytest.mark.parametrize("seed", seeds(3, 60))
 def test_schedules_of_random_projects_are_right(plan_folder, seed):
     """With many keys at once, but for those that are refused; gathering looks a second time by itself."""
     rng = np.random.default_rng(seed)

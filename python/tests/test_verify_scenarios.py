@@ -382,7 +382,7 @@ def test_answers_that_are_none_are_named(copied):
         verify(copied)
 
 
-@examples(6, suppress_health_check=[HealthCheck.function_scoped_fixture])
+@examples(2, suppress_health_check=[HealthCheck.function_scoped_fixture])
 @given(
     st.integers(0, 10**6),
     st.sampled_from(["per_revenue_factor", "base_price"]),

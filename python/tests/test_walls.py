@@ -135,7 +135,7 @@ ENTRY = st.one_of(ANGLE, AZIMUTHS, st.sampled_from([{"pattern": "1:5"}, {"patter
 SHAPE = st.tuples(st.integers(2, 7), st.integers(1, 8), st.integers(1, 8))
 
 
-@examples(40)
+@examples(25)
 @given(
     st.lists(ENTRY, min_size=3, max_size=3),
     st.sampled_from(["layers", "columns", "blobs", "noise"]),
