@@ -1,10 +1,12 @@
-pub mod RowSamples
+pub mod Rows
 pub mod FixedBlocks
+pub mod Queue
+pub mod Left
 pub mod Users
 pub mod Invariant
 pub mod Faults
 pub mod Renumbered
-pub mod Components
+pub mod Classes
 pub mod Parts
 pub mod BreadthFirst
 pub mod Raised

@@ -1,6 +1,0 @@
-pub mod Count
-pub mod Rows
-pub mod View
-pub mod Transposed
-pub mod Queue
-pub mod Left

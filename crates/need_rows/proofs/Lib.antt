@@ -1,0 +1,4 @@
+pub mod Count
+pub mod Spelled
+pub mod Begun
+pub mod Rising
