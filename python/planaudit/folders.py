@@ -99,10 +99,14 @@ def verify_sensitivity(written: Path, folder: Path) -> list[Rule]:
 
 
 def verify_folder(folder: Path) -> list[Rule]:
-    """Verifies a folder of scenarios, a sensitivity, or otherwise a plan. Raises AuditError as `verify`."""
-    if (folder / "sensitivity.json").is_file():
-        return verify_sensitivity(folder, folder)
-    return verify_scenarios(folder) if (folder / "scenarios.json").is_file() else verify(folder)
+    """Verifies a folder of scenarios, a sensitivity, or otherwise a plan. Raises AuditError as `verify`, and if an input is missing."""
+    try:
+        if (folder / "sensitivity.json").is_file():
+            return verify_sensitivity(folder, folder)
+        return verify_scenarios(folder) if (folder / "scenarios.json").is_file() else verify(folder)
+    except OSError as error:
+        why = f"{error.filename}: cannot be read: {error.strerror}"
+        raise AuditError(f"{why}: put the input back, or run pitplan again without it") from error
 
 
 def verify_scenarios(folder: Path, written: Optional[Path] = None) -> list[Rule]:

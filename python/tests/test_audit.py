@@ -98,6 +98,19 @@ def test_a_survey_that_changed_since_the_run_is_found(plan_folder):
     assert list(differences(path.parent / "plan")) == ["inputs"]
 
 
+def test_an_input_that_is_gone_or_no_table_is_named(plan_folder):
+    text = PROJECT.replace('domain = "region"', 'domain = "region"\ntopography = "ground.csv"')
+    path = plan_folder(rows(6, 5, 3, **ORE), text)
+    (path.parent / "ground.csv").write_text(GROUND)
+    pitplan.write_shells(path)
+    (path.parent / "ground.csv").write_text("x,y\n1,2\n")
+    with pytest.raises(PlanError, match="ground.csv: cannot be read as a table of x, y, z: .*z.*: export it again"):
+        pitplan.verify(path.parent / "plan")
+    (path.parent / "ground.csv").unlink()
+    with pytest.raises(PlanError, match="ground.csv: cannot be read: No such file or directory: put the input back"):
+        pitplan.verify(path.parent / "plan")
+
+
 @pytest.mark.parametrize("sign", [";", "\t"])
 def test_a_model_from_python_keeps_no_format_of_a_file(plan_folder, sign):
     """A DataFrame takes the place of a table with other separators and decimals; it is written with commas among the inputs."""

@@ -290,6 +290,22 @@ def test_a_bound_that_does_not_follow_from_its_multipliers_is_found(copied, more
     assert wrong(copied) == {"upper bound"}
 
 
+def test_a_mined_out_surface_is_scheduled_around(plan_folder):
+    """What is mined out has no year. Its upper bound is not recomputed, since which blocks must be mined follows from volumes."""
+    edge, places = (15, 50), range(-15, 90, 5)
+    heights = {(x, y): 17 if min(x, y) > edge[0] and max(x, y) < edge[1] else 30 for x in places for y in places}
+    text = PROJECT + '[constraints]\nas_mined = "mined.csv"\ntopography = "ground.csv"\n'
+    path = plan_folder(rows(7, 7, 3, cu=lambda i, j, k: 6 if (i, j, k) in ((3, 3, 1), (4, 3, 0)) else 0), text)
+    mined = "".join(f"{x},{y},{z}\n" for (x, y), z in heights.items())
+    (path.parent / "mined.csv").write_text(f"x,y,z\n{mined}")
+    (path.parent / "ground.csv").write_text("x,y,z\n-50,-50,30\n120,-50,30\n-50,120,30\n120,120,30\n")
+    pitplan.write_block_schedule(path)
+    (rule,) = [rule for rule in verify(path.parent / "plan" / "block_schedule") if rule.name == "upper bound"]
+    assert rule.holds == "not recomputed for a model with an as-mined surface"
+    blocks = pd.read_csv(path.parent / "plan" / "block_schedule" / "tables/blocks.csv")
+    assert (blocks["tonnes"] == 0).sum() == 4 and set(blocks["year"][blocks["tonnes"] == 0]) == {0}
+
+
 @pytest.mark.parametrize("times", [0.0, 0.9, 1.5])
 def test_multipliers_that_are_others_are_found(copied, times):
     """All together. Any multipliers give a bound, and these a greater one."""

@@ -8,6 +8,7 @@ from typing import Any, Optional
 import numpy as np
 import pandas as pd
 
+from planaudit.errors import AuditError
 from planaudit.inputs import block_table, drawings
 from planaudit.inputs.project import SurveyFile
 from planaudit.inputs.rotated_grid import places_of
@@ -23,7 +24,7 @@ def heights(
     """Returns points, shape (points, 3), and triangles, shape (triangles, 3), as numbers of points; a table has none. Of a raster only the part
     around the grid, or around some cells, shape (cells, 2) with column and row."""
     if file.path.suffix.lower() not in OTHERS:
-        return table(file.path)[["x", "y", "z"]].to_numpy(dtype=float), np.zeros((0, 3), dtype=np.int64)
+        return columns_of(file.path, ["x", "y", "z"]), np.zeros((0, 3), dtype=np.int64)
     if file.path.suffix.lower() not in drawings.RASTERS:
         return drawings.heights_of(file)
     _, rows, columns = grid["shape"]
@@ -36,11 +37,18 @@ def heights(
 def polygons(file: SurveyFile) -> list[list[np.ndarray]]:
     """Returns each polygon as outline followed by holes, arrays of shape (corners, 2)."""
     if file.path.suffix.lower() not in OTHERS:
-        return [[table(file.path)[["x", "y"]].to_numpy(dtype=float)]]
+        return [[columns_of(file.path, ["x", "y"])]]
     return [polygon for layer in drawings.layers_of(file) for polygon in layer.polygons]
 
 
-def table(path: Path) -> pd.DataFrame:
-    with block_table.opened(path) as data:
-        sign = block_table.guessed_separator(path, ENCODING)
-        return pd.read_csv(data, sep=sign, encoding=ENCODING, float_precision="round_trip")
+def columns_of(path: Path, names: list[str]) -> np.ndarray:
+    """Returns columns of a table of points, shape (points, names). Raises AuditError if one is missing or a field is not a number."""
+    try:
+        with block_table.opened(path) as data:
+            sign = block_table.guessed_separator(path, ENCODING)
+            found = pd.read_csv(data, sep=sign, encoding=ENCODING, float_precision="round_trip")
+        return np.asarray(found[names].to_numpy(dtype=float))
+    except (ValueError, KeyError) as error:
+        raise AuditError(
+            f"{path}: cannot be read as a table of {', '.join(names)}: {error}: export it again"
+        ) from error

@@ -45,7 +45,8 @@ def verify_fixed(answer: Answer) -> Optional[Rule]:
     if answer.project.constraints is None:
         return None
     year, (must, never) = answer.said[YEAR].to_numpy(), fixed.demanded(answer, answer.project.constraints)
-    left, dug = np.flatnonzero(must & (year == 0)), np.flatnonzero(never & (year > 0))
+    # Of a block that is mined out already nothing is left to mine.
+    left, dug = np.flatnonzero(must & (answer.tonnes > 0) & (year == 0)), np.flatnonzero(never & (year > 0))
     differences = [f"{answer.called(row)} is must-mine, and is in no year" for row in left[:TOLD]]
     differences += [f"{answer.called(row)} is excluded, and is in year {year[row]}" for row in dug[:TOLD]]
     return rule(
