@@ -27,7 +27,10 @@ from planaudit.schedules.pushback_schedule import CENT, discount
 FILE, MUST_MINE = "bound.csv", "must_mine"
 MAX, MIN = "max", "min"
 NAME = "upper bound"
-HOLDS = "the upper bound follows from the multipliers of bound.csv by one maximum closure: no schedule has a higher NPV"
+HOLDS = (
+    "the upper bound follows from the multipliers of bound.csv by one maximum closure: "
+    "no schedule by block within these limits and years has a higher NPV"
+)
 # Sums of tonnes may exceed a limit by a hair, and sums of money differ by so much in another order.
 HAIR, SLIGHT = 1e-9, 1e-7
 # With more precedences in all years together the bound is not recomputed: it would take more than a gigabyte.
