@@ -10,23 +10,22 @@ use Rattle.pit_model.proofs.OneOrder.{pairs_have_one_order}
 use Rattle.certificate.proofs.SameSet.{members_agree}
 use Rattle.certificate.specs.Check.{AreAscending as AreRisingBlocks}
 use Rattle.arrays.specs.Certified.{CertifyMarks}
-use Rattle.need_rows.specs.Rows.{pairs_of, RowsRise}
-use Rattle.need_rows.proofs.Begun.{begun_starts}
-use Rattle.need_rows.proofs.Rising.{rows_rising}
-use Rattle.need_rows.proofs.Spelled.{seconds_of_rows}
+use Rattle.csr.specs.Rows.{pairs_of, IsCsr, RowsRise}
+use Rattle.csr.proofs.Begun.{csr_offsets}
+use Rattle.csr.proofs.Rising.{rows_rising}
+use Rattle.csr.proofs.Spelled.{seconds_of_rows}
 use Rattle.arrays.specs.Solved.{AreMarks}
-use Rattle.arrays.specs.Encoded.{AreRowStarts, IsEncoded, EncodesMine, EncodesPairs}
+use Rattle.arrays.specs.Encoded.{IsEncoded, EncodesMine, EncodesPairs}
 use Rattle.arrays.proofs.OneMine.{arrays_encode_one_mine, pairs_are_one}
-use Rattle.arrays.proofs.Encoding.{begun, spell}
+use Rattle.arrays.proofs.Encoding.{spell}
 
 -- the pairs of rows that rise stand in order
-pairs_rise : (n : ℕ) (starts needs : List ℕ) (pairs : List (ℕ × ℕ)) → AreRowStarts n (length needs) starts → AreInRange pairs n → RowsRise starts needs → EncodesPairs starts needs pairs → AreRising pairs
+pairs_rise : (n : ℕ) (starts needs : List ℕ) (pairs : List (ℕ × ℕ)) → IsCsr n (length needs) starts → AreInRange pairs n → RowsRise starts needs → EncodesPairs starts needs pairs → AreRising pairs
 pairs_rise n starts needs pairs rows range rise is =
     let same = pairs_are_one n starts needs pairs (pairs_of starts needs) rows is (spell n starts needs rows) in
     let within = subst (λ q. AreInRange q n) same range in
-    let size = rows.count in
     subst AreRising (sym same)
-    (rows_rising (pairs_of starts needs) starts needs n within (begun_starts starts (length needs) (begun n starts needs rows) needs refl n (omega arith) within) (seconds_of_rows starts needs) rise)
+    (rows_rising (pairs_of starts needs) starts needs n within (csr_offsets starts needs n rows) (seconds_of_rows starts needs) rise)
 
 same_in_range : (ps qs : List (ℕ × ℕ)) (n : ℕ) → AreSamePairs ps qs → AreInRange qs n → AreInRange ps n
 same_in_range ps qs n same range k l =

@@ -18,7 +18,8 @@ use Rattle.pit_model.proofs.Shells.{shells_nest}
 use Rattle.shells.specs.Prices.{Prices, deposit_of}
 use Rattle.arrays.specs.Firsts.{AreFirsts, Holds}
 use Rattle.arrays.specs.Nested.{IsMarkedShell, MarkShells}
-use Rattle.arrays.specs.Encoded.{AreRowStarts, PricedRows, EncodesGraph}
+use Rattle.csr.specs.Rows.{IsCsr}
+use Rattle.arrays.specs.Encoded.{PricedRows, EncodesGraph}
 use Rattle.arrays.proofs.Marking.{listed_below}
 use Rattle.arrays.proofs.Taking.{holds_by}
 
@@ -131,7 +132,7 @@ are_marked rows prices graph factors firsts shells worths encoded revenues costs
         blocks = encoded.count;
         revenues_are = revenues;
         costs_are = costs;
-        rows_are = subst (λ n. AreRowStarts n (length rows.needs) rows.starts) (sym encoded.count) encoded.rows;
+        rows_are = subst (λ n. IsCsr n (length rows.needs) rows.starts) (sym encoded.count) encoded.rows;
         pairs_are = encoded.pairs_are;
       };
       rise = are;

@@ -3,12 +3,12 @@ use Rattle.std.proofs.Common.{◌≡◌, inl, inr, ℕ, ◌+◌, ◌<◌, ◌≤
 use Rattle.std.proofs.lemmas.Bool.{cases_eq, cases_lt}
 use Rattle.std.proofs.lemmas.List.{get_or-set_same, get_or-set_other}
 use Rattle.pit_model.specs.Graph.{first_of, second_of, AreInRange}
-use Rattle.need_rows.specs.Rows.{AreStarts}
-use Rattle.need_rows.proofs.Spelled.{pair_same, starts_rise}
+use Rattle.csr.proofs.Offsets.{AreOffsets}
+use Rattle.csr.proofs.Spelled.{pair_same, starts_rise}
 use Rattle.arrays.specs.Named.{AreNamed, IsRepeated}
 
 -- a pair before one of a row is of its block or of one before
-pub sooner_first : (pairs : List (ℕ × ℕ)) (starts : List ℕ) (n u i k : ℕ) → AreInRange pairs n → AreStarts pairs starts n → u < n → k < get_or starts (u + 1) 0 → i < k → first_of pairs i ≤ u
+pub sooner_first : (pairs : List (ℕ × ℕ)) (starts : List ℕ) (n u i k : ℕ) → AreInRange pairs n → AreOffsets pairs starts n → u < n → k < get_or starts (u + 1) 0 → i < k → first_of pairs i ≤ u
 sooner_first pairs starts n u i k range rows below to less =
     let high = (rows.rises u below).1 in
     let own = (range i (omega arith)).0 in

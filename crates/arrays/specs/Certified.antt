@@ -6,7 +6,7 @@ use Rattle.faults.specs.declared.refusal.Refusal.TheVariants.{OverLimit, IdOutOf
 use Rattle.pit_model.specs.Certificate.{Certifies}
 use Rattle.pit_model.specs.Mine.{Instance, IsPit, worth}
 use Rattle.certificate.specs.Check.{most_amount}
-use Rattle.need_rows.specs.Rows.{RowsRise}
+use Rattle.csr.specs.Rows.{RowsRise}
 use Rattle.arrays.specs.Halves.{AreHalves, RefusesHalves}
 use Rattle.arrays.specs.Refused.{RefusesRows}
 use Rattle.arrays.specs.Solved.{AreMarks}

@@ -3,14 +3,7 @@ use Rattle.std.specs.Prelude.{◌≡◌, ℕ, ◌+◌, ◌<◌, ◌≤◌, ℤ, 
 use Rattle.pit_model.specs.Deposit.{Deposit}
 use Rattle.pit_model.specs.Graph.{first_of, second_of, AreSamePairs, Graph}
 use Rattle.pit_model.specs.Mine.{Instance, instance_of}
-
--- a row of places for each block, one behind the other from the first place to the last: that of block u begins at place
--- `starts[u]` and ends before place `starts[u + 1]`
-pub record AreRowStarts (blocks places : ℕ) (starts : List ℕ) : Type 0 where
-  pub count : length starts ≡ blocks + 1
-  pub first : get_or starts 0 0 ≡ 0
-  pub rising : (u : ℕ) → u < blocks → get_or starts u 0 ≤ get_or starts (u + 1) 0
-  pub last : get_or starts blocks 0 ≡ places
+use Rattle.csr.specs.Rows.{IsCsr}
 
 -- place k lies in the row of block u
 abbrev pub IsInRow : List ℕ → ℕ → ℕ → Type 0
@@ -26,7 +19,7 @@ pub record EncodesPairs (starts needs : List ℕ) (pairs : List (ℕ × ℕ)) : 
 pub record EncodesMine (values : List ℤ) (starts needs : List ℕ) (mine : Instance) : Type 0 where
   pub blocks : mine.blocks ≡ length values
   pub values_are : mine.values ≡ values
-  pub rows : AreRowStarts mine.blocks (length needs) starts
+  pub rows : IsCsr mine.blocks (length needs) starts
   pub pairs_are : EncodesPairs starts needs mine.pairs
 
 -- the same mine in memory, where the pairs stand in another order
@@ -50,14 +43,14 @@ pub record EncodesDeposit (rows : PricedRows) (deposit : Deposit) : Type 0 where
   pub blocks : deposit.blocks ≡ length rows.revenues
   pub revenues_are : deposit.revenues ≡ rows.revenues
   pub costs_are : deposit.costs ≡ rows.costs
-  pub rows_are : AreRowStarts deposit.blocks (length rows.needs) rows.starts
+  pub rows_are : IsCsr deposit.blocks (length rows.needs) rows.starts
   pub pairs_are : EncodesPairs rows.starts rows.needs deposit.pairs
 
 -- a graph in memory of so many blocks, where the pairs of the rows stand in another order
 pub record EncodesGraph (blocks : ℕ) (starts needs : List ℕ) (graph : Graph) : Type 0 where
   pub pairs : List (ℕ × ℕ)
   pub count : graph.blocks ≡ blocks
-  pub rows : AreRowStarts blocks (length needs) starts
+  pub rows : IsCsr blocks (length needs) starts
   pub pairs_are : EncodesPairs starts needs pairs
   pub same : AreSamePairs pairs graph.pairs
 

@@ -10,7 +10,8 @@ use Rattle.pit_model.specs.Cycle.{IsCycleList}
 use Rattle.shells.specs.FactorList.{IsFirstItemFault}
 use Rattle.arrays.specs.Halves.{RefusesHalves}
 use Rattle.arrays.specs.Fixing.{AreForBlocks, RefusesFixing}
-use Rattle.arrays.specs.Encoded.{AreRowStarts, IsInRow, PricedRows, EncodesPairs}
+use Rattle.csr.specs.Rows.{IsCsr}
+use Rattle.arrays.specs.Encoded.{IsInRow, PricedRows, EncodesPairs}
 
 -- too many blocks, or too many pairs
 abbrev pub AreTooMany : ℕ → List ℕ → Type 0
@@ -35,7 +36,7 @@ RefusesNeedArrays pairs blocks _ place = ⊥
 abbrev pub RefusesRows : ℕ → List ℕ → List ℕ → Refusal → ℕ → Type 0
 RefusesRows blocks starts needs NoMemory place = place ≡ 0
 RefusesRows blocks starts needs OverLimit place = AreTooMany blocks needs × (place ≡ 0)
-RefusesRows blocks starts needs IdOutOfPlace place = (AreRowStarts blocks (length needs) starts → ⊥) × (place ≡ 0)
+RefusesRows blocks starts needs IdOutOfPlace place = (IsCsr blocks (length needs) starts → ⊥) × (place ≡ 0)
 RefusesRows blocks starts needs PredecessorOutOfRange place = (place < length needs) × (blocks ≤ get_or needs place 0)
 RefusesRows blocks starts needs NeedsItself place = IsInRow starts (get_or needs place 0) place
 RefusesRows blocks starts needs PredecessorTwice place = IsNamedTwice starts needs place

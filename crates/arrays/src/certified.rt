@@ -11,9 +11,9 @@ use crate::fixing::{blocks_with, first_above};
 use crate::marks::write_marks;
 use crate::ordered::ordered_mine_of;
 use certificate::{Certificate, check};
+use csr::CsrView;
 use faults::{Fault, Refusal};
 use mine_graph::{Fixed, Instance};
-use need_rows::Rows;
 use solver::{Outcome, solve_single};
 use std::alloc::Global;
 
@@ -47,11 +47,11 @@ fn certificate_of(alloc: Global, mine: &Instance) -> Result<Certificate, ArrayEr
 pub fn mark_certified(
     alloc: Global,
     values: &[i64],
-    rows: &Rows<'_>,
+    rows: &CsrView<'_>,
     marks: &mut [u8],
 ) -> Result<Certified, ArrayError>
-    ensures marked { IfOk result (λ c. MarkCertified values.now rows.now.starts.now rows.now.seconds.now marks.new c.flow.items c.worth) }
-    ensures refused { IfErr result (λ e. RefusesCertified (length values.now) rows.now.starts.now rows.now.seconds.now marks.old e.refusal e.place) }
+    ensures marked { IfOk result (λ c. MarkCertified values.now rows.now.offsets.now rows.now.targets.now marks.new c.flow.items c.worth) }
+    ensures refused { IfErr result (λ e. RefusesCertified (length values.now) rows.now.offsets.now rows.now.targets.now marks.old e.refusal e.place) }
     ensures kept { IfErr result (λ _. marks.new ≡ marks.old) }
 {
     if marks.len() != values.len() {
@@ -99,14 +99,14 @@ fn first_unfit(flow: &[i128]) -> Option<ArrayError>
 pub fn check_marks(
     alloc: Global,
     values: &[i64],
-    rows: &Rows<'_>,
+    rows: &CsrView<'_>,
     marks: &[u8],
     flow: Vec<i128>,
 ) -> Result<bool, ArrayError>
-    ensures exact { IfOk result (λ yes. IsTrue yes ↔ CertifyMarks values.now rows.now.starts.now rows.now.seconds.now marks.now flow.items) }
-    ensures refused { IfErr result (λ e. RefusesCertificateArrays (length values.now) rows.now.starts.now rows.now.seconds.now marks.now flow.items e.refusal e.place) }
+    ensures exact { IfOk result (λ yes. IsTrue yes ↔ CertifyMarks values.now rows.now.offsets.now rows.now.targets.now marks.now flow.items) }
+    ensures refused { IfErr result (λ e. RefusesCertificateArrays (length values.now) rows.now.offsets.now rows.now.targets.now marks.now flow.items e.refusal e.place) }
 {
-    if marks.len() != values.len() || flow.len() != rows.seconds.len() {
+    if marks.len() != values.len() || flow.len() != rows.targets.len() {
         return Err(ArrayError {
             refusal: Refusal::CountsDiffer,
             place: 0,

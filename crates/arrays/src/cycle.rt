@@ -5,8 +5,8 @@ ghost use Rattle.arrays.specs.Refused.{RefusesRows};
 
 use crate::array_error::ArrayError;
 use crate::graph::graph_of;
+use csr::CsrView;
 use faults::Refusal;
-use need_rows::Rows;
 use std::alloc::Global;
 
 /// Writes the blocks of a list, as far as there is room.
@@ -24,12 +24,12 @@ fn write_front(blocks: &[u32], room: &mut [u32])
 pub fn find_cycle(
     alloc: Global,
     blocks: usize,
-    rows: &Rows<'_>,
+    rows: &CsrView<'_>,
     room: &mut [u32],
 ) -> Result<Option<usize>, ArrayError>
-    ensures none { IfOk result (λ found. IfNone found (EncodeNoCycle blocks rows.now.starts.now rows.now.seconds.now)) }
-    ensures some { IfOk result (λ found. IfSome found (λ count. (0 < count) × WritesCycle blocks rows.now.starts.now rows.now.seconds.now room.new count)) }
-    ensures refused { IfErr result (λ e. RefusesRows blocks rows.now.starts.now rows.now.seconds.now e.refusal e.place) }
+    ensures none { IfOk result (λ found. IfNone found (EncodeNoCycle blocks rows.now.offsets.now rows.now.targets.now)) }
+    ensures some { IfOk result (λ found. IfSome found (λ count. (0 < count) × WritesCycle blocks rows.now.offsets.now rows.now.targets.now room.new count)) }
+    ensures refused { IfErr result (λ e. RefusesRows blocks rows.now.offsets.now rows.now.targets.now e.refusal e.place) }
     ensures kept { IfErr result (λ _. room.new ≡ room.old) }
 {
     match graph_of(alloc, blocks, rows) {

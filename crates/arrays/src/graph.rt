@@ -2,15 +2,16 @@
 ghost use Rattle.std.specs.Prelude.{◌≡◌, ◌<◌, ◌≤◌, ℕ, length, IfOk, IfErr};
 ghost use Rattle.pit_model.specs.Size.{most_blocks, most_pairs};
 ghost use Rattle.pit_model.specs.Graph.{AreApart, AreInRange, AreSamePairs};
-ghost use Rattle.arrays.specs.Encoded.{AreRowStarts, EncodesGraph, EncodesPairs};
+ghost use Rattle.csr.specs.View.{AreRows};
+ghost use Rattle.arrays.specs.Encoded.{EncodesGraph, EncodesPairs};
 ghost use Rattle.arrays.specs.Refused.{RefusesRows, RefusesNeedArrays};
 
 use crate::array_error::ArrayError;
 use crate::needs::{first_of_itself, first_outside, first_repeated};
 use crate::rows::are_rows;
+use csr::{Csr, CsrView};
 use faults::Refusal;
 use mine_graph::Graph;
-use need_rows::{NeedRows, Rows};
 use std::alloc::Global;
 use std::sync::Arc;
 
@@ -19,17 +20,17 @@ const MOST_BLOCKS: usize = 4_194_304;
 const MOST_PAIRS: usize = 67_108_864;
 
 /// The rows, where each pair is of two blocks that there are and stands once.
-fn sound_rows(alloc: Global, blocks: u32, rows: Rows<'_>) -> Result<NeedRows, ArrayError>
+fn sound_rows(alloc: Global, blocks: u32, rows: CsrView<'_>) -> Result<Csr, ArrayError>
     requires few_blocks { blocks ≤ most_blocks }
-    requires few_pairs { length rows.seconds.now ≤ most_pairs }
-    requires rows { AreRowStarts blocks (length rows.seconds.now) rows.starts.now }
+    requires few_pairs { length rows.targets.now ≤ most_pairs }
+    requires rows { AreRows blocks rows }
     ensures rows { IfOk result (λ v. v.blocks ≡ blocks) }
-    ensures encoded { IfOk result (λ v. EncodesPairs rows.entry.starts.now rows.entry.seconds.now v.pairs) }
+    ensures encoded { IfOk result (λ v. EncodesPairs rows.entry.offsets.now rows.entry.targets.now v.pairs) }
     ensures in_range { IfOk result (λ v. AreInRange v.pairs blocks) }
     ensures apart { IfOk result (λ v. AreApart v.pairs) }
-    ensures refused { IfErr result (λ e. RefusesRows blocks rows.entry.starts.now rows.entry.seconds.now e.refusal e.place) }
+    ensures refused { IfErr result (λ e. RefusesRows blocks rows.entry.offsets.now rows.entry.targets.now e.refusal e.place) }
 {
-    if let Some(place) = first_outside(blocks, rows.seconds) {
+    if let Some(place) = first_outside(blocks, rows.targets) {
         return Err(ArrayError {
             refusal: Refusal::PredecessorOutOfRange,
             place,
@@ -47,21 +48,21 @@ fn sound_rows(alloc: Global, blocks: u32, rows: Rows<'_>) -> Result<NeedRows, Ar
             place,
         });
     }
-    Ok(NeedRows::of_rows(alloc, rows)?)
+    Ok(Csr::from_view(alloc, rows)?)
 }
 
 /// The graph of the pairs of rows, or the cycle that they have.
-fn graph_of_rows(alloc: Global, blocks: u32, needs: NeedRows) -> Result<Arc<Graph>, ArrayError>
+fn graph_of_rows(alloc: Global, blocks: u32, rows: Csr) -> Result<Arc<Graph>, ArrayError>
     requires few_blocks { blocks ≤ most_blocks }
-    requires few_pairs { length needs.pairs ≤ most_pairs }
-    requires rows { needs.blocks ≡ blocks }
-    requires in_range { AreInRange needs.pairs blocks }
-    requires apart { AreApart needs.pairs }
+    requires few_pairs { length rows.pairs ≤ most_pairs }
+    requires rows { rows.blocks ≡ blocks }
+    requires in_range { AreInRange rows.pairs blocks }
+    requires apart { AreApart rows.pairs }
     ensures blocks { IfOk result (λ g. g.value.blocks ≡ blocks) }
-    ensures same { IfOk result (λ g. AreSamePairs needs.pairs g.value.pairs) }
-    ensures refused { IfErr result (λ e. RefusesNeedArrays needs.pairs blocks e.refusal e.place) }
+    ensures same { IfOk result (λ g. AreSamePairs rows.pairs g.value.pairs) }
+    ensures refused { IfErr result (λ e. RefusesNeedArrays rows.pairs blocks e.refusal e.place) }
 {
-    match Graph::of_rows(alloc, blocks, needs) {
+    match Graph::of_rows(alloc, blocks, rows) {
         Ok(graph) => Ok(Arc::new(alloc, graph)?),
         Err(fault) => Err(ArrayError {
             refusal: fault.refusal,
@@ -73,24 +74,24 @@ fn graph_of_rows(alloc: Global, blocks: u32, needs: NeedRows) -> Result<Arc<Grap
 /// The graph of so many blocks that rows encode, or why they encode none: the first that applies of too many blocks or pairs (4), rows
 /// out of place (7), a block that there is not (8), one that needs itself (9), one that is named twice (10), a cycle (14); and for want
 /// of memory (1). Time is linear in blocks and pairs.
-pub fn graph_of(alloc: Global, blocks: usize, rows: &Rows<'_>) -> Result<Arc<Graph>, ArrayError>
+pub fn graph_of(alloc: Global, blocks: usize, rows: &CsrView<'_>) -> Result<Arc<Graph>, ArrayError>
     ensures few { IfOk result (λ g. blocks ≤ most_blocks) }
-    ensures encoded { IfOk result (λ g. EncodesGraph blocks rows.now.starts.now rows.now.seconds.now g.value) }
-    ensures refused { IfErr result (λ e. RefusesRows blocks rows.now.starts.now rows.now.seconds.now e.refusal e.place) }
+    ensures encoded { IfOk result (λ g. EncodesGraph blocks rows.now.offsets.now rows.now.targets.now g.value) }
+    ensures refused { IfErr result (λ e. RefusesRows blocks rows.now.offsets.now rows.now.targets.now e.refusal e.place) }
 {
-    if blocks > MOST_BLOCKS || rows.seconds.len() > MOST_PAIRS {
+    if blocks > MOST_BLOCKS || rows.targets.len() > MOST_PAIRS {
         return Err(ArrayError {
             refusal: Refusal::OverLimit,
             place: 0,
         });
     }
     let count = blocks as u32;
-    if !are_rows(count, rows.seconds.len(), rows.starts) {
+    if !are_rows(count, rows.targets.len(), rows.offsets) {
         return Err(ArrayError {
             refusal: Refusal::IdOutOfPlace,
             place: 0,
         });
     }
-    let needs = sound_rows(alloc, count, *rows)?;
-    graph_of_rows(alloc, count, needs)
+    let sound = sound_rows(alloc, count, *rows)?;
+    graph_of_rows(alloc, count, sound)
 }

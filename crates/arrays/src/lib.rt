@@ -19,9 +19,9 @@ mod rows;
 
 pub use array_error::ArrayError;
 pub use certified::{Certified, check_marks, mark_certified};
+pub use csr::CsrView;
 pub use cycle::find_cycle;
 pub use halves::{Halves, have_room, join_halves, split_i128, write_halves};
 pub use mine::{arrays_encode_one_mine, mine_of};
-pub use need_rows::Rows;
 pub use nested::{DepositArrays, mark_shells};
 pub use pit::{MineArrays, mark_pit};

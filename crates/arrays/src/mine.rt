@@ -5,8 +5,8 @@ ghost use Rattle.arrays.specs.Refused.{RefusesRows};
 
 use crate::array_error::ArrayError;
 use crate::graph::graph_of;
+use csr::CsrView;
 use mine_graph::Instance;
-use need_rows::Rows;
 use std::alloc::{AllocError, Global};
 
 /// Arrays encode one mine at most.
@@ -38,9 +38,9 @@ pub fn widened(alloc: Global, values: &[i64]) -> Result<Vec<i128>, AllocError>
 
 /// The mine that the arrays encode, or why they encode none: as `graph_of` says, and for want of memory (1). Time is linear in blocks and
 /// pairs.
-pub fn mine_of(alloc: Global, values: &[i64], rows: &Rows<'_>) -> Result<Instance, ArrayError>
-    ensures encoded { IfOk result (IsEncoded values.now rows.now.starts.now rows.now.seconds.now) }
-    ensures refused { IfErr result (λ e. RefusesRows (length values.now) rows.now.starts.now rows.now.seconds.now e.refusal e.place) }
+pub fn mine_of(alloc: Global, values: &[i64], rows: &CsrView<'_>) -> Result<Instance, ArrayError>
+    ensures encoded { IfOk result (IsEncoded values.now rows.now.offsets.now rows.now.targets.now) }
+    ensures refused { IfErr result (λ e. RefusesRows (length values.now) rows.now.offsets.now rows.now.targets.now e.refusal e.place) }
 {
     let graph = graph_of(alloc, values.len(), rows)?;
     let values = widened(alloc, values)?;

@@ -2,12 +2,11 @@
 ghost use Rattle.std.specs.Prelude.{◌≡◌, ◌+◌, ◌<◌, ◌≤◌, ℕ, length, get_or, IfOk, IfSome, IfNone};
 ghost use Rattle.pit_model.specs.Size.{most_blocks, most_pairs};
 ghost use Rattle.pit_model.specs.Graph.{AreApart, AreInRange};
-ghost use Rattle.need_rows.specs.Lent.{pairs_in};
-ghost use Rattle.need_rows.specs.Rows.{AreStarts};
+ghost use Rattle.csr.specs.View.{pairs_in, AreRows};
 ghost use Rattle.arrays.specs.Named.{AreNamed, IsRepeated};
-ghost use Rattle.arrays.specs.Encoded.{AreRowStarts, IsInRow};
+ghost use Rattle.arrays.specs.Encoded.{IsInRow};
 
-use need_rows::Rows;
+use csr::CsrView;
 use std::alloc::{AllocError, Global};
 
 /// The first place of a block that there is not.
@@ -25,13 +24,13 @@ pub fn first_outside(blocks: u32, needs: &[u32]) -> Option<u32>
 }
 
 /// The first place of a row at which its own block stands.
-fn own_place(rows: Rows<'_>, block: u32) -> Option<u32>
-    requires inside { get_or rows.starts.now (block + 1) 0 ≤ length rows.seconds.now }
-    requires block { block + 1 < length rows.starts.now }
-    ensures some { IfSome result (λ k. IsInRow rows.entry.starts.now block k × (get_or rows.entry.seconds.now k 0 ≡ block)) }
+fn own_place(rows: CsrView<'_>, block: u32) -> Option<u32>
+    requires inside { get_or rows.offsets.now (block + 1) 0 ≤ length rows.targets.now }
+    requires block { block + 1 < length rows.offsets.now }
+    ensures some { IfSome result (λ k. IsInRow rows.entry.offsets.now block k × (get_or rows.entry.targets.now k 0 ≡ block)) }
 {
-    for k in rows.starts[block as usize]..rows.starts[block as usize + 1] {
-        if rows.seconds[k as usize] == block {
+    for k in rows.offsets[block as usize]..rows.offsets[block as usize + 1] {
+        if rows.targets[k as usize] == block {
             return Some(k);
         }
     }
@@ -39,10 +38,10 @@ fn own_place(rows: Rows<'_>, block: u32) -> Option<u32>
 }
 
 /// The first place of a block that needs itself.
-pub fn first_of_itself(blocks: u32, rows: Rows<'_>) -> Option<u32>
-    requires rows { AreRowStarts blocks (length rows.seconds.now) rows.starts.now }
+pub fn first_of_itself(blocks: u32, rows: CsrView<'_>) -> Option<u32>
+    requires rows { AreRows blocks rows }
     requires few { blocks ≤ most_blocks }
-    ensures some { IfSome result (λ k. IsInRow rows.entry.starts.now (get_or rows.entry.seconds.now k 0) k) }
+    ensures some { IfSome result (λ k. IsInRow rows.entry.offsets.now (get_or rows.entry.targets.now k 0) k) }
 {
     for block in 0..blocks {
         if let Some(place) = own_place(rows, block) {
@@ -53,18 +52,18 @@ pub fn first_of_itself(blocks: u32, rows: Rows<'_>) -> Option<u32>
 }
 
 /// The first place of a row that names a block that it names before, where each block knows the last row so far that named it.
-fn repeated_place(rows: Rows<'_>, block: u32, named: &mut [u32]) -> Option<u32>
+fn repeated_place(rows: CsrView<'_>, block: u32, named: &mut [u32]) -> Option<u32>
     requires few { length named.old ≤ most_blocks }
     requires block { block < length named.old }
     requires in_range { AreInRange (pairs_in rows) (length named.old) }
-    requires starts { AreStarts (pairs_in rows) rows.starts.now (length named.old) }
-    requires named { AreNamed (pairs_in rows) named.old (get_or rows.starts.now block 0) }
+    requires rows { AreRows (length named.old) rows }
+    requires named { AreNamed (pairs_in rows) named.old (get_or rows.offsets.now block 0) }
     ensures some { IfSome result (IsRepeated (pairs_in rows.entry)) }
-    ensures none { IfNone result (AreNamed (pairs_in rows.entry) named.new (get_or rows.entry.starts.now (block + 1) 0)) }
+    ensures none { IfNone result (AreNamed (pairs_in rows.entry) named.new (get_or rows.entry.offsets.now (block + 1) 0)) }
     ensures size { length named.new ≡ length named.old }
 {
-    for k in rows.starts[block as usize]..rows.starts[block as usize + 1] {
-        let needed = rows.seconds[k as usize] as usize;
+    for k in rows.offsets[block as usize]..rows.offsets[block as usize + 1] {
+        let needed = rows.targets[k as usize] as usize;
         if named[needed] == block + 1 {
             return Some(k);
         }
@@ -74,10 +73,14 @@ fn repeated_place(rows: Rows<'_>, block: u32, named: &mut [u32]) -> Option<u32>
 }
 
 /// The first place of a pair that stands before.
-pub fn first_repeated(alloc: Global, blocks: u32, rows: Rows<'_>) -> Result<Option<u32>, AllocError>
+pub fn first_repeated(
+    alloc: Global,
+    blocks: u32,
+    rows: CsrView<'_>,
+) -> Result<Option<u32>, AllocError>
     requires few { blocks ≤ most_blocks }
-    requires rows { AreRowStarts blocks (length rows.seconds.now) rows.starts.now }
-    requires below { (k : ℕ) → k < length rows.seconds.now → get_or rows.seconds.now k 0 < blocks }
+    requires rows { AreRows blocks rows }
+    requires below { (k : ℕ) → k < length rows.targets.now → get_or rows.targets.now k 0 < blocks }
     ensures some { IfOk result (λ r. IfSome r (IsRepeated (pairs_in rows.entry))) }
     ensures none { IfOk result (λ r. IfNone r (AreApart (pairs_in rows.entry))) }
 {

@@ -8,8 +8,8 @@ use crate::array_error::ArrayError;
 use crate::columns::columns_of;
 use crate::firsts::write_firsts;
 use crate::graph::graph_of;
+use csr::CsrView;
 use faults::Refusal;
-use need_rows::Rows;
 use pit_model::Shell;
 use shells::{Factors, shells_sequential};
 use std::alloc::{AllocError, Global};
@@ -19,7 +19,7 @@ use std::alloc::{AllocError, Global};
 pub struct DepositArrays<'a> {
     pub revenues: &'a [i64],
     pub costs: &'a [i64],
-    pub rows: Rows<'a>,
+    pub rows: CsrView<'a>,
 }
 
 /// The factors of a list. Refused by the first that is above 100,000 or the one too many (4), or not greater than the one before (19),
@@ -60,8 +60,8 @@ pub fn mark_shells(
     factors: &[u32],
     firsts: &mut [u32],
 ) -> Result<Vec<i128>, ArrayError>
-    ensures marked { IfOk result (λ worths. MarkShells (priced_rows deposit.now.revenues.now deposit.now.costs.now deposit.now.rows.starts.now deposit.now.rows.seconds.now) factors.now firsts.new worths.items) }
-    ensures refused { IfErr result (λ e. RefusesShellArrays (priced_rows deposit.now.revenues.now deposit.now.costs.now deposit.now.rows.starts.now deposit.now.rows.seconds.now) factors.now firsts.old e.refusal e.place) }
+    ensures marked { IfOk result (λ worths. MarkShells (priced_rows deposit.now.revenues.now deposit.now.costs.now deposit.now.rows.offsets.now deposit.now.rows.targets.now) factors.now firsts.new worths.items) }
+    ensures refused { IfErr result (λ e. RefusesShellArrays (priced_rows deposit.now.revenues.now deposit.now.costs.now deposit.now.rows.offsets.now deposit.now.rows.targets.now) factors.now firsts.old e.refusal e.place) }
     ensures kept { IfErr result (λ _. firsts.new ≡ firsts.old) }
 {
     let DepositArrays {

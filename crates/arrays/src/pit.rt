@@ -9,9 +9,9 @@ use crate::array_error::ArrayError;
 use crate::fixing::{first_above, fixed_by, toward};
 use crate::marks::write_marks;
 use crate::mine::mine_of;
+use csr::CsrView;
 use faults::Refusal;
 use mine_graph::Instance;
-use need_rows::Rows;
 use solver::{FoundPit, solve_pit_sequential};
 use std::alloc::Global;
 
@@ -20,7 +20,7 @@ use std::alloc::Global;
 #[derive(Clone, Copy)]
 pub struct MineArrays<'a> {
     pub values: &'a [i64],
-    pub rows: Rows<'a>,
+    pub rows: CsrView<'a>,
     pub numbers: &'a [u8],
 }
 
@@ -55,8 +55,8 @@ pub fn mark_pit(
     greatest: bool,
     marks: &mut [u8],
 ) -> Result<i128, ArrayError>
-    ensures marked { IfOk result (MarkPit arrays.now.values.now arrays.now.rows.starts.now arrays.now.rows.seconds.now arrays.now.numbers.now greatest marks.new) }
-    ensures refused { IfErr result (λ e. RefusesPitArrays (length arrays.now.values.now) arrays.now.rows.starts.now arrays.now.rows.seconds.now arrays.now.numbers.now marks.old e.refusal e.place) }
+    ensures marked { IfOk result (MarkPit arrays.now.values.now arrays.now.rows.offsets.now arrays.now.rows.targets.now arrays.now.numbers.now greatest marks.new) }
+    ensures refused { IfErr result (λ e. RefusesPitArrays (length arrays.now.values.now) arrays.now.rows.offsets.now arrays.now.rows.targets.now arrays.now.numbers.now marks.old e.refusal e.place) }
     ensures kept { IfErr result (λ _. marks.new ≡ marks.old) }
 {
     let MineArrays {

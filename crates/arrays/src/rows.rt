@@ -1,17 +1,17 @@
-//! Which blocks each block needs, in compressed rows: rows of places, one behind the other.
+//! Whether arrays are compressed rows.
 ghost use Rattle.std.specs.Prelude.{◌↔◌, IsTrue};
-ghost use Rattle.arrays.specs.Encoded.{AreRowStarts};
+ghost use Rattle.csr.specs.Rows.{IsCsr};
 
-/// Whether the array says where rows of so many blocks begin and end, over so many places.
-pub fn are_rows(blocks: u32, places: usize, starts: &[u32]) -> bool
-    ensures { IsTrue result ↔ AreRowStarts blocks places starts.now }
+/// Whether these are the offsets of `blocks` rows over `places` places.
+pub fn are_rows(blocks: u32, places: usize, offsets: &[u32]) -> bool
+    ensures { IsTrue result ↔ IsCsr blocks places offsets.now }
 {
     let last = blocks as usize;
-    if starts.len() != last + 1 || starts[0] != 0 || starts[last] as usize != places {
+    if offsets.len() != last + 1 || offsets[0] != 0 || offsets[last] as usize != places {
         return false;
     }
     for u in 0..last {
-        if starts[u] > starts[u + 1] {
+        if offsets[u] > offsets[u + 1] {
             return false;
         }
     }

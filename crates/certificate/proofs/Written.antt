@@ -13,7 +13,7 @@ use Rattle.pit_model.specs.Fixed.{AreFixable, FixedLists}
 use Rattle.pit_model.specs.Graph.{Graph, IsGraph, first_of, second_of}
 use Rattle.pit_model.specs.Limits.{Between}
 use Rattle.pit_model.specs.PitText.{line_of}
-use Rattle.mine_graph.proofs.Pigeon.{pigeon}
+use Rattle.csr.proofs.Pigeon.{pigeon}
 use Rattle.pit_model.proofs.Members.{members_few, members_below}
 use Rattle.certificate.specs.Check.{amount, AreAscending, IsCandidate}
 use Rattle.certificate.specs.CertificateText.{carrying, certificate_head, certificate_text, flow_head, flow_line, graph_head, list_text}

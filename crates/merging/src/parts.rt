@@ -105,11 +105,11 @@ fn join_of_parts<R: Threads + Sync>(
     if is_one_part(alloc, graph)? {
         return Ok(None);
     }
-    let classes = graph.classes()?;
-    if !are_worth_parting(classes.count, graph.n()) {
+    let components = graph.components()?;
+    if !are_worth_parting(components.count, graph.n()) {
         return Ok(None);
     }
-    let parts = graph.parts_by(&classes)?;
+    let parts = graph.parts_by(&components)?;
     let solved = solve_each(rt, alloc, instance, parts)?;
     Ok(Some(join_parts(alloc, instance, &solved)?))
 }

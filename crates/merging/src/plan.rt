@@ -9,9 +9,9 @@ ghost use Rattle.faults.specs.Refused.{no_memory};
 ghost use Rattle.pit_model.specs.Mine.{arcs};
 
 use crate::lowest_label::{merge_by_lowest_label, mergers_by_lowest_label};
+use csr::{Csr, CsrBuilder};
 use faults::Fault;
 use mine_graph::{Graph, Instance, acyclic_is_well_founded, marked_numbers};
-use need_rows::NeedRows;
 use norm_tree::BareTree;
 use std::alloc::{AllocError, Global};
 use std::sync::Arc;
@@ -58,7 +58,7 @@ fn link_marks(alloc: Global, tree: &BareTree) -> Result<Vec<bool>, AllocError>
 }
 
 /// The pairs with these numbers, by rows.
-fn pairs_at(alloc: Global, graph: &Graph, arcs: &[u32]) -> Result<NeedRows, AllocError>
+fn pairs_at(alloc: Global, graph: &Graph, arcs: &[u32]) -> Result<Csr, AllocError>
     requires below { (i : ℕ) → i < length arcs.now → get_or arcs.now i 0 < length graph.now.pairs }
     requires rising { (i j : ℕ) → i < j → j < length arcs.now → get_or arcs.now i 0 < get_or arcs.now j 0 }
     requires few { length arcs.now ≤ length graph.now.pairs }
@@ -67,14 +67,13 @@ fn pairs_at(alloc: Global, graph: &Graph, arcs: &[u32]) -> Result<NeedRows, Allo
     ensures each { IfOk result (λ v. (i : ℕ) → i < length arcs.now → get_or v.pairs i (0, 0) ≡ get_or graph.now.pairs (get_or arcs.now i 0) (0, 0)) }
 {
     graph.law();
-    let mut needs = NeedRows::new(alloc)?;
+    let mut needs = CsrBuilder::new(alloc)?;
     for i in 0..arcs.len() {
         let (block, needed) = graph.arc(arcs[i]);
         needs.open_row(block)?;
         needs.push(needed)?;
     }
-    needs.open_row(graph.n())?;
-    Ok(needs)
+    Ok(needs.finish(graph.n())?)
 }
 
 /// The graph of the same blocks with the pairs of these numbers alone.
@@ -101,12 +100,12 @@ fn links_of(alloc: Global, tree: &BareTree) -> Result<Links, Fault>
     let marks = link_marks(alloc, tree)?;
     let arcs = marked_numbers(alloc, &marks)?;
     let graph = graph_of_arcs(alloc, tree.instance().graph(), &arcs)?;
-    let classes = graph.classes()?;
+    let components = graph.components()?;
     Ok(Links {
         arcs,
         graph: Arc::new(alloc, graph)?,
-        branches: classes.labels,
-        count: classes.count,
+        branches: components.labels,
+        count: components.count,
     })
 }
 

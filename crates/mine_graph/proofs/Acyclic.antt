@@ -7,9 +7,9 @@ use Rattle.std.proofs.lemmas.Bool.{cases_eq, cases_lt, true≢false, eq-eqb, ne_
 use Rattle.std.proofs.lemmas.List.{get_or_past}
 use Rattle.pit_model.specs.Graph.{first_of, second_of, AreInRange, IsAcyclic}
 use Rattle.pit_model.specs.Cycle.{HasPredecessorInside, IsLargestWithPredecessorInside, AcyclicIsWellFounded}
-use Rattle.mine_graph.specs.Queue.{is_unhandled, IsProcessed}
-use Rattle.mine_graph.specs.Left.{left_over}
-use Rattle.need_rows.proofs.Count.{count-some}
+use Rattle.csr.specs.Queue.{is_unhandled, IsProcessed}
+use Rattle.csr.specs.Left.{left_over}
+use Rattle.csr.proofs.Count.{count-some}
 
 -- each list has the transposed pairs of the other
 pub record AreTurned (pairs arcs : List (ℕ × ℕ)) : Type 0 where

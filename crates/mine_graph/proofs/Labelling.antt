@@ -6,7 +6,7 @@ use Rattle.pit_model.specs.Graph.{Graph, first_of, second_of, AreInRange}
 use Rattle.pit_model.specs.Part.{AreNeighbours, IsClass}
 use Rattle.mine_graph.specs.Renumbered.{has_label}
 use Rattle.mine_graph.specs.BreadthFirst.{IsAt, IsJoinedWith, VisitsExactly, is_visited, queued}
-use Rattle.mine_graph.specs.Classes.{label_of, IsUnlabelled, HaveClasses, AreClasses}
+use Rattle.mine_graph.specs.Components.{label_of, IsUnlabelled, HaveComponents, AreComponents}
 use Rattle.mine_graph.specs.declared.breadth_first.BreadthFirst.{BreadthFirst}
 use Rattle.mine_graph.proofs.Neighbours.{joined_on, neighbours_still, swapped}
 
@@ -18,8 +18,8 @@ pub record AreLabelled (blocks : List ℕ) (label : ℕ) (before after : List �
 
 -- one class more: a block that is not in, with all that pairs join with it
 module _ (graph : Graph) (before : List ℕ) (label root : ℕ) (range : AreInRange graph.pairs graph.blocks)
-    (classes : AreClasses graph before label root) (inside : root < graph.blocks)
-    (search spread : BreadthFirst) (have : HaveClasses graph.pairs search before label) (fresh : is_visited search root ≡ false)
+    (classes : AreComponents graph before label root) (inside : root < graph.blocks)
+    (search spread : BreadthFirst) (have : HaveComponents graph.pairs search before label) (fresh : is_visited search root ≡ false)
     (takes : VisitsExactly (IsJoinedWith graph.pairs root) search spread)
     (labels blocks : List ℕ) (count : search.tail + length blocks ≡ spread.tail)
     (row : (x : ℕ) → x < length blocks → get_or blocks x 0 ≡ queued spread (search.tail + x))
@@ -149,7 +149,7 @@ module _ (graph : Graph) (before : List ℕ) (label root : ℕ) (range : AreInRa
         together = λ k l. ap (λ x. eqb x i) (together_still k l);
       }
 
-  pub class_more : AreClasses graph labels (label + 1) (root + 1)
+  pub class_more : AreComponents graph labels (label + 1) (root + 1)
   class_more = record {
     size = given.size ∙ classes.size;
     few = (let f = classes.few in omega arith);
@@ -183,7 +183,7 @@ module _ (graph : Graph) (before : List ℕ) (label root : ℕ) (range : AreInRa
         (cases_eq (label_of labels u) label);
   }
 
-  pub classes_had : HaveClasses graph.pairs spread labels (label + 1)
+  pub classes_had : HaveComponents graph.pairs spread labels (label + 1)
   classes_had = record {
     trail = takes.trail;
     whole = neighbours_still graph.pairs root search spread have.whole takes;
@@ -198,8 +198,8 @@ module _ (graph : Graph) (before : List ℕ) (label root : ℕ) (range : AreInRa
   }
 
 -- a block that has its class already is passed over
-pub class_passed : (graph : Graph) (labels : List ℕ) (count next : ℕ) → AreClasses graph labels count next → next < graph.blocks → (IsUnlabelled labels next → ⊥)
-    → AreClasses graph labels count (next + 1)
+pub class_passed : (graph : Graph) (labels : List ℕ) (count next : ℕ) → AreComponents graph labels count next → next < graph.blocks → (IsUnlabelled labels next → ⊥)
+    → AreComponents graph labels count (next + 1)
 class_passed graph labels count next was inside held = record {
   size = was.size;
   few = (let f = was.few in omega arith);

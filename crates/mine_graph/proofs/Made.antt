@@ -1,17 +1,15 @@
 -- The lists of a new graph.
 use Rattle.std.proofs.Common.{◌≡◌, ℕ, ◌+◌, ◌-◌, ◌<◌, ◌≤◌, Bool, sym, ap, ◌∙◌, arith, subst, List, get_or, length}
-use Rattle.pit_model.specs.Graph.{AreInRange, AreSamePairs, AreApart, AreRising, IsAcyclic}
+use Rattle.pit_model.specs.Graph.{AreInRange, AreSamePairs, IsAcyclic}
 use Rattle.pit_model.specs.Cycle.{HasPredecessorInside, IsLargestWithPredecessorInside, IsLeastNeeded, IsCycleList}
 use Rattle.faults.specs.declared.fault.Fault.{Fault}
 use Rattle.faults.specs.declared.refusal.Refusal.{Refusal}
 use Rattle.faults.specs.declared.refusal.Refusal.TheVariants.{NoMemory, Cycle}
 use Rattle.mine_graph.specs.Faults.{RefusesPairs, IsGraphFault}
-use Rattle.need_rows.specs.Rows.{pairs_of, AreStarts, Spell}
-use Rattle.need_rows.proofs.Spelled.{spelled}
-use Rattle.mine_graph.specs.Rows.{transposed_pairs}
-use Rattle.mine_graph.specs.Queue.{IsAllProcessed}
-use Rattle.mine_graph.specs.Left.{left_over}
-use Rattle.mine_graph.proofs.Order.{transposed_pairs-from, transposed_pairs-range, transposed_pairs-to, twice, twice-same}
+use Rattle.csr.specs.Transposed.{transposed_pairs}
+use Rattle.csr.specs.Queue.{IsAllProcessed}
+use Rattle.csr.specs.Left.{left_over}
+use Rattle.csr.proofs.Order.{transposed_pairs-from, transposed_pairs-to}
 use Rattle.mine_graph.proofs.Acyclic.{AreTurned, acyclic, over-largest, acyclic_along}
 
 pub transposed_are_turned : (qs : List (ℕ × ℕ)) (n : ℕ) → AreInRange qs n → AreTurned qs (transposed_pairs qs n)
@@ -37,30 +35,6 @@ largest-back ps qs n set same l = record {
   needy = needy-back ps qs n set same l.needy;
   largest = λ other needy. l.largest other (needy-forth ps qs n other same needy);
 }
-
--- the rows of one pass spell the pairs in the order of their seconds
-pub transposed_once : (pairs : List (ℕ × ℕ)) (starts seconds : List ℕ) (n : ℕ) → AreInRange pairs n → Spell (transposed_pairs pairs n) starts seconds n → pairs_of starts seconds ≡ transposed_pairs pairs n
-transposed_once pairs starts seconds n range by = spelled (transposed_pairs pairs n) starts n by.begin seconds (transposed_pairs-range pairs n range) by.hold
-
--- the rows of two passes spell the same pairs in their order
-module _ (pairs half : List (ℕ × ℕ)) (starts seconds : List ℕ) (n : ℕ) (range : AreInRange pairs n) (once : half ≡ transposed_pairs pairs n) (by : Spell (transposed_pairs half n) starts seconds n) where
-  half_range : AreInRange half n
-  half_range = subst (λ q. AreInRange q n) (sym once) (transposed_pairs-range pairs n range)
-
-  again : pairs_of starts seconds ≡ transposed_pairs (transposed_pairs pairs n) n
-  again = transposed_once half starts seconds n half_range by ∙ ap (λ q. transposed_pairs q n) once
-
-  pub twice_same : AreSamePairs pairs (pairs_of starts seconds)
-  twice_same = subst (AreSamePairs pairs) (sym again) (twice-same pairs n range)
-
-  pub twice_range : AreInRange (pairs_of starts seconds) n
-  twice_range = subst (λ q. AreInRange q n) (sym (transposed_once half starts seconds n half_range by)) (transposed_pairs-range half n half_range)
-
-  pub twice_rising : AreApart pairs → AreRising (pairs_of starts seconds)
-  twice_rising apart = subst AreRising (sym again) (twice pairs n apart)
-
-  pub twice_starts : AreStarts (pairs_of starts seconds) starts n
-  twice_starts = subst (λ q. AreStarts q starts n) (sym (transposed_once half starts seconds n half_range by)) by.begin
 
 module _ (pairs turned : List (ℕ × ℕ)) (left : List ℕ) (n : ℕ) (range : AreInRange pairs n) (is : turned ≡ transposed_pairs pairs n) (size : length left ≡ n)
     (end : IsAllProcessed turned left) where

@@ -1,8 +1,8 @@
 -- The block of a pair lies between those of the samples around it.
 use Rattle.std.proofs.Common.{ℕ, ◌+◌, ◌*◌, ◌/◌, ◌<◌, ◌≤◌, arith, List, get_or, length}
 use Rattle.pit_model.specs.Graph.{first_of, AreRising}
-use Rattle.mine_graph.specs.Rows.{AreRowSamples}
-use Rattle.need_rows.proofs.Rising.{firsts_rise}
+use Rattle.mine_graph.specs.RowSamples.{AreRowSamples}
+use Rattle.csr.proofs.Rising.{firsts_rise}
 
 module _ (pairs : List (ℕ × ℕ)) (row_samples : List ℕ) (marks : AreRowSamples pairs row_samples) (rising : AreRising pairs) (k : ℕ) (inside : k < length pairs) where
   pub mark_below : k / 64 < length row_samples

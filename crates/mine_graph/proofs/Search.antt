@@ -4,10 +4,10 @@ use Rattle.std.specs.Prelude.{◌⊎◌, ◌↔◌}
 use Rattle.std.proofs.lemmas.Bool.{cases_eq, cases_order}
 use Rattle.std.proofs.lemmas.List.{get_or-drop, get_or-take, length-drop, length-take-le}
 use Rattle.pit_model.specs.Graph.{first_of, second_of, AreRising}
-use Rattle.need_rows.specs.Rows.{AreSeconds}
+use Rattle.csr.specs.Rows.{AreTargets}
 
 -- the seconds from `begin` up to `end`, as a part of all
-module _ (pairs : List (ℕ × ℕ)) (seconds row : List ℕ) (begin end : ℕ) (are : AreSeconds pairs seconds) (order : begin ≤ end) (inside : end ≤ length pairs)
+module _ (pairs : List (ℕ × ℕ)) (seconds row : List ℕ) (begin end : ℕ) (are : AreTargets pairs seconds) (order : begin ≤ end) (inside : end ≤ length pairs)
     (is : row ≡ take (end - begin) (drop begin seconds)) where
   pub length-row : length row ≡ end - begin
   length-row = let size = are.count in ap (λ (q : List ℕ). length q) is ∙ length-take-le (end - begin) (drop begin seconds) (omega (arith, length-drop begin seconds))

@@ -1,16 +1,16 @@
 -- The steps of taking in: nothing, a block, one lot after another; and that at the end of the queue the blocks are a closure.
-use Rattle.std.proofs.Common.{◌≡◌, ℕ, ◌+◌, ◌<◌, ◌≤◌, Bool, true, false, refl, sym, ap, ◌∙◌, arith, inl, inr, ⊎_elim, List, replicate, set, get_or, length}
+use Rattle.std.proofs.Common.{◌≡◌, ℕ, ◌+◌, ◌<◌, ◌≤◌, Bool, true, false, refl, sym, subst, ap, ◌∙◌, arith, inl, inr, ⊎_elim, List, replicate, set, get_or, length}
 use Rattle.std.specs.Prelude.{◌⊎◌}
 use Rattle.std.proofs.lemmas.Bool.{cases_eq, cases_lt, false≢true}
 use Rattle.std.proofs.lemmas.List.{get_or-replicate, get_or_past, get_or-set_same, get_or-set_other, length-replicate, length-set}
-use Rattle.pit_model.specs.Graph.{first_of, second_of}
-use Rattle.pit_model.specs.Fixed.{IsClosure, transposed}
+use Rattle.pit_model.specs.Graph.{first_of, second_of, AreInRange, AreSamePairs}
+use Rattle.pit_model.specs.Fixed.{IsClosedAlong, IsClosure, transposed}
 use Rattle.pit_model.proofs.Fixed.{transposed_at, transposed_count}
 use Rattle.mine_graph.specs.FixedBlocks.{mark_of}
 use Rattle.mine_graph.specs.BreadthFirst.{IsAt, VisitsClosure, IsTrail, VisitsExactly, is_visited, queued}
-use Rattle.mine_graph.specs.Users.{AreUsers, LeadsTo}
+use Rattle.mine_graph.specs.Users.{LeadsTo}
 use Rattle.mine_graph.specs.declared.breadth_first.BreadthFirst.{BreadthFirst}
-use Rattle.mine_graph.proofs.Pigeon.{pigeon_more}
+use Rattle.csr.proofs.Pigeon.{pigeon_more}
 
 -- a block more
 module _ (search : BreadthFirst) (block : ℕ) (below : block < length search.marks.items) (fresh : is_visited search block ≡ false) (was : IsTrail search) where
@@ -166,22 +166,33 @@ module _ (pairs : List (ℕ × ℕ)) (seeds : ℕ → Bool) where
     least = was.least;
   }
 
-module _ (pairs : List (ℕ × ℕ)) (a : ℕ) (users : List ℕ) (used : AreUsers pairs a users) where
-  user_leads : (u : ℕ) → IsAt (λ x. get_or users x 0) 0 (length users) u → LeadsTo (transposed pairs) a u
-  user_leads u at =
-      let needs = used.each at.0 at.2 in
-      let count = transposed_count pairs in
-      let here = transposed_at pairs needs.0 needs.1 in
-      (needs.0, omega (arith, needs.1), ap (λ (q : ℕ × ℕ). q.0) here ∙ needs.3, ap (λ (q : ℕ × ℕ). q.1) here ∙ needs.2 ∙ at.3)
+-- the same pairs lead to the same blocks
+module _ (ps qs : List (ℕ × ℕ)) (same : AreSamePairs ps qs) where
+  pub leads_forth : (a u : ℕ) → LeadsTo ps a u → LeadsTo qs a u
+  leads_forth a u leads = let f = same.forth leads.0 leads.1 in (f.0, f.1, ap (λ (q : ℕ × ℕ). q.0) f.2 ∙ leads.2, ap (λ (q : ℕ × ℕ). q.1) f.2 ∙ leads.3)
 
-  user_is : (u : ℕ) → LeadsTo (transposed pairs) a u → IsAt (λ x. get_or users x 0) 0 (length users) u
-  user_is u leads =
-      let count = transposed_count pairs in
-      let inside : leads.0 < length pairs = omega (arith, leads.1) in
-      let here = transposed_at pairs leads.0 inside in
-      let f = used.all u (leads.0, inside, sym (ap (λ (q : ℕ × ℕ). q.1) here) ∙ leads.3, sym (ap (λ (q : ℕ × ℕ). q.0) here) ∙ leads.2) in
-      (f.0, omega arith, f.1, f.2)
+  pub leads_back : (a u : ℕ) → LeadsTo qs a u → LeadsTo ps a u
+  leads_back a u leads = let b = same.back leads.0 leads.1 in (b.0, b.1, ap (λ (q : ℕ × ℕ). q.0) b.2 ∙ leads.2, ap (λ (q : ℕ × ℕ). q.1) b.2 ∙ leads.3)
 
-  -- the blocks that need a block are those that the transposed pairs lead to
-  pub takes_users : (before after : BreadthFirst) → VisitsExactly (IsAt (λ x. get_or users x 0) 0 (length users)) before after → VisitsExactly (LeadsTo (transposed pairs) a) before after
-  takes_users before after = takes_as (IsAt (λ x. get_or users x 0) 0 (length users)) (LeadsTo (transposed pairs) a) before after user_leads user_is
+  -- and have the same closures
+  closed_back : (set : ℕ → Bool) → IsClosedAlong qs set → IsClosedAlong ps set
+  closed_back set closed k l e = let f = same.forth k l in ap (λ (q : ℕ × ℕ). set q.1) (sym f.2) ∙ closed f.0 f.1 (ap (λ (q : ℕ × ℕ). set q.0) f.2 ∙ e)
+
+  closed_forth : (set : ℕ → Bool) → IsClosedAlong ps set → IsClosedAlong qs set
+  closed_forth set closed k l e = let b = same.back k l in ap (λ (q : ℕ × ℕ). set q.1) (sym b.2) ∙ closed b.0 b.1 (ap (λ (q : ℕ × ℕ). set q.0) b.2 ∙ e)
+
+  pub closure_back : (seeds set : ℕ → Bool) → IsClosure qs seeds set → IsClosure ps seeds set
+  closure_back seeds set is = record {
+    holds = is.holds;
+    closed = closed_back set is.closed;
+    least = λ other holds closed. is.least other holds (closed_forth other closed);
+  }
+
+-- transposed pairs are of the same blocks
+pub turned_range : (pairs qs : List (ℕ × ℕ)) (n : ℕ) → AreInRange pairs n → AreSamePairs (transposed pairs) qs → AreInRange qs n
+turned_range pairs qs n range same k l =
+    let b = same.back k l in
+    let size = transposed_count pairs in
+    let inside : b.0 < length pairs = omega (arith, b.1) in
+    let r = range b.0 inside in
+    subst (λ (q : ℕ × ℕ). (q.0 < n) × (q.1 < n)) (sym (transposed_at pairs b.0 inside) ∙ b.2) (r.1, r.0)

@@ -6,9 +6,9 @@ use Rattle.std.proofs.lemmas.Bool.{cases_eq, cases_lt, cases_order, lt-ltb, ltb-
 use Rattle.std.proofs.lemmas.List.{get_or-set_same, get_or-set_other, get_or_past, get_or-take, length-take-le, drop-take}
 use Rattle.pit_model.specs.Graph.{first_of, second_of, AreRising}
 use Rattle.pit_model.specs.Cycle.{IsLargestWithPredecessorInside, IsLeast, IsLeastNeeded, IsWalk, IsCycleList}
-use Rattle.need_rows.specs.Rows.{AreStarts}
-use Rattle.mine_graph.specs.Left.{left_over}
-use Rattle.mine_graph.proofs.Pigeon.{pigeon_more}
+use Rattle.csr.proofs.Offsets.{AreOffsets}
+use Rattle.csr.specs.Left.{left_over}
+use Rattle.csr.proofs.Pigeon.{pigeon_more}
 
 -- where the blocks of a walk stand, each place plus 1
 pub record ArePlaces (path : List ℕ) (count : ℕ) (places : List ℕ) : Type 0 where
@@ -24,7 +24,7 @@ over_no left u h e = let p = ltb-true 0 (get_or left u 0) h in omega arith
 pub over_below : (left : List ℕ) (u : ℕ) → left_over left u ≡ true → u < length left
 over_below left u h = ⊎_elim (λ (l : u < length left). l) (λ (l : length left ≤ u). absurd (over_no left u h (get_or_past left u 0 l))) (cases_lt u (length left))
 
-module _ (pairs : List (ℕ × ℕ)) (starts left : List ℕ) (block k : ℕ) (rising : AreRising pairs) (csr : AreStarts pairs starts (length left)) (below : block < length left)
+module _ (pairs : List (ℕ × ℕ)) (starts left : List ℕ) (block k : ℕ) (rising : AreRising pairs) (csr : AreOffsets pairs starts (length left)) (below : block < length left)
     (from : get_or starts block 0 ≤ k) (passed : (x : ℕ) → get_or starts block 0 ≤ x → x < k → get_or left (second_of pairs x) 0 ≡ 0) where
   -- the first that passes is the least
   pub least_found : k < get_or starts (block + 1) 0 → (get_or left (second_of pairs k) 0 ≡ 0 → ⊥) → IsLeastNeeded pairs (left_over left) block (second_of pairs k)

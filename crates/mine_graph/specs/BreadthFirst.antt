@@ -1,17 +1,10 @@
 -- Breadth-first search: visiting blocks, one after another, and after each those that its pairs lead to.
 use Rattle.std.specs.Prelude.{◌≡◌, ◌⊎◌, ℕ, ◌<◌, ◌≤◌, Bool, true, List, length, get_or}
-use Rattle.pit_model.specs.Fixed.{IsClosedAlong, transposed}
+use Rattle.pit_model.specs.Fixed.{IsClosedAlong}
 use Rattle.pit_model.specs.Part.{AreConnected, AreNeighbours}
 use Rattle.mine_graph.specs.FixedBlocks.{mark_of}
 use Rattle.mine_graph.specs.Users.{LeadsTo}
 use Rattle.mine_graph.specs.declared.breadth_first.BreadthFirst.{BreadthFirst}
-use Rattle.mine_graph.specs.declared.breadth_first.Way.{Way}
-use Rattle.mine_graph.specs.declared.breadth_first.Way.TheVariants.{ToNeeds, ToUsers}
-
--- the pairs as they lead that way
-abbrev pub pairs_along : Way → List (ℕ × ℕ) → List (ℕ × ℕ)
-pairs_along ToNeeds pairs = pairs
-pairs_along ToUsers pairs = transposed pairs
 
 -- u is the block of one of the places from `begin` up to `end`
 abbrev pub IsAt : (ℕ → ℕ) → ℕ → ℕ → ℕ → Type 0

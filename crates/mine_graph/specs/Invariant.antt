@@ -1,18 +1,19 @@
--- What a graph and an instance in memory keep true of their lists.
+-- What a graph and an instance in memory keep true of their parts.
 use Rattle.std.specs.Prelude.{◌≡◌, ℕ, ◌^◌, ◌<◌, ◌≤◌, ℤ, pos, neg_ℤ, ◌≤ℤ◌, List, length, get_or}
 use Rattle.pit_model.specs.Size.{most_blocks, most_pairs}
-use Rattle.pit_model.specs.Graph.{IsGraph}
-use Rattle.need_rows.specs.Rows.{AreStarts, Spell, pairs_of}
-use Rattle.mine_graph.specs.Rows.{AreRowSamples, transposed_pairs}
+use Rattle.pit_model.specs.Graph.{Graph, IsGraph}
+use Rattle.csr.specs.Transposed.{transposed_pairs}
+use Rattle.mine_graph.specs.RowSamples.{AreRowSamples}
 
--- rows of what each block needs, which spell the pairs of a graph within the limits, and of what needs it
-pub record GraphInvariant (blocks : ℕ) (starts needs user_starts users row_samples : List ℕ) : Type 0 where
+-- a graph within the limits, and the same arcs transposed
+pub record GraphInvariant (blocks : ℕ) (predecessors successors : Graph) (row_samples : List ℕ) : Type 0 where
   pub few_blocks : blocks ≤ most_blocks
-  pub few_arcs : length needs ≤ most_pairs
-  pub graph : IsGraph blocks (pairs_of starts needs)
-  pub rows : AreStarts (pairs_of starts needs) starts blocks
-  pub transpose : Spell (transposed_pairs (pairs_of starts needs) blocks) user_starts users blocks
-  pub marked : AreRowSamples (pairs_of starts needs) row_samples
+  pub few_arcs : length predecessors.pairs ≤ most_pairs
+  pub rows : predecessors.blocks ≡ blocks
+  pub graph : IsGraph blocks predecessors.pairs
+  pub same_rows : successors.blocks ≡ blocks
+  pub transposed : successors.pairs ≡ transposed_pairs predecessors.pairs blocks
+  pub sampled : AreRowSamples predecessors.pairs row_samples
 
 -- a value for each block, each within 10^23 of 0
 pub record AreWithinLimits (blocks : ℕ) (values : List ℤ) : Type 0 where

@@ -1,12 +1,10 @@
-pub mod Rows
+pub mod RowSamples
 pub mod FixedBlocks
-pub mod Queue
-pub mod Left
 pub mod Users
 pub mod Invariant
 pub mod Faults
 pub mod Renumbered
-pub mod Classes
+pub mod Components
 pub mod Parts
 pub mod BreadthFirst
 pub mod Raised

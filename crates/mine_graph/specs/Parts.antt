@@ -1,9 +1,10 @@
 -- The parts of a graph, as a list in memory.
-use Rattle.std.specs.Prelude.{◌≡◌, ℕ, ◌<◌, ◌≤◌, ◌+◌, ◌-◌, ◌==◌, List, length, get_or, map, take, drop}
+use Rattle.std.specs.Prelude.{◌≡◌, ℕ, ◌<◌, ◌+◌, ◌-◌, ◌==◌, List, length, get_or, map, take, drop}
 use Rattle.std.specs.List.{range_with_len}
 use Rattle.pit_model.specs.Graph.{Graph}
 use Rattle.pit_model.specs.Mine.{members}
 use Rattle.pit_model.specs.Part.{IsPart, IsClass, StandsAt}
+use Rattle.csr.specs.Rows.{IsCsr}
 use Rattle.mine_graph.specs.declared.part.Part.{Part}
 use Rattle.mine_graph.specs.Renumbered.{has_label}
 
@@ -23,9 +24,8 @@ pub record AreParts (whole : Graph) (parts : List Part) : Type 0 where
 abbrev pub labelled : List ℕ → List (ℕ × ℕ)
 labelled labels = map (λ (u : ℕ). (u, get_or labels u 0)) (range_with_len 0 (length labels))
 
--- the blocks with each label, rising, stand one row behind the other
-pub record AreRows (labels order starts : List ℕ) : Type 0 where
-  pub size : length starts ≡ length labels + 1
-  pub rises : (v : ℕ) → v < length labels → (get_or starts v 0 ≤ get_or starts (v + 1) 0) × (get_or starts (v + 1) 0 ≤ length order)
+-- row v holds the blocks with label v, rising
+pub record HoldMembers (labels offsets targets : List ℕ) : Type 0 where
+  pub rows : IsCsr (length labels) (length targets) offsets
   pub row : (v : ℕ) → v < length labels
-      → take (get_or starts (v + 1) 0 - get_or starts v 0) (drop (get_or starts v 0) order) ≡ members (length labels) (has_label labels v)
+      → take (get_or offsets (v + 1) 0 - get_or offsets v 0) (drop (get_or offsets v 0) targets) ≡ members (length labels) (has_label labels v)

@@ -1,23 +1,15 @@
-//! Breadth-first search: a queue holds the visited blocks, each once, and each is followed by the blocks that its pairs lead to.
+//! Breadth-first search: a queue holds the visited blocks, each once, and each is followed by the blocks that its arcs lead to.
 //! Time is linear in blocks and pairs.
 ghost use Rattle.std.specs.Prelude.{◌≡◌, ◌<◌, ◌≤◌, ℕ, false, length, get_or, IfOk};
 ghost use Rattle.std.specs.List.{All};
-ghost use Rattle.pit_model.specs.Graph.{first_of, second_of};
-ghost use Rattle.pit_model.specs.Fixed.{IsClosure, is_among};
+ghost use Rattle.pit_model.specs.Graph.{AreInRange, AreSamePairs};
+ghost use Rattle.pit_model.specs.Fixed.{IsClosure, is_among, transposed};
 ghost use Rattle.mine_graph.specs.FixedBlocks.{mark_of};
 ghost use Rattle.mine_graph.specs.Users.{LeadsTo};
-ghost use Rattle.mine_graph.specs.BreadthFirst.{HasNeighbours, IsAt, IsJoinedWith, IsTrail, VisitsExactly, is_visited, pairs_along};
+ghost use Rattle.mine_graph.specs.BreadthFirst.{HasNeighbours, IsAt, IsJoinedWith, IsTrail, VisitsExactly, is_visited};
 
-use crate::graph::Graph;
+use csr::Csr;
 use std::alloc::{AllocError, Global};
-use std::ops::Range;
-
-/// Which way pairs lead: from a block to those that it needs, or to those that need it.
-#[derive(Clone, Copy)]
-pub enum Way {
-    ToNeeds,
-    ToUsers,
-}
 
 /// The visited blocks: each has a mark, and the first `tail` places of the queue hold them.
 #[derive(Drop)]
@@ -68,73 +60,59 @@ impl BreadthFirst {
         }
     }
 
-    /// Visits the predecessors in a row.
-    fn visit_needs(&mut self, graph: &Graph, row: Range<u32>)
-        requires size { length self.old.marks.items ≡ graph.now.blocks }
-        requires order { row.start ≤ row.end }
-        requires inside { row.end ≤ length graph.now.pairs }
+    /// Visits the targets of a block's arcs.
+    fn visit_row(&mut self, rows: &Csr, block: u32)
+        requires size { length self.old.marks.items ≡ rows.now.blocks }
+        requires below { block < rows.now.blocks }
+        requires range { AreInRange rows.now.pairs rows.now.blocks }
         requires trail { IsTrail self.old }
-        ensures { VisitsExactly (IsAt (second_of graph.now.pairs) row.start row.end) self.old self.new }
+        ensures { VisitsExactly (LeadsTo rows.now.pairs block) self.old self.new }
     {
-        graph.law();
-        for k in row.start..row.end {
-            self.visit(graph.needed(k));
-        }
-    }
-
-    /// Visits the blocks that the pairs of a block lead to.
-    fn visit_next(&mut self, graph: &Graph, way: Way, block: u32)
-        requires size { length self.old.marks.items ≡ graph.now.blocks }
-        requires below { block < graph.now.blocks }
-        requires trail { IsTrail self.old }
-        ensures { VisitsExactly (LeadsTo (pairs_along way graph.now.pairs) block) self.old self.new }
-    {
-        graph.law();
-        match way {
-            Way::ToNeeds => self.visit_needs(graph, graph.arcs_of(block)),
-            Way::ToUsers => self.visit_all(graph.users(block)),
+        let arcs = rows.row(block);
+        for k in arcs.start..arcs.end {
+            self.visit(rows.target(k));
         }
     }
 
     /// Visits the connected component of a block.
-    pub fn visit_joined(&mut self, graph: &Graph, root: u32)
-        requires size { length self.old.marks.items ≡ graph.now.blocks }
-        requires below { root < graph.now.blocks }
+    pub fn visit_joined(&mut self, predecessors: &Csr, successors: &Csr, root: u32)
+        requires size { length self.old.marks.items ≡ predecessors.now.blocks }
+        requires below { root < predecessors.now.blocks }
+        requires range { AreInRange predecessors.now.pairs predecessors.now.blocks }
+        requires same_rows { successors.now.blocks ≡ predecessors.now.blocks }
+        requires turned { AreSamePairs (transposed predecessors.now.pairs) successors.now.pairs }
         requires trail { IsTrail self.old }
-        requires whole { HasNeighbours graph.now.pairs self.old }
-        ensures { VisitsExactly (IsJoinedWith graph.now.pairs root) self.old self.new }
+        requires whole { HasNeighbours predecessors.now.pairs self.old }
+        ensures { VisitsExactly (IsJoinedWith predecessors.now.pairs root) self.old self.new }
     {
         let begin = self.tail;
         self.visit(root);
-        for head in begin..graph.n() as usize {
+        for head in begin..self.queue.len() {
             if head == self.tail {
                 break;
             }
             let block = self.queue[head];
-            self.visit_next(graph, Way::ToNeeds, block);
-            self.visit_next(graph, Way::ToUsers, block);
+            self.visit_row(predecessors, block);
+            self.visit_row(successors, block);
         }
     }
 }
 
-/// A mark for each block: whether it is one of the seeds, or pairs lead to it from one, directly or through others.
-pub fn closure_of(
-    alloc: Global,
-    graph: &Graph,
-    way: Way,
-    seeds: &[u32],
-) -> Result<Vec<bool>, AllocError>
-    requires { All (λ u. u < graph.now.blocks) seeds.now }
-    ensures { IfOk result (λ marks. IsClosure (pairs_along way graph.now.pairs) (is_among seeds.now) (mark_of marks.items)) }
+/// A mark for each block: whether it is one of the seeds, or arcs lead to it from one, directly or through others.
+pub fn closure_of(alloc: Global, n: u32, rows: &Csr, seeds: &[u32]) -> Result<Vec<bool>, AllocError>
+    requires blocks { rows.now.blocks ≡ n }
+    requires range { AreInRange rows.now.pairs n }
+    requires seeds { All (λ u. u < n) seeds.now }
+    ensures { IfOk result (λ marks. IsClosure rows.now.pairs (is_among seeds.now) (mark_of marks.items)) }
 {
-    let mut search = BreadthFirst::new(alloc, graph.n())?;
+    let mut search = BreadthFirst::new(alloc, n)?;
     search.visit_all(seeds);
-    for head in 0..graph.n() as usize {
+    for head in 0..n as usize {
         if head == search.tail {
             break;
         }
         let block = search.queue[head];
-        search.visit_next(graph, way, block);
+        search.visit_row(rows, block);
     }
     Ok(search.marks)
 }

@@ -4,11 +4,10 @@
 ghost use Rattle.std.specs.Prelude.{◌≡◌, ℕ, ◌-◌, ◌^◌, ◌<◌, ◌≤◌, length, get_or, IfOk, IsTrue};
 ghost use Rattle.pit_model.specs.Graph.{first_of, second_of, AreInRange, AreRising};
 ghost use Rattle.pit_model.specs.Cycle.{AcyclicIsWellFounded, IsCycleList, IsLargestWithPredecessorInside, IsLeast, IsLeastNeeded, HasPredecessorInside, IsWalk};
-ghost use Rattle.need_rows.specs.Lent.{pairs_in};
-ghost use Rattle.need_rows.specs.Rows.{AreStarts};
-ghost use Rattle.mine_graph.specs.Left.{left_over};
+ghost use Rattle.csr.specs.View.{pairs_in, AreRows};
+ghost use Rattle.csr.specs.Left.{left_over};
 
-use need_rows::Rows;
+use csr::CsrView;
 use std::alloc::{AllocError, Global};
 
 /// Pairs without a cycle have no needy set but the empty one: so a cycle is named only where there is one.
@@ -17,17 +16,17 @@ pub fn acyclic_is_well_founded()
 {}
 
 /// The least block that the block needs of those of which something is left.
-fn least_needed(rows: Rows<'_>, left: &[u32], block: u32) -> u32
+fn least_needed(rows: CsrView<'_>, left: &[u32], block: u32) -> u32
     requires rising { AreRising (pairs_in rows) }
     requires range { AreInRange (pairs_in rows) (length left.now) }
-    requires starts { AreStarts (pairs_in rows) rows.starts.now (length left.now) }
+    requires rows { AreRows (length left.now) rows }
     requires below { block < length left.now }
     requires needy { (k : ℕ) × (k < length (pairs_in rows)) × (first_of (pairs_in rows) k ≡ block) × IsTrue (left_over left.now (second_of (pairs_in rows) k)) }
     ensures { IsLeastNeeded (pairs_in rows.entry) (left_over left.now) block result }
 {
     let at = block as usize;
-    for k in rows.starts[at] as usize..rows.starts[at + 1] as usize {
-        let needed = rows.seconds[k];
+    for k in rows.offsets[at] as usize..rows.offsets[at + 1] as usize {
+        let needed = rows.targets[k];
         if left[needed as usize] != 0 {
             return needed;
         }
@@ -38,7 +37,7 @@ fn least_needed(rows: Rows<'_>, left: &[u32], block: u32) -> u32
 /// Walks from a block, each time to the least needed block of which something is left. It answers the place of the first
 /// repeated block, and how long the walk is then.
 fn walk_round(
-    rows: Rows<'_>,
+    rows: CsrView<'_>,
     left: &[u32],
     first: u32,
     path: &mut [u32],
@@ -47,7 +46,7 @@ fn walk_round(
     requires rising { AreRising (pairs_in rows) }
     requires few { length left.now < 2 ^ 31 }
     requires range { AreInRange (pairs_in rows) (length left.now) }
-    requires starts { AreStarts (pairs_in rows) rows.starts.now (length left.now) }
+    requires rows { AreRows (length left.now) rows }
     requires needy { HasPredecessorInside (pairs_in rows) (length left.now) (left_over left.now) }
     requires first { IsLeast (left_over left.now) first }
     requires path { length path.old ≡ length left.now }
@@ -74,14 +73,14 @@ fn walk_round(
 /// The list of the cycle that the walk from the first block left over comes to.
 pub fn cycle_of(
     alloc: Global,
-    rows: Rows<'_>,
+    rows: CsrView<'_>,
     left: &[u32],
     first: u32,
 ) -> Result<Vec<u32>, AllocError>
     requires rising { AreRising (pairs_in rows) }
     requires few { length left.now < 2 ^ 31 }
     requires range { AreInRange (pairs_in rows) (length left.now) }
-    requires starts { AreStarts (pairs_in rows) rows.starts.now (length left.now) }
+    requires rows { AreRows (length left.now) rows }
     requires largest { IsLargestWithPredecessorInside (pairs_in rows) (length left.now) (left_over left.now) }
     requires first { IsLeast (left_over left.now) first }
     ensures { IfOk result (λ cycle. IsCycleList (pairs_in rows.entry) (length left.now) cycle.items) }

@@ -8,7 +8,7 @@ ghost use Rattle.pit_model.specs.Cycle.{IsLeast};
 ghost use Rattle.pit_model.specs.Graph.{Graph as AnyGraph};
 ghost use Rattle.mine_graph.specs.FixedBlocks.{IsFixedOf, RefusesFixed, forced_closure, barred_closure, lists_of, mark_of, no_lists};
 
-use crate::breadth_first::{Way, closure_of};
+use crate::breadth_first::closure_of;
 use crate::graph::Graph;
 use crate::part::Part;
 use faults::Fault;
@@ -84,11 +84,11 @@ impl Fixed {
         ensures refused { IfErr result (λ e. RefusesFixed graph.now (lists_of forced.items barred.items) e.refusal e) }
     {
         graph.law();
-        let dug = closure_of(alloc, graph, Way::ToNeeds, &forced)?;
+        let dug = closure_of(alloc, graph.n(), graph.predecessors(), &forced)?;
         if let Some(block) = first_marked(&barred, &dug) {
             return Err(Fault::clash(block));
         }
-        let left = closure_of(alloc, graph, Way::ToUsers, &barred)?;
+        let left = closure_of(alloc, graph.n(), graph.successors(), &barred)?;
         Ok(Fixed {
             settled: Some(Settled {
                 forced,

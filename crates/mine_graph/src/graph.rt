@@ -4,17 +4,15 @@ ghost use Rattle.std.specs.Prelude.{◌≡◌, ◌<◌, ◌≤◌, ◌↔◌, �
 ghost use Rattle.pit_model.specs.Size.{most_blocks, most_pairs};
 ghost use Rattle.faults.specs.Refused.{no_memory};
 ghost use Rattle.pit_model.specs.Direction.{IsReversed};
+ghost use Rattle.pit_model.specs.Fixed.{transposed};
 ghost use Rattle.pit_model.specs.Graph.{first_of, second_of, AreApart, AreInRange, AreSamePairs, IsAcyclic, IsGraph};
 ghost use Rattle.mine_graph.specs.Faults.{IsGraphFault};
-ghost use Rattle.need_rows.specs.Rows.{pairs_of, AreStarts};
 ghost use Rattle.mine_graph.specs.Users.{AreUsers};
 
 use crate::no_cycle::check_acyclic;
 use crate::row_samples::{STEP, next_row_sample, row_between, sample_rows};
-use crate::sort_rows::sort_rows;
-use crate::transpose::transposed_rows;
+use csr::{Csr, sort_rows, transposed_rows};
 use faults::Fault;
-use need_rows::{NeedRows, Rows};
 use std::alloc::{AllocError, Global};
 use std::marker::Model;
 use std::ops::Range;
@@ -23,12 +21,10 @@ use std::ops::Range;
 #[derive(Drop)]
 pub struct Graph {
     blocks: u32,
-    /// The blocks that each block needs, in rows.
-    starts: Vec<u32>,
-    needs: Vec<u32>,
-    /// The blocks that need each block, in rows.
-    user_starts: Vec<u32>,
-    users: Vec<u32>,
+    /// The blocks that each block needs.
+    predecessors: Csr,
+    /// The blocks that need each block.
+    successors: Csr,
     /// The block of every 64th pair.
     row_samples: Vec<u32>,
 }
@@ -36,13 +32,12 @@ pub struct Graph {
 impl Model for Graph {
     ghost use Rattle.pit_model.specs.Graph.{Graph};
     ghost use Rattle.mine_graph.specs.Invariant.{GraphInvariant};
-    ghost use Rattle.need_rows.specs.Rows.{pairs_of};
 
     ghost Value = { Graph };
 
-    ghost view = { λ g. record { blocks = g.blocks; pairs = pairs_of g.starts.items g.needs.items } };
+    ghost view = { λ g. record { blocks = g.blocks; pairs = g.predecessors.pairs } };
 
-    ghost invariant = { λ g. GraphInvariant g.blocks g.starts.items g.needs.items g.user_starts.items g.users.items g.row_samples.items };
+    ghost invariant = { λ g. GraphInvariant g.blocks g.predecessors g.successors g.row_samples.items };
 }
 
 impl Graph {
@@ -63,9 +58,9 @@ impl Graph {
     {
         let mut pairs = pairs;
         pairs.sort_unstable();
-        let needs = NeedRows::of_pairs(alloc, n, &pairs)?;
+        let rows = Csr::from_pairs(alloc, n, &pairs)?;
         drop(pairs);
-        Graph::of_rows(alloc, n, needs)
+        Graph::of_rows(alloc, n, rows)
     }
 
     /// Makes the graph of the pairs that rows spell, and numbers its arcs in the order of (u, p). Time is linear in blocks and
@@ -73,68 +68,43 @@ impl Graph {
     ///
     /// # Errors
     /// `NoMemory`, and `Cycle` with the cycle of the pairs where they have one.
-    pub fn of_rows(alloc: Global, n: u32, needs: NeedRows) -> Result<Graph, Fault>
+    pub fn of_rows(alloc: Global, n: u32, rows: Csr) -> Result<Graph, Fault>
         requires few_blocks { n ≤ most_blocks }
-        requires few_pairs { length needs.pairs ≤ most_pairs }
-        requires rows { needs.blocks ≡ n }
-        requires in_range { AreInRange needs.pairs n }
-        requires apart { AreApart needs.pairs }
+        requires few_pairs { length rows.pairs ≤ most_pairs }
+        requires rows { rows.blocks ≡ n }
+        requires in_range { AreInRange rows.pairs n }
+        requires apart { AreApart rows.pairs }
         ensures blocks { IfOk result (λ g. g.blocks ≡ n) }
-        ensures same { IfOk result (λ g. AreSamePairs needs.pairs g.pairs) }
-        ensures acyclic { IfOk result (λ _. IsAcyclic needs.pairs) }
-        ensures refused { IfErr result (IsGraphFault needs.pairs n) }
+        ensures same { IfOk result (λ g. AreSamePairs rows.pairs g.pairs) }
+        ensures acyclic { IfOk result (λ _. IsAcyclic rows.pairs) }
+        ensures refused { IfErr result (IsGraphFault rows.pairs n) }
     {
-        let (starts, needs) = needs.into_rows();
-        let (starts, needs) = sort_rows(alloc, n, starts, needs)?;
-        let rows = Rows {
-            starts: &starts,
-            seconds: &needs,
-        };
-        check_acyclic(alloc, n, rows)?;
-        Ok(Graph::of_acyclic_rows(alloc, n, starts, needs)?)
+        let predecessors = sort_rows(alloc, n, rows)?;
+        check_acyclic(alloc, n, &predecessors)?;
+        Ok(Graph::of_acyclic_rows(alloc, n, predecessors)?)
     }
 
-    /// The graph of the pairs that rows spell. It takes no time to look for a cycle.
-    fn of_acyclic_rows(
+    /// The graph of sorted rows that are known to have no cycle. It takes no time to look for one.
+    pub(crate) fn of_acyclic_rows(
         alloc: Global,
         n: u32,
-        starts: Vec<u32>,
-        needs: Vec<u32>,
+        predecessors: Csr,
     ) -> Result<Graph, AllocError>
         requires few_blocks { n ≤ most_blocks }
-        requires few_pairs { length needs.items ≤ most_pairs }
-        requires graph { IsGraph n (pairs_of starts.items needs.items) }
-        requires rows { AreStarts (pairs_of starts.items needs.items) starts.items n }
+        requires few_pairs { length predecessors.pairs ≤ most_pairs }
+        requires rows { predecessors.blocks ≡ n }
+        requires graph { IsGraph n predecessors.pairs }
         ensures blocks { IfOk result (λ g. g.blocks ≡ n) }
-        ensures pairs { IfOk result (λ g. g.pairs ≡ pairs_of starts.items needs.items) }
+        ensures pairs { IfOk result (λ g. g.pairs ≡ predecessors.pairs) }
     {
-        let rows = Rows {
-            starts: &starts,
-            seconds: &needs,
-        };
-        let (user_starts, users) = transposed_rows(alloc, n, rows)?;
-        let row_samples = sample_rows(alloc, n, rows)?;
+        let successors = transposed_rows(alloc, n, predecessors.view())?;
+        let row_samples = sample_rows(alloc, n, predecessors.view())?;
         Ok(Graph {
             blocks: n,
-            starts,
-            needs,
-            user_starts,
-            users,
+            predecessors,
+            successors,
             row_samples,
         })
-    }
-
-    /// The graph of pairs in their order that are known to have no cycle. It takes no time to look for one.
-    pub(crate) fn of_ordered(alloc: Global, n: u32, needs: NeedRows) -> Result<Graph, AllocError>
-        requires few_blocks { n ≤ most_blocks }
-        requires few_pairs { length needs.pairs ≤ most_pairs }
-        requires rows { needs.blocks ≡ n }
-        requires graph { IsGraph n needs.pairs }
-        ensures blocks { IfOk result (λ g. g.blocks ≡ n) }
-        ensures pairs { IfOk result (λ g. g.pairs ≡ needs.pairs) }
-    {
-        let (starts, needs) = needs.into_rows();
-        Graph::of_acyclic_rows(alloc, n, starts, needs)
     }
 
     /// What is true of each graph.
@@ -143,12 +113,28 @@ impl Graph {
         ensures few_blocks { self.now.blocks ≤ most_blocks }
         ensures few_arcs { length self.now.pairs ≤ most_pairs }
     {
-        let _ = &self.needs;
+        let _ = &self.predecessors;
+    }
+
+    /// The arcs from each block to those that it needs.
+    pub(crate) fn predecessors(&self) -> &Csr
+        ensures blocks { result.now.blocks ≡ self.now.blocks }
+        ensures pairs { result.now.pairs ≡ self.now.pairs }
+    {
+        &self.predecessors
+    }
+
+    /// The arcs from each block to those that need it.
+    pub(crate) fn successors(&self) -> &Csr
+        ensures blocks { result.now.blocks ≡ self.now.blocks }
+        ensures turned { AreSamePairs (transposed self.now.pairs) result.now.pairs }
+    {
+        &self.successors
     }
 
     /// Where the graph takes its memory from.
     pub(crate) fn alloc(&self) -> Global {
-        *self.needs.allocator()
+        self.predecessors.alloc()
     }
 
     /// How many blocks there are.
@@ -162,7 +148,7 @@ impl Graph {
     pub fn arcs(&self) -> u32
         ensures { result ≡ length self.now.pairs }
     {
-        self.needs.len() as u32
+        self.predecessors.len() as u32
     }
 
     /// The block that needs another by the pair with that number, by binary search between samples.
@@ -173,7 +159,7 @@ impl Graph {
         let mark = k as usize / STEP;
         let least = self.row_samples[mark];
         let most = next_row_sample(&self.row_samples, mark, self.blocks - 1);
-        row_between(&self.starts, least, most, k)
+        row_between(self.predecessors.view().offsets, least, most, k)
     }
 
     /// The pair with that number: a block, and one that it needs.
@@ -189,7 +175,7 @@ impl Graph {
         requires { k < length self.now.pairs }
         ensures { result ≡ second_of self.now.pairs k }
     {
-        self.needs[k as usize]
+        self.predecessors.target(k)
     }
 
     /// The numbers of the pairs of a block, which follow one another.
@@ -199,7 +185,7 @@ impl Graph {
         ensures inside { result.end ≤ length self.now.pairs }
         ensures own { (k : ℕ) → k < length self.now.pairs → (first_of self.now.pairs k ≡ u) ↔ ((result.start ≤ k) × (k < result.end)) }
     {
-        self.starts[u as usize]..self.starts[u as usize + 1]
+        self.predecessors.row(u)
     }
 
     /// The blocks that need a block, rising.
@@ -207,9 +193,10 @@ impl Graph {
         requires { p < self.now.blocks }
         ensures { AreUsers self.now.pairs p result.now }
     {
-        let begin = self.user_starts[p as usize] as usize;
-        let end = self.user_starts[p as usize + 1] as usize;
-        &self.users[begin..end]
+        let rows = self.successors.view();
+        let begin = rows.offsets[p as usize] as usize;
+        let end = rows.offsets[p as usize + 1] as usize;
+        &rows.targets[begin..end]
     }
 
     /// The transposed graph: the blocks that need a block there are those that it needs here. Refused for want of
@@ -219,9 +206,8 @@ impl Graph {
         ensures no_memory { IfErr result (λ e. e ≡ no_memory) }
     {
         let alloc = self.alloc();
-        let starts = Vec::from_slice(alloc, &self.user_starts)?;
-        let needs = Vec::from_slice(alloc, &self.users)?;
-        Ok(Graph::of_acyclic_rows(alloc, self.blocks, starts, needs)?)
+        let predecessors = Csr::from_view(alloc, self.successors.view())?;
+        Ok(Graph::of_acyclic_rows(alloc, self.blocks, predecessors)?)
     }
 
     /// The number of a pair, by halving the row of its block.
@@ -233,8 +219,9 @@ impl Graph {
         let row = self.arcs_of(u);
         let begin = row.start as usize;
         let end = row.end as usize;
-        let place = begin + first_at_least(&self.needs[begin..end], p);
-        if place < end && self.needs[place] == p {
+        let targets = self.predecessors.view().targets;
+        let place = begin + first_at_least(&targets[begin..end], p);
+        if place < end && targets[place] == p {
             Some(place as u32)
         } else {
             None

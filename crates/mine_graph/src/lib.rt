@@ -2,7 +2,7 @@
 #![tactic(auto)]
 
 mod breadth_first;
-mod classes;
+mod components;
 mod cycle;
 mod fixed;
 mod graph;
@@ -12,13 +12,10 @@ mod numbers;
 mod part;
 mod parts;
 mod row_samples;
-mod sort_rows;
-mod topological_order;
-mod transpose;
 mod values;
 
 pub use breadth_first::BreadthFirst;
-pub use classes::Classes;
+pub use components::Components;
 pub use cycle::acyclic_is_well_founded;
 pub use fixed::Fixed;
 pub use graph::Graph;

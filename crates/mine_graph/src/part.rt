@@ -9,8 +9,8 @@ ghost use Rattle.pit_model.specs.Part.{IsPart};
 ghost use Rattle.mine_graph.specs.Renumbered.{has_label, placed_pair, is_inside, is_inside_before, IsPlaced};
 
 use crate::graph::Graph;
+use csr::CsrBuilder;
 use faults::Fault;
-use need_rows::NeedRows;
 use std::alloc::{AllocError, Global};
 
 /// Some blocks of a graph, rising, and the graph of the pairs among them, in which block i is `blocks[i]`.
@@ -33,7 +33,7 @@ fn add_row(
     graph: &Graph,
     block: u32,
     chosen: Chosen<'_>,
-    needs: &mut NeedRows,
+    needs: &mut CsrBuilder,
 ) -> Result<(), AllocError>
     requires inside { block < graph.now.blocks }
     requires labelled { length chosen.labels.now ≡ graph.now.blocks }
@@ -56,21 +56,20 @@ fn add_row(
 }
 
 /// The pairs among the chosen blocks, renumbered.
-fn pairs_within(graph: &Graph, blocks: &[u32], chosen: Chosen<'_>) -> Result<NeedRows, AllocError>
+fn pairs_within(graph: &Graph, blocks: &[u32], chosen: Chosen<'_>) -> Result<CsrBuilder, AllocError>
     requires labelled { length chosen.labels.now ≡ graph.now.blocks }
     requires placed { length chosen.places.now ≡ graph.now.blocks }
     requires blocks { blocks.now ≡ members graph.now.blocks (has_label chosen.labels.now chosen.label) }
     requires places { IsPlaced blocks.now (length blocks.now) chosen.places.now }
-    ensures rows { IfOk result (λ v. v.blocks ≡ length blocks.now) }
+    ensures rows { IfOk result (λ v. v.blocks ≤ length blocks.now) }
     ensures pairs { IfOk result (λ v. v.pairs ≡ map (placed_pair graph.now.pairs chosen.entry.places.now) (members (length graph.now.pairs) (is_inside graph.now.pairs chosen.entry.labels.now chosen.entry.label))) }
 {
     graph.law();
-    let mut needs = NeedRows::new(graph.alloc())?;
+    let mut needs = CsrBuilder::new(graph.alloc())?;
     for i in 0..blocks.len() {
         needs.open_row(i as u32)?;
         add_row(graph, blocks[i], chosen, &mut needs)?;
     }
-    needs.open_row(blocks.len() as u32)?;
     Ok(needs)
 }
 
@@ -84,8 +83,9 @@ pub(crate) fn part_of(graph: &Graph, blocks: Vec<u32>, chosen: Chosen<'_>) -> Re
     ensures no_memory { IfErr result (λ e. e ≡ no_memory) }
 {
     graph.law();
+    let n = blocks.len() as u32;
     let needs = pairs_within(graph, &blocks, chosen)?;
-    let graph = Graph::of_ordered(graph.alloc(), blocks.len() as u32, needs)?;
+    let graph = Graph::of_acyclic_rows(graph.alloc(), n, needs.finish(n)?)?;
     Ok(Part { blocks, graph })
 }
 

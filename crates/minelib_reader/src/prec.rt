@@ -24,8 +24,8 @@ use crate::limits::MOST_PAIRS;
 use crate::lines::{count_fields, has_fields, next_whole, plain_whole};
 use crate::pieces::{read_past, read_piece};
 use crate::rows::{Row, TextRows};
+use csr::{Csr, CsrBuilder};
 use faults::{Fault, Refusal, Source};
-use need_rows::NeedRows;
 use std::alloc::{AllocError, Global};
 
 /// So many lines are numbered at most, which is more than any file has.
@@ -94,7 +94,7 @@ fn read_need(block: Block, marks: &[u32], whole: Option<u64>) -> Result<u32, Fau
 
 /// Adds the pairs of a block as long as its predecessors rise, so that none stands twice and no mark is wanted. Answers what is left
 /// of the text, or that memory was refused.
-fn push_rising<'a>(block: Block, text: &'a [u8], needs: &mut NeedRows) -> Result<&'a [u8], Fault>
+fn push_rising<'a>(block: Block, text: &'a [u8], needs: &mut CsrBuilder) -> Result<&'a [u8], Fault>
     requires known { block.id < block.n }
     requires row { needs.old.blocks ≡ block.id }
     ensures ok { IfOk result (λ rest. AddsFirst block.n block.id (fields_of text.now) (fields_of rest.now) needs.old.pairs needs.new.pairs) }
@@ -135,7 +135,7 @@ fn push_marked(
     block: Block,
     marks: &mut Vec<u32>,
     text: &[u8],
-    needs: &mut NeedRows,
+    needs: &mut CsrBuilder,
 ) -> Result<(), Fault>
     requires sizes { length marks.old.items ≡ block.n }
     requires known { block.id < block.n }
@@ -164,7 +164,7 @@ fn read_needs(
     block: Block,
     marks: &mut Vec<u32>,
     text: &[u8],
-    needs: &mut NeedRows,
+    needs: &mut CsrBuilder,
 ) -> Result<u64, Fault>
     requires sizes { length marks.old.items ≡ block.n }
     requires known { block.id < block.n }
@@ -182,7 +182,7 @@ fn read_needs(
     let before = needs.len();
     let rest = push_rising(block, text, needs)?;
     if has_fields(rest) {
-        mark_needs(block, needs.needs_from(before), marks);
+        mark_needs(block, needs.targets_from(before), marks);
         push_marked(block, marks, rest, needs)?;
     }
     Ok((needs.len() - before) as u64)
@@ -238,7 +238,7 @@ fn read_line(
     before: Before,
     marks: &mut Vec<u32>,
     r: Row,
-    needs: &mut NeedRows,
+    needs: &mut CsrBuilder,
 ) -> Result<Before, Fault>
     requires sizes { length marks.old.items ≡ n }
     requires few { before.total ≤ most_pairs }
@@ -285,7 +285,7 @@ fn read_lines(
     before: Before,
     marks: &mut Vec<u32>,
     text: &[u8],
-    needs: &mut NeedRows,
+    needs: &mut CsrBuilder,
 ) -> Result<Before, Fault>
     requires countable { before.line < 2 ^ 63 }
     requires sizes { length marks.old.items ≡ n }
@@ -317,20 +317,19 @@ fn read_lines(
 }
 
 /// The pairs of all lines of a text.
-fn parse_lines(alloc: Global, text: &[u8], n: u32) -> Result<NeedRows, Fault>
+fn parse_lines(alloc: Global, text: &[u8], n: u32) -> Result<Csr, Fault>
     ensures pairs { Gives (λ v. v.pairs) result (prec_of n text.now) }
     ensures blocks { IfOk result (λ v. v.blocks ≡ n) }
 {
     let mut marks = vec![in alloc; 0u32; n as usize]?;
-    let mut needs = NeedRows::new(alloc)?;
+    let mut needs = CsrBuilder::new(alloc)?;
     read_lines(n, AT_FIRST, &mut marks, text, &mut needs)?;
-    needs.open_row(n)?;
-    Ok(needs)
+    Ok(needs.finish(n)?)
 }
 
 /// The pairs of all lines that a reader has left, read piece by piece. Counters are told of the pairs of each piece. A fault in
 /// the text is told when the text is known whole, so the rest of it is read.
-fn read_pieces<R: InBytes>(alloc: Global, reader: &mut R, n: u32) -> Result<NeedRows, Fault>
+fn read_pieces<R: InBytes>(alloc: Global, reader: &mut R, n: u32) -> Result<Csr, Fault>
     requires countable { (R.progress reader.old).failures < 2 ^ 63 }
     ensures exact { Answers (λ v. v.pairs) (prec_of n) sources.Precedence (R.progress reader.old) (R.progress reader.new) (R.IsAtEnd reader.new) result }
     ensures blocks { IfOk result (λ v. v.blocks ≡ n) }
@@ -338,7 +337,7 @@ fn read_pieces<R: InBytes>(alloc: Global, reader: &mut R, n: u32) -> Result<Need
 {
     let counters = reader.counters();
     let mut marks = vec![in alloc; 0u32; n as usize]?;
-    let mut needs = NeedRows::new(alloc)?;
+    let mut needs = CsrBuilder::new(alloc)?;
     let mut piece = Vec::new(alloc);
     let mut kept = Vec::new(alloc);
     let mut before = AT_FIRST;
@@ -355,8 +354,7 @@ fn read_pieces<R: InBytes>(alloc: Global, reader: &mut R, n: u32) -> Result<Need
         }
         counters.pairs_read(before.total);
         if ended {
-            needs.open_row(n)?;
-            return Ok(needs);
+            return Ok(needs.finish(n)?);
         }
     }
 }
@@ -369,7 +367,7 @@ pub fn prec_law()
 
 /// The pairs (u, p) of "u needs p" that a text spells for n blocks, by rows, in order of line and place, else the first fault of
 /// the text, or `NoMemory`.
-pub fn parse_prec_rows(alloc: Global, text: &[u8], n: u32) -> Result<NeedRows, Fault>
+pub fn parse_prec_rows(alloc: Global, text: &[u8], n: u32) -> Result<Csr, Fault>
     // Which pairs or which fault it is.
     ensures exact { Gives (λ v. v.pairs) result (prec_of n text.now) }
     // What is read is spelled so, and what is spelled so is read, unless memory runs out.
@@ -386,7 +384,7 @@ pub fn parse_prec_rows(alloc: Global, text: &[u8], n: u32) -> Result<NeedRows, F
 ///
 /// # Errors
 /// The first fault of that text; `ReadFailed` exactly where the reader counted a failure in this call; `NoMemory`.
-pub fn read_prec_rows<R: InBytes>(alloc: Global, reader: &mut R, n: u32) -> Result<NeedRows, Fault>
+pub fn read_prec_rows<R: InBytes>(alloc: Global, reader: &mut R, n: u32) -> Result<Csr, Fault>
     requires countable { (R.progress reader.old).failures < 2 ^ 63 }
     ensures answers { AnswersBy (λ v. v.pairs) (SpellsPrec n) (IsFirstPrecFault n) sources.Precedence (R.progress reader.old) (R.progress reader.new) (R.IsAtEnd reader.new) result }
     ensures blocks { IfOk result (λ v. v.blocks ≡ n) }

@@ -14,7 +14,7 @@ ghost use Rattle.arrays.specs.Solved.{MarkPit};
 ghost use Rattle.arrays.specs.Encoded.{priced_rows};
 
 use arrays::{
-    ArrayError, Certified, DepositArrays, Halves, MineArrays, Rows, check_marks, find_cycle,
+    ArrayError, Certified, CsrView, DepositArrays, Halves, MineArrays, check_marks, find_cycle,
     have_room, join_halves, mark_certified, mark_pit, mark_shells, split_i128, write_halves,
 };
 use faults::Refusal;
@@ -79,9 +79,9 @@ pub extern "C" fn pitshell_solve(
 {
     let arrays = MineArrays {
         values,
-        rows: Rows {
-            starts,
-            seconds: needs,
+        rows: CsrView {
+            offsets: starts,
+            targets: needs,
         },
         numbers,
     };
@@ -126,9 +126,9 @@ pub extern "C" fn pitshell_shells(
     let deposit = DepositArrays {
         revenues,
         costs,
-        rows: Rows {
-            starts,
-            seconds: needs,
+        rows: CsrView {
+            offsets: starts,
+            targets: needs,
         },
     };
     match mark_shells(alloc, &deposit, factors, firsts) {
@@ -170,9 +170,9 @@ pub extern "C" fn pitshell_certificate(
     match mark_certified(
         alloc,
         values,
-        &Rows {
-            starts,
-            seconds: needs,
+        &CsrView {
+            offsets: starts,
+            targets: needs,
         },
         marks,
     ) {
@@ -219,9 +219,9 @@ pub extern "C" fn pitshell_check(
     match check_marks(
         alloc,
         values,
-        &Rows {
-            starts,
-            seconds: needs,
+        &CsrView {
+            offsets: starts,
+            targets: needs,
         },
         marks,
         flow,
@@ -262,9 +262,9 @@ pub extern "C" fn pitshell_cycle(
     match find_cycle(
         alloc,
         blocks,
-        &Rows {
-            starts,
-            seconds: needs,
+        &CsrView {
+            offsets: starts,
+            targets: needs,
         },
         cycle,
     ) {

@@ -1,9 +1,9 @@
 //! A worker solves a small mine. Where memory is refused to its pass over the board, it leaves the sweep, its ask is taken back, and
 //! the driver goes on: the journal tells whether it was.
 use crew::{OpenGate, solve_shared};
+use csr::Csr;
 use faults::Fault;
 use mine_graph::{Graph, Instance};
-use need_rows::NeedRows;
 use std::alloc::AllocGlobal;
 use std::sync::{Arc, Wait};
 use std::thread::Threads;
@@ -13,7 +13,7 @@ use tree_lock::Entry;
 /// which is also the driver's first. Refused for want of memory, and where a thread or a seat was.
 pub fn solved<R: AllocGlobal + Threads + Wait + Sync>(rt: &R) -> Result<Vec<Entry>, Fault> {
     let alloc = rt.alloc();
-    let needs = NeedRows::of_pairs(alloc, 4, &[(0, 3), (1, 2)])?;
+    let needs = Csr::from_pairs(alloc, 4, &[(0, 3), (1, 2)])?;
     let graph = Arc::new(alloc, Graph::of_rows(alloc, 4, needs)?)?;
     let values = vec![in alloc; 5, 5, -3, -3]?;
     let mine = Instance::new(graph, values);

@@ -17,7 +17,7 @@ check-requires-clause-candidate c =
     let marks = c.args.marks.now in
     let pit = c.in_ok-pit.pit.items in
     let size : length marks ≡ c.in_ok-mine.mine.blocks = c.if-marks-values.false ∙ sym encoded.blocks in
-    let sized : length c.args.flow.items ≡ length c.args.rows.now.seconds.now = search rules in
+    let sized : length c.args.flow.items ≡ length c.args.rows.now.targets.now = search rules in
     record {
       below = subst (λ n. All (λ u. u < n) pit) size (listed_below (length marks) pit (λ u. get_or marks u 0 == 1) c.in_ok-pit.ensures);
       rising = blocks_rise (length marks) (λ u. get_or marks u 0 == 1) pit c.in_ok-pit.ensures;
@@ -35,6 +35,6 @@ returns-in-Ok-clause-exact c =
     let nothing : IsNothingFixed (fixed_of c.none.result.lists) =
     subst (λ (lists : FixedLists). IsNothingFixed (fixed_of lists)) (sym c.none.ensures.lists) (record { none_forced = λ u. refl; none_barred = λ u. refl }) in
     let exact = c.in-Ok.ensures.none_fixed nothing in (
-      λ yes. certify_marks c.args.values.now rows.starts.now rows.seconds.now marks c.args.flow.items mine c.in_ok-pit.pit.items encoded c.in_ok-pit.ensures size c.in_default.ensures.none (exact.0 yes),
-      λ are. exact.1 (marks_certify c.args.values.now rows.starts.now rows.seconds.now marks c.args.flow.items mine c.in_ok-pit.pit.items encoded c.in_ok-pit.ensures size c.in_default.ensures.none are),
+      λ yes. certify_marks c.args.values.now rows.offsets.now rows.targets.now marks c.args.flow.items mine c.in_ok-pit.pit.items encoded c.in_ok-pit.ensures size c.in_default.ensures.none (exact.0 yes),
+      λ are. exact.1 (marks_certify c.args.values.now rows.offsets.now rows.targets.now marks c.args.flow.items mine c.in_ok-pit.pit.items encoded c.in_ok-pit.ensures size c.in_default.ensures.none are),
     )

@@ -9,7 +9,7 @@ pub returns-in-Cycle-clause-some : goal.returns-in-Cycle-clause-some
 returns-in-Cycle-clause-some c =
     let rows = c.args.rows.now in
     let cycle = c.in-Cycle.cycle.items in
-    let named = subst (λ (r : Refusal). RefusesRows c.args.blocks rows.starts.now rows.seconds.now r c.in-Err.field-0.place) c.in-Cycle.is c.in-Err.ensures.refused in
+    let named = subst (λ (r : Refusal). RefusesRows c.args.blocks rows.offsets.now rows.targets.now r c.in-Err.field-0.place) c.in-Cycle.is c.in-Err.ensures.refused in
     let is = named.2 in
     let sized : c.len.result ≡ length cycle = search rules in
     let cut = ap (λ (xs : List ℕ). length xs) is.is ∙ length-drop is.visit is.walk in

@@ -1,17 +1,18 @@
 -- Rows whose blocks are there spell pairs of blocks that there are.
-use Rattle.std.proofs.Common.{◌≡◌, ℕ, ◌<◌, IfSome, length, get_or, ap, subst, sym, ◌∙◌, arith}
+use Rattle.std.proofs.Common.{◌≡◌, ℕ, ◌<◌, IfSome, length, get_or, ap, refl, subst, sym, ◌∙◌, arith}
 use Rattle.pit_model.specs.Graph.{first_of, AreInRange}
-use Rattle.need_rows.specs.Lent.{pairs_in}
-use Rattle.need_rows.proofs.Spelled.{length-pairs_of, second_at}
+use Rattle.csr.specs.View.{pairs_in}
+use Rattle.csr.proofs.Begun.{csr_sized}
+use Rattle.csr.proofs.Spelled.{length-pairs_of, second_at}
 use Rattle.arrays.specs.Named.{IsRepeated}
 use Rattle.arrays.specs.Encoded.{IsInRow, EncodesPairs}
-use Rattle.arrays.proofs.Encoding.{begun, rows_in_range, spell}
+use Rattle.arrays.proofs.Encoding.{rows_in_range, spell}
 use Rattle.arrays.proofs.graph.sound_rows.Goals as goal
 
 pub returns-in-Some-2-clause-refused : goal.returns-in-Some-2-clause-refused
 returns-in-Some-2-clause-refused c =
-    let starts = c.args.rows.starts.now in
-    let seconds = c.args.rows.seconds.now in
+    let starts = c.args.rows.offsets.now in
+    let seconds = c.args.rows.targets.now in
     let pairs = pairs_in c.args.rows in
     let place : ℕ = c.in-Some-2.place in
     let is = subst (λ o. IfSome o (IsRepeated pairs)) c.in-Some-2.is c.in_ok-place.ensures.some in
@@ -29,15 +30,15 @@ returns-in-Some-2-clause-refused c =
       same = sym (second_at starts seconds before (omega arith)) ∙ ap (λ (q : ℕ × ℕ). q.1) is.3 ∙ second_at starts seconds place (omega arith);
     }
 
-pub of_rows-requires : goal.of_rows-requires
-of_rows-requires c = begun c.args.blocks c.args.rows.starts.now c.args.rows.seconds.now c.requires.rows
+pub from_view-requires : goal.from_view-requires
+from_view-requires c = let rows = c.args.rows in csr_sized rows.offsets.now c.args.blocks (length rows.targets.now) (length rows.targets.now) c.requires.rows refl
 
 pub returns-clause-encoded : goal.returns-clause-encoded
 returns-clause-encoded c =
     let rows = c.args.rows in
-    subst (EncodesPairs rows.starts.now rows.seconds.now) (sym c.in_ok-of_rows.ensures.pairs) (spell c.args.blocks rows.starts.now rows.seconds.now c.requires.rows)
+    subst (EncodesPairs rows.offsets.now rows.targets.now) (sym c.in_ok-from_view.ensures.pairs) (spell c.args.blocks rows.offsets.now rows.targets.now c.requires.rows)
 
 pub returns-clause-in_range : goal.returns-clause-in_range
 returns-clause-in_range c =
     let rows = c.args.rows in
-    subst (λ q. AreInRange q c.args.blocks) (sym c.in_ok-of_rows.ensures.pairs) (rows_in_range c.args.blocks rows.starts.now rows.seconds.now c.requires.rows c.in_default.ensures.none)
+    subst (λ q. AreInRange q c.args.blocks) (sym c.in_ok-from_view.ensures.pairs) (rows_in_range c.args.blocks rows.offsets.now rows.targets.now c.requires.rows c.in_default.ensures.none)

@@ -5,4 +5,4 @@ use Rattle.arrays.proofs.Encoding.{ends_within}
 use Rattle.arrays.proofs.needs.first_of_itself.Goals as goal
 
 pub own_place-requires-clause-inside : goal.own_place-requires-clause-inside
-own_place-requires-clause-inside c = ends_within c.args.blocks (length c.args.rows.seconds.now) c.args.rows.starts.now c.requires.rows (c.loop-block.block + 1) (omega arith)
+own_place-requires-clause-inside c = ends_within c.args.blocks (length c.args.rows.targets.now) c.args.rows.offsets.now c.requires.rows (c.loop-block.block + 1) (omega arith)

@@ -9,9 +9,9 @@ rows_rise-requires c v h =
     let rows = c.args.rows.now in
     let are = c.in_ok-mine.ensures.encoded.encoded.rows in
     let size = are.count in
-    ends_within c.in_ok-mine.mine.blocks (length rows.seconds.now) rows.starts.now are (v + 1) (omega arith)
+    ends_within c.in_ok-mine.mine.blocks (length rows.targets.now) rows.offsets.now are (v + 1) (omega arith)
 
 pub returns-clause-encoded : goal.returns-clause-encoded
 returns-clause-encoded c =
     let rows = c.args.rows.now in
-    in_order c.args.values.now rows.starts.now rows.seconds.now c.in_ok-mine.mine c.law.ensures.graph (c.rows_rise.ensures.0 c.if-not-rows_rise.false) c.in_ok-mine.ensures.encoded
+    in_order c.args.values.now rows.offsets.now rows.targets.now c.in_ok-mine.mine c.law.ensures.graph (c.rows_rise.ensures.0 c.if-not-rows_rise.false) c.in_ok-mine.ensures.encoded

@@ -3,8 +3,8 @@ use Rattle.std.proofs.Common.{◌≡◌, ◌++◌, ◌∷◌, [], ◌+◌, ℕ, 
 use Rattle.std.proofs.lemmas.Bool.{cases_eq}
 use Rattle.std.proofs.lemmas.List.{get_or_append_left, get_or_at, length_push}
 use Rattle.pit_model.specs.Graph.{first_of}
-use Rattle.need_rows.proofs.Rising.{firsts_rise}
-use Rattle.need_rows.proofs.Spelled.{pair_same}
+use Rattle.csr.proofs.Rising.{firsts_rise}
+use Rattle.csr.proofs.Spelled.{pair_same}
 use Rattle.merging.proofs.plan.pairs_at.Goals as goal
 
 pub loop-i-preserved : goal.loop-i-preserved
@@ -35,3 +35,11 @@ loop-i-preserved c =
           let rise = firsts_rise pairs c.law.ensures.graph.rising arc (get_or arcs j 0) (omega (arith, c.requires.rising i j (omega arith) to)) (c.requires.below j to) in
           omega arith;
     }
+
+pub finish-requires-clause-below : goal.finish-requires-clause-below
+finish-requires-clause-below c k l =
+    let count = c.loop-i.invariant.count in
+    let is = ap (λ (q : ℕ × ℕ). q.0) (c.loop-i.invariant.each k (omega arith)) in
+    let below = c.requires.below k (omega arith) in
+    let own = (c.law.ensures.graph.in_range (get_or c.args.arcs.now k 0) below).0 in
+    omega (arith, c.n.ensures)

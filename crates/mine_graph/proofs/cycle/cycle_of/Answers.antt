@@ -2,7 +2,7 @@
 use Rattle.std.proofs.Common.{◌≡◌, ℕ, arith, length, drop, ◌∙◌}
 use Rattle.std.proofs.lemmas.List.{take_at}
 use Rattle.std.proofs.lemmas.Result.{IfOk-weaker}
-use Rattle.need_rows.specs.Lent.{pairs_in}
+use Rattle.csr.specs.View.{pairs_in}
 use Rattle.mine_graph.proofs.Walking.{cycle_is, cut_walk}
 use Rattle.mine_graph.proofs.cycle.cycle_of.Goals as goal
 

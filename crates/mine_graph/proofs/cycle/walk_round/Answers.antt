@@ -2,8 +2,8 @@
 use Rattle.std.proofs.Common.{◌+◌, ◌-◌, arith, get_or, subst, sym, ◌∙◌}
 use Rattle.std.proofs.lemmas.List.{length-set}
 use Rattle.pit_model.specs.Cycle.{IsLeastNeeded}
-use Rattle.need_rows.specs.Lent.{pairs_in}
-use Rattle.mine_graph.specs.Left.{left_over}
+use Rattle.csr.specs.View.{pairs_in}
+use Rattle.csr.specs.Left.{left_over}
 use Rattle.mine_graph.proofs.Walking.{over_below, walk_one, members, more_room, walk_more, repeated}
 use Rattle.mine_graph.proofs.cycle.walk_round.Goals as goal
 

@@ -1,8 +1,8 @@
 -- The walk so far, and the place of each of its blocks.
 use Rattle.std.proofs.Common.{◌≡◌, ◌≤◌, length}
 use Rattle.pit_model.specs.Cycle.{IsWalk}
-use Rattle.need_rows.specs.Lent.{pairs_in}
-use Rattle.mine_graph.specs.Left.{left_over}
+use Rattle.csr.specs.View.{pairs_in}
+use Rattle.csr.specs.Left.{left_over}
 use Rattle.mine_graph.proofs.Walking.{ArePlaces}
 use Rattle.mine_graph.proofs.cycle.walk_round.Given as goal
 

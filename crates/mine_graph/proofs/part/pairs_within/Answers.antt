@@ -61,7 +61,7 @@ returns-clause-pairs c =
     let test = has_label c.args.chosen.labels.now c.args.chosen.label in
     let ps = c.args.graph.now.pairs in
     let past : length (members c.args.graph.now.blocks test) ≤ c.loop-i.i = subst (λ xs. length xs ≤ c.loop-i.i) c.requires.blocks c.loop-i-test.false in
-    c.open_row-2.ensures.pairs ∙ c.loop-i.invariant.added ∙ ap (map (placed_pair ps c.args.chosen.places.now)) (rows_end ps c.args.chosen.labels.now c.args.chosen.label c.args.graph.now.blocks c.loop-i.i c.law.ensures.graph.in_range past)
+    c.loop-i.invariant.added ∙ ap (map (placed_pair ps c.args.chosen.places.now)) (rows_end ps c.args.chosen.labels.now c.args.chosen.label c.args.graph.now.blocks c.loop-i.i c.law.ensures.graph.in_range past)
 
 pub overflow_cast-i : goal.overflow_cast-i
 overflow_cast-i c =
@@ -69,21 +69,8 @@ overflow_cast-i c =
     let same = ap (λ (xs : List ℕ). length xs) c.requires.blocks in
     omega (arith, c.law.ensures.few_blocks)
 
-pub overflow_cast-blocks : goal.overflow_cast-blocks
-overflow_cast-blocks c =
-    let few = members_few c.args.graph.now.blocks (has_label c.args.chosen.labels.now c.args.chosen.label) in
-    let same = ap (λ (xs : List ℕ). length xs) c.requires.blocks in
-    omega (arith, c.law.ensures.few_blocks)
-
 pub open_row-requires-clause-few : goal.open_row-requires-clause-few
 open_row-requires-clause-few c =
-    let ps = c.args.graph.now.pairs in
-    let test = is_inside_before ps c.args.chosen.labels.now c.args.chosen.label (bound_of c.args.graph.now.blocks (has_label c.args.chosen.labels.now c.args.chosen.label) c.loop-i.i) in
-    let long = ap (λ (xs : List (ℕ × ℕ)). length xs) c.loop-i.invariant.added in
-    omega (arith, length-map (members (length ps) test) (placed_pair ps c.args.chosen.places.now), members_few (length ps) test, c.law.ensures.few_arcs)
-
-pub open_row-requires-2-clause-few : goal.open_row-requires-2-clause-few
-open_row-requires-2-clause-few c =
     let ps = c.args.graph.now.pairs in
     let test = is_inside_before ps c.args.chosen.labels.now c.args.chosen.label (bound_of c.args.graph.now.blocks (has_label c.args.chosen.labels.now c.args.chosen.label) c.loop-i.i) in
     let long = ap (λ (xs : List (ℕ × ℕ)). length xs) c.loop-i.invariant.added in

@@ -16,7 +16,7 @@ mark_needs-requires-clause-below c =
     let n = c.args.block.n in
     let id = c.args.block.id in
     let first = c.in_ok-rest.ensures.ok in
-    let are = named_last id c.open_row.new.self.pairs first.seen c.push_rising.new.needs.pairs c.len-before.result c.needs_from.result.now c.len-before.ensures first.pairs c.needs_from.ensures in
+    let are = named_last id c.open_row.new.self.pairs first.seen c.push_rising.new.needs.pairs c.len-before.result c.targets_from.result.now c.len-before.ensures first.pairs c.targets_from.ensures in
     subst (All (λ p. p < n)) (sym are) first.below
 
 pub returns-in_err-push_marked-clause-err : goal.returns-in_err-push_marked-clause-err
@@ -28,7 +28,7 @@ returns-in_err-push_marked-clause-err c =
     let e = c.in_err-push_marked.field-0.0 in
     let p = err_from_is_err_and c.from_residual-in_err-push_marked.result c.from_residual-in_err-push_marked.ensures.1 in
     let old = c.open_row.new.self.pairs in
-    let are = named_last id old first.seen c.push_rising.new.needs.pairs c.len-before.result c.needs_from.result.now c.len-before.ensures first.pairs c.needs_from.ensures in
+    let are = named_last id old first.seen c.push_rising.new.needs.pairs c.len-before.result c.targets_from.result.now c.len-before.ensures first.pairs c.targets_from.ensures in
     let marked = subst (AreMarked n id c.mark_needs.new.marks.items) are c.mark_needs.ensures.marked in
     rw (p.1, p.2) (fails_map e.refusal e (needs_from n id line first.seen (fields_of c.in_ok-rest.rest.now)) (needs_from n id line [] (fields_of c.args.text.now))
     (λ h. first_stops n id line (fields_of c.args.text.now) (fields_of c.in_ok-rest.rest.now) old c.push_rising.new.needs.pairs e first h)
@@ -46,7 +46,7 @@ returns-clause-ok c =
     let first = subst (λ (ps : List (ℕ × ℕ)). AddsFirst n id fields left ps between) c.open_row.ensures.pairs c.in_ok-rest.ensures.ok in
     elim c.if-has_fields.branch [
       | then-has_fields+in_ok-push_marked w ↦
-          let are = named_last id old first.seen between c.len-before.result w.needs_from.result.now (c.len-before.ensures ∙ ap length c.open_row.ensures.pairs) first.pairs w.needs_from.ensures in
+          let are = named_last id old first.seen between c.len-before.result w.targets_from.result.now (c.len-before.ensures ∙ ap length c.open_row.ensures.pairs) first.pairs w.targets_from.ensures in
           let marked = subst (AreMarked n id w.mark_needs.new.marks.items) are w.mark_needs.ensures.marked in
           let behind = w.in_ok-push_marked.ensures.ok first.seen marked in
           rw w.needs-is (both_added n id line fields left old between w.push_marked.new.needs.pairs behind.0 first behind.1 behind.2)

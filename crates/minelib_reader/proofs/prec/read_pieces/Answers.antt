@@ -4,7 +4,9 @@ use Rattle.minelib_reader.specs.Answer.{FailsBy}
 use Rattle.minelib_reader.specs.Marks.{AddsRows, with_pairs}
 use Rattle.minelib_reader.specs.Prec.{pairs_from}
 use Rattle.minelib_reader.specs.Pieces.{IsPiece}
-use Rattle.minelib_reader.specs.Text.{Row, lines_at, rows_at}
+use Rattle.minelib_reader.specs.Text.{Row, lines_at, rows_at, rows_of}
+use Rattle.minelib_reader.proofs.PrecGrammarLemmas.{spelled}
+use Rattle.minelib_reader.proofs.PrecLimitLemmas.{lawful}
 use Rattle.minelib_reader.proofs.PrecPieceLemmas.{goes_on, ends, read_to_end, faulty_end, faulty_piece, no_room}
 use Rattle.minelib_reader.proofs.prec.read_pieces.Goals as goal
 use Rattle.minelib_reader.proofs.prec.read_pieces.Goals.{then-not-ended+then-not-matches+in_ok-read_past-in-Err, in-NoMemory, in_default, else-not-ended, else-not-ended-via-then-not-ended+else-not-matches, else-not-ended-via-else-not-ended}
@@ -53,8 +55,29 @@ returns-then-ended-clause-exact g c =
     let added = subst (λ (t : List ℕ). AddsRows c.args.n b.from b.total (rows_at b.line t) pairs pairs' after.from after.total) c.deref.ensures.value c.in-Ok.ensures.ok in (
       _,
       read_to_end c.args.n old mid new AtEnd b.from b.total b.line kept piece kept' pairs r p,
-      ends c.args.n old mid new AtEnd b.from b.total b.line kept piece kept' pairs r p after.from after.total pairs' added ∙ ap (λ (ps : List (ℕ × ℕ)). Ok ps) (sym c.open_row.ensures.pairs),
+      ends c.args.n old mid new AtEnd b.from b.total b.line kept piece kept' pairs r p after.from after.total pairs' added ∙ ap (λ (ps : List (ℕ × ℕ)). Ok ps) (sym c.in_ok-finish.ensures.pairs),
     )
+
+pub finish-requires-clause-below : goal.finish-requires-clause-below
+finish-requires-clause-below g c =
+    let old = g.R.InBytes.progress c.args.reader.now in
+    let mid = g.R.InBytes.progress c.loop-kept.reader in
+    let new = g.R.InBytes.progress c.read_piece.new.reader in
+    let AtEnd = g.R.InBytes.IsAtEnd c.read_piece.new.reader in
+    let b = c.loop-kept.before in
+    let kept = c.loop-kept.kept.items in
+    let piece = c.read_piece.new.piece.items in
+    let kept' = c.read_piece.new.kept.items in
+    let pairs = c.loop-kept.needs.pairs in
+    let pairs' = c.read_lines.new.needs.pairs in
+    let after = c.in-Ok.after in
+    let r = c.loop-kept.invariant.read in
+    let p = subst (IsPiece mid new AtEnd kept piece kept') c.if-ended.true c.in_ok-ended.ensures.piece in
+    let added = subst (λ (t : List ℕ). AddsRows c.args.n b.from b.total (rows_at b.line t) pairs pairs' after.from after.total) c.deref.ensures.value c.in-Ok.ensures.ok in
+    let rows = rows_of (r.text ++ p.text) in
+    let is = ends c.args.n old mid new AtEnd b.from b.total b.line kept piece kept' pairs r p after.from after.total pairs' added in
+    let known = lawful c.args.n rows pairs' (spelled c.args.n 0 0 rows pairs' is) in
+    λ k l. (known.in_range k l).0
 
 pub loop-kept-preserved : goal.loop-kept-preserved
 loop-kept-preserved g c =

@@ -15,8 +15,8 @@ firsts (suc (suc (suc (suc zero)))) l = refl
 firsts (suc (suc (suc (suc (suc zero))))) l = refl
 firsts (suc (suc (suc (suc (suc (suc k)))))) l = absurd (omega arith)
 
-pub of_pairs-requires-clause-order : goal.of_pairs-requires-clause-order
-of_pairs-requires-clause-order c k l h m = let one = firsts k (omega arith) in let two = firsts l m in omega arith
+pub from_pairs-requires-clause-order : goal.from_pairs-requires-clause-order
+from_pairs-requires-clause-order c k l h m = let one = firsts k (omega arith) in let two = firsts l m in omega arith
 
-pub of_pairs-requires-clause-below : goal.of_pairs-requires-clause-below
-of_pairs-requires-clause-below c k l = let one = firsts k l in omega arith
+pub from_pairs-requires-clause-below : goal.from_pairs-requires-clause-below
+from_pairs-requires-clause-below c k l = let one = firsts k l in omega arith

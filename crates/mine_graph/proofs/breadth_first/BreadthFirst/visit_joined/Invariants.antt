@@ -5,8 +5,8 @@ use Rattle.mine_graph.proofs.breadth_first.BreadthFirst.visit_joined.Given as go
 
 abbrev pub invariant-loop-head : goal.invariant-loop-head
 invariant-loop-head l = record {
-  state : VisitsComponent l.graph.pairs l.root l.fn.self l.self l.head;
-  size : length l.self.marks.items ≡ l.graph.blocks;
+  state : VisitsComponent l.predecessors.pairs l.root l.fn.self l.self l.head;
+  size : length l.self.marks.items ≡ l.predecessors.blocks;
   from : l.fn.self.tail ≤ l.head;
   ahead : l.head ≤ l.self.tail;
 }

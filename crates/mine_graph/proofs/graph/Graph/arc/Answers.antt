@@ -1,6 +1,6 @@
 -- A pair is its first and its second.
 use Rattle.std.proofs.Common.{get_or}
-use Rattle.need_rows.proofs.Spelled.{pair_same}
+use Rattle.csr.proofs.Spelled.{pair_same}
 use Rattle.mine_graph.proofs.graph.Graph.arc.Goals as goal
 
 pub returns : goal.returns

@@ -1,35 +1,34 @@
 -- The block of a pair lies between those of the samples around it.
-use Rattle.std.proofs.Common.{◌≡◌, ℕ, ◌+◌, ◌/◌, ◌<◌, ◌≤◌, List, length, get_or, ap, subst, sym, arith, refl, ◌∙◌, ⊎_elim}
+use Rattle.std.proofs.Common.{◌≡◌, ℕ, ◌+◌, ◌/◌, ◌<◌, ◌≤◌, List, length, get_or, ap, subst, arith, refl, ◌∙◌, ⊎_elim}
 use Rattle.std.proofs.lemmas.Bool.{cases_lt}
 use Rattle.std.proofs.lemmas.List.{get_or_default}
 use Rattle.pit_model.specs.Graph.{Graph, first_of}
-use Rattle.need_rows.specs.Rows.{pairs_of}
+use Rattle.csr.proofs.Begun.{csr_offsets, csr_rise}
+use Rattle.csr.proofs.Offsets.{AreOffsets}
 use Rattle.mine_graph.proofs.Marking.{mark_below, mark_least, mark_most}
-use Rattle.need_rows.proofs.Spelled.{starts_rise}
 use Rattle.mine_graph.proofs.graph.Graph.first.Goals as goal
 
 pub row_between-requires-clause-rise : goal.row_between-requires-clause-rise
-row_between-requires-clause-rise c =
-    let starts = c.self.inside.starts.items in
-    let rows = c.self.invariant.rows in
-    let size = rows.size in
-    subst (λ (s : List ℕ). (v w : ℕ) → v ≤ w → w < length s → get_or s v 0 ≤ get_or s w 0) (sym c.deref-2.ensures.value)
-    (λ v w h l. starts_rise (pairs_of starts c.self.inside.needs.items) starts c.self.inside.blocks rows v w h (omega arith))
+row_between-requires-clause-rise c v w h l =
+    let rows = c.view.result in
+    let size = c.view.ensures.rows.count in
+    csr_rise rows.offsets.now c.self.inside.predecessors.blocks (length rows.targets.now) c.view.ensures.rows v w h (omega arith)
 
 pub returns : goal.returns
 returns c =
-    let starts = c.self.inside.starts.items in
-    let needs = c.self.inside.needs.items in
+    let rows = c.view.result in
+    let offsets = rows.offsets.now in
     let row_samples = c.self.inside.row_samples.items in
-    let pairs = pairs_of starts needs in
+    let pairs = c.self.inside.predecessors.pairs in
     let k = c.args.k in
-    let view : pairs_of starts needs ≡ c.args.self.now.pairs = ap (λ (g : Graph). g.pairs) c.self.view_is in
+    let view : pairs ≡ c.args.self.now.pairs = ap (λ (g : Graph). g.pairs) c.self.view_is in
     let count = ap (λ (q : List (ℕ × ℕ)). length q) view in
     let inside : k < length pairs = omega (arith, c.requires) in
-    let marked = c.self.invariant.marked in
+    let marked = c.self.invariant.sampled in
     let rising = c.self.invariant.graph.rising in
     let own = (c.self.invariant.graph.in_range k inside).0 in
-    let there = c.self.invariant.rows.found (first_of pairs k) k own inside refl in
+    let are : AreOffsets pairs offsets c.self.inside.predecessors.blocks = subst (λ q. AreOffsets q offsets c.self.inside.predecessors.blocks) c.view.ensures.pairs (csr_offsets offsets rows.targets.now c.self.inside.predecessors.blocks c.view.ensures.rows) in
+    let there = are.found (first_of pairs k) k (omega (arith, c.self.invariant.rows)) inside refl in
     let below = mark_below pairs row_samples marked rising k inside in
     let least : c.index-least.result.now ≤ first_of pairs k =
     (let is = c.index-least.ensures ∙ get_or_default row_samples (k / 64) c.index-least.result.now 0 below in let low = mark_least pairs row_samples marked rising k inside in omega arith) in
@@ -44,8 +43,5 @@ returns c =
     let is = c.next_row_sample-most.ensures.behind (omega arith) in
     let z : first_of pairs k ≤ c.next_row_sample-most.result = omega arith in z)
     (cases_lt (k / 64 + 1) (length row_samples)) in
-    let at = c.deref-2.ensures.value in
-    c.row_between.ensures (first_of pairs k) least most
-    (subst (λ (s : List ℕ). get_or s (first_of pairs k) 0 ≤ k) (sym at) there.0)
-    (subst (λ (s : List ℕ). k < get_or s (first_of pairs k + 1) 0) (sym at) there.1)
+    c.row_between.ensures (first_of pairs k) least most there.0 there.1
     ∙ ap (λ q. first_of q k) view

@@ -1,28 +1,34 @@
 -- The transposed rows, read for one block.
-use Rattle.std.proofs.Common.{◌≡◌, ℕ, ◌+◌, ◌-◌, ◌<◌, List, take, drop, get_or, arith, ap, subst, sym, ◌∙◌, ⊎_elim}
-use Rattle.std.proofs.lemmas.List.{get_or_default}
+use Rattle.std.proofs.Common.{◌≡◌, ℕ, ◌+◌, ◌-◌, ◌<◌, take, drop, length, get_or, arith, ap, refl, subst, ◌∙◌, ⊎_elim}
 use Rattle.pit_model.specs.Graph.{Graph, first_of, second_of}
-use Rattle.need_rows.specs.Rows.{pairs_of}
+use Rattle.csr.proofs.Begun.{begun_inside, csr_grows}
 use Rattle.mine_graph.specs.Users.{AreUsers}
-use Rattle.mine_graph.proofs.Users.{turned_row}
+use Rattle.mine_graph.proofs.Users.{spell_of, turned_row}
 use Rattle.mine_graph.proofs.graph.Graph.users.Goals as goal
+
+pub slice_bounds-result-end : goal.slice_bounds-result-end
+slice_bounds-result-end c =
+    let rows = c.view-rows.result in
+    let size = c.view-rows.ensures.rows.count in
+    let same = c.self.invariant.same_rows in
+    let blocks = ap (λ (g : Graph). g.blocks) c.self.view_is in
+    omega (arith, begun_inside rows.offsets.now (length rows.targets.now) (csr_grows rows.offsets.now c.self.inside.successors.blocks (length rows.targets.now) c.view-rows.ensures.rows) (c.args.p + 1) (omega (arith, c.requires)))
 
 pub returns : goal.returns
 returns c =
-    let pairs = pairs_of c.self.inside.starts.items c.self.inside.needs.items in
-    let view : pairs_of c.self.inside.starts.items c.self.inside.needs.items ≡ c.args.self.now.pairs = ap (λ (g : Graph). g.pairs) c.self.view_is in
-    let blocks : c.self.inside.blocks ≡ c.args.self.now.blocks = ap (λ (g : Graph). g.blocks) c.self.view_is in
-    let back = c.self.invariant.transpose in
-    let size = back.begin.size in
-    let below : c.args.p < c.self.inside.blocks = omega (arith, c.requires) in
-    let begin : ℕ = c.index.result.now in
-    let end : ℕ = c.index-2.result.now in
-    let from : c.index.result.now ≡ get_or c.self.inside.user_starts.items c.args.p 0 = c.index.ensures ∙ get_or_default c.self.inside.user_starts.items c.args.p c.index.result.now 0 (omega arith) in
-    let to : c.index-2.result.now ≡ get_or c.self.inside.user_starts.items (c.args.p + 1) 0 = c.index-2.ensures ∙ get_or_default c.self.inside.user_starts.items (c.args.p + 1) c.index-2.result.now 0 (omega arith) in
-    subst (λ q. AreUsers q c.args.p (take (end - begin) (drop begin c.deref.result.now))) view
-    (subst (λ (items : List ℕ). AreUsers pairs c.args.p (take (end - begin) (drop begin items))) (sym c.deref.ensures.value)
-    (turned_row pairs c.self.inside.user_starts.items c.self.inside.users.items c.self.inside.blocks c.self.invariant.graph.in_range back
+    let rows = c.view-rows.result in
+    let kept = c.self.invariant in
+    let pairs = c.self.inside.predecessors.pairs in
+    let n = c.self.inside.blocks in
+    let view : pairs ≡ c.args.self.now.pairs = ap (λ (g : Graph). g.pairs) c.self.view_is in
+    let blocks : n ≡ c.args.self.now.blocks = ap (λ (g : Graph). g.blocks) c.self.view_is in
+    let below : c.args.p < n = omega (arith, c.requires) in
+    let begin : ℕ = get_or rows.offsets.now c.args.p 0 in
+    let end : ℕ = get_or rows.offsets.now (c.args.p + 1) 0 in
+    subst (λ q. AreUsers q c.args.p (take (end - begin) (drop begin rows.targets.now))) view
+    (turned_row pairs rows.offsets.now rows.targets.now n kept.graph.in_range
+    (spell_of pairs rows.offsets.now rows.targets.now c.self.inside.successors.blocks n c.view-rows.ensures.rows kept.same_rows (c.view-rows.ensures.pairs ∙ kept.transposed))
     (λ k l less inside same. ⊎_elim (λ (h : first_of pairs k < first_of pairs l). h)
     (λ (h : (first_of pairs k ≡ first_of pairs l) × (second_of pairs k < second_of pairs l)). absurd (let z = h.1 in omega arith))
-    (c.self.invariant.graph.rising k l less inside))
-    c.args.p begin end below from to))
+    (kept.graph.rising k l less inside))
+    c.args.p begin end below refl refl)

@@ -1,0 +1,12 @@
+pub mod Count
+pub mod Offsets
+pub mod Spelled
+pub mod Begun
+pub mod Rising
+pub mod Transposed
+pub mod Passes
+pub mod Order
+pub mod Transposing
+pub mod Twice
+pub mod Pigeon
+pub mod Queue

@@ -1,0 +1,6 @@
+pub mod Count
+pub mod Rows
+pub mod View
+pub mod Transposed
+pub mod Queue
+pub mod Left

@@ -1,0 +1,127 @@
+//! Compressed rows that own their arrays.
+ghost use Rattle.std.specs.Prelude.{◌≡◌, ◌↔◌, ℕ, ◌+◌, ◌-◌, ◌^◌, ◌<◌, ◌≤◌, length, get_or, IfOk};
+ghost use Rattle.pit_model.specs.Graph.{first_of, second_of};
+ghost use Rattle.csr.specs.Rows.{pairs_of, IsCsr};
+ghost use Rattle.csr.specs.View.{pairs_in, AreRows};
+
+use crate::builder::CsrBuilder;
+use crate::view::CsrView;
+use std::alloc::{AllocError, Global};
+use std::marker::Model;
+use std::ops::Range;
+
+/// The arcs of blocks 0 to `blocks` - 1, in compressed rows: 4 bytes for each arc and 4 for each block.
+#[derive(Drop)]
+pub struct Csr {
+    /// Row u begins at place `offsets[u]`, and ends before place `offsets[u + 1]`.
+    offsets: Vec<u32>,
+    targets: Vec<u32>,
+}
+
+impl Model for Csr {
+    ghost use Rattle.std.specs.Prelude.{◌-◌, length};
+    ghost use Rattle.pit_model.specs.Graph.{Graph};
+    ghost use Rattle.csr.specs.Rows.{pairs_of, IsCsr};
+
+    ghost Value = { Graph };
+
+    ghost view = { λ r. record { blocks = length r.offsets.items - 1; pairs = pairs_of r.offsets.items r.targets.items } };
+
+    ghost invariant = { λ r. IsCsr (length r.offsets.items - 1) (length r.targets.items) r.offsets.items };
+}
+
+impl Csr {
+    /// The rows of these arrays.
+    pub(crate) fn from_closed(offsets: Vec<u32>, targets: Vec<u32>) -> Csr
+        requires { IsCsr (length offsets.items - 1) (length targets.items) offsets.items }
+        ensures blocks { result.blocks ≡ length offsets.items - 1 }
+        ensures pairs { result.pairs ≡ pairs_of offsets.items targets.items }
+    {
+        Csr { offsets, targets }
+    }
+
+    /// A copy of rows that are lent.
+    pub fn from_view(alloc: Global, rows: CsrView<'_>) -> Result<Csr, AllocError>
+        requires { AreRows (length rows.offsets.now - 1) rows }
+        ensures blocks { IfOk result (λ r. r.blocks ≡ length rows.entry.offsets.now - 1) }
+        ensures pairs { IfOk result (λ r. r.pairs ≡ pairs_in rows.entry) }
+    {
+        Ok(Csr::from_closed(
+            Vec::from_slice(alloc, rows.offsets)?,
+            Vec::from_slice(alloc, rows.targets)?,
+        ))
+    }
+
+    /// The rows of `blocks` blocks with these arcs, whose first blocks do not fall.
+    pub fn from_pairs(alloc: Global, blocks: u32, pairs: &[(u32, u32)]) -> Result<Csr, AllocError>
+        requires few { length pairs.now < 2 ^ 32 }
+        requires order { (k l : ℕ) → k ≤ l → l < length pairs.now → first_of pairs.now k ≤ first_of pairs.now l }
+        requires below { (k : ℕ) → k < length pairs.now → first_of pairs.now k < blocks }
+        ensures blocks { IfOk result (λ r. r.blocks ≡ blocks) }
+        ensures pairs { IfOk result (λ r. r.pairs ≡ pairs.now) }
+    {
+        let mut rows = CsrBuilder::new(alloc)?;
+        for k in 0..pairs.len() {
+            rows.open_row(pairs[k].0)?;
+            rows.push(pairs[k].1)?;
+        }
+        rows.finish(blocks)
+    }
+
+    /// The same rows, lent.
+    pub fn view(&self) -> CsrView<'_>
+        ensures rows { AreRows self.now.blocks result }
+        ensures pairs { pairs_in result ≡ self.now.pairs }
+    {
+        CsrView {
+            offsets: &self.offsets,
+            targets: &self.targets,
+        }
+    }
+
+    /// Where the rows take their memory from.
+    pub fn alloc(&self) -> Global {
+        *self.targets.allocator()
+    }
+
+    /// The number of arcs.
+    pub fn len(&self) -> usize
+        ensures { result ≡ length self.now.pairs }
+    {
+        self.targets.len()
+    }
+
+    /// The places of a block's arcs, which follow one another.
+    pub fn row(&self, u: u32) -> Range<u32>
+        requires { u < self.now.blocks }
+        ensures order { result.start ≤ result.end }
+        ensures inside { result.end ≤ length self.now.pairs }
+        ensures own { (k : ℕ) → k < length self.now.pairs → (first_of self.now.pairs k ≡ u) ↔ ((result.start ≤ k) × (k < result.end)) }
+    {
+        self.offsets[u as usize]..self.offsets[u as usize + 1]
+    }
+
+    /// The target of an arc.
+    pub fn target(&self, k: u32) -> u32
+        requires { k < length self.now.pairs }
+        ensures { result ≡ second_of self.now.pairs k }
+    {
+        self.targets[k as usize]
+    }
+
+    /// Copies the arcs out of the rows, in their order.
+    pub fn to_pairs(&self, alloc: Global) -> Result<Vec<(u32, u32)>, AllocError>
+        requires { self.now.blocks < 2 ^ 32 }
+        ensures { IfOk result (λ v. v.items ≡ self.now.pairs) }
+    {
+        let mut pairs = Vec::with_capacity(alloc, self.targets.len())?;
+        let mut block = 0;
+        for k in 0..self.targets.len() {
+            while block + 1 < self.offsets.len() && self.offsets[block + 1] as usize <= k {
+                block += 1;
+            }
+            pairs.push((block as u32, self.targets[k]))?;
+        }
+        Ok(pairs)
+    }
+}

@@ -1,4 +1,0 @@
-pub mod Count
-pub mod Spelled
-pub mod Begun
-pub mod Rising

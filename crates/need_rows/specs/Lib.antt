@@ -1,3 +1,0 @@
-pub mod Count
-pub mod Rows
-pub mod Lent
