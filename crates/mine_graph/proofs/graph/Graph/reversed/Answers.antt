@@ -7,18 +7,18 @@ use Rattle.csr.proofs.Order.{transposed_pairs-count}
 use Rattle.mine_graph.proofs.Reversed.{reversed_is_graph, turned_same}
 use Rattle.mine_graph.proofs.graph.Graph.reversed.Goals as goal
 
+pub of_acyclic_rows-requires-clause-graph : goal.of_acyclic_rows-requires-clause-graph
+of_acyclic_rows-requires-clause-graph c =
+    let kept = c.self.invariant in
+    let is = c.in_ok-predecessors.ensures.pairs ∙ c.view.ensures.pairs ∙ kept.transposed in
+    subst (IsGraph c.self.inside.blocks) (sym is) (reversed_is_graph c.self.inside.predecessors.pairs c.self.inside.blocks kept.graph)
+
 pub of_acyclic_rows-requires-clause-few_pairs : goal.of_acyclic_rows-requires-clause-few_pairs
 of_acyclic_rows-requires-clause-few_pairs c =
     let kept = c.self.invariant in
     let is = c.in_ok-predecessors.ensures.pairs ∙ c.view.ensures.pairs ∙ kept.transposed in
     let count = ap (λ (q : List (ℕ × ℕ)). length q) is in
     omega (arith, transposed_pairs-count c.self.inside.predecessors.pairs c.self.inside.blocks kept.graph.in_range, kept.few_arcs)
-
-pub of_acyclic_rows-requires-clause-graph : goal.of_acyclic_rows-requires-clause-graph
-of_acyclic_rows-requires-clause-graph c =
-    let kept = c.self.invariant in
-    let is = c.in_ok-predecessors.ensures.pairs ∙ c.view.ensures.pairs ∙ kept.transposed in
-    subst (IsGraph c.self.inside.blocks) (sym is) (reversed_is_graph c.self.inside.predecessors.pairs c.self.inside.blocks kept.graph)
 
 pub returns-clause-reversed : goal.returns-clause-reversed
 returns-clause-reversed c =
