@@ -1,4 +1,4 @@
-//! The graph of the pairs "u needs p". Making one puts the pairs into their order (sort_rows.rt) and refuses by a cycle where they
+//! The graph of the pairs "u needs p". Making one puts the pairs into their order (`sort_rows` of `csr`) and refuses by a cycle where they
 //! have one (no_cycle.rt); so its type carries that it has none.
 ghost use Rattle.std.specs.Prelude.{◌≡◌, ◌<◌, ◌≤◌, ◌↔◌, ℕ, length, get_or, IfOk, IfErr, IfSome, IfNone};
 ghost use Rattle.pit_model.specs.Size.{most_blocks, most_pairs};
