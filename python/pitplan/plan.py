@@ -21,6 +21,7 @@ from pitplan.core.progress import Progress, silent
 from pitplan.core.revenue_factors import factor_text
 from pitplan.economics import block_values, haulage, period_costs
 from pitplan.economics.block_values import Values
+from pitplan.economics.weighing import reference_level
 from pitplan.precedences import MOST_PAIRS, Needs, Pairs
 from pitplan.preparation import Preparation
 from pitplan.slopes import closure
@@ -153,7 +154,7 @@ class Plan:
     @property
     def reference(self) -> float:
         """Elevation in metres below which the mining cost rises by bench: the top of the reference bench."""
-        return self.grid.extent()[5] - self.values.first_level * self.grid.size[2]
+        return self.grid.extent()[5] - reference_level(self.project.economics, self.grid) * self.grid.size[2]
 
     @property
     def needs(self) -> Needs:
@@ -275,9 +276,7 @@ def with_notes(plan: Plan, model: Preparation) -> Plan:
 def plan_of(model: Preparation) -> Plan:
     """The plan of a prepared block model, without notes. Raises PlanError if a block has no value."""
     project, frame, grid, walls, source = model.project, model.frame, model.grid, model.walls, model.source
-    values = block_values.values_of(
-        frame, grid, project, source, lambda paying: closure.used_blocks(grid, walls, paying)
-    )
+    values = block_values.values_of(frame, grid, project, source)
     fixed = constraints.of_table(frame, grid, project, source)
     used = closure.used_blocks(grid, walls, wanted(values, project, fixed))
     plan = Plan(project, frame, grid, values, walls, used, source, fixed=fixed)
@@ -347,8 +346,8 @@ def notes_of_bench_costs(plan: Plan) -> list[str]:
     if not plan.project.economics.mining_cost_per_bench or plan.project.economics.mining_cost_reference is not None:
         return []
     return [
-        f"the mining cost rises with each bench below {plan.reference - plan.grid.size[2]:.10g} to {plan.reference:.10g} m, the highest "
-        "bench that ore depends on; [economics] mining_cost_reference sets another elevation"
+        f"the mining cost rises with each bench below {plan.reference - plan.grid.size[2]:.10g} to {plan.reference:.10g} m, the top bench "
+        "of the model; [economics] mining_cost_reference sets another elevation"
     ]
 
 

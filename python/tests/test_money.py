@@ -87,19 +87,53 @@ def test_the_level_from_which_mining_costs_more_is_told_where_it_was_chosen(plan
     assert any("the mining cost rises with each bench below" in note for note in notes) == is_told
 
 
-def test_one_far_block_above_changes_no_cost(plan_folder):
-    """Ore at the floor; a block of a tonne ten levels up, in a column of its own, is not needed."""
+def test_mining_costs_do_not_depend_on_the_price(plan_folder):
+    """Ore at the floor of the first column alone pays at 8000, all of the floor at 80,000, and nothing at 8."""
+    table = rows(9, 1, 3, cu=lambda i, j, k: 0 if k else 9 if i == 0 else 0.9)
+    table = table[(table["z"] < 20) | (table["x"] > 80)]
+    costs = []
+    for price in (8, 8000, 80_000):
+        plan = pitplan.Plan.from_project(
+            plan_folder(table, PROJECT, ("mining_cost = 2", PER_LEVEL), ("price = 8000", f"price = {price}"))
+        )
+        assert plan.reference == 30
+        assert any("bench below 20 to 30 m, the top bench of the model" in note for note in plan.notes)
+        costs.append(plan.blocks.set_index("name")["mining_cost"].to_dict())
+    assert costs[0] == costs[1] == costs[2]
+    assert (costs[0]["b0-0-1"], costs[0]["b8-0-2"]) == (225, 200)
+
+
+@pytest.mark.parametrize(
+    ("changes", "top"),
+    [
+        ([], 130),  # a block of air ten levels up is the top of the model too
+        ([("file =", "reblock = [1, 1, 2]\nfile =")], 140),  # of blocks from 120 to 140 m
+        ([("mining_cost_per_bench = 0.25", "mining_cost_per_bench = 0.25\nmining_cost_reference = 30")], 30),
+    ],
+)
+def test_the_top_of_the_model_is_that_of_its_highest_row(plan_folder, changes, top):
     table = rows(7, 1, 3, cu=lambda i, j, k: 9 if (i, k) == (3, 0) else 0)
-    far = table.iloc[[0]].assign(name="far", x=205.0, z=125.0, tonnes=1)
-    changes = [("mining_cost = 2", PER_LEVEL), ('file = "blocks.csv"', 'file = "blocks.csv"\nmissing_blocks = "air"')]
-    near, both = (
-        pitplan.Plan.from_project(plan_folder(it, PROJECT, *changes))
-        for it in (table, pd.concat([table, far], ignore_index=True))
+    far = table.iloc[[0]].assign(name="far", x=205.0, z=125.0, tonnes=0)
+    text = PROJECT.replace("mining_cost = 2", PER_LEVEL).replace("file =", 'missing_blocks = "air"\nfile =')
+    path = plan_folder(pd.concat([table, far], ignore_index=True), text, *changes)
+    plan = pitplan.Plan.from_project(path)
+    assert plan.reference == top
+    bottom = plan.blocks.sort_values("z").iloc[0]
+    height = plan.grid.size[2]
+    below = (top - (bottom["z"] + height / 2)) / height
+    assert bottom["mining_cost"] == pytest.approx(bottom["tonnes"] * (2 + 0.25 * below))
+    pitplan.write_shells(path)
+
+
+def test_filled_blocks_do_not_raise_the_top(plan_folder):
+    """The missing columns are filled up to the highest row of the model, at 30 m."""
+    table = rows(4, 1, 3)
+    filled = ("file =", 'missing_blocks = { tonnes = 100, rock_type = "R", domain = "1" }\nfile =')
+    plan = pitplan.Plan.from_project(
+        plan_folder(table[(table["x"] < 20) | (table["x"] > 30)], PROJECT, filled, ("mining_cost = 2", PER_LEVEL))
     )
-    for plan in (near, both):
-        assert (plan.blocks.set_index("name").loc["b3-0-0", "mining_cost"]) == 250
-        assert any("bench below 20 to 30 m, the highest bench that ore depends on" in note for note in plan.notes)
-    assert near.shells().solution.worth.tolist() == both.shells().solution.worth.tolist()
+    assert len(plan.blocks) == 12 and plan.reference == 30
+    assert sorted(plan.blocks["mining_cost"].unique()) == [200, 225, 250]
 
 
 def test_cost_by_elevation(plan_folder):

@@ -64,7 +64,7 @@ def test_no_shell_touches_a_side_that_is_none_of_the_model(plan_folder, few):
     assert shell_tables.edge_notes(plan, solution) == []
 
 
-def test_costs_that_rise_from_the_highest_block_that_ore_needs(plan_folder, monkeypatch):
+def test_costs_rise_from_the_top_of_the_whole_model(plan_folder, monkeypatch):
     change = ("mining_cost = 2\n", "mining_cost = 2\nmining_cost_per_bench = 0.25\n")
     path = plan_folder(deposit(), PROJECT, ANGLES, change)
     whole, factors = solved(path)

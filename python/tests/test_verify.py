@@ -16,11 +16,11 @@ from hypothesis import HealthCheck, given, strategies as st
 
 import pitplan
 from pitplan import Plan, PlanError, constraints, load, verify
-from pitplan.blockmodel import missing_blocks, reader
+from pitplan.blockmodel import grid as grids, missing_blocks, reader
 from pitplan.cli import main
 from pitplan.commands.audited import demand
 from pitplan.config.slopes import Wall
-from pitplan.economics import block_values
+from pitplan.economics import weighing
 from pitplan.pits import best_worst_case
 from pitplan.results.folder import read_record
 from pitplan.slopes import slope_patterns
@@ -600,12 +600,29 @@ def test_ground_that_is_taken_as_air_is_found(plan_folder, monkeypatch):
     assert "walls: " in refused(plan_folder, table[table["name"] != "b5-4-3"])
 
 
-def test_a_cost_that_is_counted_from_the_tables_highest_block_is_found(plan_folder, monkeypatch):
-    monkeypatch.setattr(block_values, "first_level", lambda *_: 0)
+def test_a_cost_that_is_counted_from_the_highest_block_that_ore_needs_is_found(plan_folder, monkeypatch):
+    monkeypatch.setattr(weighing, "reference_level", lambda *_: 8)
     far = deposit().iloc[[0]].assign(name="far", x=205.0, z=125.0, tonnes=1, must=0, never=0)
     table = pd.concat([deposit(), far], ignore_index=True)
     said = refused(plan_folder, table, TEXT, ('file = "blocks.csv"', 'file = "blocks.csv"\nmissing_blocks = "air"'))
     assert "money: " in said and "mining_cost" in said
+
+
+def test_a_grid_that_begins_above_the_table_is_found(plan_folder, monkeypatch):
+    """An empty level on top of the grid would raise the mining cost of each block by a bench."""
+
+    def higher(frame, *arguments, **options):
+        grid = laid(frame, *arguments, **options)
+        x, y, z = grid.origin
+        levels, *sides = grid.shape
+        return replace(
+            grid, shape=(levels + 1, *sides), origin=(x, y, z + grid.size[2]), rows=grid.rows + grid.per_level
+        )
+
+    laid = grids.of_table
+    monkeypatch.setattr(grids, "of_table", higher)
+    said = refused(plan_folder, None, TEXT)
+    assert "blocks: the highest level of the grid is at 55 m, that of the table at 45" in said
 
 
 def test_a_shell_of_other_blocks_is_found(plan_folder, monkeypatch):

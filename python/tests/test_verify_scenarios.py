@@ -294,10 +294,10 @@ def test_a_cost_that_is_counted_from_another_level_is_found(plan_folder, monkeyp
     shared = prepared(path)
     solved_in_turn(shared)
     pitplan.gather(shared.folder)
-    # 30 m is the top of the three blocks that ore needs, and 50 m that of the model.
-    assert Verification(read(shared.folder, shared.folder)).reference == 30
-    assert pd.read_csv(shared.folder / "tables/scenarios.csv")["value_at_revenue_factor"][1] == 4400 - 25 - 50
-    monkeypatch.setattr("pitplan.economics.block_values.first_level", lambda *_: 0)
+    # 30 m is the top of the three blocks that ore needs, and 50 m that of the model, from which they cost 0.5, 0.75 and 1 more a tonne.
+    assert pd.read_csv(shared.folder / "tables/scenarios.csv")["value_at_revenue_factor"][1] == 4400 - 50 - 75 - 100
+    monkeypatch.setattr("pitplan.economics.weighing.reference_level", lambda *_: 2)
+    shutil.rmtree(shared.folder / "done")
     shared = prepared(path)
     solved_in_turn(shared)
     with pytest.raises(PlanError, match="values: scenario 1, sim_1: revenue factor 0.50: value_at_revenue_factor "):
@@ -445,8 +445,7 @@ def test_blocks_that_come_in_at_factor_1_are_dug(plan_folder):
 
 
 def test_ore_that_pays_nothing_once_it_is_rounded_is_none(plan_folder):
-    """3,000,000 t of 0.25 % yield 3,750 t of copper: 30,000,000.00375, which is rounded to what processing costs. So the highest block that
-    ore needs is at 20 m, above the floor of the first column, and not that block at the top of the second."""
+    """3,000,000 t of 0.25 % yield 3,750 t of copper: 30,000,000.00375, which is rounded to what processing costs."""
     table = rows(2, 1, 3, tonnes=lambda i, j, k: 3_000_000).drop(columns="cu")
     table = table.assign(sim_1=[6.0, 0, 0, 0, 0, 0.25])[table["name"] != "b0-0-2"]
     more = "mining_cost = 2\nmining_cost_per_bench = 0.5\ndecimals = 2"
@@ -455,10 +454,10 @@ def test_ore_that_pays_nothing_once_it_is_rounded_is_none(plan_folder):
     )
     solved_in_turn(shared)
     pitplan.gather(shared.folder)
-    assert shared.record["mining_cost_reference"] == 20 and wrong(shared.folder) == set()
-    # 90,000 t of copper; a tonne costs 10 to process, and 2 to mine in the upper block and 2.5 in the lower.
+    assert wrong(shared.folder) == set()
+    # 90,000 t of copper; a tonne costs 10 to process, and to mine 2.5 and 3 in blocks whose tops are 10 and 20 m below that of the model.
     worth = pd.read_csv(shared.folder / "tables/scenarios.csv").set_index("revenue_factor")["undiscounted_cash_flow"]
-    assert worth[1.0] == pytest.approx(90_000 * 8000.000001 - 3_000_000 * (10 + 2 + 2.5), abs=0.01)
+    assert worth[1.0] == pytest.approx(90_000 * 8000.000001 - 3_000_000 * (10 + 2.5 + 3), abs=0.01)
 
 
 def test_quantiles_of_one_model_are_its_own_amounts(plan_folder):

@@ -25,6 +25,8 @@ from pitplan.core.text_format import NAMES, TableFormat, guessed_separator, name
 from pitplan.core.text_tables import demand_columns, demand_each_once, read_columns
 from pitplan.errors import PlanError
 
+from . import cost_factors
+
 # Tonnes that are computed are kept to a gram, halves to the even one.
 TONNES_PLACES = 6
 
@@ -145,6 +147,7 @@ def named(project: Project) -> list[str]:
         t.rock_type,
         t.domain,
         *(metal.column for metal in project.metals),
+        *project.economics.factor_columns,
         *fixed,
         *sums,
     ]
@@ -178,6 +181,9 @@ def checked(frame: pd.DataFrame, project: Project, source: str = "table") -> Tab
             result[name] = stripped(frame[name])
             demand_no_nul(result[name], source, name)
             continue
+        if name in project.economics.factor_columns:
+            result[name] = numbers_of(frame[name], source, name)
+            continue
         may_fill = columns.empty == "zero" and name not in (columns.x, columns.y, columns.z)
         result[name], empty = filled_numbers(frame[name], source, name, may_fill)
         filled += empty
@@ -185,6 +191,7 @@ def checked(frame: pd.DataFrame, project: Project, source: str = "table") -> Tab
     demand_not_negative(result, project, source)
     if columns.density:
         result[columns.tonnes] = tonnes_by_density(result, project)
+    cost_factors.complete(result, project, source)
     if not result[columns.tonnes].any():
         raise PlanError(f"{source} column {columns.tonnes}: all tonnes are 0")
     demand_codes(result, project, source)

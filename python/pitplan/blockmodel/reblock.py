@@ -1,6 +1,6 @@
 """Reblocks a table: whole blocks are combined, or sub-blocks of several sizes are combined into their parent blocks.
 
-Tonnes are summed, grades are tonnage-weighted means, and rock type and domain are those of the most tonnes. A block is must-mine or excluded if
+Tonnes are summed, grades and cost adjustment factors are tonnage-weighted means, and rock type and domain are those of the most tonnes. A block is must-mine or excluded if
 a part of it is. Columns that a schedule limits are weighted means if they are per tonne, otherwise sums. A note gives the tonnes with
 another rock type or domain than their block.
 """
@@ -174,7 +174,11 @@ def put_together(
 def amounts(frame: pd.DataFrame, parts: Parts, project: Project) -> dict[str, np.ndarray]:
     """Returns for each block the means of columns per tonne, and the sums of other columns that a schedule limits."""
     rules = project.schedule or ScheduleRules()
-    means = {*(metal.column for metal in project.metals), *rules.columns_of(per_tonne=True)}
+    means = {
+        *(metal.column for metal in project.metals),
+        *project.economics.factor_columns,
+        *rules.columns_of(per_tonne=True),
+    }
     whole = rules.columns_of(per_tonne=False)
     found = {name: parts.means if name in means else parts.sums for name in frame.columns if name in (*means, *whole)}
     return {name: of_parts(frame[name].to_numpy(), GRADE_PLACES) for name, of_parts in found.items()}

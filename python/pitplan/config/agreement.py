@@ -115,7 +115,8 @@ def demand_sums_agree(project: Project) -> None:
 
 def demand_sums_of_parts(project: Project, rules: ScheduleRules) -> None:
     """Refuses sums of whole blocks where a topography cuts these, and where those that are put together have the means of that column."""
-    means = {*rules.columns_of(per_tonne=True), *(metal.column for metal in project.metals)}
+    of_a_tonne = (*(metal.column for metal in project.metals), *project.economics.factor_columns)
+    means = {*rules.columns_of(per_tonne=True), *of_a_tonne}
     for it in [it for it in rules.limits if not it.per_tonne]:
         if project.table.topography:
             why = "is of whole blocks, and [table] topography cuts some: set per_tonne, or remove one of the two"

@@ -111,7 +111,7 @@ class Economics:
     """Costs a tonne, how many decimals of the currency are kept, and whether the cut-off moves with the price.
 
     mining_cost_per_bench     more a tonne for each level below the one that holds the reference
-    mining_cost_reference     an elevation in metres; None: the top of the highest block that any ore needs
+    mining_cost_reference     an elevation in metres; None: the top of the model
     mining_cost_by_elevation  pairs of an elevation in metres and what mining costs more there, a tonne; rising
     mining_recovery           the share of a block's tonnes that comes to the mill, where it is ore
     dilution                  tonnes of grade 0 that come with each of these
@@ -119,6 +119,8 @@ class Economics:
     royalty_per_tonne         of what comes to the mill
     fixed_cost_per_year       in years and schedules alone
     capex                   pairs of a year, from 1, and what is spent at its start, in years and schedules alone
+    mcaf                      a column of the table: mining cost adjustment factors, by which the mining cost of a block is multiplied
+    pcaf                      likewise processing cost adjustment factors, of the cost of each process a tonne of feed
     """
 
     currency: str
@@ -135,6 +137,13 @@ class Economics:
     royalty_per_tonne: Decimal = Decimal(0)
     fixed_cost_per_year: Decimal = Decimal(0)
     capex: tuple[tuple[int, Decimal], ...] = ()
+    mcaf: Optional[str] = None
+    pcaf: Optional[str] = None
+
+    @property
+    def factor_columns(self) -> tuple[str, ...]:
+        """The columns of cost adjustment factors, each once."""
+        return tuple(dict.fromkeys(name for name in (self.mcaf, self.pcaf) if name))
 
 
 def read_economics(section: Section, has_processes: bool = False) -> Economics:
@@ -155,6 +164,8 @@ def read_economics(section: Section, has_processes: bool = False) -> Economics:
         royalty_per_tonne=section.number("royalty_per_tonne", Decimal(0), least=0),
         fixed_cost_per_year=section.number("fixed_cost_per_year", Decimal(0), least=0),
         capex=read_capex(section),
+        mcaf=section.optional_text("mcaf"),
+        pcaf=section.optional_text("pcaf"),
     )
     section.finish()
     if money.mining_cost_reference is not None and not section.has("mining_cost_per_bench"):

@@ -11,10 +11,9 @@ table. A royalty on revenue is subtracted from it, so it scales with the price.
 
 from __future__ import annotations
 
-import math
 from dataclasses import dataclass, replace
 from functools import cached_property
-from typing import Callable, Optional
+from typing import Optional
 
 import numpy as np
 import pandas as pd
@@ -30,9 +29,6 @@ from .haulage import Hauled
 from .process_routing import Steps, Way, best_way, most_steps, steps_of, worth
 from .value_notes import notes_of
 from .weighing import Rows
-
-# From a truth for each cell to one whether it is such a cell, or needed by one.
-Needed = Callable[[np.ndarray], np.ndarray]
 
 
 @dataclass(frozen=True)
@@ -54,8 +50,6 @@ class Values:
         Mill feed in tonnes if the block is processed, and the same without the diluting rock.
     cutoff : str
         "per_revenue_factor" or "base_price".
-    first_level : int
-        The level below which mining costs rise by `mining_cost_per_bench`.
     shared : int array, optional
         In scenarios the block of each shared processing node; None: the nodes are those of the steps.
     hauled : Hauled, optional
@@ -71,7 +65,6 @@ class Values:
     cutoff: str
     roundings: dict[str, Rounding]
     notes: tuple[str, ...]
-    first_level: int
     shared: Optional[np.ndarray] = None
     hauled: Optional[Hauled] = None
 
@@ -144,9 +137,7 @@ class Values:
         return replace(self, shared=most_steps(self.by_process)) if self.cutoff == "per_revenue_factor" else self
 
 
-def values_of(
-    frame: pd.DataFrame, grid: Grid, project: Project, source: str = "table", needed: Optional[Needed] = None
-) -> Values:
+def values_of(frame: pd.DataFrame, grid: Grid, project: Project, source: str = "table") -> Values:
     """Returns the values of the blocks of a checked table, exact except for one rounding to the decimals of the project.
 
     Parameters
@@ -156,8 +147,6 @@ def values_of(
     project : Project
     source : str
         How errors name the table.
-    needed : callable
-        From a mask of cells to the mask of these and their predecessors. It is used if no elevation is given below which mining costs rise.
 
     Raises
     ------
@@ -170,9 +159,7 @@ def values_of(
     names = [process.name for process in project.processes] or [""]
     ways = tuple(it.way(name, grid) for it, name in zip(weighed, names))
     best = best_way(ways, BASE_PRICE)
-    pays = np.choose(best, [way.revenue for way in ways]) > np.choose(best, [way.cost for way in ways])
-    first = first_level(project, grid, pays, needed)
-    mining, rounding = rows.millionths(rows.mining(first), "mining cost")
+    mining, rounding = rows.millionths(rows.mining(), "mining cost")
     hauled, of_haulage = rows.hauled(feed)
     roundings = {title(what, name): done for it, name in zip(weighed, names) for what, done in it.roundings.items()}
     values = Values(
@@ -185,7 +172,6 @@ def values_of(
         cutoff=project.economics.cutoff,
         roundings={**roundings, "mining cost": rounding, **of_haulage},
         notes=notes_of(rows, feed),
-        first_level=first,
         hauled=hauled,
     )
     demand_few_nodes(values, grid)
@@ -217,16 +203,3 @@ def demand_few_nodes(values: Values, grid: Grid) -> None:
             f"{grid.count:,} blocks and {len(values.processed):,} processing nodes are {nodes:,} nodes, and the solver takes at most "
             f'{MOST_BLOCKS:,}: give a smaller model, or [economics] cutoff = "base_price"'
         )
-
-
-def first_level(project: Project, grid: Grid, pays: np.ndarray, needed: Optional[Needed]) -> int:
-    """Returns the level below which mining costs rise: the one that contains the reference elevation (its top included), otherwise the
-    highest on which ore depends.
-    """
-    reference, top, height = project.economics.mining_cost_reference, grid.extent()[5], grid.size[2]
-    if reference is not None:
-        return math.floor((top - float(reference)) / height + 1e-9)
-    if not project.economics.mining_cost_per_bench or needed is None:
-        return 0
-    levels = grid.rows[needed(pays)[grid.rows]] // grid.per_level
-    return int(levels.min()) if len(levels) else 0

@@ -36,7 +36,7 @@ def grade_notes(rows: Rows) -> list[str]:
 def notes_of(rows: Rows, feed: Feed) -> tuple[str, ...]:
     """Returns warnings about grades, and notes on rock types, mill feed and recoveries."""
     solid, project = np.array(rows.tonnes.whole > 0, dtype=bool), rows.project
-    notes = [*grade_notes(rows), *feed_notes(project), *haulage_notes(rows)]
+    notes = [*grade_notes(rows), *feed_notes(project), *factor_notes(rows), *haulage_notes(rows)]
     for process, way in zip([process.name for process in project.processes] or [""], project.by_process):
         of_way = [*rock_notes(way, rows.rock, solid), *recovery_notes(replace(rows, project=way), feed)]
         notes += [f"{process}: {note}" for note in of_way] if process else of_way
@@ -60,6 +60,20 @@ def feed_notes(project: Project) -> list[str]:
         notes.append(
             f"royalty {money.royalty_per_tonne:f} {money.currency} per tonne of ore, as part of the processing cost"
         )
+    return notes
+
+
+def factor_notes(rows: Rows) -> list[str]:
+    """Returns the range and the mean by tonnes of cost adjustment factors."""
+    money, tonnes, notes = rows.project.economics, rows.tonnes.floats(), []
+    solid = tonnes > 0
+    for column, cost in ((money.mcaf, "mining cost"), (money.pcaf, "processing cost")):
+        if column and solid.any():
+            factors = rows.frame[column].to_numpy()[solid]
+            least, mean, most = factors.min(), np.average(factors, weights=tonnes[solid]), factors.max()
+            notes.append(
+                f"the {cost} of each block is multiplied by {column}: {least:.4g} to {most:.4g}, on average {mean:.4g} by tonnes"
+            )
     return notes
 
 

@@ -2,6 +2,7 @@
 
 from __future__ import annotations
 
+import math
 from dataclasses import dataclass
 from decimal import Decimal
 from functools import cached_property
@@ -20,6 +21,15 @@ from . import recovery_curves
 from .haulage import Hauled, Roads
 from .process_routing import Way
 from .recovery_curves import Head
+
+
+def reference_level(money: Economics, grid: Grid) -> int:
+    """Returns the level below which mining costs rise by bench: the one that contains the reference elevation, its top included; 0, the highest of
+    the model, without one. It is negative if the reference lies above the model.
+    """
+    if money.mining_cost_reference is None:
+        return 0
+    return math.floor((grid.extent()[5] - float(money.mining_cost_reference)) / grid.size[2] + 1e-9)
 
 
 def added_cost(money: Economics, elevation: float) -> Decimal:
@@ -119,17 +129,21 @@ class Rows:
         table = Exact.of_decimals([by_code.get(code, Decimal(0)) for code in codes])
         return Exact(table.whole[inverse], table.places)
 
-    def mining(self, first_level: int) -> Exact:
-        """Returns the mining cost with haulage as waste. It rises by level below the first one, or depends on the elevation of the centroid."""
+    def adjusted(self, a_tonne: Exact, factors: Optional[str]) -> Exact:
+        """Returns a cost per tonne times the adjustment factors of a column; itself without a column."""
+        return a_tonne.times(Exact.of_floats(self.frame[factors].to_numpy())) if factors else a_tonne
+
+    def mining(self) -> Exact:
+        """Returns the mining cost with haulage as waste. Its factor applies to neither haulage nor the increment by bench or elevation."""
         money, solid = self.project.economics, np.array(self.tonnes.whole > 0, dtype=bool)
         _, _, level = self.grid.indices(self.grid.rows)
         if money.mining_cost_by_elevation:
             more = Exact.of_decimals([added_cost(money, z) for z in self.grid.elevations()])
             deeper = Exact(more.whole[level], more.places)
         else:
-            steps = np.maximum(level - first_level, 0).astype(np.int64)
+            steps = np.maximum(level - reference_level(money, self.grid), 0).astype(np.int64)
             deeper = Exact(steps, 0).times(self.every(money.mining_cost_per_bench))
-        a_tonne = self.by_code(money.mining_cost, solid, "mining_cost").plus(deeper)
+        a_tonne = self.adjusted(self.by_code(money.mining_cost, solid, "mining_cost"), money.mcaf).plus(deeper)
         return self.tonnes.times(a_tonne.plus(self.roads.waste) if self.roads else a_tonne)
 
     def feed(self) -> Feed:
@@ -167,9 +181,8 @@ class Rows:
             revenue = revenue.plus(metal[m.name].times(self.every(m.by_quantity(m.price) * (1 - costs.royalty))))
             selling = selling.plus(metal[m.name].times(self.every(m.by_quantity(m.selling_cost))))
         yields = np.array(revenue.whole > 0, dtype=bool)
-        a_tonne = self.by_code(costs.processing_cost, yields, "processing_cost").plus(
-            self.every(costs.royalty_per_tonne)
-        )
+        a_tonne = self.adjusted(self.by_code(costs.processing_cost, yields, "processing_cost"), costs.pcaf)
+        a_tonne = a_tonne.plus(self.every(costs.royalty_per_tonne))
         if self.roads:
             a_tonne = self.with_haulage(a_tonne, yields)
         amounts = {"revenue": revenue, "processing cost": feed.tonnes.times(a_tonne).plus(selling)}

@@ -84,6 +84,9 @@ def verify_places(answer: Answer) -> Rule:
     if rules.azimuth is not None and rules.azimuth != answer.azimuth:
         differences.append(f"grid north has azimuth {answer.azimuth:.10g} for {rules.azimuth:.10g} of the project")
         count += 1
+    if told := unlike_top(answer):
+        differences.append(told)
+        count += 1
     for steps, cell, size in zip(answer.steps, answer.cells[::-1], answer.size):
         off = np.abs(steps - cell) * size
         far = np.flatnonzero(off > tolerance + 1e-6)
@@ -106,3 +109,12 @@ def verify_places(answer: Answer) -> Rule:
         differences,
         count,
     )
+
+
+def unlike_top(answer: Answer) -> str:
+    """Returns a difference if the highest level of the grid is not that of the highest row of the table, air and removed rows included; otherwise
+    an empty text."""
+    column, highest = answer.project.table.z, answer.elevations[0]
+    found = max(float(rows[column].max()) for rows in (answer.rows, answer.beyond) if rows is not None)
+    is_same = round((found - highest) / answer.size[2]) == 0
+    return "" if is_same else f"the highest level of the grid is at {highest:.10g} m, that of the table at {found:.10g}"

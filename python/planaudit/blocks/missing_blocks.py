@@ -29,13 +29,14 @@ def verify(answer: Answer) -> Rule:
 
 
 def words(answer: Answer, rock: MissingRock) -> dict[str, str | float]:
-    """Returns the expected fields of a filled block: tonnes, unless a surface cuts them, codes, and 0 in other columns, without centroid and
-    id."""
+    """Returns the expected fields of a filled block: tonnes, unless a surface cuts them, codes, 1 as cost adjustment
+    factor, and 0 in other columns, without centroid and id."""
     columns = answer.project.table
     told: dict[Optional[str], str | float] = {
         columns.tonnes: rock.tonnes,
         columns.rock_type: rock.rock_type,
         columns.domain: rock.domain,
+        **dict.fromkeys(answer.project.economics.adjusting, 1.0),
     }
     passed = {
         columns.x,

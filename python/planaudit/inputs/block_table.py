@@ -36,12 +36,27 @@ def read(project: Project) -> pd.DataFrame:
     """
     table = project.table
     frame = read_columns(table.file, table, project.codes, project.columns)
-    for name in frame.columns.difference(project.codes, sort=False):
+    for name in frame.columns.difference([*project.codes, *project.economics.adjusting], sort=False):
         may_be_empty = table.empty == "zero" and name not in (table.x, table.y, table.z)
         frame[name] = without_gaps(frame[name].to_numpy(), table.file, name, may_be_empty)
     if table.density:
         frame[table.tonnes] = tonnes_by_density(frame, project)
+    for name in project.economics.adjusting:
+        frame[name] = factors(frame, name, project)
     return frame
+
+
+def factors(frame: pd.DataFrame, name: str, project: Project) -> np.ndarray:
+    """Returns cost adjustment factors, 1 for a block without tonnes and without a factor. Raises AuditError as `read`, with tonnes too if its field
+    is empty, or a factor is negative."""
+    found = frame[name].to_numpy()
+    wrong = (found < 0) | np.isinf(found) | (np.isnan(found) & (frame[project.table.tonnes].to_numpy() > 0))
+    if wrong.any():
+        row = int(wrong.argmax())
+        told = "is empty" if np.isnan(found[row]) else f"found {found[row]:g}"
+        where = f"{project.table.file} row {row + FIRST_ROW} column {name}"
+        raise AuditError(f"{where}: {told}, expected a cost adjustment factor from 0: correct the field")
+    return np.where(np.isnan(found), 1.0, found)
 
 
 def read_columns(file: Path, table: TableColumns, codes: list[str], wanted: list[str]) -> pd.DataFrame:

@@ -112,6 +112,13 @@ class Economics:
     royalty_per_tonne: Decimal
     fixed_cost_per_year: Decimal
     capex: tuple[tuple[int, Decimal], ...]
+    mcaf: Optional[str] = None
+    pcaf: Optional[str] = None
+
+    @property
+    def adjusting(self) -> list[str]:
+        """The columns of the table with cost adjustment factors, each once."""
+        return [name for name in dict.fromkeys((self.mcaf, self.pcaf)) if name]
 
 
 @dataclass(frozen=True)
@@ -312,5 +319,5 @@ class Project:
         marks = [rules.must_mine, rules.exclude] if rules else []
         limited = [it.column for it in self.schedule.limits] if self.schedule else []
         grades = [metal.column for metal in self.metals]
-        named = [table.x, table.y, table.z, *tonnes, *self.codes, *grades, *marks, *limited]
+        named = [table.x, table.y, table.z, *tonnes, *self.codes, *grades, *self.economics.adjusting, *marks, *limited]
         return [name for name in dict.fromkeys(named) if name]

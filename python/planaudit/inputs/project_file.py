@@ -216,6 +216,8 @@ def economics_of(data: Data) -> Economics:
         royalty_per_tonne=number(data.get("royalty_per_tonne", zero)),
         fixed_cost_per_year=number(data.get("fixed_cost_per_year", zero)),
         capex=tuple((int(year), amount) for year, amount in pairs(data.get("capex", []))),
+        mcaf=data.get("mcaf"),
+        pcaf=data.get("pcaf"),
     )
 
 

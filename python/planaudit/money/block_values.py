@@ -7,10 +7,10 @@ from bisect import bisect
 from dataclasses import dataclass, field, replace
 from decimal import ROUND_HALF_EVEN, Decimal
 from fractions import Fraction
+from typing import Optional
 
 import numpy as np
 
-from planaudit.ground.slopes import needed_by
 from planaudit.inputs.answer import Answer
 from planaudit.inputs.matching import PROCESS
 from planaudit.inputs.project import GRADE_UNITS, Curve, Project, Recovery
@@ -102,16 +102,6 @@ def sample(answer: Answer) -> np.ndarray:
     return np.sort(np.random.default_rng(0).permutation(len(answer.rows))[:SAMPLE])
 
 
-def highest_needed(answer: Answer) -> float:
-    """Returns the elevation of the top of the highest block in a cone of ore; without ore, of the highest block."""
-    if "highest" not in answer.found:
-        ore, known = np.zeros(answer.shape, dtype=bool), np.zeros(answer.shape, dtype=bool)
-        ore[answer.cells], known[answer.cells] = answer.ore, True
-        levels = np.flatnonzero((needed_by(answer, ore) & known).any(axis=(1, 2)))
-        answer.found["highest"] = answer.elevations[levels[0] if len(levels) else 0] + answer.size[2] / 2
-    return answer.found["highest"]
-
-
 def more_for_depth(answer: Answer, elevation: float) -> Decimal:
     """Returns the mining cost per tonne that is added for depth, by the elevation of the centroid."""
     money = answer.project.economics
@@ -119,9 +109,9 @@ def more_for_depth(answer: Answer, elevation: float) -> Decimal:
         return between(money.mining_cost_by_elevation, Fraction(repr(round(float(elevation), 6))))
     if not money.mining_cost_per_bench:
         return Decimal(0)
-    reference = money.mining_cost_reference
-    height = answer.size[2]
-    at = float(highest_needed(answer) if reference is None else reference)
+    reference, height = money.mining_cost_reference, answer.size[2]
+    # The top of the grid is that of the table by the rule of blocks.
+    at = answer.elevations[0] + height / 2 if reference is None else float(reference)
     top = elevation + height / 2
     return money.mining_cost_per_bench * max(0, math.ceil((at - top) / height - 1e-9))
 
@@ -175,6 +165,16 @@ class Costs:
 
 
 @dataclass(frozen=True)
+class Place:
+    """What changes the costs of a block besides its codes: its level from the top, its haul distance, and its cost adjustment factors."""
+
+    level: int
+    road: float
+    mcaf: float
+    pcaf: float
+
+
+@dataclass(frozen=True)
 class Exactly:
     """Exact numbers of the table, for block values by decimals.
 
@@ -182,6 +182,7 @@ class Exactly:
     costs   by these codes
     depths  added mining cost per tonne, by level from the top
     roads   haul distances of blocks, in metres; 0 without haulage
+    factors factors of mining and processing cost of each block
     weighed a cache of amounts by their numbers, since many blocks of waste are equal
     """
 
@@ -193,6 +194,7 @@ class Exactly:
     level: list[int]
     depths: list[Decimal]
     roads: list[float]
+    factors: list[tuple[float, float]]
     weighed: dict[tuple, Amounts] = field(default_factory=dict)
 
     @staticmethod
@@ -208,25 +210,32 @@ class Exactly:
         depths = [more_for_depth(answer, z) for z in answer.elevations]
         rules = project.haulage
         roads = (haulage.roads_of(answer, rules) if rules else np.zeros(len(answer.rows))).tolist()
-        return Exactly(answer, answer.tonnes.tolist(), grades, codes, costs, answer.cells[0].tolist(), depths, roads)
+        factors = list(
+            zip(*(factors_of(answer, name).tolist() for name in (project.economics.mcaf, project.economics.pcaf)))
+        )
+        levels = answer.cells[0].tolist()
+        return Exactly(answer, answer.tonnes.tolist(), grades, codes, costs, levels, depths, roads, factors)
 
     def amounts(self, row: int) -> Amounts:
         """Returns mining cost, revenue and processing cost of a block."""
-        place = self.level[row], self.roads[row]
+        place = Place(self.level[row], self.roads[row], *self.factors[row])
         grades = tuple(grades[row] for grades in self.grades)
         numbers = (self.tonnes[row], self.codes[row], place, grades)
         if numbers not in self.weighed:
             self.weighed[numbers] = self.of_numbers(self.tonnes[row], self.codes[row], place, *grades)
         return self.weighed[numbers]
 
-    def of_numbers(self, rock: float, codes: tuple[str, str], place: tuple[int, float], *grades: float) -> Amounts:
-        """Returns the amounts of a block with given tonnes, codes, level, haul distance and grades."""
-        project, tonnes, (level, road) = self.answer.project, Decimal(repr(rock)), place
+    def of_numbers(self, rock: float, codes: tuple[str, str], place: Place, *grades: float) -> Amounts:
+        """Returns the amounts of a block with given tonnes, codes, place and grades."""
+        project, tonnes = self.answer.project, Decimal(repr(rock))
+        of_mining, of_processing = (Decimal(repr(factor)) for factor in (place.mcaf, place.pcaf))
         costs, rules = self.costs[codes], self.answer.project.haulage
         waste, ore = (
-            (haulage.a_tonne(road, kind) for kind in (rules.waste, rules.ore)) if rules else (Decimal(0), Decimal(0))
+            (haulage.a_tonne(place.road, kind) for kind in (rules.waste, rules.ore))
+            if rules
+            else (Decimal(0), Decimal(0))
         )
-        mining = tonnes * (costs.mining + self.depths[level] + waste)
+        mining = tonnes * (costs.mining * of_mining + self.depths[place.level] + waste)
         revenue = selling = Decimal(0)
         for number, (metal, told) in enumerate(zip(project.metals, grades)):
             if not told:
@@ -240,11 +249,16 @@ class Exactly:
             tonnes
             * costs.mining_recovery
             * (1 + costs.dilution)
-            * (costs.processing + project.economics.royalty_per_tonne + ore - waste)
+            * (costs.processing * of_processing + project.economics.royalty_per_tonne + ore - waste)
         )
         amounts = (mining, revenue - revenue * project.economics.royalty, processing + selling)
         mining, revenue, processing = (amount.quantize(unit, ROUND_HALF_EVEN) for amount in amounts)
         return mining, revenue, processing if revenue else Decimal(0)
+
+
+def factors_of(answer: Answer, column: Optional[str]) -> np.ndarray:
+    """Returns the cost adjustment factor of each block; 1 without a column."""
+    return np.ones(len(answer.rows)) if column is None else answer.rows[column].to_numpy(dtype=np.float64)
 
 
 def by_floats(answer: Answer, revenue: str | None = None) -> tuple[np.ndarray, np.ndarray, np.ndarray]:
@@ -254,7 +268,8 @@ def by_floats(answer: Answer, revenue: str | None = None) -> tuple[np.ndarray, n
     """
     money, columns = answer.project.economics, answer.project.table
     deeper = np.array([float(more_for_depth(answer, z)) for z in answer.elevations])
-    a_tonne = by_code(money.mining_cost, answer.rows, columns) + deeper[answer.cells[0]]
+    adjusted = by_code(money.mining_cost, answer.rows, columns) * factors_of(answer, money.mcaf)
+    a_tonne = adjusted + deeper[answer.cells[0]]
     if rules := answer.project.haulage:
         a_tonne = a_tonne + haulage.rate(haulage.roads_of(answer, rules), rules.waste)
     gain, cost = gains_by_floats(answer)
@@ -271,7 +286,8 @@ def gains_by_floats(answer: Answer) -> tuple[np.ndarray, np.ndarray]:
         quantity = answer.quantities[metal.name]
         revenue += quantity * float(converted(metal, metal.price)) * (1 - float(money.royalty))
         selling += quantity * float(converted(metal, metal.selling_cost))
-    a_tonne = by_code(money.processing_cost, answer.rows, columns) + float(money.royalty_per_tonne)
+    adjusted = by_code(money.processing_cost, answer.rows, columns) * factors_of(answer, money.pcaf)
+    a_tonne = adjusted + float(money.royalty_per_tonne)
     if rules := project.haulage:
         a_tonne = a_tonne + haulage.rate(haulage.roads_of(answer, rules), rules.ore, rules.waste)
     return revenue, answer.feed * a_tonne + selling

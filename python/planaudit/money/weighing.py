@@ -69,17 +69,3 @@ def at_price(answer: Answer) -> AtPrice:
     pays = revenue > np.where(revenue > 0, processing, 0.0)
     metals = {name: np.where(pays, quantity, 0.0) for name, quantity in answer.quantities.items()}
     return AtPrice(mining, np.where(pays, revenue - processing, 0.0), np.where(pays, answer.feed, 0.0), metals)
-
-
-def gains(answer: Answer) -> pd.DataFrame:
-    """Returns revenue and processing cost of each block: by floats, and exactly if the two are close."""
-    told: dict[str, np.ndarray] = {}
-    unit = 10.0**-answer.project.economics.decimals
-    for way, names in zip(answer.project.by_process, answer.amounts_of_ways):
-        part = replace(answer, project=way)
-        revenue, processing = money.gains_by_floats(part)
-        exactly = money.Exactly.of(part)
-        for row in np.flatnonzero((revenue > 0) & (np.abs(revenue - processing) <= 2 * unit + 1e-9 * revenue)).tolist():
-            revenue[row], processing[row] = (float(amount) for amount in exactly.amounts(row)[1:])
-        told |= dict(zip(names, (revenue, np.where(revenue > 0, processing, 0.0))))
-    return answer.said.assign(**with_best(pd.DataFrame(told), answer))

@@ -23,12 +23,11 @@ from planaudit.inputs.answer import Answer
 from planaudit.inputs.matching import own_columns
 from planaudit.inputs.project import Project
 from planaudit.inputs.tables import TABLES
-from planaudit.money import block_values as money
-from planaudit.money.weighing import gains, weighed
+from planaudit.money.weighing import weighed
 from planaudit.pits import sums
 from planaudit.revenue_factors import factor_text, factor_texts
 from planaudit.rules import TOLD, Rule, rule
-from planaudit.studies.realisations import QUANTILES, SCENARIOS, Scenario, Simulated, Told, prices_of, read
+from planaudit.studies.realisations import QUANTILES, SCENARIOS, Scenario, Simulated, Told, read
 
 # The number of scenarios that are verified block by block.
 SAMPLE = 10
@@ -182,34 +181,14 @@ class Verification:
         return replace(self.ground, project=self.priced(scenario.prices), rows=rows)
 
     def priced(self, prices: dict[str, Decimal]) -> Project:
-        """Returns the project at a price deck, with the `mining_cost_reference` of all scenarios."""
+        """Returns the project at a price deck."""
         project = self.folder.project
         metals = tuple(replace(metal, price=prices.get(metal.name, metal.price)) for metal in project.metals)
-        charges = project.economics
-        if charges.mining_cost_per_bench and charges.mining_cost_reference is None:
-            charges = replace(charges, mining_cost_reference=self.reference)
-        return replace(project, metals=metals, economics=charges)
+        return replace(project, metals=metals)
 
     def with_grades(self, grades: np.ndarray) -> pd.DataFrame:
         metals = self.folder.project.metals
         return self.folder.rows.assign(**{metal.column: grades[:, number] for number, metal in enumerate(metals)})
-
-    @cached_property
-    def reference(self) -> Decimal:
-        """The elevation of the top of the highest block in a cone of ore of any scenario. Ore pays for its processing at the largest grades and
-        prices, before selling costs."""
-        folder = self.folder
-        grades = np.zeros((len(folder.rows), len(folder.project.metals)))
-        for model in {scenario.model.name: scenario.model for scenario in folder.scenarios}.values():
-            grades = np.maximum(grades, folder.grades(model))
-        sets = prices_of(folder.project)
-        dearest = {it.name: max(prices.get(it.name, it.price) for prices in sets) for it in folder.project.metals}
-        metals = tuple(replace(it, price=dearest[it.name], selling_cost=Decimal(0)) for it in folder.project.metals)
-        # Ore does not depend on mining costs.
-        charges = replace(folder.project.economics, mining_cost_per_bench=Decimal(0))
-        project = replace(folder.project, metals=metals, economics=charges)
-        answer = replace(self.ground, project=project, rows=self.with_grades(grades), found={})
-        return Decimal(repr(float(money.highest_needed(replace(answer, said=gains(answer))))))
 
     def counted(self) -> list[Rule]:
         """Verifies probability.csv, scenarios.csv and quantiles.csv by all results."""

@@ -26,7 +26,7 @@ from planaudit.inputs.record import AS_RUN, read_json
 from planaudit.inputs.run import Run
 from planaudit.inputs.tables import read_table
 from planaudit.money import block_values as money, haulage
-from planaudit.money.weighing import gains, weighed
+from planaudit.money.weighing import weighed
 from planaudit.pits import sums, years
 from planaudit.revenue_factors import factor_text
 from planaudit.rules import TOLD, Rule, rule
@@ -264,14 +264,7 @@ class Told:
         """Returns the blocks with pits, at the parameters of a case."""
         said = self.ground.said.assign(revenue_factor=entry[self.ground.said["id"].to_numpy()])
         record = {**self.ground.record, "walls": patterns}
-        whole = replace(self.ground, project=project, said=said, record=record, found={})
-        if project.economics.mining_cost_per_bench and project.economics.mining_cost_reference is None:
-            # Ore does not depend on mining costs, and its cones are found from all blocks.
-            flat = replace(project, economics=replace(project.economics, mining_cost_per_bench=Decimal(0)))
-            at = money.highest_needed(replace(whole, project=flat, said=gains(replace(whole, project=flat)), found={}))
-            charges = replace(project.economics, mining_cost_reference=Decimal(repr(float(at))))
-            whole = replace(whole, project=replace(project, economics=charges))
-        return whole
+        return replace(self.ground, project=project, said=said, record=record, found={})
 
 
 def joined(name: str, holds: str, found: list[Rule]) -> Rule:

@@ -21,6 +21,7 @@ def table_of(rng):
     table["au"] = np.where(ore, rng.lognormal(-0.5, 0.8, len(table)).round(3), 0)
     table["must"] = ((table["x"] == 65) & (table["y"] == 65) & (table["z"] == 45)).astype(int)
     table["never"] = (table["x"] > 120).astype(int)
+    table["mc"], table["pc"] = (rng.uniform(low, 1.6, len(table)).round(4) for low in (0, 0.4))
     return table[(table["z"] < 50) | (table["x"] < 70)]
 
 
@@ -67,6 +68,7 @@ def project_of(rng):
         + pick(rng, "", "fixed_cost_per_year = 777.5\n")
         + pick(rng, "", "capex = [[1, 4000], [3, 990]]\n")
     )
+    money += pick(rng, "", 'mcaf = "mc"\n') + pick(rng, "", 'pcaf = "pc"\n')
     money += pick(rng, "decimals = 2\n", "") + pick(rng, "", 'cutoff = "base_price"\n')
     tail = "" if several else pick(rng, "", "tail_grade = 0.08\n")
     metal = (

@@ -14,7 +14,6 @@ from typing import Any, Optional, TypeVar
 
 import tomllib
 
-from .closures import closure
 from .ground import profile_of, share_below
 from .slopes import Step, steps_of
 
@@ -97,6 +96,11 @@ class Mine:
             return Fraction(value["domain"][row["region"]])
         return Fraction(value[row["rock"]] if isinstance(value, dict) else value)
 
+    def factor(self, key: str, row: dict[str, str]) -> Fraction:
+        """The factor of a block's mining or processing cost; 1 where its field is empty, as of a block without tonnes, or no column is named."""
+        column = self.project["economics"].get(key)
+        return Fraction(row[column] or 1) if column else Fraction(1)
+
     def recovery(self, value: Any, row: dict[str, str], grade: Fraction) -> Fraction:
         """A share, or one by head grade, linear between the pairs and to a millionth; one, or one by rock type."""
         value = value[row["rock"]] if isinstance(value, dict) else value
@@ -164,7 +168,8 @@ class Mine:
             selling += metals[name] * self.price(metal, metal.get("selling_cost", 0))
         decimals = money.get("decimals", 6)
         earned = rounded(revenue, decimals)
-        a_tonne = self.by_code(process["cost"], row) + Fraction(money.get("royalty_per_tonne", 0))
+        a_tonne = self.by_code(process["cost"], row) * self.factor("pcaf", row)
+        a_tonne += Fraction(money.get("royalty_per_tonne", 0))
         spent = rounded(undiluted * dilution * a_tonne + selling, decimals)
         return Way(earned, spent if earned else Fraction(0), metals)
 
@@ -182,7 +187,11 @@ class Mine:
         money, decimals = self.project["economics"], self.project["economics"].get("decimals", 6)
         return {
             place: rounded(
-                block.tonnes * (self.by_code(money["mining_cost"], self.rows[place]) + self.added_cost(place[2])),
+                block.tonnes
+                * (
+                    self.by_code(money["mining_cost"], self.rows[place]) * self.factor("mcaf", self.rows[place])
+                    + self.added_cost(place[2])
+                ),
                 decimals,
             )
             for place, block in self.blocks.items()
@@ -205,15 +214,13 @@ class Mine:
 
     @cached_property
     def first_level(self) -> int:
-        """The level, from the floor, below which mining costs more: that of the reference, or the highest that ore needs."""
+        """The level, from the floor, below which mining costs more: that of the reference, or the highest of the table."""
         reference = self.project["economics"].get("mining_cost_reference")
         if reference is not None:
             top = self.origin[2] + (self.shape[2] - Fraction(1, 2)) * self.size[2]
             below: Fraction = (top - Fraction(reference)) / self.size[2]
             return self.shape[2] - 1 - math.floor(below)
-        ore = [place for place in self.blocks if self.is_ore(place)]
-        needed = [place[2] for place in closure(ore, self.needs) if place in self.blocks]
-        return int(max(needed, default=self.shape[2] - 1))
+        return self.shape[2] - 1
 
     # Ore, and needs.
 

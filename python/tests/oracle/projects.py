@@ -38,7 +38,7 @@ def draw(seed: int) -> Drawn:
 def table(rng: Random, size: tuple[float, float, float], shape: tuple[int, int, int]) -> str:
     """A hill of two rocks and two domains, with ore of two metals, at coordinates of a mine or of a country."""
     west, south, floor = rng.choice([(0, 0, 0), (512_000.5, 6_203_500, 1200)])
-    rows = ["name,x,y,z,tonnes,cu,au,rock,region,must,never"]
+    rows = ["name,x,y,z,tonnes,cu,au,rock,region,must,never,mc,pc"]
     rich = rng.choice([0.08, 0.25, 0.6])
     for i in range(shape[0]):
         for j in range(shape[1]):
@@ -49,8 +49,14 @@ def table(rng: Random, size: tuple[float, float, float], shape: tuple[int, int, 
                 tonnes = rng.choice([0, 900.5, 1000, 1187.5]) if rng.random() < 0.3 else 1000
                 marks = f"{int(rng.random() < 0.01)},{int(rng.random() < 0.02)}"
                 codes = f"{rng.choice('RRS')},{'12'[i * 2 > shape[0]]}"
-                rows.append(f"b{i}-{j}-{k},{x},{y},{z},{tonnes},{cu},{au},{codes},{marks}")
+                rows.append(f"b{i}-{j}-{k},{x},{y},{z},{tonnes},{cu},{au},{codes},{marks},{factors(rng, tonnes)}")
     return "\n".join(rows) + "\n"
+
+
+def factors(rng: Random, tonnes: float) -> str:
+    """The factors of mining and processing cost; a block without tonnes may have none."""
+    mining, processing = (round(rng.uniform(low, 1.7), rng.choice([1, 3])) for low in (0, 0.4))
+    return f"{'' if not tonnes and rng.random() < 0.5 else mining},{processing}"
 
 
 def table_section(rng: Random, files: dict[str, str], size: Any, shape: Any) -> str:
@@ -96,6 +102,7 @@ def economics(rng: Random, several: int, high: float) -> str:
     lines.append("" if several else "processing_cost = " + pick(rng, "10", "{ R = 9, S = 11.5 }"))
     lines.append(pick(rng, "", "mining_recovery = 0.943", "mining_recovery = { domain = { 1 = 0.91, 2 = 0.97 } }"))
     lines.append(pick(rng, "", "dilution = 0.057", "dilution = { R = 0.04, S = 0.11 }"))
+    lines += [pick(rng, "", 'mcaf = "mc"'), pick(rng, "", 'pcaf = "pc"')]
     lines.append(pick(rng, "", "royalty = 0.035"))
     lines.append(pick(rng, "", "royalty_per_tonne = 0.37"))
     lines.append(pick(rng, "", "fixed_cost_per_year = 777.5"))

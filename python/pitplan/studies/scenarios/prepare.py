@@ -137,7 +137,7 @@ def arrays_of(base: Base) -> dict[str, np.ndarray]:
     for name in (table.rock_type, table.domain if by_region else None):
         if name:
             arrays[name] = base.frame[name].to_numpy().astype(str)
-    return arrays
+    return arrays | {name: base.frame[name].to_numpy() for name in money.factor_columns}
 
 
 def arrays_of_settled(plan: Plan) -> dict[str, np.ndarray]:
@@ -190,7 +190,7 @@ def common_parts(laid: Laid) -> dict[str, Any]:
     surfaces = store.surfaces_of(base.project)
     return {
         **({"surfaces": surfaces} if surfaces else {}),
-        "project": store.meaning(base.project, plan.reference),
+        "project": store.meaning(base.project),
         "grid": plan.grid.as_json(),
         "blocks": store.hash_of_arrays({**arrays_of(base), **walls, **arrays_of_settled(plan)}),
         "solver": laid.solver.sha256,
@@ -216,7 +216,6 @@ def write_record(laid: Laid, scenarios: list[Scenario], written: list[str], stag
         "solver": vars(solver),
         "grid": plan.grid.as_json(),
         "walls": [pattern.as_json() for pattern in plan.walls.patterns],
-        "mining_cost_reference": plan.reference,
         "notes": [note for note in plan.notes if "amounts were rounded" not in note],
         "files": hashes(stage, written),
         "scenarios": [vars(scenario) for scenario in scenarios],

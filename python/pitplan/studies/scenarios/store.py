@@ -204,8 +204,7 @@ def read_shared(folder: Path) -> Shared:
     grid = grid_of(record["grid"], arrays.pop("cells"))
     ore = arrays.pop("ore")
     settled = Settled(arrays.pop("dug"), arrays.pop("left")) if "dug" in arrays else None
-    project = referred(load(folder / PROJECT), record["mining_cost_reference"])
-    return Shared(folder, project, pd.DataFrame(arrays), grid, ore, record, solver, settled)
+    return Shared(folder, load(folder / PROJECT), pd.DataFrame(arrays), grid, ore, record, solver, settled)
 
 
 def key_of(parts: dict[str, Any]) -> str:
@@ -213,16 +212,8 @@ def key_of(parts: dict[str, Any]) -> str:
     return hashlib.sha256(json.dumps({"form": FORM, **parts}, sort_keys=True, default=repr).encode()).hexdigest()[:20]
 
 
-def referred(project: Project, reference: float) -> Project:
-    """Returns the project with a `mining_cost_reference`, an elevation in metres that all scenarios share."""
-    if not project.economics.mining_cost_per_bench:
-        return project
-    return replace(project, economics=replace(project.economics, mining_cost_reference=Decimal(repr(reference))))
-
-
-def meaning(project: Project, reference: float) -> dict[str, Any]:
+def meaning(project: Project) -> dict[str, Any]:
     """Returns the parts of a project that change block values and precedences, without prices, blocks and survey files."""
-    project = referred(project, reference)
     without_prices = [asdict(replace(metal, price=Decimal(0))) for metal in project.metals]
     parts = {"money": asdict(project.economics), "metals": without_prices, "slopes": asdict(project.slopes)}
     parts |= {"haulage": asdict(project.haulage)} if project.haulage else {}

@@ -91,5 +91,6 @@ def shared_of(laid: Laid, folder: Path) -> Shared:
     base, plan = laid.base, laid.plan
     arrays = prepare.arrays_of(base)
     grid = grid_of(plan.grid.as_json(), arrays.pop("cells"))
-    project = store.referred(base.project, plan.reference)
-    return Shared(folder, project, pd.DataFrame(arrays), grid, plan.values.processed, {}, laid.solver, plan.settled)
+    return Shared(
+        folder, base.project, pd.DataFrame(arrays), grid, plan.values.processed, {}, laid.solver, plan.settled
+    )
