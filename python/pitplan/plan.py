@@ -11,14 +11,14 @@ import numpy as np
 import pandas as pd
 from numpy.typing import NDArray
 
-from pitplan.blockmodel import depletion, missing_blocks, plausibility, reader
+from pitplan.blockmodel import depletion, missing_blocks, plausibility, reader, resource_classes
 from pitplan.blockmodel.grid import Grid
 from pitplan.config.economics import PER_REVENUE_FACTOR
 from pitplan.config.project import Project
 from pitplan.config.shells import IN_WORDS
 from pitplan.core.keyed_arrays import hash_of_all
 from pitplan.core.progress import Progress, silent
-from pitplan.core.revenue_factors import factor_text
+from pitplan.core.revenue_factors import BASE_PRICE, factor_text
 from pitplan.economics import block_values, haulage, period_costs
 from pitplan.economics.block_values import Values
 from pitplan.economics.weighing import reference_level
@@ -266,10 +266,10 @@ def prepared(project: Project, table: Optional[pd.DataFrame] = None, progress: P
     return with_notes(plan, model)
 
 
-def with_notes(plan: Plan, model: Preparation) -> Plan:
-    """Adds the notes of all steps; warnings come last."""
+def with_notes(plan: Plan, model: Preparation, price: str = "the base price") -> Plan:
+    """Adds the notes of all steps; warnings come last. `price` names the base price, at which ore pays."""
     plan.filled = model.read.filled
-    plan.notes = [*model.notes, *notes_of(plan), *model.warnings]
+    plan.notes = [*model.notes, *notes_of(plan, price), *model.warnings]
     return plan
 
 
@@ -304,8 +304,8 @@ def wanted(values: Values, project: Project, fixed: FixedBlocks) -> NDArray[Any]
     return found
 
 
-def notes_of(plan: Plan) -> list[str]:
-    """The notes of a plan: grid, cut-off, slopes, constraints, costs and rounding."""
+def notes_of(plan: Plan, price: str) -> list[str]:
+    """The notes of a plan: grid, cut-off, slopes, constraints, costs and rounding. `price` names the base price."""
     grid, project = plan.grid, plan.project
     levels, rows, columns = grid.shape
     grades = [plan.table[metal.column].to_numpy() for metal in project.metals]
@@ -316,6 +316,7 @@ def notes_of(plan: Plan) -> list[str]:
         *([f"{plan.filled:,} empty fields were read as 0"] if plan.filled else []),
         *(pattern.sentence() for pattern in plan.walls.patterns),
         *plan.values.notes,
+        *notes_of_classes(plan, price),
         *plausibility.of_prices(plan.values.pays, project.metals, grades, project.economics.currency),
         *notes_of_bench_costs(plan),
         *plan.fixed.notes,
@@ -339,6 +340,12 @@ def notes_of_cutoff(plan: Plan) -> list[str]:
         f"{len(plan.values.ore):,} potential ore blocks have a processing node{more}; "
         "the cut-off is re-evaluated at every revenue factor"
     ]
+
+
+def notes_of_classes(plan: Plan, price: str) -> list[str]:
+    """The tonnes of each resource class, and those that would pay but are treated as waste."""
+    pays = plan.values.mineralised_waste(BASE_PRICE)[plan.grid.rows]
+    return resource_classes.notes_of(plan.table, plan.project, pays, price)
 
 
 def notes_of_bench_costs(plan: Plan) -> list[str]:
@@ -380,8 +387,7 @@ def greatest_shift(table: pd.DataFrame, grid: Grid, project: Project) -> float:
 
 def codes_of(project: Project) -> list[str]:
     """The columns of blocks.csv that are text even if they look like numbers."""
-    named = [project.table.id, project.table.rock_type, project.table.domain]
-    return [shown_name(name) for name in named if name]
+    return [shown_name(name) for name in project.table.codes]
 
 
 def shown_name(column: str) -> str:

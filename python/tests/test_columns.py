@@ -58,10 +58,12 @@ def written(tmp_path_factory):
         "cu": lambda i, j, k: grades.get((i, j, k), 0),
         "due": lambda i, j, k: int((i, j, k) == (1, 1, 3)),
         "tonnes": lambda i, j, k: 100 + 7 * i + j,
+        "cls": lambda i, j, k: "measured" if k else "inferred",
     }
     table = rows(11, 9, 4, **varied)
     money = "fixed_cost_per_year = 77\ncapex = [[1, 10]]\n"
     one = PROJECT.replace("mining_cost = 2\n", f"mining_cost = 2\n{money}") + WIDE
+    one = one.replace("[table]\n", '[table]\nclass = "cls"\n')
     several = PROJECT.replace("processing_cost = 10\n", "").replace("recovery = 0.5\n", "")
     several = several.replace("processing_capacity = 100\n", "") + PROCESSES
     place = tmp_path_factory.mktemp("columns")

@@ -43,7 +43,7 @@ class BlockModel:
             One row per block: centroids in metres, tonnes, grades, and codes of rock type and domain. It is copied.
         **keys
             The keys of `[table]` and `[grid]` but `file`: the columns `x`, `y`, `z`, `tonnes`, or `density` and `volume`, `id`, `rock_type`,
-            `domain`; `empty`, `missing_blocks`, `reblock`, `topography`; `size`, `tolerance` and `azimuth` of the blocks.
+            `domain`, `class` (as `**{"class": ..}`, a word of Python); `empty`, `missing_blocks`, `reblock`, `topography`; `size`, `tolerance` and `azimuth` of the blocks.
 
         Raises
         ------

@@ -45,6 +45,7 @@ def with_rows(frame: pd.DataFrame, grid: Grid, project: Project) -> tuple[pd.Dat
         columns.id: [f"absent-{cell}" for cell in cells],
         columns.rock_type: rock.rock_type,
         columns.domain: rock.domain,
+        columns.resource_class: rock.resource_class,
     }
     for column, code in codes.items():
         if column is not None:

@@ -25,7 +25,7 @@ from pitplan.core.text_format import NAMES, TableFormat, guessed_separator, name
 from pitplan.core.text_tables import demand_columns, demand_each_once, read_columns
 from pitplan.errors import PlanError
 
-from . import cost_factors
+from . import cost_factors, resource_classes
 
 # Tonnes that are computed are kept to a gram, halves to the even one.
 TONNES_PLACES = 6
@@ -38,7 +38,7 @@ class Table:
     Attributes
     ----------
     frame : DataFrame
-        One row per block, in the order of the file: numbers as float64, codes (id, rock type, domain) as text.
+        One row per block, in the order of the file: numbers as float64, codes (id, rock type, domain, class) as text.
     source : str
         The file, or "table" if it came from pandas.
     filled : int
@@ -70,7 +70,7 @@ def read(project: Project) -> Table:
         If the package that reads Parquet is not installed.
     """
     columns = project.table
-    codes = [name for name in (columns.id, columns.rock_type, columns.domain) if name]
+    codes = columns.codes
     if parquet.is_parquet(columns.file):
         frame, names = parquet.read(columns.file, codes, names_of(project))
         demand_columns(pd.DataFrame(columns=names), names_of(project), str(columns.file))
@@ -146,6 +146,7 @@ def named(project: Project) -> list[str]:
         *rock,
         t.rock_type,
         t.domain,
+        t.resource_class,
         *(metal.column for metal in project.metals),
         *project.economics.factor_columns,
         *fixed,
@@ -157,6 +158,7 @@ def named(project: Project) -> list[str]:
 def demand_codes_apart(project: Project) -> None:
     """Rejects a column that is both a code and a number."""
     codes = {"id": project.table.id, "rock_type": project.table.rock_type, "domain": project.table.domain}
+    codes["class"] = project.table.resource_class
     for key, name in codes.items():
         if name and named(project).count(name) > list(codes.values()).count(name):
             why = "is also read as numbers: codes require a column of their own"
@@ -173,7 +175,7 @@ def checked(frame: pd.DataFrame, project: Project, source: str = "table") -> Tab
     demand_columns(frame, names_of(project), source)
     if frame.empty:
         raise PlanError(f"{source}: has no blocks")
-    codes = [name for name in (columns.id, columns.rock_type, columns.domain) if name]
+    codes = columns.codes
     result = pd.DataFrame(index=pd.RangeIndex(len(frame)))
     filled = 0
     for name in names_of(project):
@@ -195,6 +197,7 @@ def checked(frame: pd.DataFrame, project: Project, source: str = "table") -> Tab
     if not result[columns.tonnes].any():
         raise PlanError(f"{source} column {columns.tonnes}: all tonnes are 0")
     demand_codes(result, project, source)
+    resource_classes.demand_accepted(result, project, source)
     unused = tuple(str(name) for name in frame.columns if name not in names_of(project))
     return Table(
         result, source, filled, unused=unused, warned=tuple(spreadsheet_formulas.warnings_of(frame, codes, source))

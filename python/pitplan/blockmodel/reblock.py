@@ -1,6 +1,7 @@
 """Reblocks a table: whole blocks are combined, or sub-blocks of several sizes are combined into their parent blocks.
 
-Tonnes are summed, grades and cost adjustment factors are tonnage-weighted means, and rock type and domain are those of the most tonnes. A block is must-mine or excluded if
+Tonnes are summed, grades and cost adjustment factors are tonnage-weighted means, and rock type, domain
+and resource class are those of the most tonnes. A block is must-mine or excluded if
 a part of it is. Columns that a schedule limits are weighted means if they are per tonne, otherwise sums. A note gives the tonnes with
 another rock type or domain than their block.
 """
@@ -163,7 +164,7 @@ def put_together(
     result = result.assign(
         **{columns.tonnes: parts.sums(parts.tonnes, TONNES_PLACES)}, **amounts(frame, parts, project)
     )
-    for code in filter(None, (columns.rock_type, columns.domain)):
+    for code in filter(None, (columns.rock_type, columns.domain, columns.resource_class)):
         result[code], other = parts.most(frame[code].to_numpy())
         mixed.append(f"{other:,.0f} of {parts.tonnes.sum():,.0f} t differ in {code} from their block")
     for mark in filter(None, dict.fromkeys((fixed.must_mine, fixed.exclude) if fixed else ())):

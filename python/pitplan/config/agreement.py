@@ -6,8 +6,10 @@ from typing import TYPE_CHECKING, Any
 
 from pitplan.errors import PlanError
 
+from .classes import REFUSE
 from .economics import ByDomain
 from .schedule import FEED, TOTAL, ScheduleRules
+from .table import MissingRock
 
 if TYPE_CHECKING:
     from .project import Project
@@ -17,6 +19,7 @@ def demand_agreement(project: Project) -> None:
     """Raises PlanError if sections that are valid each do not fit together."""
     path = project.path
     demand_codes(project)
+    demand_classes(project)
     if project.table.density and not project.table.volume and project.grid.size is None:
         raise PlanError(
             f"{path}: [grid] size: is missing, by which a density gives tonnes, unless [table] names a volume"
@@ -61,6 +64,20 @@ def demand_codes(project: Project) -> None:
         raise PlanError(f"{path}: [table] rock_type: is missing, and prices or recoveries are given by rock type")
     if project.table.domain is None and any(isinstance(price, ByDomain) for price in priced):
         raise PlanError(f"{path}: [table] domain: is missing, and mining recovery or dilution is given by domain")
+
+
+def demand_classes(project: Project) -> None:
+    """Refuses rules of resource classes without their column, and missing blocks of a class that is refused."""
+    path, column, missing = project.path, project.table.resource_class, project.table.missing_blocks
+    if column is None and project.classes.given:
+        raise PlanError(f"{path}: [table] class: is missing, and [classes] has rules: name the column of the classes")
+    if not isinstance(missing, MissingRock):
+        return
+    code = missing.resource_class
+    if column is None and code:
+        raise PlanError(f"{path}: [table] missing_blocks: has a class, and [table] class names no column")
+    if column is not None and missing.tonnes > 0 and project.classes.of(code) == REFUSE:
+        raise PlanError(f'{path}: [table] missing_blocks: class "{code}" is refused by [classes]: give another class')
 
 
 def demand_ground(project: Project) -> None:

@@ -12,6 +12,7 @@ from pitplan.errors import PlanError
 
 from . import toml_text
 from .agreement import demand_agreement
+from .classes import ClassRules, read_classes
 from .constraints import ConstraintRules, read_constraints
 from .economics import Economics, Metal, Process, read_economics, read_metal, read_process
 from .figures import FigureRules, read_figures
@@ -53,6 +54,7 @@ class Project:
     figures: Optional[FigureRules] = None
     haulage: Optional[Haulage] = None
     solver: Optional[str] = None
+    classes: ClassRules = ClassRules()
 
     @property
     def by_process(self) -> tuple[Project, ...]:
@@ -211,6 +213,7 @@ def of_data(data: dict[str, Any], path: Path, source: Optional[str] = None) -> P
         schedule=read_schedule(top.section("schedule")) if top.has("schedule") else None,
         processes=processes,
         haulage=read_haulage(top.section("haulage")) if top.has("haulage") else None,
+        classes=read_classes(top.section("classes", optional=True)),
     )
     metals = tuple(metal.name for metal in project.metals)
     if top.has("sensitivity"):

@@ -40,6 +40,7 @@ def of_project(project: Project, folder: Path) -> str:
         "table": of_table(project.table, folder),
         "grid": of_grid(project.grid),
         "economics": of_money(project.economics, has_processes),
+        "classes": project.classes.given or None,
         "metals": [of_metal(metal, has_processes) for metal in project.metals],
         "processes": [of_process(process) for process in project.processes],
         "slopes": of_slopes(project.slopes),
@@ -134,7 +135,8 @@ def of_survey(file: Optional[SurveyFile], folder: Path) -> Any:
 def of_missing(missing: Union[str, MissingRock]) -> Union[str, Values]:
     if not isinstance(missing, MissingRock):
         return missing
-    return {"tonnes": missing.tonnes, "rock_type": missing.rock_type or None, "domain": missing.domain or None}
+    codes = {"rock_type": missing.rock_type, "domain": missing.domain, "class": missing.resource_class}
+    return {"tonnes": missing.tonnes, **{key: code or None for key, code in codes.items()}}
 
 
 def of_table(table: TableColumns, folder: Path) -> Values:
@@ -156,6 +158,7 @@ def of_table(table: TableColumns, folder: Path) -> Values:
     return {
         "file": place(table.file, folder),
         **values,
+        "class": table.resource_class,
         "tonnes": None if table.density else table.tonnes,
         "missing_blocks": missing,
         "reblock": of_reblock(table.reblock) if table.reblock else None,

@@ -14,11 +14,12 @@ from .toml_section import Section, cut, shown
 
 @dataclass(frozen=True)
 class MissingRock:
-    """What fills missing blocks: tonnes a block, and the codes of rock type and domain, "" if none is given."""
+    """What fills missing blocks: tonnes a block, and the codes of rock type, domain and resource class, "" if none is given."""
 
     tonnes: float
     rock_type: str
     domain: str
+    resource_class: str = ""
 
 
 @dataclass(frozen=True)
@@ -42,6 +43,7 @@ class TableColumns:
     volume   a column of cubic metres; without it a block has the grid's size
     reblock  of what rows blocks are put together; None: each row is a block
     topography  heights of the ground, by which blocks are cut; None: they are whole
+    resource_class  the column `class`; None: all blocks may be ore
     """
 
     file: Path
@@ -61,6 +63,12 @@ class TableColumns:
     missing_blocks: Union[str, MissingRock]
     reblock: Optional[Reblock] = None
     topography: Optional[SurveyFile] = None
+    resource_class: Optional[str] = None
+
+    @property
+    def codes(self) -> list[str]:
+        """The columns that are text even if they look like numbers: id, rock type, domain and resource class."""
+        return [name for name in (self.id, self.rock_type, self.domain, self.resource_class) if name]
 
 
 @dataclass(frozen=True)
@@ -94,6 +102,7 @@ def read_table(section: Section, folder: Path) -> TableColumns:
         missing_blocks=read_missing(section),
         reblock=read_reblock(section),
         topography=read_survey(section, "topography", folder) if section.has("topography") else None,
+        resource_class=section.optional_text("class"),
     )
     section.finish()
     if columns.density and section.has("tonnes"):
@@ -143,7 +152,8 @@ def read_missing(section: Section) -> Union[str, MissingRock]:
         return section.choice("missing_blocks", ("refuse", "air"), "refuse")
     inner = section.section("missing_blocks")
     tonnes = float(inner.number("tonnes", least=0))
-    missing = MissingRock(tonnes, inner.optional_text("rock_type") or "", inner.optional_text("domain") or "")
+    codes = [inner.optional_text(key) or "" for key in ("rock_type", "domain", "class")]
+    missing = MissingRock(tonnes, *codes)
     inner.finish()
     return missing
 

@@ -7,6 +7,8 @@ revenue factor: the cut-off is re-evaluated at each. With a fixed cut-off a bloc
 Of a block that is processed, a share is lost in mining, and the rest is diluted with rock at zero grade. The result is the mill feed, to
 which processing costs, head grades and capacities refer. The diluting rock belongs to other blocks, so total material stays as in the
 table. A royalty on revenue is subtracted from it, so it scales with the price.
+
+A block whose resource class is treated as waste has no revenue and no metal.
 """
 
 from __future__ import annotations
@@ -18,6 +20,7 @@ from typing import Optional
 import numpy as np
 import pandas as pd
 
+from pitplan.blockmodel import resource_classes
 from pitplan.blockmodel.grid import MOST_BLOCKS, Grid
 from pitplan.config.economics import AT_BASE_PRICE, PER_REVENUE_FACTOR
 from pitplan.config.project import Project
@@ -52,6 +55,9 @@ class Values:
         "per_revenue_factor" or "base_price".
     shared : int array, optional
         In scenarios the block of each shared processing node; None: the nodes are those of the steps.
+    mineralised : tuple of Way
+        Revenue and cost in each process of cells whose resource class is treated as waste, as if it were ore; empty without classes. The other
+        amounts have no revenue of these.
     hauled : Hauled, optional
         Haul distances and costs, which the other amounts include; None without `[haulage]`.
     """
@@ -67,6 +73,16 @@ class Values:
     notes: tuple[str, ...]
     shared: Optional[np.ndarray] = None
     hauled: Optional[Hauled] = None
+    mineralised: tuple[Way, ...] = ()
+
+    def mineralised_waste(self, factor: float) -> np.ndarray:
+        """Returns whether each cell is waste by its resource class, and would pay for its processing at the cut-off of a revenue factor."""
+        price = factor if self.cutoff == PER_REVENUE_FACTOR else BASE_PRICE
+        found = np.zeros(len(self.mining), dtype=bool)
+        for way in self.mineralised:
+            some = np.flatnonzero(way.revenue)
+            found[some] |= np.array(at_factor(price, way.revenue[some], way.cost[some]) > 0, dtype=bool)
+        return found
 
     @cached_property
     def revenue(self) -> np.ndarray:
@@ -157,7 +173,7 @@ def values_of(frame: pd.DataFrame, grid: Grid, project: Project, source: str = "
     feed = rows.feed()
     weighed = [replace(rows, project=way).weighed(feed) for way in project.by_process]
     names = [process.name for process in project.processes] or [""]
-    ways = tuple(it.way(name, grid) for it, name in zip(weighed, names))
+    ways, mineralised = split_by_class(tuple(it.way(name, grid) for it, name in zip(weighed, names)), rows)
     best = best_way(ways, BASE_PRICE)
     mining, rounding = rows.millionths(rows.mining(), "mining cost")
     hauled, of_haulage = rows.hauled(feed)
@@ -173,9 +189,19 @@ def values_of(frame: pd.DataFrame, grid: Grid, project: Project, source: str = "
         roundings={**roundings, "mining cost": rounding, **of_haulage},
         notes=notes_of(rows, feed),
         hauled=hauled,
+        mineralised=mineralised,
     )
     demand_few_nodes(values, grid)
     return values
+
+
+def split_by_class(ways: tuple[Way, ...], rows: Rows) -> tuple[tuple[Way, ...], tuple[Way, ...]]:
+    """Returns the amounts of blocks that may be ore, and those of blocks whose resource class is treated as waste; none of these without classes."""
+    is_waste = resource_classes.waste_of(rows.frame, rows.project)
+    if is_waste is None:
+        return ways, ()
+    cells = rows.grid.spread(is_waste)
+    return tuple(way.within(~cells) for way in ways), tuple(way.within(cells) for way in ways)
 
 
 def greatest_gains(frame: pd.DataFrame, grid: Grid, project: Project, source: str) -> np.ndarray:
@@ -188,7 +214,8 @@ def greatest_gains(frame: pd.DataFrame, grid: Grid, project: Project, source: st
     for way in project.by_process:
         weighed = replace(rows, project=way).weighed(feed)
         found |= np.array(at_factor(factor, weighed.revenue, weighed.cost) > 0, dtype=bool)
-    return found
+    is_waste = resource_classes.waste_of(frame, project)
+    return found if is_waste is None else found & ~is_waste
 
 
 def title(what: str, process: str) -> str:

@@ -25,6 +25,11 @@ class Way:
     cost: np.ndarray
     metal: dict[str, np.ndarray]
 
+    def within(self, cells: np.ndarray) -> Way:
+        """The same with neither revenue nor cost nor metal outside some cells; `cells` is a mask."""
+        metal = {name: np.where(cells, amounts, 0.0) for name, amounts in self.metal.items()}
+        return Way(self.name, np.where(cells, self.revenue, 0), np.where(cells, self.cost, 0), metal)
+
 
 @dataclass(frozen=True)
 class Steps:

@@ -22,6 +22,8 @@ from pitplan.solver.program import Solution
 from . import best_worst_case
 from .best_worst_case import Benches
 
+MINERALISED = "mineralised_waste_tonnes"
+
 
 @dataclass(frozen=True)
 class Cells:
@@ -146,6 +148,7 @@ def shells(plan: Plan, solution: Solution, more: Optional[np.ndarray] = None) ->
         - `revenue_factor`, `blocks` (with tonnes), `tonnes` (total material)
         - `feed_tonnes`: mill feed, diluted and after ore loss; `feed_tonnes_NAME` of each of several processes
         - `in_situ_ore_tonnes`, `waste_tonnes` (total less in-situ ore), `strip_ratio` (waste to in-situ ore)
+        - `mineralised_waste_tonnes`, with resource classes: of the waste, what pays at the shell's cut-off and is waste by its class
         - `processed_at_revenue_factor`: mill feed at the prices of the revenue factor
         - `head_grade_NAME` in the unit of the column, `recovered_NAME` in tonnes or grams
         - `undiscounted_cash_flow` at the base price; `npv_best`, `npv_worst` with period costs and yearly prices
@@ -235,6 +238,7 @@ def amounts(plan: Plan, cells: Cells) -> pd.DataFrame:
         "feed_tonnes": feed_tonnes,
         "in_situ_ore_tonnes": in_situ,
         "waste_tonnes": tonnes - in_situ,
+        **mineralised_waste(plan, pit),
         "strip_ratio": ratio(tonnes - in_situ, in_situ),
         "processed_at_revenue_factor": within(plan, cells.processed, cells.feed),
     }
@@ -244,6 +248,18 @@ def amounts(plan: Plan, cells: Cells) -> pd.DataFrame:
         columns[f"recovered_{metal.name}"] = within(plan, ore, plan.values.metal[metal.name])
     columns["undiscounted_cash_flow"] = within(plan, pit, cells.worth)
     return pd.DataFrame(columns)
+
+
+def mineralised_waste(plan: Plan, pit: np.ndarray) -> dict[str, np.ndarray]:
+    """The column of mineralised waste, if the table has resource classes: tonnes of each shell that are waste by their class and would pay at its
+    cut-off. `pit` is the least factor of each cell, 0: never."""
+    if plan.project.table.resource_class is None:
+        return {}
+    tonnes, values = plan.values.tonnes, plan.values
+    inside = [
+        (pit > 0) & (pit <= factor) & values.mineralised_waste(factor) for factor in plan.project.shells.revenue_factors
+    ]
+    return {MINERALISED: np.array([tonnes[cells].sum() for cells in inside])}
 
 
 def within(plan: Plan, first: np.ndarray, values: np.ndarray) -> np.ndarray:

@@ -260,6 +260,7 @@ def table(pushbacks: Pushbacks) -> pd.DataFrame:
         "feed_tonnes": feed_tonnes,
         "in_situ_ore_tonnes": in_situ,
         "waste_tonnes": tonnes - in_situ,
+        **mineralised_waste(pushbacks),
         "strip_ratio": shell_tables.ratio(tonnes - in_situ, in_situ),
     }
     columns |= {
@@ -279,6 +280,15 @@ def table(pushbacks: Pushbacks) -> pd.DataFrame:
         is_last, lacking, 0.0
     )
     return pd.DataFrame(columns | shapes(pushbacks))
+
+
+def mineralised_waste(pushbacks: Pushbacks) -> dict[str, np.ndarray]:
+    """Returns the column of mineralised waste at the base price, if the table has resource classes."""
+    if pushbacks.plan.project.table.resource_class is None:
+        return {}
+    values = pushbacks.plan.values
+    tonnes = np.where(values.mineralised_waste(BASE_PRICE), values.tonnes, 0.0)
+    return {shell_tables.MINERALISED: added(pushbacks.pushback, tonnes, pushbacks)}
 
 
 def shapes(pushbacks: Pushbacks) -> dict[str, list[float]]:

@@ -114,7 +114,10 @@ def named(names: tuple[str, ...], project: Project) -> Iterator[tuple[str, str]]
 
 
 IN_SITU = "in_situ_ore_tonnes"
-IN_ROCK = ("blocks", "tonnes", "feed_tonnes", IN_SITU, "waste_tonnes", "strip_ratio", "feed_tonnes_PROCESS")
+IN_ROCK = (
+    *("blocks", "tonnes", "feed_tonnes", IN_SITU, "waste_tonnes", "mineralised_waste_tonnes"),
+    *("strip_ratio", "feed_tonnes_PROCESS"),
+)
 MATERIAL = (*IN_ROCK, "head_grade_METAL", "recovered_METAL")
 EARNED = ("undiscounted_cash_flow", "npv_best", "npv_worst")
 BOUNDED = ("npv", "upper_bound")

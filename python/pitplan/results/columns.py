@@ -136,6 +136,13 @@ TONNAGES = (
     FEED,
     Column("in_situ_ore_tonnes", TONNES, "ore in the ground", "in-situ ore"),
     Column("waste_tonnes", TONNES, "total material less in-situ ore", "waste"),
+    Column(
+        "mineralised_waste_tonnes",
+        TONNES,
+        "of the waste: material that would pay but is waste by its resource class",
+        "mineralised waste",
+        "with `[table] class`",
+    ),
     Column("strip_ratio", RATIO, "waste to in-situ ore; empty without ore", "strip ratio"),
 )
 AT_FACTOR = Column("processed_at_revenue_factor", TONNES, "mill feed at the prices of the revenue factor")

@@ -36,6 +36,7 @@ def words(answer: Answer, rock: MissingRock) -> dict[str, str | float]:
         columns.tonnes: rock.tonnes,
         columns.rock_type: rock.rock_type,
         columns.domain: rock.domain,
+        columns.resource_class: rock.resource_class,
         **dict.fromkeys(answer.project.economics.adjusting, 1.0),
     }
     passed = {

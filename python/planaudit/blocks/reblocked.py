@@ -34,7 +34,7 @@ def verify(answer: Answer) -> Rule:
     for name in [name for name in expected if name not in passed]:
         column = said[name].iloc[: answer.known].to_numpy()
         slack = TONNES if name == columns.tonnes else GRADE
-        is_code = name in (columns.id, columns.rock_type, columns.domain)
+        is_code = name in answer.project.codes
         other = (
             column != expected[name]
             if is_code

@@ -17,6 +17,7 @@ import numpy as np
 import pandas as pd
 
 from planaudit.errors import AuditError, PackageError
+from planaudit.inputs import classes
 from planaudit.inputs.project import Project, TableColumns
 
 SEPARATORS = ",;\t|"
@@ -43,6 +44,12 @@ def read(project: Project) -> pd.DataFrame:
         frame[table.tonnes] = tonnes_by_density(frame, project)
     for name in project.economics.adjusting:
         frame[name] = factors(frame, name, project)
+    refused = classes.treated_as("refuse", frame, project) & (frame[table.tonnes].to_numpy() > 0)
+    if refused.any():
+        row = int(refused.argmax())
+        code = frame[str(table.resource_class)].iloc[row]
+        where = f"{table.file} row {row + FIRST_ROW} column {table.resource_class}"
+        raise AuditError(f'{where}: found "{code}", which [classes] refuses: correct the class')
     return frame
 
 

@@ -77,7 +77,7 @@ def read_blocks(path: Path, project: Project, said: Optional[tuple[str, ...]] = 
     or cut. Raises AuditError if a field of a numeric column is not a number.
     """
     columns = project.table
-    codes = {own_name(name): str for name in (columns.id, columns.rock_type, columns.domain) if name}
+    codes = {own_name(name): str for name in project.codes}
     wanted = {*(said or ()), *(own_name(name) for name in (columns.x, columns.y, columns.z))}
     is_whole = (
         said is None or isinstance(columns.missing_blocks, MissingRock) or bool(columns.reblock or project.cuts_blocks)

@@ -47,11 +47,12 @@ class SurveyFile:
 
 @dataclass(frozen=True)
 class MissingRock:
-    """The block in place of a missing row: tonnes, rock type and domain."""
+    """The block in place of a missing row: tonnes, rock type, domain and resource class."""
 
     tonnes: float
     rock_type: str
     domain: str
+    resource_class: str = ""
 
 
 @dataclass(frozen=True)
@@ -84,6 +85,7 @@ class TableColumns:
     missing_blocks: Union[str, MissingRock]
     reblock: Optional[Reblock]
     topography: Optional[SurveyFile]
+    resource_class: Optional[str] = None
 
 
 @dataclass(frozen=True)
@@ -264,6 +266,13 @@ class Haulage:
 
 
 @dataclass(frozen=True)
+class ClassRules:
+    """`[classes]`: ore, waste or refuse by class."""
+
+    given: dict[str, str] = field(default_factory=dict)
+
+
+@dataclass(frozen=True)
 class Scenarios:
     """`[scenarios]`: a folder of realisations or their columns by metal, and price decks."""
 
@@ -288,6 +297,7 @@ class Project:
     pushbacks: Optional[PushbackRules] = None
     schedule: Optional[ScheduleRules] = None
     haulage: Optional[Haulage] = None
+    classes: ClassRules = ClassRules()
 
     @property
     def by_process(self) -> tuple[Project, ...]:
@@ -307,9 +317,9 @@ class Project:
 
     @property
     def codes(self) -> list[str]:
-        """The columns of the table with codes: id, rock type and domain."""
+        """The columns of the table with codes: id, rock type, domain and resource class."""
         table = self.table
-        return [name for name in (table.id, table.rock_type, table.domain) if name]
+        return [name for name in (table.id, table.rock_type, table.domain, table.resource_class) if name]
 
     @property
     def columns(self) -> list[str]:

@@ -18,6 +18,7 @@ from planaudit.inputs.project import (
     ByCode,
     ByDomain,
     ByRock,
+    ClassRules,
     ConstraintRules,
     Curve,
     Economics,
@@ -91,6 +92,7 @@ def of_data(data: Data, place: Places, source: str = "project") -> Project:
             pushbacks=pushbacks_of(data["pushbacks"]) if "pushbacks" in data else None,
             schedule=schedule_of(data["schedule"]) if "schedule" in data else None,
             haulage=haulage_of(data["haulage"]) if "haulage" in data else None,
+            classes=ClassRules({code: str(word) for code, word in data.get("classes", {}).items()}),
         )
 
 
@@ -163,7 +165,8 @@ def survey_of(value: Any, place: Places) -> SurveyFile:
 def table_of(data: Data, place: Places) -> TableColumns:
     missing = data.get("missing_blocks", "refuse")
     if isinstance(missing, dict):
-        missing = MissingRock(float(number(missing["tonnes"])), missing.get("rock_type", ""), missing.get("domain", ""))
+        codes = [missing.get(key, "") for key in ("rock_type", "domain", "class")]
+        missing = MissingRock(float(number(missing["tonnes"])), *codes)
     optional: dict[str, Any] = {
         key: data.get(key) for key in ("density", "volume", "id", "rock_type", "domain", "separator", "decimal")
     }
@@ -179,6 +182,7 @@ def table_of(data: Data, place: Places) -> TableColumns:
         missing_blocks=missing,
         reblock=reblock_of(data["reblock"]) if "reblock" in data else None,
         topography=survey_of(data["topography"], place) if "topography" in data else None,
+        resource_class=data.get("class"),
     )
 
 

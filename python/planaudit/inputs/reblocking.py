@@ -33,7 +33,7 @@ def together(parts: pd.DataFrame, project: Project, grid: dict[str, Any]) -> pd.
         found[name] = (by[f"content_{name}"].sum() / found[columns.tonnes]).fillna(0.0)
     for name in {it.column for it in sums if not it.per_tonne}:
         found[name] = by[name].sum()
-    for code in filter(None, (columns.rock_type, columns.domain)):
+    for code in filter(None, (columns.rock_type, columns.domain, columns.resource_class)):
         found[code] = of_most(frame, code, columns)
     for mark in filter(None, (fixed.must_mine, fixed.exclude) if fixed else ()):
         found[mark] = by[mark].max()

@@ -11,6 +11,7 @@ from typing import Optional
 
 import numpy as np
 
+from planaudit.inputs import classes
 from planaudit.inputs.answer import Answer
 from planaudit.inputs.matching import PROCESS
 from planaudit.inputs.project import GRADE_UNITS, Curve, Project, Recovery
@@ -206,7 +207,8 @@ class Exactly:
         ]
         codes = list(zip(*named))
         costs = {code: Costs.of(project, *code) for code in set(codes)}
-        grades = [answer.rows[metal.column].tolist() for metal in project.metals]
+        is_waste = classes.treated_as("waste", answer.rows, project)
+        grades = [np.where(is_waste, 0.0, answer.rows[metal.column]).tolist() for metal in project.metals]
         depths = [more_for_depth(answer, z) for z in answer.elevations]
         rules = project.haulage
         roads = (haulage.roads_of(answer, rules) if rules else np.zeros(len(answer.rows))).tolist()

@@ -9,7 +9,7 @@ import numpy as np
 from planaudit.blocks import constraints as fixed
 from planaudit.ground import slopes as walls
 from planaudit.inputs.answer import Answer
-from planaudit.pits import pushback_widths, sums
+from planaudit.pits import mineralised, pushback_widths, sums
 from planaudit.revenue_factors import BASE_PRICE, factor_text, factor_texts
 from planaudit.rules import TOLD, Rule, rule
 
@@ -130,6 +130,7 @@ def of_blocks(answer: Answer, mine: np.ndarray, ore: np.ndarray) -> dict[str, fl
         "feed_tonnes": of_ore,
         "in_situ_ore_tonnes": in_situ,
         "waste_tonnes": tonnes[mine & ~answer.ore].sum(),
+        **mineralised.tonnes_in(answer, mine),
         "strip_ratio": (of_all - in_situ) / in_situ if in_situ else np.nan,
         "undiscounted_cash_flow": answer.worths[mine].sum(),
     }

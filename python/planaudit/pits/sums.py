@@ -7,6 +7,7 @@ from decimal import Decimal
 import numpy as np
 
 from planaudit.inputs.answer import Answer
+from planaudit.pits import mineralised
 from planaudit.revenue_factors import BASE_PRICE, PER_MILLE, factor_text, per_mille
 from planaudit.rules import TOLD, Rule, rule
 
@@ -54,6 +55,7 @@ def sums(answer: Answer, factor: float) -> dict[str, float]:
         "feed_tonnes": of_ore,
         "in_situ_ore_tonnes": in_situ,
         "waste_tonnes": tonnes[inside & ~answer.ore].sum(),
+        **mineralised.tonnes_in(answer, inside, factor),
         "strip_ratio": (of_all - in_situ) / in_situ if in_situ else np.nan,
         "processed_at_revenue_factor": answer.feed[(processed > 0) & (processed <= factor)].sum(),
         "undiscounted_cash_flow": answer.worths[inside].sum(),

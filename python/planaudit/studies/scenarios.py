@@ -24,7 +24,7 @@ from planaudit.inputs.matching import own_columns
 from planaudit.inputs.project import Project
 from planaudit.inputs.tables import TABLES
 from planaudit.money.weighing import weighed
-from planaudit.pits import sums
+from planaudit.pits import mineralised, sums
 from planaudit.revenue_factors import factor_text, factor_texts
 from planaudit.rules import TOLD, Rule, rule
 from planaudit.studies.realisations import QUANTILES, SCENARIOS, Scenario, Simulated, Told, read
@@ -315,7 +315,8 @@ def unlike_spread(rows: pd.DataFrame, models: list[Any], what: str) -> list[str]
     if len(rows) != 1 or rows["realisations"].iloc[0] != len(models):
         return [f"{what}: has {len(rows)} rows, and there are {len(models)} realisations"]
     found = []
-    for name in [*AMOUNTS, *(name for name in models[0].index if name.startswith("recovered_"))]:
+    more = [name for name in models[0].index if name.startswith("recovered_") or name == mineralised.NAME]
+    for name in [*AMOUNTS, *more]:
         amounts = sorted(float(model[name]) for model in models)
         expected = {"mean": math.fsum(amounts) / len(amounts), "least": amounts[0], "greatest": amounts[-1]}
         expected |= {said: between(amounts, share) for said, share in SHARES.items()}

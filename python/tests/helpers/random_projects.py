@@ -21,6 +21,7 @@ def table_of(rng):
     table["au"] = np.where(ore, rng.lognormal(-0.5, 0.8, len(table)).round(3), 0)
     table["must"] = ((table["x"] == 65) & (table["y"] == 65) & (table["z"] == 45)).astype(int)
     table["never"] = (table["x"] > 120).astype(int)
+    table["cls"] = rng.choice(["measured", "Indicated", "inferred", ""], len(table), p=[0.5, 0.3, 0.15, 0.05])
     table["mc"], table["pc"] = (rng.uniform(low, 1.6, len(table)).round(4) for low in (0, 0.4))
     return table[(table["z"] < 50) | (table["x"] < 70)]
 
@@ -108,10 +109,13 @@ def project_of(rng):
             ("" if several else "processing_capacity = 310\n") + pick(rng, "", "mining_capacity = 1900"),
         )
     ]
+    classes = 'class = "cls"\n' if rng.random() < 0.5 else ""
+    rules = pick(rng, "", '[classes]\nIndicated = "waste"\ninferred = "ore"\n') if classes else ""
     changes += [
+        ("[grid]\n", rules + "[grid]\n"),
         (
             'file = "blocks.csv"',
-            'file = "blocks.csv"\n' + pick(rng, "", "", "reblock = [2, 1, 1]\n", 'missing_blocks = "air"\n'),
-        )
+            f'{classes}file = "blocks.csv"\n' + pick(rng, "", "", "reblock = [2, 1, 1]\n", 'missing_blocks = "air"\n'),
+        ),
     ]
     return changes, not several

@@ -54,7 +54,8 @@ class Way:
 
 @dataclass(frozen=True)
 class Block:
-    """A block of rock; `ways` has one process, or those of the project. `feed` is `undiluted` with the diluting rock."""
+    """A block of rock; `ways` has one process, or those of the project, which yield nothing where its class is waste. `as_ore` has them as if it were
+    ore. `feed` is `undiluted` with the diluting rock."""
 
     name: str
     tonnes: Fraction
@@ -64,6 +65,7 @@ class Block:
     ways: tuple[Way, ...]
     must: bool
     never: bool
+    as_ore: tuple[Way, ...]
 
 
 class Mine:
@@ -95,6 +97,16 @@ class Mine:
         if isinstance(value, dict) and "domain" in value:
             return Fraction(value["domain"][row["region"]])
         return Fraction(value[row["rock"]] if isinstance(value, dict) else value)
+
+    def is_waste(self, row: dict[str, str]) -> bool:
+        """Whether the resource class of a row is treated as waste, by its rule or by its name."""
+        column = self.project["table"].get("class")
+        rules = self.project.get("classes", {})
+        if column is None:
+            return False
+        if row[column] in rules:
+            return bool(rules[row[column]] == "waste")
+        return row[column].lower() in ("inferred", "potential", "")
 
     def factor(self, key: str, row: dict[str, str]) -> Fraction:
         """The factor of a block's mining or processing cost; 1 where its field is empty, as of a block without tonnes, or no column is named."""
@@ -132,13 +144,14 @@ class Mine:
         undiluted = tonnes * self.by_code(money.get("mining_recovery", 1), row)
         dilution = 1 + self.by_code(money.get("dilution", 0), row)
         grades = {metal["name"]: Fraction(row[metal["column"]]) for metal in self.project["metals"]}
-        ways = tuple(self.way(process, row, undiluted, dilution) for process in self.processes)
+        as_ore = tuple(self.way(process, row, undiluted, dilution) for process in self.processes)
+        nothing = Way(Fraction(0), Fraction(0), dict.fromkeys(grades, Fraction(0)))
+        ways = (nothing,) * len(as_ore) if self.is_waste(row) else as_ore
         fixed = self.project.get("constraints", {})
         # What has no tonnes is air, which is neither.
         must, never = (key in fixed and tonnes > 0 and float(row[fixed[key]]) > 0 for key in ("must_mine", "exclude"))
-        return Block(
-            row[self.project["table"]["id"]], tonnes, undiluted * dilution, undiluted, grades, ways, must, never
-        )
+        name, feed = row[self.project["table"]["id"]], undiluted * dilution
+        return Block(name, tonnes, feed, undiluted, grades, ways, must, never, as_ore)
 
     @property
     def processes(self) -> list[dict[str, Any]]:

@@ -26,6 +26,13 @@ def gain_at(mine: Mine, place: Place, factor: Fraction) -> Fraction:
     return max(mine.best_way(place, factor).gain(factor), Fraction(0))
 
 
+def is_mineralised_waste(mine: Mine, place: Place, factor: Fraction) -> bool:
+    """Whether a block is waste by its class, and would be processed at a revenue factor if it were ore."""
+    price = Fraction(1) if mine.project["economics"].get("cutoff") == "base_price" else factor
+    is_waste = place in mine.blocks and mine.is_waste(mine.rows[place])
+    return is_waste and max(way.gain(price) for way in mine.blocks[place].as_ore) > 0
+
+
 def is_processed(mine: Mine, place: Place, factor: Fraction) -> bool:
     """Whether a mined block is processed at a revenue factor: where that pays, or pays at the base price with a fixed cut-off."""
     is_fixed = mine.project["economics"].get("cutoff") == "base_price"

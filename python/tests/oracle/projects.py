@@ -22,8 +22,10 @@ def draw(seed: int) -> Drawn:
     shape = rng.choice([(3, 2, 2), (5, 4, 3), (6, 5, 4), (7, 3, 5), (7, 6, 6)])
     several = rng.choice([0, 0, 2, 3])
     files = {"blocks.csv": table(rng, size, shape)}
+    of_table = table_section(rng, files, size, shape)
     sections = [
-        table_section(rng, files, size, shape),
+        of_table,
+        classes(rng) if "class =" in of_table else "",
         f"[grid]\nsize = [{size[0]}, {size[1]}, {size[2]}]",
         economics(rng, several, size[2] * shape[2]),
         *metals(rng, several),
@@ -38,7 +40,7 @@ def draw(seed: int) -> Drawn:
 def table(rng: Random, size: tuple[float, float, float], shape: tuple[int, int, int]) -> str:
     """A hill of two rocks and two domains, with ore of two metals, at coordinates of a mine or of a country."""
     west, south, floor = rng.choice([(0, 0, 0), (512_000.5, 6_203_500, 1200)])
-    rows = ["name,x,y,z,tonnes,cu,au,rock,region,must,never,mc,pc"]
+    rows = ["name,x,y,z,tonnes,cu,au,rock,region,must,never,mc,pc,cls"]
     rich = rng.choice([0.08, 0.25, 0.6])
     for i in range(shape[0]):
         for j in range(shape[1]):
@@ -49,8 +51,18 @@ def table(rng: Random, size: tuple[float, float, float], shape: tuple[int, int, 
                 tonnes = rng.choice([0, 900.5, 1000, 1187.5]) if rng.random() < 0.3 else 1000
                 marks = f"{int(rng.random() < 0.01)},{int(rng.random() < 0.02)}"
                 codes = f"{rng.choice('RRS')},{'12'[i * 2 > shape[0]]}"
-                rows.append(f"b{i}-{j}-{k},{x},{y},{z},{tonnes},{cu},{au},{codes},{marks},{factors(rng, tonnes)}")
+                more = f"{factors(rng, tonnes)},{rng.choice(CLASSES)}"
+                rows.append(f"b{i}-{j}-{k},{x},{y},{z},{tonnes},{cu},{au},{codes},{marks},{more}")
     return "\n".join(rows) + "\n"
+
+
+# Of these the last three are waste unless a rule says otherwise.
+CLASSES = ("measured", "measured", "IND", "4", "Inferred", "potential", "")
+
+
+def classes(rng: Random) -> str:
+    """Rules of resource classes, in projects that name their column."""
+    return pick(rng, "", '[classes]\nInferred = "ore"\n4 = "waste"', '[classes]\n"" = "ore"\npotential = "waste"')
 
 
 def factors(rng: Random, tonnes: float) -> str:
@@ -61,6 +73,7 @@ def factors(rng: Random, tonnes: float) -> str:
 
 def table_section(rng: Random, files: dict[str, str], size: Any, shape: Any) -> str:
     text = '[table]\nfile = "blocks.csv"\nid = "name"\nrock_type = "rock"\ndomain = "region"\nmissing_blocks = "air"'
+    text += pick(rng, "", '\nclass = "cls"')
     if rng.random() < 0.4:
         files["ground.csv"] = ground(rng, files["blocks.csv"], size, shape)
         text += '\ntopography = "ground.csv"'

@@ -6,7 +6,7 @@ from fractions import Fraction
 from typing import Any, Optional
 
 from .mine import Mine, Place
-from .pits import is_processed, value_at
+from .pits import is_mineralised_waste, is_processed, value_at
 from .years import CASH, FEED, TOTAL, Amounts, amounts_of, capacities, earned, mined, pieces_of
 
 Row = dict[str, Optional[float]]
@@ -16,8 +16,8 @@ def ratio(amount: Fraction, whole: Fraction) -> Optional[float]:
     return float(amount / whole) if whole else None
 
 
-def totals(mine: Mine, places: set[Place]) -> Row:
-    """The tonnes, grades and cash flow of some blocks."""
+def totals(mine: Mine, places: set[Place], factor: Fraction = Fraction(1)) -> Row:
+    """The tonnes, grades and cash flow of some blocks, with mineralised waste by the cut-off of a revenue factor."""
     amounts = amounts_of(mine, places)
     of: Any = lambda name: amounts.get(name, Fraction(0))
     row: Row = {
@@ -29,6 +29,9 @@ def totals(mine: Mine, places: set[Place]) -> Row:
         "strip_ratio": ratio(of(TOTAL) - of("in_situ"), of("in_situ")),
         "undiscounted_cash_flow": float(of(CASH)),
     }
+    if "class" in mine.project["table"]:
+        waste = [mine.blocks[it].tonnes for it in places if is_mineralised_waste(mine, it, factor)]
+        row["mineralised_waste_tonnes"] = float(sum(waste, Fraction(0)))
     for number, process in enumerate(mine.project.get("processes", [])):
         row[f"feed_tonnes_{process['name']}"] = float(of(f"process {number}"))
     for metal in mine.project["metals"]:
@@ -43,7 +46,7 @@ def shells(mine: Mine, factors: list[Fraction], pits: list[set[Place]]) -> list[
     for number, (factor, pit) in enumerate(zip(factors, pits), 1):
         best = mined(pieces_of(mine, pits[:number]), limits)
         worst = mined(pieces_of(mine, [pit]), limits)
-        row = {"revenue_factor": float(factor)} | totals(mine, pit)
+        row = {"revenue_factor": float(factor)} | totals(mine, pit, factor)
         row |= {f"npv_{case}": npv(mine, years) for case, years in (("best", best), ("worst", worst))}
         row["years"] = float(len(best) - 1 + best[-1].length)
         row["value_at_revenue_factor"] = float(sum(value_at(mine, place, factor) for place in pit))

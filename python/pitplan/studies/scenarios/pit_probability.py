@@ -11,6 +11,7 @@ import pandas as pd
 from pitplan.core import keyed_arrays
 from pitplan.core.revenue_factors import factor_text
 from pitplan.errors import PlanError
+from pitplan.pits.shell_tables import MINERALISED
 from pitplan.results.names import TABLE
 
 from . import store
@@ -104,7 +105,7 @@ def quantiles(table: pd.DataFrame) -> pd.DataFrame:
     by = [name for name in table.columns if name.startswith("price_")] + ["revenue_factor"]
     amounts = [
         name
-        for name in ("blocks", "tonnes", "feed_tonnes", "in_situ_ore_tonnes", "waste_tonnes")
+        for name in ("blocks", "tonnes", "feed_tonnes", "in_situ_ore_tonnes", "waste_tonnes", MINERALISED)
         if name in table.columns
     ]
     amounts += [name for name in table.columns if name.startswith("recovered_")] + [

@@ -134,7 +134,7 @@ def arrays_of(base: Base) -> dict[str, np.ndarray]:
     arrays = {"cells": base.grid.rows, table.tonnes: base.frame[table.tonnes].to_numpy()}
     money = base.project.economics
     by_region = any(isinstance(value, ByDomain) for value in (money.mining_recovery, money.dilution))
-    for name in (table.rock_type, table.domain if by_region else None):
+    for name in (table.rock_type, table.domain if by_region else None, table.resource_class):
         if name:
             arrays[name] = base.frame[name].to_numpy().astype(str)
     return arrays | {name: base.frame[name].to_numpy() for name in money.factor_columns}

@@ -262,4 +262,4 @@ def envelope(base: Base, greatest: np.ndarray) -> Plan:
         # At other grades a block may go to another process, whose value rises faster with the factor.
         paying = np.array(plan.values.value_bound(project.shells.revenue_factors[-1]) > 0, dtype=bool)
         plan.used |= closure.used_blocks(plan.grid, plan.walls, paying)
-    return with_notes(plan, blocks)
+    return with_notes(plan, blocks, "the largest grades and prices of all scenarios")

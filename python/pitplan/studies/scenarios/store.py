@@ -220,6 +220,7 @@ def meaning(project: Project) -> dict[str, Any]:
     # Pits do not depend on the capacities of processes.
     processes = [asdict(replace(process, capacity=0.0)) for process in project.processes]
     parts |= {"processes": processes} if processes else {}
+    parts |= {"classes": asdict(project.classes)} if project.table.resource_class else {}
     return parts | ({"reblock": asdict(project.table.reblock)} if project.table.reblock else {})
 
 
