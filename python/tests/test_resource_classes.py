@@ -16,7 +16,8 @@ from pitplan.blockmodel import resource_classes
 from pitplan.config.classes import ClassRules
 from pitplan.economics.block_values import Values
 from planaudit import AuditError
-from planaudit.inputs import block_table, classes as audited, project_file
+from planaudit.inputs import answer as answers, block_table, classes as audited, project_file
+from planaudit.schedules import limits
 
 CLASS = ("[table]\n", '[table]\nclass = "cls"\n')
 MINERALISED = "mineralised_waste_tonnes"
@@ -353,3 +354,17 @@ def test_a_frame_has_classes(plan_folder):
         classes={"measured": "ore"},
     )
     assert plan.shells().table[MINERALISED].tolist() == [100]
+
+
+def test_a_block_of_waste_adds_no_metal_to_a_schedule_by_block(plan_folder):
+    """Whatever share of it a schedule sends to the mill."""
+    path = plan_folder(shaft(), UPRIGHT.replace(*CLASS))
+    pitplan.write_shells(path)
+    answer = answers.read(path.parent / "plan")
+    whole = limits.quantity(answer, 0, [("", np.ones(3))])
+    assert dict(zip(answer.rows["cls"] + answer.rows["cu"].astype(str), whole)) == {
+        "measured3.0": 1.5,
+        "inferred0.4": 0,
+        "measured0.0": 0,
+    }
+    assert answer.quantities["copper"].tolist() == whole.tolist()

@@ -11,7 +11,6 @@ import numpy as np
 import pandas as pd
 
 from planaudit.errors import AuditError
-from planaudit.inputs import classes
 from planaudit.inputs.matching import (
     FREE,
     PROCESS,
@@ -181,12 +180,11 @@ class Answer:
 
     @cached_property
     def quantities(self) -> dict[str, np.ndarray]:
-        """Recovered metal of each block if it is processed, by metal, in tonnes or grams; 0 of a block that is waste by its resource class."""
-        found, is_waste = {}, classes.treated_as("waste", self.rows, self.project)
+        """Recovered metal of each block if it is processed, by metal, in tonnes or grams."""
+        found = {}
         for number, metal in enumerate(self.project.metals):
             grades = [recovered(way.metals[number], self.rows, way) for way in self.project.by_process]
-            amounts = self.undiluted * np.choose(self.process, grades) * float(GRADE_UNITS[metal.unit])
-            found[metal.name] = np.where(is_waste, 0.0, amounts)
+            found[metal.name] = self.undiluted * np.choose(self.process, grades) * float(GRADE_UNITS[metal.unit])
         return found
 
     @cached_property
