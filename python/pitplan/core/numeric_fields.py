@@ -65,3 +65,12 @@ def numbers_of_fields(fields: pd.Series, source: str, name: str) -> np.ndarray:
         remedy = f" ({WRITTEN_AS})" if texts.iloc[row].lower() in ("true", "false") else ""
         raise at_row(source, row, name, f'"{texts.iloc[row]}" is not a number{remedy}')
     return numbers
+
+
+def as_codes(values: np.ndarray) -> np.ndarray:
+    """Numbers as texts, empty where they are missing: 3 for 3.0. Texts stay as they are."""
+    if values.dtype == object:
+        return values
+    used, place = np.unique(values, return_inverse=True)
+    names = ["" if np.isnan(it) else str(int(it)) if it == int(it) else repr(float(it)) for it in used]
+    return np.array(names, dtype=object)[place]
