@@ -40,7 +40,7 @@ _pitplan() {
         _pitplan_words "pit block" && return
         ;;
     "export --to")
-        _pitplan_words "table csv xlsx vti vtu dxf stl obj gpkg str lines" && return
+        _pitplan_words "table csv xlsx vti vtu omf dm dxf stl obj gpkg str lines" && return
         ;;
     "export --of")
         _pitplan_words "revenue_factor pushback year" && return

@@ -116,7 +116,7 @@ complete -c pitplan -n '__fish_seen_subcommand_from view' -s h -l help -d 'show 
 complete -c pitplan -n '__fish_seen_subcommand_from export' -fa '(__fish_complete_directories)'
 complete -c pitplan -n '__fish_seen_subcommand_from export' -l out -r -F -d 'file to write, or the folder for stl and obj of pushbacks or years (default: in FOLDER, named by the format)'
 complete -c pitplan -n '__fish_seen_subcommand_from export' -l quiet -d 'print no progress on standard error'
-complete -c pitplan -n '__fish_seen_subcommand_from export' -l to -r -fa 'table csv xlsx vti vtu dxf stl obj gpkg str lines' -d 'format; table is the planner\'s own table with the revenue factor, pushback and year of each block'
+complete -c pitplan -n '__fish_seen_subcommand_from export' -l to -r -fa 'table csv xlsx vti vtu omf dm dxf stl obj gpkg str lines' -d 'format; table is the planner\'s own table with the revenue factor, pushback and year of each block'
 complete -c pitplan -n '__fish_seen_subcommand_from export' -l revenue-factor -l rf -r -f -d 'revenue factor of the pit, such as 0.80 (default: 1.00, the base price)'
 complete -c pitplan -n '__fish_seen_subcommand_from export' -l of -r -fa 'revenue_factor pushback year' -d 'export the pit of one revenue factor, or all pushbacks (pushback) or years (default: revenue_factor)'
 complete -c pitplan -n '__fish_seen_subcommand_from export' -l surface -r -fa 'pit ground' -d 'export the mined blocks (pit), or the open surface of the ground with the pit in it (ground) (default: pit)'

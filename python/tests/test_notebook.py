@@ -74,7 +74,7 @@ def test_a_page_exports_and_a_folder_for_auditors_are_told_by_their_paths(solved
     [
         (
             lambda folder: pitplan.write_export(folder, "dwg"),
-            "dwg: is not a format, expected one of table, csv, xlsx, vti, vtu, dxf, stl, obj, gpkg, str, lines",
+            "dwg: is not a format, expected one of table, csv, xlsx, vti, vtu, omf, dm, dxf, stl, obj, gpkg, str, lines",
         ),
         (
             lambda folder: pitplan.write_export(folder, "dxf", 0.9),

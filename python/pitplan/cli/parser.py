@@ -20,7 +20,7 @@ from . import subcommands
 DESCRIPTION = (
     "Plan an open-pit mine: from a block model, prices, costs and slope angles to pit shells, pushbacks and schedules."
 )
-FORMATS = ("table", "csv", "xlsx", "vti", "vtu", "dxf", "stl", "obj", "gpkg", "str", "lines")
+FORMATS = ("table", "csv", "xlsx", "vti", "vtu", "omf", "dm", "dxf", "stl", "obj", "gpkg", "str", "lines")
 STAGES = ("revenue_factor", "pushback", "year")
 SURFACES = ("pit", "ground")
 SOLVERS = ("library", "program")

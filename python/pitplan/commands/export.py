@@ -31,7 +31,7 @@ def write_export(
         The output folder of the plan.
     kind : str
         The format. `table` is the planner's own table, row by row, with the revenue factors, pushback and year of each block; `xlsx` has all
-        tables; `csv`, `vti` and `vtu` hold the shells of all revenue factors. `dxf` has the toes and crests of one shell at each level, and so do
+        tables; `csv`, `vti`, `vtu`, `omf` (OMF 1) and `dm` (Datamine) hold the shells of all revenue factors. `dxf` has the toes and crests of one shell at each level, and so do
         `gpkg`, `str` and `lines`, in metres. `stl` and `obj` have the closed surface round its blocks.
     shape : Shape or float
         The revenue factor of the pit (default: 1.00, the base price). A Shape selects all pushbacks or years instead, surfaces as a file each
@@ -44,7 +44,8 @@ def write_export(
     Returns
     -------
     NotedPath
-        The path of the file or folder. Its `notes` give the change of volume if a surface was smoothed.
+        The path of the file or folder. Its `notes` give the change of volume if a surface was smoothed, and the names of columns that `dm`
+        shortens or leaves out.
 
     Raises
     ------

@@ -1,4 +1,4 @@
-"""The export formats: the planner's table, CSV, workbook, VTK for ParaView, DXF drawings, triangle meshes, and lines."""
+"""The export formats: the planner's table, CSV, workbook, VTK for ParaView, block models, DXF drawings, triangle meshes, and lines."""
 
 from __future__ import annotations
 
@@ -18,7 +18,7 @@ from pitplan.results import names
 from pitplan.results.folder import Folder
 from pitplan.results.pit_states import FACTOR, GROUND, Shape, places_of
 
-from . import dxf, lines, mesh as surfaces, planner_table, xlsx
+from . import datamine, dxf, lines, mesh as surfaces, omf, planner_table, xlsx
 from .vtk import PACKAGE, save, write_image
 
 # Writes the shells of a folder, or the pits of a shape; returns notes, if any.
@@ -140,6 +140,8 @@ WRITERS: dict[str, Writer] = {
     "xlsx": write_xlsx,
     "vti": write_vti,
     "vtu": write_vtu,
+    "omf": omf.write_omf,
+    "dm": datamine.write_dm,
     "dxf": dxf.write_dxf,
     "stl": surfaces.write_stl,
     "obj": surfaces.write_obj,
