@@ -150,11 +150,21 @@ def test_classes_that_nothing_names_are_told(plan_folder):
     assert "[classes] names class old, which no block has" in notes
 
 
+def test_a_note_names_ten_of_many_classes(plan_folder):
+    """A column of names that was taken for classes."""
+    table = rows(5, 5, 1).assign(cls=lambda it: it["name"])
+    notes = pitplan.Plan.from_project(plan_folder(table, PROJECT.replace(*CLASS))).notes
+    (told,) = [note for note in notes if note.startswith("WARNING: cls: class b0-0-0, ")]
+    assert "b1-4-0, and 15 more is treated as ore" in told and max(map(len, notes)) < 500
+
+
 @pytest.mark.parametrize("empty", ["refuse", "zero"])
 def test_a_refused_class_is_an_error_with_row_and_class(plan_folder, empty):
     table = shaft(cls=lambda i, j, k: ("measured", "potential", "potential")[k], tonnes=lambda i, j, k: 100 * (k > 0))
     path = plan_folder(table, ruled(UPRIGHT, 'potential = "refuse"'), ("file =", f'empty = "{empty}"\nfile ='))
-    words = 'blocks.csv row 3 column cls: found "potential", as in 1 more blocks, which [classes] refuses in blocks with tonnes: '
+    words = (
+        'blocks.csv row 3 column cls: found "potential", as in 1 more, which [classes] refuses in blocks with tonnes: '
+    )
     with pytest.raises(PlanError, match=re.escape(words) + 'correct the class, or set .classes. "potential" = "waste"'):
         pitplan.Plan.from_project(path)
     with pytest.raises(AuditError, match='row 3 column cls: found "potential", which .classes. refuses'):

@@ -5,6 +5,7 @@ A block of a class that is waste has no revenue, so that it is never processed. 
 
 from __future__ import annotations
 
+from collections.abc import Sequence
 from typing import Optional
 
 import numpy as np
@@ -14,6 +15,9 @@ from pitplan.config.classes import ORE, ORE_NAMES, REFUSE, WASTE, WASTE_NAMES
 from pitplan.config.project import Project
 from pitplan.core.numeric_fields import at_row
 from pitplan.errors import WARNING
+
+# Classes that a note names.
+MOST_LISTED = 10
 
 
 def codes_of(frame: pd.DataFrame, project: Project) -> tuple[np.ndarray, np.ndarray]:
@@ -42,7 +46,7 @@ def demand_accepted(frame: pd.DataFrame, project: Project, source: str) -> None:
     if wrong.any():
         row, count = int(wrong.argmax()), np.count_nonzero(wrong)
         code = frame[name].iloc[row]
-        others = f", as in {count - 1:,} more blocks" if count > 1 else ""
+        others = f", as in {count - 1:,} more" if count > 1 else ""
         why = f'found "{code}"{others}, which [classes] refuses in blocks with tonnes: correct the class'
         raise at_row(source, row, name, f'{why}, or set [classes] "{code}" = "waste"')
 
@@ -64,7 +68,7 @@ def notes_of(frame: pd.DataFrame, project: Project, pays: np.ndarray, price: str
     tonnes = np.bincount(numbers, frame[project.table.tonnes], minlength=len(codes))
     paying = np.bincount(numbers, np.where(pays, frame[project.table.tonnes], 0.0), minlength=len(codes))
     there = [(code, total, more) for code, total, more in zip(codes, tonnes, paying) if total > 0]
-    split = ", ".join(f"{total:,.0f} t {named(code)} as {project.classes.of(code)}" for code, total, _ in there)
+    split = listed([f"{total:,.0f} t {named(code)} as {project.classes.of(code)}" for code, total, _ in there])
     notes = [f"resource classes in {project.table.resource_class}: {split}"]
     known = {code for code, _, _ in there}
     notes += [
@@ -80,7 +84,7 @@ def sum_notes(waste: list[tuple[str, float, float]], project: Project, price: st
     for is_given in (True, False):
         some = [(code, more) for code, _, more in waste if (code in project.classes.given) == is_given and more > 0]
         if some:
-            names = ", ".join(named(code) for code, _ in some)
+            names = listed([named(code) for code, _ in some])
             total = amount(sum(more for _, more in some))
             rule = "by [classes]" if is_given else "by default; [classes] sets a rule for each class"
             told = f"{names} resources are treated as waste: {total} that would pay for processing at {price}"
@@ -96,8 +100,14 @@ def doubts(codes: list[str], project: Project) -> list[str]:
     if not strange:
         return []
     column = project.table.resource_class
-    names = ", ".join(strange)
+    names = listed(strange)
     return [f"{WARNING}{column}: class {names} is treated as {ORE}: no rule of [classes] says what it is"]
+
+
+def listed(names: Sequence[str]) -> str:
+    """Returns the first names, and the number of the others."""
+    more = [f"and {len(names) - MOST_LISTED:,} more"] if len(names) > MOST_LISTED else []
+    return ", ".join([*names[:MOST_LISTED], *more])
 
 
 def named(code: str) -> str:
