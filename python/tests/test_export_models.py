@@ -47,7 +47,7 @@ def test_an_omf_volume_has_every_cell_in_the_order_of_the_format(hill):
     assert geometry["origin"] == [0, 0, 0] and geometry["axis_u"] == [1, 0, 0] and geometry["axis_w"] == [0, 0, 1]
     blocks = blocks_of(hill).set_index(["x", "y", "z"])
     data = {objects[name]["name"]: objects[name] for name in element["data"]}
-    assert list(data) == [name for name in blocks_of(hill) if name != "id"]
+    assert list(data) == [name for name in blocks_of(hill) if name not in ("id", "x", "y", "z")]
     factors = unpack(objects[data["revenue_factor"]["array"]]["array"]).reshape(7, 5, 3)
     places = unpack(objects[data["rock"]["array"]]["array"]).reshape(7, 5, 3)
     names = objects[objects[data["rock"]["legends"][0]]["values"]]["array"]
@@ -69,13 +69,12 @@ def same(frame, blocks, names):
 def test_an_omf_volume_reads_back_as_the_blocks(hill):
     frame, kind = omf.read(pitplan.write_export(hill, "omf"), CODES)
     blocks = blocks_of(hill)
-    assert kind == f'OMF 0.9, volume "Blocks", 7 x 5 x 3 cells, {len(blocks.columns) - 1} attributes'
-    assert len(frame) == 105 and frame["x_attribute"].notna().sum() == len(blocks)
+    assert kind == f'OMF 0.9, volume "Blocks", 7 x 5 x 3 cells, {len(blocks.columns) - 4} attributes'
+    assert len(frame) == 105 and frame["cu"].notna().sum() == len(blocks)
     frame = frame[frame["revenue_factor"].notna()].sort_values(["x", "y", "z"])
     blocks = blocks.sort_values(["x", "y", "z"])
     same(frame, blocks, {name: name for name in blocks if name not in ("id", "x", "y", "z")})
     same(frame, blocks, {"x": "x", "y": "y", "z": "z"})
-    same(frame, blocks, {"x": "x_attribute", "y": "y_attribute", "z": "z_attribute"})
 
 
 def test_equal_results_give_equal_files(hill, tmp_path):

@@ -10,11 +10,11 @@ from typing import Iterable
 import numpy as np
 import pandas as pd
 
-from pitplan.config import project_writer
 from pitplan.errors import PlanError
-from pitplan.plan import shown_name
 from pitplan.results.folder import Folder
 from pitplan.results.pit_states import Shape
+
+from .planner_table import places_of
 
 # Words of a page and of its data, and bytes of a word; the definition has 24 words before its fields, of 7 words each.
 PAGE, DATA, WORD = 512, 508, 8
@@ -88,7 +88,7 @@ def write_dm(path: Path, folder: Folder, shape: Shape) -> list[str]:
     blocks = folder.blocks
     fixed, numbers = prototype(folder)
     order = np.argsort(numbers[0].values, kind="stable")
-    fields, notes = columns_of(blocks, {*(it.name for it in (*fixed, *numbers))}, centres_of(folder))
+    fields, notes = columns_of(blocks, {*(it.name for it in (*fixed, *numbers))}, places_of(folder))
     fields, left = fitting([*numbers, *fields], len(fixed))
     notes += [f"left out, since a model has at most {MOST_FIELDS} fields: {', '.join(left)}"] if left else []
     records = np.concatenate([field.words()[order] for field in fields], axis=1)
@@ -109,12 +109,6 @@ def prototype(folder: Folder) -> tuple[list[Field], list[Field]]:
     fixed = [Field(name, 0, np.array(float(value))) for name, value in told.items()]
     centres = zip(("XC", "YC", "ZC"), grid.centres(ids))
     return fixed, [Field("IJK", 0, place.astype(float)), *(Field(name, 0, axis) for name, axis in centres)]
-
-
-def centres_of(folder: Folder) -> set[str]:
-    """Returns the columns of blocks.csv that the file has as XC, YC and ZC, and the number of the cell."""
-    table = project_writer.as_run(folder.path, folder.record["project"]).table
-    return {"id", *map(shown_name, (table.x, table.y, table.z))}
 
 
 def columns_of(blocks: pd.DataFrame, taken: set[str], left: set[str]) -> tuple[list[Field], list[str]]:

@@ -18,6 +18,8 @@ from pitplan.results.folder import Folder
 from pitplan.results.names import TABLE
 from pitplan.results.pit_states import Shape
 
+from .planner_table import places_of
+
 MAGIC, VERSION = b"\x84\x83\x82\x81", b"OMF-v0.9.0"
 HEAD = struct.Struct("<4s32s16sQ")
 # Texts with at most so many values are categories with a legend.
@@ -56,7 +58,7 @@ class Objects:
 
 
 def write_omf(path: Path, folder: Folder, shape: Shape) -> None:
-    """Writes all cells of the grid with the columns of blocks.csv. Cells without a row have no values. `shape` is not used."""
+    """Writes all cells of the grid with the columns of blocks.csv but the centroids. Cells without a row have no values. `shape` is not used."""
     with open(path, "wb") as handle:
         handle.write(bytes(HEAD.size))
         objects = Objects(handle, folder.record["files"].get(TABLE, ""))
@@ -65,7 +67,9 @@ def write_omf(path: Path, folder: Folder, shape: Shape) -> None:
         title = str(folder.record.get("title", "Blocks"))
         told = {"name": title, "description": "", "author": "", "revision": "", "units": "m"}
         objects.add("Project", **told, origin=[0.0, 0.0, 0.0], elements=[element])
-        data = [attribute_of(objects, name, folder) for name in folder.blocks.columns if name != "id"]
+        places = places_of(folder)
+        names = [name for name in folder.blocks.columns if name not in places]
+        data = [attribute_of(objects, name, folder) for name in names]
         geometry = objects.add("VolumeGridGeometry", **geometry_of(folder.grid))
         keys = {"name": "Blocks", "description": "", "subtype": "volume", "color": COLOUR, "textures": []}
         dates = {"uid": element, "date_created": DATED, "date_modified": DATED}

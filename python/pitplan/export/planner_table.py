@@ -45,6 +45,12 @@ def write(path: Path, folder: Folder) -> None:
     frame.to_csv(path, sep=form.separator, index=False, encoding=WRITTEN_AS.get(form.encoding, form.encoding))
 
 
+def places_of(folder: Folder) -> set[str]:
+    """Returns the columns of blocks.csv that say where a block is: the number of its cell, and the centroids."""
+    table = project_writer.as_run(folder.path, folder.record["project"]).table
+    return {"id", *map(shown_name, (table.x, table.y, table.z))}
+
+
 def cells_of(frame: pd.DataFrame, project: Project, grid: Grid) -> np.ndarray:
     """Returns the cell of each row's centroid, array of int, shape (rows,); -1 outside the grid."""
     columns = project.table
