@@ -124,7 +124,7 @@ def test_an_empty_class_is_waste(plan_folder):
     path = plan_folder(table, UPRIGHT.replace(*CLASS))
     assert shells_of(path).loc[1.0, MINERALISED] == 100
     notes = pitplan.Plan.from_project(path).notes
-    assert "resource classes in cls: 200 t unclassified as waste, 100 t measured as ore" in notes
+    assert "resource classes in cls: unclassified: 200 t as waste, measured: 100 t as ore" in notes
     path = plan_folder(table, ruled(UPRIGHT, '"" = "ore"'))
     assert shells_of(path).loc[1.0, [MINERALISED, "feed_tonnes"]].tolist() == [0, 200]
 
@@ -154,8 +154,8 @@ def test_a_note_names_ten_of_many_classes(plan_folder):
     """A column of names that was taken for classes."""
     table = rows(5, 5, 1).assign(cls=lambda it: it["name"])
     notes = pitplan.Plan.from_project(plan_folder(table, PROJECT.replace(*CLASS))).notes
-    (told,) = [note for note in notes if note.startswith("WARNING: cls: class b0-0-0, ")]
-    assert "b1-4-0, and 15 more is treated as ore" in told and max(map(len, notes)) < 500
+    (told,) = [note for note in notes if note.startswith("WARNING: cls: classes b0-0-0, ")]
+    assert "b1-4-0, and 15 more are treated as ore" in told and max(map(len, notes)) < 500
 
 
 @pytest.mark.parametrize("empty", ["refuse", "zero"])

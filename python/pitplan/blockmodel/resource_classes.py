@@ -68,7 +68,7 @@ def notes_of(frame: pd.DataFrame, project: Project, pays: np.ndarray, price: str
     tonnes = np.bincount(numbers, frame[project.table.tonnes], minlength=len(codes))
     paying = np.bincount(numbers, np.where(pays, frame[project.table.tonnes], 0.0), minlength=len(codes))
     there = [(code, total, more) for code, total, more in zip(codes, tonnes, paying) if total > 0]
-    split = listed([f"{total:,.0f} t {named(code)} as {project.classes.of(code)}" for code, total, _ in there])
+    split = listed([f"{named(code)}: {amount(total)} as {project.classes.of(code)}" for code, total, _ in there])
     notes = [f"resource classes in {project.table.resource_class}: {split}"]
     known = {code for code, _, _ in there}
     notes += [
@@ -100,8 +100,9 @@ def doubts(codes: list[str], project: Project) -> list[str]:
     if not strange:
         return []
     column = project.table.resource_class
-    names = listed(strange)
-    return [f"{WARNING}{column}: class {names} is treated as {ORE}: no rule of [classes] says what it is"]
+    are, they = ("classes {} are", "they are") if len(strange) > 1 else ("class {} is", "it is")
+    names = are.format(listed(strange))
+    return [f"{WARNING}{column}: {names} treated as {ORE}: no rule of [classes] says what {they}"]
 
 
 def listed(names: Sequence[str]) -> str:
