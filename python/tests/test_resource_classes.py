@@ -7,6 +7,8 @@ import numpy as np
 import pandas as pd
 import pytest
 from conftest import PROJECT, rows
+from helpers.block_commands import YEARLY, scheduled
+from helpers.block_scenarios import prepared as prepared_by_block, solved_in_turn as solved_by_block
 from helpers.pushbacks import UPRIGHT, pillars, with_pushbacks, wrong
 from helpers.scenarios import COLUMNS, UPRIGHT as UPRIGHT_CHANGE, prepared, solved_in_turn
 
@@ -378,3 +380,36 @@ def test_a_block_of_waste_adds_no_metal_to_a_schedule_by_block(plan_folder):
         "measured0.0": 0,
     }
     assert answer.quantities["copper"].tolist() == whole.tolist()
+
+
+def test_a_schedule_by_block_processes_no_inferred_ore(plan_folder):
+    """Pillars worth 2600, 1400 and 600, one a year; the second is inferred, and stays."""
+    pytest.importorskip("pitshell", reason="make library builds it")
+    table = pillars(cls=lambda i, j, k: ("measured", "inferred", "indicated")[i])
+    row, folder = scheduled(plan_folder, text=YEARLY.replace(*CLASS), table=table)
+    assert row["npv"] == pytest.approx(2600 / 1.1 + 600 / 1.21) == row["upper_bound"]
+    assert (row["feed_tonnes"], row["recovered_copper"]) == (200, 0.75)
+    assert not any(rule.differences for rule in verify(folder))
+
+
+def test_inferred_ore_meets_no_minimum_of_feed(plan_folder):
+    """The mill must have 90 t in each of two years. Of the third pillar's ore 0.5 % pays for itself and no waste; without its class 0.7 % would do."""
+    pytest.importorskip("pitshell", reason="make library builds it")
+    table = pillars(cls=lambda i, j, k: ("measured", "inferred", "indicated")[i])
+    words = "[schedule]\nyears = 2\nminimum = { feed = 90 }\n"
+    row, folder = scheduled(plan_folder, words, YEARLY.replace(*CLASS), table)
+    blocks = pd.read_csv(folder / "tables/blocks.csv").set_index("name")
+    assert blocks["share_mill"][["b0-0-0", "b1-0-0", "b2-0-0"]].tolist() == [1, 0, 1]
+    assert not any(rule.differences for rule in verify(folder))
+
+
+def test_scenarios_by_block_keep_to_the_classes(plan_folder):
+    pytest.importorskip("pitshell", reason="make library builds it")
+    table = pillars(cls=lambda i, j, k: ("measured", "inferred", "indicated")[i]).drop(columns="cu")
+    table = table.assign(sim_1=[1, 0.7, 0.5, 0, 0, 0], sim_2=[0.9, 3, 0.6, 0, 0, 0])
+    path = plan_folder(table, YEARLY.replace(*CLASS) + '[scenarios]\ncolumns = { copper = "sim_*" }\n')
+    shared = prepared_by_block(path)
+    folder = solved_by_block(shared)
+    told = pd.read_csv(folder / "tables/schedules.csv")
+    assert told["feed_tonnes"].tolist() == [200, 200]
+    assert not any(rule.differences for rule in verify(folder))
