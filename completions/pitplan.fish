@@ -22,6 +22,7 @@ complete -c pitplan -n __fish_use_subcommand -a verify -d 'Recalculate the resul
 complete -c pitplan -n __fish_use_subcommand -a convert -d 'Convert published files of MineLib to those of pitshell'
 complete -c pitplan -n '__fish_seen_subcommand_from init' -F
 complete -c pitplan -n '__fish_seen_subcommand_from init' -l out -r -F -d 'project to write (default: project.toml next to the table)'
+complete -c pitplan -n '__fish_seen_subcommand_from init' -l figures -d 'draw histograms of grades and density, a plan and a section, next to the project'
 complete -c pitplan -n '__fish_seen_subcommand_from init' -s h -l help -d 'show this help message and exit'
 complete -c pitplan -n '__fish_seen_subcommand_from check' -fa '(__fish_complete_suffix .toml)'
 complete -c pitplan -n '__fish_seen_subcommand_from check' -l set -r -f -d 'set a key of the project, for example economics.mining_cost=2.6 or metals.copper.price=9000 (may be repeated)'

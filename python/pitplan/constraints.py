@@ -111,7 +111,9 @@ def of_table(frame: pd.DataFrame, grid: Grid, project: Project, source: str = "t
         notes += told
     both = forced & barred
     if both.any():
-        raise PlanError(f"{source}: {called(frame, project, int(both.argmax()))} is both must-mine and excluded")
+        raise PlanError(
+            f"{source}: {called(frame, project, int(both.argmax()), source)} is both must-mine and excluded"
+        )
     notes.insert(0, f"{int(forced.sum()):,} must-mine blocks and {int(barred.sum()):,} excluded blocks")
     return FixedBlocks(np.sort(grid.rows[forced]), np.sort(grid.rows[barred]), tuple(notes))
 

@@ -114,7 +114,7 @@ class Plan:
 
     def called(self, cell: int) -> str:
         """The name of the block of a cell in the planner's table."""
-        return reader.called(self.table, self.project, int((self.grid.rows == cell).argmax()))
+        return reader.called(self.table, self.project, int((self.grid.rows == cell).argmax()), self.source)
 
     @property
     def key(self) -> str:

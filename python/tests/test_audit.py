@@ -13,7 +13,7 @@ from conftest import PROJECT, rows
 import pitplan
 import planaudit
 from pitplan import BlockModel, Plan, PlanError, load
-from pitplan.blockmodel import reader
+from pitplan.blockmodel import row_rules
 from pitplan.config import project_writer
 from pitplan.results.json_records import read_plan
 from planaudit.schedules.closure import maximum_closure
@@ -32,7 +32,9 @@ def test_a_text_that_is_read_as_0_fails_the_run(tmp_path, monkeypatch):
     frame = rows(6, 5, 3, **ORE)
     frame["cu"] = frame["cu"].astype(str).replace("6.0", "n/a").astype("string")
     monkeypatch.setattr(
-        reader, "numbers_of", lambda column, *_: pd.to_numeric(column, errors="coerce").to_numpy(float, na_value=np.nan)
+        row_rules,
+        "numbers_of",
+        lambda column, *_: pd.to_numeric(column, errors="coerce").to_numpy(float, na_value=np.nan),
     )
     model = BlockModel.from_frame(frame, id="name", rock_type="rock", domain="region", empty="zero", size=[10, 10, 10])
     sections = load_sections()

@@ -111,7 +111,7 @@ def test_ids_and_letters_of_windows(tmp_path):
     exported(tmp_path / "m.csv", DESWIK, encoding="cp1252")
     wizard.write(tmp_path / "m.csv", tmp_path / "project.toml")
     _, project = said(tmp_path / "project.toml")
-    assert (project.table.id, project.table.encoding, project.table.rock_type) == ("Block ID", "cp1252", None)
+    assert (project.table.id, project.table.encoding, project.table.rock_type) == ("Block ID", None, None)
     assert (project.table.x, project.table.y, project.table.z) == ("Easting", "Northing", "RL")
 
 
@@ -171,7 +171,7 @@ def test_the_unit_of_a_name_that_tells_none(name, mean, unit, why):
 @pytest.mark.parametrize(
     ("headings", "column", "count"), [(SURPAC, "tonnes", 3), (DATAMINE, "density", 4), (VULCAN, "volume", 4)]
 )
-def test_what_makes_tonnes_is_counted_where_it_is_empty(tmp_path, headings, column, count):
+def test_rows_without_tonnes_are_counted_and_are_no_blocks(tmp_path, headings, column, count):
     more = {
         **INCREMENTS,
         "density": lambda i, j, k: 2.5,
@@ -184,7 +184,9 @@ def test_what_makes_tonnes_is_counted_where_it_is_empty(tmp_path, headings, colu
         **{**more, column: lambda i, j, k: float("nan") if (i, j) == (0, 0) and k < count else 2.5},
     )
     told = wizard.write(tmp_path / "m.csv", tmp_path / "project.toml")
-    assert f"WARNING: {count} empty tonnes or grades are read as 0" in told
+    column = {"tonnes": "tonnage", "density": "DENSITY"}.get(column, column)
+    assert f"WARNING: {count} rows are read as missing blocks, since {column} is null" in told
+    assert load(tmp_path / "project.toml").table.rules.nulls.meaning(column, "refuse") == "missing"
 
 
 @pytest.mark.parametrize(
@@ -243,10 +245,12 @@ def test_sub_blocks_and_empty_grades_are_told(tmp_path):
     more = {**INCREMENTS, "density": lambda i, j, k: 2.5, "dx": lambda i, j, k: 10.0 if i else 5.0}
     exported(tmp_path / "m.csv", DATAMINE, **{**more, "cu": lambda i, j, k: 2.0 if k else float("nan")})
     told = wizard.write(tmp_path / "m.csv", tmp_path / "project.toml")
-    assert "WARNING: blocks have several sizes; sub-blocks require [table] reblock" in told
+    parts = "cells have several sizes: parts of blocks are put together to blocks of the largest cell's size"
+    assert f"WARNING: {parts}" in told
     assert "x: centres in XC from 5 to 75 m, by its name" in told
-    assert "WARNING: 64 empty tonnes or grades are read as 0" in told
-    assert load(tmp_path / "project.toml").table.empty == "zero"
+    assert "WARNING: CU: 64 of 256 blocks are null and are read as 0" in told
+    table = load(tmp_path / "project.toml").table
+    assert table.rules.nulls.meaning("CU", "refuse") == "zero" and table.rules.cell_size == ("XINC", "YINC", "ZINC")
 
 
 @pytest.mark.parametrize(
@@ -301,8 +305,8 @@ HEAD = "X,Y,Z,TONNES,CU\n"
         (HEAD, "m.csv: has no blocks"),
         (HEAD + "5,5,5,9,1\n15,,5,9,1\n", "m.csv row 3 column Y: is empty"),
         (HEAD + "5,5,5,9,1\n15,5,a,9,1\n", 'm.csv row 3 column Z: "a" is not a number'),
-        (HEAD + "m,m,m,t,%\n5,5,5,9,1\n", 'm.csv row 2 column TONNES: "t" is not a number'),
-        (HEAD + "5,5,5,9,nan\n5,5,15,9,1\n", 'm.csv row 2 column CU: "nan" is not a number'),
+        (HEAD + "5,m,m,t,%\n5,5,5,9,1\n", 'm.csv row 2 column TONNES: "t" is not a number'),
+        (HEAD + "5,5,5,9,low\n5,5,15,9,1\n", 'm.csv row 2 column CU: "low" is not a number'),
     ],
 )
 def test_a_field_of_which_nothing_can_be_made_is_named(tmp_path, capsys, text, why):
@@ -356,10 +360,12 @@ def test_a_section_or_a_level_alone_runs_too(tmp_path, counts, size):
 def test_a_workbook_and_a_file_that_is_no_text_are_told_so(tmp_path):
     table = rows(3, 3, 3, cu=lambda i, j, k: 1.0)
     table.to_excel(tmp_path / "m.xlsx", index=False)
+    (tmp_path / "m.dat").write_bytes(table.to_csv(index=False).encode("utf-16-le"))
     (tmp_path / "m.dm").write_bytes(table.to_csv(index=False).encode("utf-16-le"))
     for name, why in (
         ("m.xlsx", "is a workbook or another packed file: save the sheet, or what it packs, as CSV"),
-        ("m.dm", "is not a text file: save"),
+        ("m.dat", "is not a text file: save"),
+        ("m.dm", "is no Datamine file: found no data definition in its first page"),
     ):
         with pytest.raises(PlanError, match=f"{name}: {why}"):
             wizard.write(tmp_path / name, tmp_path / "project.toml")

@@ -265,7 +265,6 @@ def test_a_block_that_yields_a_millionth_is_weighed(plan_folder):
 @pytest.mark.parametrize(
     ("unit", "grade", "said"),
     [
-        ("percent", 100.5, "WARNING: 2 grades of copper are above 100 %, the first in row 3"),
         ("percent", 11, 'WARNING: the mean grade of copper in blocks above 0 is 11 %: check the unit "percent"'),
         (
             "fraction",

@@ -310,7 +310,7 @@ def test_what_is_left_out(tmp_path):
     assert (table.separator, table.decimal, table.encoding, table.empty, table.missing_blocks) == (
         None,
         None,
-        "utf-8-sig",
+        None,
         "refuse",
         "refuse",
     )

@@ -5,7 +5,7 @@ import json
 import pytest
 from conftest import PROJECT, rows
 
-from pitplan import Plan, load
+from pitplan import Plan, PlanError, load
 from pitplan.cli import main
 
 FLOOR_OF_ORE = {"cu": lambda i, j, k: 2.0 if k == 0 else 0.5, "tonnes": lambda i, j, k: 300 if k == 0 else 100}
@@ -103,16 +103,15 @@ def told(plan):
 
 def test_metals_in_grams_and_grades_that_cannot_be(plan_folder):
     """Two metals: the one weighs more than its block, the other all but as much."""
-    more = {"au": lambda i, j, k: 1e6 if k else 0, "cu": lambda i, j, k: 100.5 if i + j + k == 0 else 0}
-    lines = told(
-        Plan.from_project(box(plan_folder, ("[slopes]\nprecedence_benches", GOLD + "\nprecedence_benches"), **more))
-    )
-    # 1,200 of 4,800 t, and 300 of 4,800 t with 100.5 %.
+    more = {"au": lambda i, j, k: 1e6 if k else 0, "cu": lambda i, j, k: 100.0 if i + j + k == 0 else 0}
+    gold = ("[slopes]\nprecedence_benches", GOLD + "\nprecedence_benches")
+    lines = told(Plan.from_project(box(plan_folder, gold, **more)))
+    # 1,200 of 4,800 t, and 300 of 4,800 t with 100 %.
     assert "gold: au, mean 2.5e+05, maximum 1e+06 g/t, priced per gram" in lines
-    assert "copper: cu, mean 6.281, maximum 100.5 %, priced per tonne" in lines
-    assert [line for line in lines if "more metal than the block" in line] == [
-        "WARNING: copper: 100.5 % is more metal than the block weighs: check the unit"
-    ]
+    assert "copper: cu, mean 6.25, maximum 100 %, priced per tonne" in lines
+    more["cu"] = lambda i, j, k: 100.5 if i + j + k == 0 else 0
+    with pytest.raises(PlanError, match=r"blocks.csv row 2 column cu: 100.5 is above 100 %$"):
+        Plan.from_project(box(plan_folder, gold, **more))
 
 
 @pytest.mark.parametrize(
@@ -120,9 +119,9 @@ def test_metals_in_grams_and_grades_that_cannot_be(plan_folder):
 )
 def test_each_unit_has_its_limit(plan_folder, unit, most, whole):
     changes = [('unit = "percent"', f'unit = "{unit}"'), ("price = 8000", "price = 1")]
-    for greatest, count in ((whole, 0), (most, 1)):
-        lines = told(Plan.from_project(box(plan_folder, *changes, cu=lambda i, j, k: greatest)))
-        assert sum("is more metal than the block" in line for line in lines) == count
+    Plan.from_project(box(plan_folder, *changes, cu=lambda i, j, k: whole))
+    with pytest.raises(PlanError, match=r"row 2 column cu: .* is above .* \(24 rows, 2, 3, 4, ..\)"):
+        Plan.from_project(box(plan_folder, *changes, cu=lambda i, j, k: most))
 
 
 def test_empty_fields_and_the_text_are_told(plan_folder):

@@ -77,31 +77,24 @@ def test_a_comma_within_a_number_parts_thousands_where_commas_part_fields(plan_f
     assert refused(plan_folder(text)).endswith('row 2 column tonnes: "16,562" is not a number')
 
 
-def test_another_encoding_is_asked_for_and_read(plan_folder):
+@pytest.mark.parametrize("encoding", ["cp1252", "utf-16"])
+def test_another_encoding_is_named_or_recognised(plan_folder, encoding):
     table = rows(2, 2, 2, rock=lambda i, j, k: "S\u00fc")
-    plain = pitplan.Plan.from_project(
-        plan_folder(
-            table,
-            PROJECT,
-            (
-                "recovery = 0.5",
-                "recovery = { \u00abS\u00fc\u00bb = 0.5 }".replace("\u00ab", '"').replace("\u00bb", '"'),
-            ),
-        )
-    )
-    path = plan_folder(table)
-    for encoding in ("cp1252", "utf-16"):
-        (path.parent / "blocks.csv").write_bytes(table.to_csv(index=False).encode(encoding))
-        assert (
-            'is not written in UTF-8: name its encoding by [table] encoding, such as "cp1252" or "utf-16"'
-            in refused(path)
-        )
-        text = path.read_text().replace('file = "blocks.csv"\n', f'file = "blocks.csv"\nencoding = "{encoding}"\n')
+    path = plan_folder(table, PROJECT, ("recovery = 0.5", 'recovery = { "S\u00fc" = 0.5 }'))
+    plain = pitplan.Plan.from_project(path)
+    (path.parent / "blocks.csv").write_bytes(table.to_csv(index=False).encode(encoding))
+    found = pitplan.Plan.from_project(path)
+    assert found.blocks["rock"].tolist() == plain.blocks["rock"].tolist()
+    told = "8 bytes are not UTF-8 and are read as Windows-1252; [table] encoding names another encoding"
+    assert (told in found.notes) == (encoding == "cp1252")
+    for named, is_read in ((encoding, True), ("utf-8", False)):
+        text = path.read_text().replace('file = "blocks.csv"\n', f'file = "blocks.csv"\nencoding = "{named}"\n')
         (path.parent / "other.toml").write_text(text)
-        assert (
-            pitplan.Plan.from_project(path.parent / "other.toml").blocks["rock"].tolist()
-            == plain.blocks["rock"].tolist()
-        )
+        if is_read:
+            assert pitplan.Plan.from_project(path.parent / "other.toml").blocks["rock"].tolist() == ["S\u00fc"] * 8
+        else:
+            why = 'is not written in UTF-8: name its encoding by [table] encoding, such as "cp1252" or "utf-16"'
+            assert why in refused(path.parent / "other.toml")
 
 
 def test_a_column_that_stands_twice_is_refused(plan_folder):
@@ -139,7 +132,7 @@ def test_a_missing_file_and_an_empty_one_are_named(plan_folder):
 
 def test_a_line_with_too_many_fields_is_refused(plan_folder):
     text = rows(2, 2, 2).to_csv(index=False).replace("b1-0-0", "b1,0,0")
-    assert "Expected 8 fields in line 3, saw 10" in refused(plan_folder(text))
+    assert "blocks.csv row 3: has 10 fields, expected the 8 of the names" in refused(plan_folder(text))
 
 
 def test_empty_fields_are_taken_as_0_where_the_project_says_so(plan_folder):
@@ -191,7 +184,7 @@ def test_what_is_no_number_is_named_in_whatever_piece_it_stands(plan_folder, mon
     table.loc[7, "cu"] = "1"
     text = table.to_csv(index=False).splitlines()
     text[8] += ",1"
-    assert "is not a table" in refused(plan_folder("\n".join(text)))
+    assert "row 9: has 9 fields, expected the 8 of the names" in refused(plan_folder("\n".join(text)))
 
 
 def zipped(path, **files):

@@ -3,7 +3,7 @@
 import pytest
 from conftest import PROJECT, rows
 
-from pitplan import Plan
+from pitplan import Plan, load
 from pitplan.cli import main
 
 
@@ -44,21 +44,23 @@ def test_cut_blocks_do_not_make_a_model_light(plan_folder):
 
 def test_warnings_come_last_and_apart(plan_folder, capsys):
     """Behind a line without words, also those of the table, which were told in the middle of the run."""
-    path = plan_folder(ore().assign(cu=140.0), PROJECT)
+    path = plan_folder(ore().assign(cu=40.0), PROJECT)
     assert main(["shells", str(path)]) == 0
     lines = capsys.readouterr().err.split("\n")
     first = next(number for number, line in enumerate(lines) if line.startswith("WARNING"))
     assert lines[first - 1] == "" and lines[first - 2].strip()
     assert all(line.startswith("WARNING") for line in lines[first:] if line)
-    assert sum("140 % is more metal than the block" in line for line in lines) == 1
+    assert sum("the mean grade of copper in blocks above 0 is 40 %" in line for line in lines) == 1
 
 
 def test_a_new_project_warns_of_codes_for_missing_values(tmp_path, capsys):
-    """Three of eighteen tonnes and grades are -99."""
+    """Three of eighteen tonnes and grades are -99: the rows are no blocks, and the project says so."""
     table = ore()
     table.loc[:2, ["tonnes", "cu"]] = -99
     table.drop(columns=["rock", "region"]).rename(columns={"cu": "cu_pct"}).to_csv(tmp_path / "model.csv", index=False)
     assert main(["init", str(tmp_path / "model.csv")]) == 0
     said = capsys.readouterr().err
-    assert "WARNING: cu_pct: 3 values are negative, most often -99 (3): is that the code of a missing value?" in said
-    assert "WARNING: tonnes: 3 values are negative, most often -99 (3)" in said
+    assert "model.csv: 15 blocks, 1,500 tonnes" in said
+    assert "WARNING: 3 rows are read as missing blocks, since tonnes is null" in said
+    rules = load(tmp_path / "project.toml").table.rules.nulls
+    assert rules.values == ("-99",) and rules.meaning("tonnes", "refuse") == "missing"

@@ -54,7 +54,7 @@ class BlockModel:
 
     @classmethod
     def from_csv(cls, path: Union[str, Path], **keys: Any) -> BlockModel:
-        """A block model in a file (.csv, .csv.gz, .zip or .parquet), which is read when a plan is made of it.
+        """A block model in a file (.csv, .csv.gz, .zip, .parquet, .omf or .dm), which is read when a plan is made of it.
 
         Parameters
         ----------

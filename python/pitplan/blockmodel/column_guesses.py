@@ -3,6 +3,7 @@
 from __future__ import annotations
 
 import re
+from collections.abc import Mapping
 from dataclasses import dataclass
 from typing import Optional
 
@@ -25,7 +26,10 @@ OTHERS = {
     "density": "density dens sg den bulkdensity specificgravity rho",
     "volume": "volume vol blockvolume cellvolume",
     "id": "id blockid ijk blockno blocknumber bid cellid name",
-    "rock_type": "rock rocktype lith lithology litho lithcode material mat oretype geology geol oxidation oxide weathering geomet domain zone",
+    "rock_type": "rock rocktype lith lithology litho lithcode material mat oretype geology geol oxidation oxide weathering geomet domain zone gm redox",
+    "class": "class rescat resclass resourceclass resourcecat resourcecategory category classification",
+    "rock_percent": "topopct topopercent topofrac topo percentrock rockpercent rockpct pctrock percentbelow belowtopo pctbelowtopo "
+    "percentbelowtopo partialpercent solidpct",
     "domain": "region sloperegion slope slopesector geotech geotechdomain geotechnicaldomain wallregion pitsector sector",
 }
 METALS = {
@@ -76,8 +80,15 @@ class Columns:
     texts: tuple[str, ...] = ()
 
 
-def columns_of(frame: pd.DataFrame) -> Columns:
-    """Returns the guessed columns of a table as it was read: numbers as numbers, everything else as text."""
+def hints_of(names: list[str], below: list[list[str]]) -> dict[str, str]:
+    """Returns what the header lines below the names say of each column, such as its unit."""
+    lines = [line for line in below if len(line) == len(names)]
+    return {name: " ".join(line[k] for line in lines) for k, name in enumerate(map(str, names))} if lines else {}
+
+
+def columns_of(frame: pd.DataFrame, hints: Optional[Mapping[str, str]] = None) -> Columns:
+    """Returns the guessed columns of a table as it was read: numbers as numbers, everything else as text. `hints` says more of columns."""
+    hints = hints or {}
     plain = {plain_of(name): name for name in reversed(list(map(str, frame.columns)))}
     centres = {axis: found for axis, names in CENTRES.items() if (found := by_name(plain, names))}
     if len(centres) < 3:
@@ -87,10 +98,16 @@ def columns_of(frame: pd.DataFrame) -> Columns:
     named = {
         key: found
         for key, found in named.items()
-        if key in ("id", "rock_type", "domain") or is_number(frame, found.column)
+        if key in ("id", "rock_type", "domain", "class") or is_number(frame, found.column)
     }
+    if "rock_percent" in named and not is_share(frame, named["rock_percent"].column):
+        del named["rock_percent"]
     taken = {guess.column for group in (centres, sizes, named) for guess in group.values()}
-    metals = [metal for name in map(str, frame.columns) if name not in taken and (metal := metal_of(frame, name))]
+    metals = [
+        metal
+        for name in map(str, frame.columns)
+        if name not in taken and (metal := metal_of(frame, name, hints.get(name, "")))
+    ]
     texts = tuple(
         name for name in map(str, frame.columns) if not is_number(frame, name) and is_called_like_an_amount(name)
     )
@@ -109,6 +126,11 @@ def plain_of(name: str) -> str:
 
 def is_number(frame: pd.DataFrame, name: str) -> bool:
     return bool(pd.api.types.is_numeric_dtype(frame[name]))
+
+
+def is_share(frame: pd.DataFrame, name: str) -> bool:
+    """Returns whether the numbers of a column may be percents."""
+    return bool(((frame[name] >= 0) & (frame[name] <= 100) | frame[name].isna()).all())
 
 
 def by_name(plain: dict[str, str], names: str) -> Optional[Guess]:
@@ -144,8 +166,8 @@ def sign_of(name: str) -> Optional[tuple[str, list[str]]]:
     return (found[1], [found[2], *words[1:]]) if found else None
 
 
-def metal_of(frame: pd.DataFrame, name: str) -> Optional[MetalGuess]:
-    """Returns the metal of a grade column by its name, and the unit by the name or the values."""
+def metal_of(frame: pd.DataFrame, name: str, hint: str = "") -> Optional[MetalGuess]:
+    """Returns the metal of a grade column by its name, and the unit by the name, a header line or the values."""
     signed = sign_of(name)
     if signed is None or not is_number(frame, name):
         return None
@@ -154,6 +176,8 @@ def metal_of(frame: pd.DataFrame, name: str) -> Optional[MetalGuess]:
     unit = "percent" if "%" in rest else next((UNITS[word] for word in (*rest, joined) if word in UNITS), "")
     if unit:
         return MetalGuess(metal, name, unit, "unit from the column name")
+    if unit := unit_in(hint):
+        return MetalGuess(metal, name, unit, "unit from the header")
     mean = float(frame.loc[frame[name] > 0, name].mean())
     if metal in PRECIOUS or mean > RICH.get(metal, RICHEST):
         return MetalGuess(
@@ -163,6 +187,14 @@ def metal_of(frame: pd.DataFrame, name: str) -> Optional[MetalGuess]:
             "usual unit for this metal" if metal in PRECIOUS else "unit from its values",
         )
     return MetalGuess(metal, name, "percent", "usual unit for this metal")
+
+
+def unit_in(hint: str) -> str:
+    """Returns the unit that a header line names, "" if it names none."""
+    words = re.findall(r"g/t|[a-z]+|%", hint.lower())
+    if "%" in words:
+        return "percent"
+    return next((UNITS[word.replace("/", "")] for word in words if word.replace("/", "") in UNITS and word != "g"), "")
 
 
 def first_of_each(found: list[MetalGuess]) -> tuple[MetalGuess, ...]:

@@ -21,8 +21,8 @@ from pitplan.survey import readers
 from pitplan.survey.readers import Topography
 
 from . import tin, topography_cut
+from .cell_volumes import TONNES_PLACES
 from .grid import Grid
-from .reader import TONNES_PLACES
 from .tin import HAIR
 
 # The share of a block's volume from which on it counts as mined.

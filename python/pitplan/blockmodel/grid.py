@@ -10,7 +10,7 @@ import pandas as pd
 
 from pitplan.config.project import Project
 from pitplan.config.table import GridRules, TableColumns
-from pitplan.core.numeric_fields import at_row
+from pitplan.core.numeric_fields import at_row, row_of
 from pitplan.errors import PlanError
 
 from . import rotated_grid
@@ -253,7 +253,10 @@ def demand_once(cells: np.ndarray, frame: pd.DataFrame, columns: TableColumns, s
         row = int(twice.argmax())
         first = int((cells == cells[row]).argmax())
         raise at_row(
-            source, row, f"{columns.x}, {columns.y}, {columns.z}", f"the block of row {first + 2} lies there too"
+            source,
+            row,
+            f"{columns.x}, {columns.y}, {columns.z}",
+            f"the block of row {row_of(source, first)} lies there too",
         )
 
 

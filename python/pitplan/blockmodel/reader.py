@@ -1,14 +1,12 @@
 """Reads the table of blocks from a file or from pandas, and checks it completely.
 
-Rows are counted as in a spreadsheet: the header is row 1, the first block row 2.
+Rows are counted as in a spreadsheet: if the header is row 1, the first block is row 2.
 """
 
 from __future__ import annotations
 
+from collections.abc import Sequence
 from dataclasses import dataclass, replace
-from decimal import Decimal
-from functools import reduce
-from operator import mul
 from pathlib import Path
 from typing import Optional
 
@@ -17,18 +15,18 @@ import pandas as pd
 
 from pitplan.config.project import Project
 from pitplan.config.table import TableColumns
-from pitplan.config.toml_section import FARTHEST
 from pitplan.core import parquet, spreadsheet_formulas
-from pitplan.core.decimals import Exact
-from pitplan.core.numeric_fields import HEADER_ROWS, at_row, holds_texts, numbers_of
-from pitplan.core.text_format import NAMES, TableFormat, guessed_separator, names_in_header
+from pitplan.core.numeric_fields import Source, at_row, holds_texts, numbers_of, row_of
+from pitplan.core.table_layout import NAMES, Layout, layout_of
+from pitplan.core.text_format import MIXED, USUAL, Mixed, TableFormat, encoding_of, first_lines, names_in_header
 from pitplan.core.text_tables import demand_columns, demand_each_once, read_columns
 from pitplan.errors import PlanError
 
-from . import cost_factors, resource_classes
-
-# Tonnes that are computed are kept to a gram, halves to the even one.
-TONNES_PLACES = 6
+from . import cell_volumes, cost_factors, model_files, resource_classes
+from .cell_volumes import Cells
+from .row_rules import numbers_of_codes, ruled
+from .table_checks import demand_amounts, demand_codes
+from .table_columns import codes_of, demand_codes_apart, file_columns, grades_of, names_of, text_columns
 
 
 @dataclass(frozen=True)
@@ -49,6 +47,8 @@ class Table:
         Columns that the project does not name.
     warned : tuple of str
         Warnings about texts that spreadsheets may take for formulas.
+    cells : Cells, optional
+        The cells of the rows, if the project names their sizes.
     """
 
     frame: pd.DataFrame
@@ -57,10 +57,11 @@ class Table:
     notes: tuple[str, ...] = ()
     unused: tuple[str, ...] = ()
     warned: tuple[str, ...] = ()
+    cells: Optional[Cells] = None
 
 
 def read(project: Project) -> Table:
-    """Returns the table of `project.table.file` (.csv, .csv.gz, .zip or .parquet), with the columns that the project names.
+    """Returns the table of `project.table.file` (text, .gz, .zip, .parquet, .omf or .dm), with the columns that the project names.
 
     Raises
     ------
@@ -70,23 +71,52 @@ def read(project: Project) -> Table:
         If the package that reads Parquet is not installed.
     """
     columns = project.table
-    codes = columns.codes
+    codes, wanted = text_columns(project), file_columns(project)
     if parquet.is_parquet(columns.file):
-        frame, names = parquet.read(columns.file, codes, names_of(project))
-        demand_columns(pd.DataFrame(columns=names), names_of(project), str(columns.file))
+        frame, names = parquet.read(columns.file, codes, wanted)
+        demand_columns(pd.DataFrame(columns=names), wanted, str(columns.file))
         return replace(
-            checked(frame, project, str(columns.file)),
-            unused=tuple(name for name in names if name not in names_of(project)),
+            checked(frame, project, str(columns.file)), unused=tuple(name for name in names if name not in wanted)
         )
-    frame, form = read_as_written(columns.file, columns, codes, names_of(project))
-    table = checked(frame, project, str(columns.file))
-    return replace(table, notes=tuple(notes_of(form, columns)))
+    model = model_files.read(columns.file, codes)
+    if model is not None:
+        source = Source.of(str(columns.file), model_files.ROWS)
+        table = checked(model[0], project, source)
+        return replace(table, notes=(model[1], *table.notes))
+    frame, form = read_as_written(columns.file, columns, codes, wanted)
+    source = Source.of(str(columns.file), (form.header_row, form.first_row))
+    table = checked(frame, project, source)
+    return replace(table, notes=(*notes_of(form, columns), *table.notes))
+
+
+def read_whole(file: Path) -> tuple[pd.DataFrame, TableFormat]:
+    """Returns all columns of a file of which nothing is said, and its format. Raises PlanError if it is not a table."""
+    model = model_files.read(file)
+    if model is not None:
+        header, first = model_files.ROWS
+        return model[0], TableFormat(",", ".", USUAL, header, first, layout=Layout(",", kind=model[1]))
+    form = recognised(file)
+    frame = read_columns(file, form, [], [])
+    if form.separator != "," and form.decimal == "." and has_decimal_commas(frame, list(frame.columns)):
+        form = replace(form, decimal=",")
+        frame = read_columns(file, form, [], [])
+    return frame, form
+
+
+def recognised(file: Path, encoding: Optional[str] = None, separator: Optional[str] = None) -> TableFormat:
+    """Returns the format of a text, as far as it is not given. Raises PlanError if the file cannot be read."""
+    named = encoding or encoding_of(file)
+    errors = MIXED if encoding is None and named == USUAL else "strict"
+    found = layout_of(first_lines(file, named, errors), separator)
+    return TableFormat(found.separator, found.decimal, named, found.header_row, found.first_row, errors, found)
 
 
 def format_of(file: Path, columns: TableColumns) -> TableFormat:
-    """Returns the text format of the project; the header decides what it leaves open. Raises PlanError if the file cannot be read."""
-    separator = columns.separator or guessed_separator(file, columns.encoding)
-    return TableFormat(separator, columns.decimal or ".", columns.encoding)
+    """Returns the text format of the project; what this leaves open is recognised. Raises PlanError if the file cannot be read."""
+    found = recognised(file, columns.encoding, columns.separator)
+    header = columns.header_row or found.header_row
+    first = columns.first_row or max(found.first_row if header == found.header_row else 0, header + 1)
+    return replace(found, decimal=columns.decimal or found.decimal, header_row=header, first_row=first)
 
 
 def read_as_written(
@@ -95,23 +125,35 @@ def read_as_written(
     """Returns the file as `read_columns` reads it, and its format: that of the project, otherwise that of the text."""
     form = format_of(file, columns)
     # The reader would give the second of two columns of one name another.
-    demand_each_once([name for name in names_in_header(file, form) if name in wanted], str(file))
-    frame = read_columns(file, form, codes, wanted)
+    source = Source.of(str(file), (form.header_row, form.first_row))
+    demand_each_once([name for name in names_in_header(file, form) if name in wanted], source)
+    nulls, before = {name: text_nulls(columns.rules.nulls.of(name)) for name in wanted}, Mixed.count
+    frame = read_columns(file, form, codes, wanted, nulls)
+    form = replace(form, otherwise=Mixed.count - before)
     # Where fields are parted by commas, one within a number parts thousands.
     if columns.decimal is None and form.separator != ",":
         if has_decimal_commas(frame, [name for name in wanted if name not in codes]):
             form = replace(form, decimal=",")
-            frame = read_columns(file, form, codes, wanted)
+            frame = read_columns(file, form, codes, wanted, nulls)
     return frame, form
 
 
+def text_nulls(nulls: Sequence[str]) -> list[str]:
+    """Returns the null codes that are not numbers, so that a column with such codes is one of numbers."""
+    return [code for code in nulls if not numbers_of_codes([code])]
+
+
 def notes_of(form: TableFormat, columns: TableColumns) -> list[str]:
-    """Returns notes on an unusual separator or decimal mark that was detected."""
-    found = []
+    """Returns notes on the format that was recognised."""
+    found = [form.layout.said] if form.layout and form.layout.said else []
     if columns.separator is None and form.separator != ",":
         found.append(f"the fields are separated by {NAMES[form.separator]}; [table] separator sets another separator")
     if columns.decimal is None and form.decimal != ".":
         found.append('the decimals are written with a comma; [table] decimal = "." reads them otherwise')
+    if form.otherwise:
+        found.append(
+            f"{form.otherwise:,} bytes are not UTF-8 and are read as Windows-1252; [table] encoding names another encoding"
+        )
     return found
 
 
@@ -127,96 +169,47 @@ def has_decimal_commas(frame: pd.DataFrame, names: list[str]) -> bool:
     return False
 
 
-def names_of(project: Project) -> list[str]:
-    """Returns the columns that the project names, each once."""
-    return list(dict.fromkeys(named(project)))
-
-
-def named(project: Project) -> list[str]:
-    """Returns the columns that the project names, as often as it names them."""
-    t = project.table
-    fixed = [project.constraints.must_mine, project.constraints.exclude] if project.constraints else []
-    rock = [t.density, t.volume] if t.density else [t.tonnes]
-    sums = project.schedule.columns if project.schedule else ()
-    columns = [
-        t.id,
-        t.x,
-        t.y,
-        t.z,
-        *rock,
-        t.rock_type,
-        t.domain,
-        t.resource_class,
-        *(metal.column for metal in project.metals),
-        *project.economics.factor_columns,
-        *fixed,
-        *sums,
-    ]
-    return [name for name in columns if name]
-
-
-def demand_codes_apart(project: Project) -> None:
-    """Rejects a column that is both a code and a number."""
-    codes = {"id": project.table.id, "rock_type": project.table.rock_type, "domain": project.table.domain}
-    codes["class"] = project.table.resource_class
-    for key, name in codes.items():
-        if name and named(project).count(name) > list(codes.values()).count(name):
-            why = "is also read as numbers: codes require a column of their own"
-            raise PlanError(f"{project.path}: [table] {key}: the column {name} {why}")
-
-
 def checked(frame: pd.DataFrame, project: Project, source: str = "table") -> Table:
     """Returns the named columns of a frame, checked. Raises PlanError as `read` does.
 
-    Empty tonnes and grades are rejected, or read as 0 with `empty = "zero"`.
+    Empty tonnes and grades are rejected, read as 0, or mean that the row is no block, as the project says.
     """
-    columns = project.table
     demand_codes_apart(project)
-    demand_columns(frame, names_of(project), source)
+    demand_columns(frame, file_columns(project), source)
     if frame.empty:
         raise PlanError(f"{source}: has no blocks")
-    codes = columns.codes
-    result = pd.DataFrame(index=pd.RangeIndex(len(frame)))
-    filled = 0
-    for name in names_of(project):
-        if name in codes:
-            result[name] = stripped(frame[name])
-            demand_no_nul(result[name], source, name)
-            continue
-        if name in project.economics.factor_columns:
-            result[name] = numbers_of(frame[name], source, name)
-            continue
-        may_fill = columns.empty == "zero" and name not in (columns.x, columns.y, columns.z)
-        result[name], empty = filled_numbers(frame[name], source, name, may_fill)
-        filled += empty
-    demand_near(result, project, source)
-    demand_not_negative(result, project, source)
-    if columns.density:
-        result[columns.tonnes] = tonnes_by_density(result, project)
-    cost_factors.complete(result, project, source)
-    if not result[columns.tonnes].any():
-        raise PlanError(f"{source} column {columns.tonnes}: all tonnes are 0")
-    demand_codes(result, project, source)
-    resource_classes.demand_accepted(result, project, source)
-    unused = tuple(str(name) for name in frame.columns if name not in names_of(project))
+    codes = [name for name in codes_of(project) if name in frame]
+    rows = ruled(frame, project, source)
+    demand_amounts(rows.frame, project, rows.source)
+    cell_volumes.demand_cells(rows.frame, project, rows.source)
+    rows.frame, laid = with_tonnes(rows.frame, project, rows.source)
+    demand_codes(rows.frame, project, rows.source)
+    resource_classes.demand_accepted(rows.frame, project, rows.source)
     return Table(
-        result, source, filled, unused=unused, warned=tuple(spreadsheet_formulas.warnings_of(frame, codes, source))
+        rows.frame,
+        rows.source,
+        rows.filled,
+        tuple(rows.notes),
+        unused=tuple(str(name) for name in frame.columns if name not in file_columns(project)),
+        warned=tuple(spreadsheet_formulas.warnings_of(frame, codes, source, project.table.rules.nulls.of)),
+        cells=laid,
     )
 
 
-def stripped(codes: pd.Series) -> np.ndarray:
-    """Returns codes as text without blanks at either end; missing ones are empty. Python's own strip is several times as fast as that of pandas."""
-    if codes.isna().any() or pd.api.types.infer_dtype(codes, skipna=False) != "string":
-        # A missing one would be called nan, None or <NA>.
-        codes = codes.astype(object).where(codes.notna(), "").astype(str)
-    return np.array(list(map(str.strip, codes.to_numpy(dtype=object))), dtype=object)
-
-
-def demand_no_nul(codes: pd.Series, source: str, name: str) -> None:
-    """Raises PlanError if a code contains a NUL byte, at which it would end when the results are read."""
-    if "\0" in "".join(codes):
-        row = next(row for row, code in enumerate(codes) if "\0" in code)
-        raise at_row(source, row, name, "contains a NUL byte")
+def with_tonnes(frame: pd.DataFrame, project: Project, source: str) -> tuple[pd.DataFrame, Optional[Cells]]:
+    """Returns the columns of the blocks with their tonnes, and the cells of the rows if the project names their sizes."""
+    table, rules = project.table, project.table.rules
+    if table.density or rules.rock_percent:
+        frame[table.tonnes] = cell_volumes.tonnes(frame, project)
+    cost_factors.complete(frame, project, source)
+    if not frame[table.tonnes].any():
+        raise PlanError(f"{source} column {table.tonnes}: all tonnes are 0")
+    if rules.ore_percent is not None:
+        for name in grades_of(project):
+            frame[name] = cell_volumes.diluted(frame, name, rules.ore_percent)
+    cells = cell_volumes.cells_of(frame, project, source) if rules.cell_size else None
+    wanted = list(dict.fromkeys([*names_of(project), table.tonnes]))
+    return frame if list(frame.columns) == wanted else frame[wanted], cells
 
 
 def filled_numbers(column: pd.Series, source: str, name: str, may_fill: bool) -> tuple[np.ndarray, int]:
@@ -228,75 +221,9 @@ def filled_numbers(column: pd.Series, source: str, name: str, may_fill: bool) ->
     return np.where(empty, 0.0, numbers), int(empty.sum())
 
 
-def demand_codes(frame: pd.DataFrame, project: Project, source: str) -> None:
-    """Requires an id of its own for each block, and a rock type and domain for each block with tonnes, if the project names these columns."""
-    columns = project.table
-    demand_ids(frame, columns.id, source)
-    for name in (columns.rock_type, columns.domain):
-        if name:
-            empty = ((frame[name] == "") & (frame[columns.tonnes] > 0)).to_numpy()
-            if empty.any():
-                raise at_row(source, int(empty.argmax()), name, "is empty")
-
-
-def tonnes_by_density(frame: pd.DataFrame, project: Project) -> np.ndarray:
-    """Returns density times volume, or times the volume of the grid's blocks: the exact product of the decimals, to a gram."""
-    density = Exact.of_floats(frame[project.table.density].to_numpy())
-    if project.table.volume:
-        volume = Exact.of_floats(frame[project.table.volume].to_numpy())
-    else:
-        sides = [Decimal(repr(float(side))) for side in project.grid.size or ()]
-        volume = Exact.of(reduce(mul, sides, Decimal(1)), len(frame))
-    return Exact(density.times(volume).rounded(TONNES_PLACES)[0], TONNES_PLACES).floats()
-
-
-def demand_near(frame: pd.DataFrame, project: Project, source: str) -> None:
-    """Raises PlanError if a centroid lies farther away than any ground."""
-    for name in (project.table.x, project.table.y, project.table.z):
-        far = np.abs(frame[name].to_numpy()) > FARTHEST
-        if far.any():
-            row = int(far.argmax())
-            raise at_row(
-                source,
-                row,
-                name,
-                f"{frame[name].iloc[row]:g} is not a coordinate in metres: expected at most {FARTHEST:,}",
-            )
-
-
-def demand_not_negative(frame: pd.DataFrame, project: Project, source: str) -> None:
-    columns = project.table
-    rock = [name for name in (columns.density, columns.volume) if name] or [columns.tonnes]
-    sums = project.schedule.columns if project.schedule else ()
-    for name in [*rock, *(metal.column for metal in project.metals), *sums]:
-        demand_none_below_0(frame[name].to_numpy(), source, name)
-
-
-def demand_none_below_0(numbers: np.ndarray, source: str, name: str) -> None:
-    negative = numbers < 0
-    if negative.any():
-        row = int(negative.argmax())
-        raise at_row(source, row, name, f"{numbers[row]:g} is negative")
-
-
-def demand_ids(frame: pd.DataFrame, name: Optional[str], source: str) -> None:
-    if name is None:
-        return
-    twice = frame[name].duplicated().to_numpy()
-    if twice.any():
-        row = int(twice.argmax())
-        first = int((frame[name] == frame[name].iloc[row]).to_numpy().argmax())
-        raise at_row(
-            source,
-            row,
-            name,
-            f"{frame[name].iloc[row]} is the id of row {first + HEADER_ROWS} too: expected a different id in each row",
-        )
-
-
-def called(frame: pd.DataFrame, project: Project, row: int) -> str:
+def called(frame: pd.DataFrame, project: Project, row: int, source: str = "") -> str:
     """Returns the name of the block of a row, from 0: its id, if there is one, with the row of the file; of a reblocked table its centroid."""
-    name, place = project.table.id, row + HEADER_ROWS
+    name, place = project.table.id, row_of(source, row)
     if project.table.reblock:
         x, y, z = (f"{frame[axis].iloc[row]:.10g}" for axis in (project.table.x, project.table.y, project.table.z))
         return f"the block at {x}, {y}, {z}"

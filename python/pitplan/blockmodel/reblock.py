@@ -16,18 +16,17 @@ from typing import Optional
 import numpy as np
 import pandas as pd
 
-from pitplan.blockmodel.reader import TONNES_PLACES, Table
+from pitplan.blockmodel.cell_volumes import GRADE_PLACES, TONNES_PLACES, volume_notes
+from pitplan.blockmodel.reader import Table
 from pitplan.config.project import Project
 from pitplan.config.schedule import ScheduleRules
 from pitplan.config.table import GridRules, Reblock
 from pitplan.core.decimals import MOST_WHOLE, Exact, greatest, nearest, product
 from pitplan.core.numeric_fields import at_row
+from pitplan.errors import PlanError
 
 from . import grid as grids
 from .axes import Frame
-
-# Kept of grades, so that they have an end of decimals; halves to the even one.
-GRADE_PLACES = 9
 
 
 @dataclass(frozen=True)
@@ -82,15 +81,33 @@ def of_table(table: Table, project: Project) -> Reblocked:
     """
     rules = project.table.reblock
     if rules is None:
-        return Reblocked(table, project)
+        return Reblocked(table, of_cell_size(table, project))
+    if rules.of_parents and table.cells:
+        rules = table.cells.parents
+        project = replace(project, grid=replace(project.grid, azimuth=table.cells.azimuth))
     lattice = of_counts(table, project, rules) if rules.counts else of_corner(table, project, rules)
     places, parts = parts_of(table.frame[project.table.tonnes].to_numpy(), lattice)
     frame, mixed = put_together(table.frame, lattice.centres(places), places, parts, project)
     x, y, z = (grids.metres(side) for side in lattice.size)
     notes = [f"{len(table.frame):,} rows were reblocked into {len(frame):,} blocks of {x} x {y} x {z} m", *mixed]
+    if table.cells:
+        notes += volume_notes(table.cells.volumes, parts.block, lattice.size[0] * lattice.size[1] * lattice.size[2])
     project = replace(project, grid=GridRules(lattice.size, project.grid.tolerance, lattice.frame.azimuth))
     blocks = replace(table, frame=frame, source=f"reblocked {table.source}", notes=(*table.notes, *notes))
     return Reblocked(blocks, project, parts)
+
+
+def of_cell_size(table: Table, project: Project) -> Project:
+    """Returns the project with the size of the table's cells as that of its blocks. Raises PlanError if it names another size."""
+    if table.cells is None:
+        return project
+    given, (x, y, z) = project.grid.size, table.cells.size
+    if given is not None and given != table.cells.size:
+        cells = f"{x:.10g} x {y:.10g} x {z:.10g} m"
+        raise PlanError(
+            f"{project.path}: [grid] size: found {list(given)}, and the cells of {table.source} have {cells}: remove it"
+        )
+    return replace(project, grid=replace(project.grid, size=table.cells.size))
 
 
 def of_counts(table: Table, project: Project, rules: Reblock) -> Lattice:

@@ -130,6 +130,7 @@ def rock_of(columns: TableColumns) -> str:
     if columns.density is None:
         return columns.tonnes
     volume = f"{columns.volume} (m3)" if columns.volume else "the block size"
+    volume = f"the volume of {', '.join(columns.rules.cell_size)}" if columns.rules.cell_size else volume
     return f"{columns.density} (t/m3) times {volume}"
 
 

@@ -19,8 +19,8 @@ from pitplan.survey import readers
 from pitplan.survey.readers import Topography
 
 from . import tin
+from .cell_volumes import TONNES_PLACES
 from .grid import Grid, metres
-from .reader import TONNES_PLACES
 from .tin import HAIR, Below
 
 # Of a grid the shape, the origin, the size and the azimuth.

@@ -1,33 +1,25 @@
-"""A project.toml for a table of which nothing was said: what its text and its columns tell is guessed, and marked as a guess."""
+"""Writes a project.toml for a table of which nothing was said: what its text and its columns tell is guessed, and marked as a guess."""
 
 from __future__ import annotations
 
-import codecs
 import json
 import os
-from dataclasses import dataclass
+from collections.abc import Callable
 from pathlib import Path
 from typing import Optional
 
 import numpy as np
-import pandas as pd
 
-from pitplan.blockmodel.reader import filled_numbers, has_decimal_commas
-from pitplan.config.table import GridRules
+from pitplan.config.table_rules import MISSING, ZERO
 from pitplan.core.atomic_files import staged_file
-from pitplan.core.numeric_fields import holds_texts
-from pitplan.core.text_format import NAMES, UNREADABLE, TableFormat, demand_text, guessed_separator, opened, unreadable
-from pitplan.core.text_tables import read_columns
 from pitplan.errors import PlanError
 
-from .column_guesses import PRECIOUS, Columns, MetalGuess, columns_of
-from .plausibility import of_codes
-from .rotated_grid import Places, azimuth_of, of_centres
-from .summary import Axis, Grade, mean_of, not_used
+from .column_guesses import PRECIOUS, MetalGuess
+from .guessed_model import Model, has_several_sizes, read, share_of, size_of, tonnes_of
+from .model_overview import overview
+from .reader import filled_numbers
 
 TEMPLATES = Path(__file__).resolve().parents[1] / "templates"
-SEEN = 1 << 20
-MARKS = {codecs.BOM_UTF8: "utf-8-sig", codecs.BOM_UTF16_LE: "utf-16", codecs.BOM_UTF16_BE: "utf-16"}
 # Rounded prices of 2024 in US dollars, for a gram of precious metals and a tonne of others.
 PRICES = {
     "gold": 75, "silver": 0.9, "platinum": 30, "palladium": 31, "copper": 9000, "molybdenum": 45000, "nickel": 17000, "zinc": 2700,
@@ -36,78 +28,30 @@ PRICES = {
 SHARES = {"percent": 0.01, "fraction": 1.0, "gram_per_tonne": 1.0}
 RECOVERY, PROCESSING = 0.85, 12.0
 MOST_REGIONS = 12
-# Metres by which a centre may lie off a grid that is turned, as [grid] tolerance is where it is not given.
-TOLERANCE = 0.01
+CLASSES = {"1": "measured", "2": "indicated", "3": "inferred"}
+UNITS = {"density": ", in t/m3", "volume": ", in m3"}
 
 
-@dataclass(frozen=True)
-class Model:
-    """A table as it was read, and what was told of its text and its columns."""
+def write(file: Path, out: Path, draw: Optional[Callable[[Model, Path], None]] = None) -> list[str]:
+    """Writes a project for a table, and a figure of the block model if `draw` is given, which writes it to a path.
 
-    file: Path
-    form: TableFormat
-    frame: pd.DataFrame
-    columns: Columns
-
-    def numbers(self, key: str) -> np.ndarray:
-        return self.frame[self.columns.named[key].column].to_numpy(dtype=np.float64)
-
-
-def write(file: Path, out: Path) -> list[str]:
-    """Writes a project for a table. Returns the summary of the block model and what is doubtful in it.
-
-    Raises PlanError where the table cannot be read, where no columns of centres, tonnes or grades are found, and where `out` exists.
+    Returns the overview of the block model, and warnings about what is doubtful in it. Raises PlanError if the table cannot be read, if no
+    columns of centroids, tonnes or grades are found, and if `out` exists.
     """
     if out.exists():
         raise PlanError(f"{out}: already exists: name another file with --out")
     model = read(file)
     demand_enough(model)
     demand_numbers(model, [guess.column for guess in model.columns.centres.values()])
-    told = summary(model)
+    told = overview(model)
     with staged_file(out) as place:
         place.write_text(text_of(model, out), encoding="utf-8")
+    if draw:
+        figure = out.with_name(f"{out.stem}-block-model.png")
+        with staged_file(figure) as place:
+            draw(model, place)
+        told.append(f"drew {figure}")
     return [*told, f"wrote {out}: check each line with a #, first of all prices, costs and slope angles"]
-
-
-def read(file: Path) -> Model:
-    """The table in the encoding, with the separator and the decimal sign that it seems to have."""
-    demand_text(file, "pitplan init")
-    encoding = encoding_of(file)
-    form = TableFormat(guessed_separator(file, encoding), ".", encoding)
-    frame = read_columns(file, form, [], [])
-    if form.separator != "," and has_decimal_commas(frame, list(frame.columns)):
-        form = TableFormat(form.separator, ",", encoding)
-        frame = read_columns(file, form, [], [])
-    return Model(file, form, numbers_where_all_are(frame), columns_of(numbers_where_all_are(frame)))
-
-
-def numbers_where_all_are(frame: pd.DataFrame) -> pd.DataFrame:
-    """The same with columns of numbers and empty fields as numbers."""
-    result = frame.copy()
-    for name in [name for name in frame.columns if holds_texts(frame[name])]:
-        numbers = pd.to_numeric(frame[name], errors="coerce")
-        if (numbers.notna() | (frame[name].astype(str).str.strip() == "")).all():
-            result[name] = numbers
-    return result
-
-
-def encoding_of(file: Path) -> str:
-    """What the text's mark says; else UTF-8 where it is that, and else the one of Western Windows. Raises PlanError where it is no text."""
-    try:
-        with opened(file) as text:
-            seen = text.read(SEEN)
-    except UNREADABLE as error:
-        raise unreadable(file, error) from error
-    for mark, name in MARKS.items():
-        if seen.startswith(mark):
-            return name
-    if b"\0" in seen:
-        raise PlanError(f"{file}: is not a text file: save the table as CSV")
-    try:
-        codecs.getincrementaldecoder("utf-8")().decode(seen)
-    except UnicodeDecodeError:
-        return "cp1252"
-    return "utf-8-sig"
 
 
 def demand_enough(model: Model) -> None:
@@ -130,9 +74,9 @@ def demand_enough(model: Model) -> None:
 
 
 def demand_numbers(model: Model, names: list[str]) -> None:
-    """Raises PlanError, with the row, where a column has a field that is no number."""
+    """Raises PlanError, with the row, if a column has a field that is no number."""
     for name in names:
-        filled_numbers(model.frame[name], str(model.file), name, may_fill=False)
+        filled_numbers(model.frame[name], model.source, name, may_fill=False)
 
 
 def text_of(model: Model, out: Path) -> str:
@@ -140,13 +84,13 @@ def text_of(model: Model, out: Path) -> str:
 
     environment = Environment(loader=FileSystemLoader(TEMPLATES), keep_trailing_newline=True)
     environment.filters["quoted"] = quoted
-    size, size_why = size_of(model)
+    size, size_why = (None, "") if has_several_sizes(model) else size_of(model)
     ore = processing_capacity(model)
     words = {
         "file": file_name(model.file, out),
         "title": "".join(letter if letter.isprintable() else " " for letter in model.file.name.split(".")[0]),
         "blocks": f"{len(model.frame):,}",
-        "table": [(key, quoted(value), why) for key, value, why in table_lines(model)],
+        "table": table_lines(model),
         "size": size and json.dumps(size),
         "size_why": size_why,
         "metals": [priced(metal) for metal in model.columns.metals],
@@ -173,101 +117,110 @@ def quoted(words: str) -> str:
 
 
 def table_lines(model: Model) -> list[tuple[str, str, str]]:
-    """The keys of [table], their values, and why."""
-    columns, lines = model.columns, []
-    lines += [(axis, guess.column, guess.why) for axis, guess in sorted(columns.centres.items())]
-    keys = ["tonnes"] if "tonnes" in columns.named else ["density", "volume"]
-    units = {"density": ", in t/m3", "volume": ", in m3"}
-    lines += [
-        (key, columns.named[key].column, columns.named[key].why + units.get(key, ""))
-        for key in keys
-        if key in columns.named
-    ]
+    """Returns the keys of [table], their values as TOML, and why."""
+    columns = model.columns
+    lines = [(axis, quoted(guess.column), guess.why) for axis, guess in sorted(columns.centres.items())]
+    for key in model.weighed:
+        guess = columns.named[key]
+        lines.append((key, quoted(guess.column), guess.why + UNITS.get(key, "")))
+    lines += cell_lines(model)
     if "id" in columns.named and not model.frame[columns.named["id"].column].duplicated().any():
-        lines.append(("id", columns.named["id"].column, columns.named["id"].why))
-    lines += [
-        (key, columns.named[key].column, columns.named[key].why)
-        for key in ("rock_type", "domain")
-        if key in columns.named
-    ]
-    if model.form.encoding != "utf-8-sig":
-        lines.append(("encoding", model.form.encoding, "by its bytes"))
-    if empty_fields(model):
+        lines.append(("id", quoted(columns.named["id"].column), columns.named["id"].why))
+    for key in ("rock_type", "domain"):
+        if key in columns.named and is_whole(model, columns.named[key].column):
+            lines.append((key, quoted(columns.named[key].column), columns.named[key].why))
+    return [*lines, *class_lines(model), *null_lines(model)]
+
+
+def cell_lines(model: Model) -> list[tuple[str, str, str]]:
+    """Returns the keys for cells of several sizes, and for the share of rock."""
+    lines, (share, unit) = [], share_of(model)
+    if has_several_sizes(model):
+        names = [model.columns.sizes[axis].column for axis in "xyz"]
         lines.append(
-            (
-                "empty",
-                "zero",
-                f"{empty_fields(model):,} tonnes or grades are empty and read as 0; without this key they are rejected",
-            )
+            ("cell_size", json.dumps(names, ensure_ascii=False), "sizes of each cell along x, y and z, by their names")
+        )
+        lines.append(
+            ("reblock", quoted("parents"), "parts of blocks are put together to blocks of the largest cell's size")
+        )
+    if share is not None:
+        value = f"{{ column = {quoted(share.column)}, unit = {quoted(unit)} }}"
+        lines.append(("rock_percent", value, f"{share.why}: tonnes are multiplied by it"))
+    return lines
+
+
+def class_lines(model: Model) -> list[tuple[str, str, str]]:
+    """Returns the column of resource classes, and names for its numbers as most models have them."""
+    guess = model.columns.named.get("class")
+    if guess is None:
+        return []
+    lines, codes = [("class", quoted(guess.column), guess.why)], codes_in(model, guess.column)
+    if codes and codes <= set(CLASSES):
+        names = ", ".join(f"{code} = {quoted(CLASSES[code])}" for code in sorted(codes))
+        lines.append(
+            ("map", f"{{ {quoted(guess.column)} = {{ {names} }} }}", "classes as most models number them; check it")
         )
     return lines
 
 
-def measured(model: Model) -> list[str]:
-    """The columns of tonnes, or what makes them, and of grades."""
-    keys = ["tonnes"] if "tonnes" in model.columns.named else ["density", "volume"]
-    named = [model.columns.named[key].column for key in keys if key in model.columns.named]
-    return [*named, *(metal.column for metal in model.columns.metals)]
+def codes_in(model: Model, name: str) -> set[str]:
+    """Returns the codes of a column; whole numbers without decimals."""
+    return {
+        f"{it:.15g}" if isinstance(it, float) else str(it).strip()
+        for it in model.frame[name].dropna().unique().tolist()
+    } - {""}
 
 
-def empty_fields(model: Model) -> int:
-    return int(model.frame[measured(model)].isna().sum().sum())
+def is_whole(model: Model, name: str) -> bool:
+    """Returns whether a column of codes has one for each block."""
+    codes = model.frame[name]
+    return bool((codes.notna() & (codes.astype(str).str.strip() != "")).all())
 
 
-def size_of(model: Model) -> tuple[Optional[list[float]], str]:
-    """The blocks' size where the table says it, or where tonnes need it, and how it is known; None where the centres alone tell it."""
-    columns = model.columns
-    if columns.sizes and not has_several_sizes(model):
-        names = [columns.sizes[axis].column for axis in "xyz"]
-        return [float(model.frame[name].iloc[0]) for name in names], f"by {', '.join(names)}"
-    turned = turned_grid(model)
-    gaps = [*turned.size, least_gap(model, "z")] if turned else [least_gap(model, axis) for axis in "xyz"]
-    flat = [axis for axis, gap in zip("xyz", gaps) if gap is None]
-    if not flat and ("tonnes" in columns.named or "volume" in columns.named):
-        return None, ""
-    # Of an axis along which all lie at one place nothing is known.
-    filled = [min((known for known in gaps if known), default=1.0) if gap is None else gap for gap in gaps]
-    guessed = f"; set your own along {' and '.join(flat)}, where all centroids are equal" if flat else ""
-    volumes = (
-        ""
-        if "tonnes" in columns.named or "volume" in columns.named
-        else ", from which volumes are computed for the density"
-    )
-    return filled, f"the smallest steps between centroids{volumes}{guessed}"
+def null_lines(model: Model) -> list[tuple[str, str, str]]:
+    """Returns the null codes of the columns that the project names, and what a null means in each."""
+    meanings = meanings_of(model)
+    texts = {model.columns.named[key].column for key in ("class",) if key in model.columns.named}
+    named = [name for name in model.nulls if name in meanings or name in texts]
+    codes = list(dict.fromkeys(code for name in named for code in model.nulls[name].codes))
+    places = [model.frame[guess.column].to_numpy(dtype=np.float64) for guess in model.columns.centres.values()]
+    if any(np.any(values == float(code)) for code in codes for values in places if is_number(code)):
+        # A code that is a centroid too belongs to its own columns.
+        rules = {name: rule_of(model.nulls[name].codes, meanings.get(name)) for name in named}
+        return [("nulls", inline(rules), "null codes, and what a null means, by column")]
+    lines = [("null_values", f"[{', '.join(map(as_toml, codes))}]", "null codes, by the values")] if codes else []
+    why = 'a null grade is read as 0, and a row without tonnes is a missing block; "refuse" makes it an error'
+    rules = {name: quoted(meanings[name]) for name in named if name in meanings}
+    return [*lines, *([("nulls", inline(rules), why)] if rules else [])]
 
 
-def turned_grid(model: Model) -> Optional[Places]:
-    """The blocks' places on a grid that is turned; None where their rows go east, or where they have several sizes."""
-    if has_several_sizes(model):
-        return None
-    centres = np.stack(
-        [model.frame[model.columns.centres[axis].column].to_numpy(dtype=np.float64) for axis in "xy"], axis=1
-    )
-    rules = GridRules(None, TOLERANCE)
-    azimuth = None if np.isnan(centres).any() else azimuth_of(centres, rules.tolerance)
+def meanings_of(model: Model) -> dict[str, str]:
+    """Returns what a null means in the columns of numbers that have some: 0 in grades, no block where it makes tonnes."""
+    share, _ = share_of(model)
+    weighed = [model.columns.named[key].column for key in model.weighed] + ([share.column] if share else [])
+    meanings = {**dict.fromkeys(model.grades, ZERO), **dict.fromkeys(weighed, MISSING)}
+    return {name: meanings[name] for name in model.nulls if name in meanings}
+
+
+def rule_of(codes: tuple[str, ...], meaning: Optional[str]) -> str:
+    said = f", as = {quoted(meaning)}" if meaning else ""
+    return f"{{ values = [{', '.join(map(as_toml, codes))}]{said} }}"
+
+
+def inline(values: dict[str, str]) -> str:
+    return f"{{ {', '.join(f'{quoted(name)} = {value}' for name, value in values.items())} }}"
+
+
+def is_number(code: str) -> bool:
     try:
-        return None if azimuth is None else of_centres(centres, azimuth, rules, (str(model.file), "x, y"))
-    except PlanError:
-        # What is wrong with them is told where the project is planned.
-        return None
+        float(code)
+    except ValueError:
+        return False
+    return True
 
 
-def has_several_sizes(model: Model) -> bool:
-    return any(model.frame[guess.column].nunique() > 1 for guess in model.columns.sizes.values())
-
-
-def least_gap(model: Model, axis: str) -> Optional[float]:
-    """The least step between centres along an axis; None where all lie at one place."""
-    values = np.unique(model.frame[model.columns.centres[axis].column].to_numpy(dtype=np.float64))
-    return float(np.diff(values).min()) if len(values) > 1 else None
-
-
-def tonnes_of(model: Model) -> np.ndarray:
-    if "tonnes" in model.columns.named:
-        return np.nan_to_num(model.numbers("tonnes"))
-    size, _ = size_of(model)
-    volume = model.numbers("volume") if "volume" in model.columns.named else np.prod(size or ())
-    return np.nan_to_num(model.numbers("density") * volume)
+def as_toml(code: str) -> str:
+    return code if is_number(code) and code.lstrip("-").replace(".", "", 1).isdigit() else quoted(code)
 
 
 def price_of(metal: MetalGuess) -> float:
@@ -304,58 +257,3 @@ def processing_capacity(model: Model) -> int:
     yearly = max(ore / max(0.2 * ore**0.25, 1.0), 1.0)
     digits = max(int(np.floor(np.log10(yearly))) - 1, 0)
     return int(round(yearly, -digits))
-
-
-def summary(model: Model) -> list[str]:
-    """What a planner should see first: extents, tonnes, grades, each with why it is taken so, and what looks doubtful."""
-    columns, tonnes, turned = model.columns, tonnes_of(model), turned_grid(model)
-    said = [f"{model.file}: {len(model.frame):,} blocks, {tonnes.sum():,.0f} tonnes"]
-    for name, guess in sorted(columns.centres.items()):
-        values, step = model.frame[guess.column], None if turned and name != "z" else step_along(model, name)
-        said.append(f"{Axis(name, guess.column, values.min(), values.max(), step).line}, {guess.why}")
-    if turned:
-        east, north = (f"{side:.10g}" for side in turned.size)
-        said.append(
-            f"blocks of {east} x {north} m lie on a grid whose north has azimuth {turned.azimuth:.10g}, found from the centroids"
-        )
-    grades = []
-    for metal in columns.metals:
-        values = np.nan_to_num(model.frame[metal.column].to_numpy(dtype=np.float64))
-        grades.append(Grade(metal.metal, metal.column, metal.unit, mean_of(values, tonnes), float(values.max())))
-        said.append(f"{grades[-1].line}, {metal.why}")
-    codes = [
-        line
-        for metal in columns.metals
-        for line in of_codes(metal.column, model.frame[metal.column].to_numpy(dtype=np.float64))
-    ]
-    return [
-        *said,
-        *(doubt for grade in grades for doubt in grade.doubts),
-        *codes,
-        *of_codes("tonnes", tonnes),
-        *doubts(model),
-    ]
-
-
-def step_along(model: Model, axis: str) -> Optional[float]:
-    """The blocks' size along an axis in metres; None where they have several."""
-    if has_several_sizes(model):
-        return None
-    size, _ = size_of(model)
-    return size["xyz".index(axis)] if size else least_gap(model, axis)
-
-
-def doubts(model: Model) -> list[str]:
-    """What may not be as it seems."""
-    columns, said = model.columns, []
-    if model.form.separator != ",":
-        said.append(f"the fields are separated by {NAMES[model.form.separator]}")
-    if model.form.decimal == ",":
-        said.append("the decimals are written with a comma")
-    if has_several_sizes(model):
-        said.append("WARNING: blocks have several sizes; sub-blocks require [table] reblock")
-    if empty_fields(model):
-        said.append(f"WARNING: {empty_fields(model):,} empty tonnes or grades are read as 0")
-    used = {guess.column for group in (columns.centres, columns.sizes, columns.named) for guess in group.values()}
-    used |= {metal.column for metal in columns.metals}
-    return [*said, *not_used([str(name) for name in model.frame.columns if str(name) not in used])]

@@ -101,9 +101,14 @@ def parser() -> Parser:
 
 def add_init(subs: Subparsers) -> None:
     sub = subs.add("init", "write a project for a table of blocks, with each guess marked", subcommands.init)
-    sub.add_argument("table", type=Path, help="table of blocks (.csv, .csv.gz, .zip)")
+    sub.add_argument("table", type=Path, help="block model (.csv, .csv.gz, .zip, .omf, .dm)")
     sub.add_argument(
         "--out", type=Path, metavar="FILE", help="project to write (default: project.toml next to the table)"
+    )
+    sub.add_argument(
+        "--figures",
+        action="store_true",
+        help="draw histograms of grades and density, a plan and a section, next to the project",
     )
 
 

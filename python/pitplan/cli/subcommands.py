@@ -12,6 +12,9 @@ from minelib.ending import tell
 from pitplan.core.progress import Progress, on_standard_error, silent
 
 if TYPE_CHECKING:
+    from pathlib import Path
+
+    from pitplan.blockmodel.guessed_model import Model
     from pitplan.config.project import Project
     from pitplan.studies.scenarios.result import ScenarioResult
 
@@ -40,13 +43,20 @@ def writing_of(options: Namespace) -> Writing:
     )
 
 
+def draw_block_model(model: Model, path: Path) -> None:
+    """Draws a block model; matplotlib is imported only now."""
+    from pitplan.figures.block_model import write_block_model
+
+    write_block_model(model, path)
+
+
 def init(options: Namespace) -> int:
     from pitplan.blockmodel import wizard
 
     from .printing import print_notes
 
     project_file = options.out or options.table.parent / "project.toml"
-    print_notes(wizard.write(options.table, project_file))
+    print_notes(wizard.write(options.table, project_file, draw_block_model if options.figures else None))
     print(project_file)
     return 0
 

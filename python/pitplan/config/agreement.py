@@ -20,9 +20,10 @@ def demand_agreement(project: Project) -> None:
     path = project.path
     demand_codes(project)
     demand_classes(project)
-    if project.table.density and not project.table.volume and project.grid.size is None:
+    has_volume = project.table.volume or project.table.rules.cell_size
+    if project.table.density and not has_volume and project.grid.size is None:
         raise PlanError(
-            f"{path}: [grid] size: is missing, by which a density gives tonnes, unless [table] names a volume"
+            f"{path}: [grid] size: is missing, by which a density gives tonnes, unless [table] names a volume or cell_size"
         )
     demand_ground(project)
     demand_processes_agree(project)
@@ -42,6 +43,7 @@ def demand_agreement(project: Project) -> None:
             raise PlanError(
                 f"{path}: [schedule] max_metal_per_year: found {name}, expected one of the [[metals]]: {', '.join(names)}"
             )
+    demand_grades_of_files(project)
     if project.scenarios is not None:
         named = [*project.scenarios.columns, *(name for prices in project.scenarios.prices for name in prices)]
         for name in named:
@@ -49,6 +51,19 @@ def demand_agreement(project: Project) -> None:
                 raise PlanError(
                     f"{path}: [scenarios]: found {name}, expected one of the [[metals]]: {', '.join(names)}"
                 )
+
+
+def demand_grades_of_files(project: Project) -> None:
+    """Refuses realisations in files if the grades of the table are not as they are written there."""
+    rules = project.table.rules
+    if project.scenarios is None or project.scenarios.folder is None:
+        return
+    changed = [metal.column for metal in project.metals if metal.column in rules.calculated]
+    if changed or rules.ore_percent:
+        why = f"{changed[0]} is calculated" if changed else "[table] ore_percent multiplies the grades"
+        raise PlanError(
+            f"{project.path}: [scenarios] realisations: {why}, and files of realisations have grades of whole blocks: use columns"
+        )
 
 
 def demand_codes(project: Project) -> None:

@@ -11,7 +11,8 @@ from typing import Any, Optional, Union
 from pitplan.config.project import Project, load
 from pitplan.config.scenarios import Scenarios
 from pitplan.config.shells import ShellRules
-from pitplan.config.table import GridRules, MissingRock, Reblock, TableColumns
+from pitplan.config.table import PARENTS, GridRules, MissingRock, Reblock, TableColumns
+from pitplan.config.table_rules import NullRule, RowRules, Share
 from pitplan.core.atomic_files import hash_of
 from pitplan.core.revenue_factors import BASE_PRICE
 
@@ -152,6 +153,8 @@ def of_table(table: TableColumns, folder: Path) -> Values:
         "separator",
         "decimal",
         "encoding",
+        "header_row",
+        "first_row",
         "empty",
     )
     values, missing = {name: getattr(table, name) for name in names}, of_missing(table.missing_blocks)
@@ -163,11 +166,36 @@ def of_table(table: TableColumns, folder: Path) -> Values:
         "missing_blocks": missing,
         "reblock": of_reblock(table.reblock) if table.reblock else None,
         "topography": of_survey(table.topography, folder),
+        **of_rules(table.rules),
     }
 
 
+def of_rules(rules: RowRules) -> Values:
+    """The keys of [table] for fields and rows."""
+    nulls = {name: of_null_rule(rule) for name, rule in rules.nulls.by_column.items()}
+    return {
+        "null_values": rules.nulls.values or None,
+        "cell_size": rules.cell_size,
+        "rock_percent": of_share(rules.rock_percent),
+        "ore_percent": of_share(rules.ore_percent),
+        "filter": rules.filter and rules.filter.text,
+        "clip": dict(rules.clip) or None,
+        "nulls": nulls or None,
+        "map": {name: dict(names) for name, names in rules.mapped.items()} or None,
+        "calculate": {name: it.text for name, it in rules.calculated.items()} or None,
+    }
+
+
+def of_null_rule(rule: NullRule) -> Any:
+    return {"values": rule.values, "as": rule.meaning} if rule.values else rule.meaning or {}
+
+
+def of_share(share: Optional[Share]) -> Optional[Values]:
+    return None if share is None else {"column": share.column, "unit": share.unit}
+
+
 def of_reblock(reblock: Reblock) -> Any:
-    return reblock.counts or {"size": reblock.size, "corner": reblock.corner}
+    return PARENTS if reblock.of_parents else reblock.counts or {"size": reblock.size, "corner": reblock.corner}
 
 
 def of_grid(grid: GridRules) -> Values:

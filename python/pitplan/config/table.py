@@ -3,13 +3,19 @@
 from __future__ import annotations
 
 import codecs
-from dataclasses import dataclass
+from dataclasses import dataclass, field
 from decimal import Decimal
 from pathlib import Path
 from typing import Optional, Union
 
 from .survey import SurveyFile, read_survey
+from .table_rules import MEANINGS, REFUSE, RowRules, read_row_rules
 from .toml_section import Section, cut, shown
+
+# The value of `reblock` by which the rows are cells and parts of cells, which are put together again.
+PARENTS = "parents"
+# The last line that may hold the names or the first block.
+LAST_HEADER = 10_000
 
 
 @dataclass(frozen=True)
@@ -24,7 +30,8 @@ class MissingRock:
 
 @dataclass(frozen=True)
 class Reblock:
-    """Of what rows blocks are put together: so many blocks each way, or all that lie in blocks of a size, from a corner on, in metres.
+    """The rows that make up a block: so many blocks each way, or all that lie in blocks of a size, from a corner on, in metres. With neither
+    the blocks are as large as the largest cells.
 
     Counts and sizes are east, north and up; the corner is x, y, z at the west, the south and the floor of some block.
     """
@@ -32,6 +39,11 @@ class Reblock:
     counts: Optional[tuple[int, int, int]]
     size: Optional[tuple[float, float, float]] = None
     corner: Optional[tuple[float, float, float]] = None
+
+    @property
+    def of_parents(self) -> bool:
+        """Whether size and corner are those of the largest cells."""
+        return self.counts is None and self.size is None
 
 
 @dataclass(frozen=True)
@@ -43,6 +55,8 @@ class TableColumns:
     volume   a column of cubic metres; without it a block has the grid's size
     reblock  of what rows blocks are put together; None: each row is a block
     topography  heights of the ground, by which blocks are cut; None: they are whole
+    separator, decimal, encoding, header_row, first_row  the format of the text; None: as it is recognised
+    rules       what fields and rows mean
     resource_class  the column `class`; None: all blocks may be ore
     """
 
@@ -58,11 +72,14 @@ class TableColumns:
     domain: Optional[str]
     separator: Optional[str]
     decimal: Optional[str]
-    encoding: str
+    encoding: Optional[str]
     empty: str
     missing_blocks: Union[str, MissingRock]
     reblock: Optional[Reblock] = None
     topography: Optional[SurveyFile] = None
+    header_row: Optional[int] = None
+    first_row: Optional[int] = None
+    rules: RowRules = field(default_factory=RowRules)
     resource_class: Optional[str] = None
 
     @property
@@ -97,14 +114,18 @@ def read_table(section: Section, folder: Path) -> TableColumns:
         domain=section.optional_text("domain"),
         separator=read_separator(section),
         decimal=section.choice("decimal", (".", ","), None) if section.has("decimal") else None,
-        encoding=read_encoding(section),
-        empty=section.choice("empty", ("refuse", "zero"), "refuse"),
+        encoding=read_encoding(section) if section.has("encoding") else None,
+        empty=section.choice("empty", MEANINGS, REFUSE),
         missing_blocks=read_missing(section),
         reblock=read_reblock(section),
         topography=read_survey(section, "topography", folder) if section.has("topography") else None,
+        header_row=section.whole("header_row", 0, 1, LAST_HEADER) if section.has("header_row") else None,
+        first_row=section.whole("first_row", 0, 2, LAST_HEADER) if section.has("first_row") else None,
+        rules=read_row_rules(section),
         resource_class=section.optional_text("class"),
     )
     section.finish()
+    demand_rules_agree(section, columns)
     if columns.density and section.has("tonnes"):
         raise section.wrong("density", "give it or tonnes, not both")
     if columns.volume and not columns.density:
@@ -117,9 +138,28 @@ def read_table(section: Section, folder: Path) -> TableColumns:
     return columns
 
 
+def demand_rules_agree(section: Section, columns: TableColumns) -> None:
+    """Raises PlanError if keys of [table] do not fit together."""
+    rules = columns.rules
+    if columns.header_row and columns.first_row and columns.first_row <= columns.header_row:
+        raise section.wrong("first_row", f"must be below the names, which header_row puts in row {columns.header_row}")
+    if rules.cell_size and columns.volume:
+        raise section.wrong("cell_size", "give it or volume, not both: both give the volume of a cell")
+    if columns.reblock and columns.reblock.of_parents and not rules.cell_size:
+        raise section.wrong("reblock", f'"{PARENTS}" requires cell_size, which is missing')
+    for name in rules.mapped:
+        if name in rules.calculated:
+            raise section.wrong("map", f"the column {name} is calculated: map the columns that it is calculated from")
+    for name in (columns.x, columns.y, columns.z):
+        if rules.nulls.meaning(name, columns.empty) != columns.empty and rules.nulls.by_column[name].meaning == "zero":
+            raise section.wrong(
+                "nulls", f'the centroids in {name} may not be read as 0: expected "refuse" or "missing"'
+            )
+
+
 def read_encoding(section: Section) -> str:
     """A name that Python knows; of UTF-8 a byte-order mark is passed over."""
-    name = section.text("encoding", "utf-8")
+    name = section.text("encoding")
     try:
         known = codecs.lookup(name).name
         # Codecs such as base64 and rot13 are known too, and are none of texts.
@@ -161,6 +201,8 @@ def read_missing(section: Section) -> Union[str, MissingRock]:
 def read_reblock(section: Section) -> Optional[Reblock]:
     if not section.has("reblock"):
         return None
+    if section.data["reblock"] == PARENTS:
+        return Reblock(None)
     if isinstance(section.data["reblock"], dict):
         inner = section.section("reblock")
         (east, north, up), (x, y, z) = inner.numbers("size", 3), inner.numbers("corner", 3)
@@ -171,7 +213,8 @@ def read_reblock(section: Section) -> Optional[Reblock]:
     counts = section.numbers("reblock", 3)
     if any(count != int(count) or count < 1 for count in counts) or max(counts) == 1:
         raise section.wrong(
-            "reblock", "must be whole numbers of blocks east, north and up, such as [2, 2, 1], or a size and a corner"
+            "reblock",
+            f'must be whole numbers of blocks east, north and up, such as [2, 2, 1], a size and a corner, or "{PARENTS}"',
         )
     east, north, up = map(int, counts)
     return Reblock((east, north, up))

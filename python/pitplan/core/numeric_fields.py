@@ -2,12 +2,15 @@
 
 from __future__ import annotations
 
+from typing import Optional
+
 import numpy as np
 import pandas as pd
 from pandas.api import types
 
 from pitplan.errors import PlanError
 
+# The row of the first block below a header of one line.
 HEADER_ROWS = 2
 # Kinds of fields among which are no truths, dates and the like.
 PLAIN = ("string", "empty", "integer", "floating", "mixed-integer-float", "decimal")
@@ -15,9 +18,50 @@ NO_NUMBERS = (bool, np.bool_, complex, np.complexfloating)
 WRITTEN_AS = "True and False are not numbers: write 1 and 0"
 
 
+class Source(str):
+    """The name of a table in errors, with the row of the file of each of its rows.
+
+    Attributes
+    ----------
+    header_row, first_row : int
+        The rows of the names and of the first block, from 1.
+    kept : int array, optional
+        Which of the file's blocks the rows are, from 0; None: all.
+    """
+
+    header_row: int = 1
+    first_row: int = HEADER_ROWS
+    kept: Optional[np.ndarray] = None
+
+    @classmethod
+    def of(cls, name: str, rows: tuple[int, int], kept: Optional[np.ndarray] = None) -> Source:
+        """Returns the source of a file whose names and first block are in these rows."""
+        source = cls(name)
+        source.header_row, source.first_row = rows
+        source.kept = kept
+        return source
+
+    def at(self, kept: np.ndarray) -> Source:
+        """Returns the source of some of the rows, given by their numbers."""
+        there = kept if self.kept is None else self.kept[kept]
+        return Source.of(str(self), (self.header_row, self.first_row), there)
+
+
+def row_of(source: str, row: int) -> int:
+    """Returns the row of the file of a block, which is counted from 0."""
+    if not isinstance(source, Source):
+        return row + HEADER_ROWS
+    return source.first_row + (row if source.kept is None else int(source.kept[row]))
+
+
+def header_row_of(source: str) -> int:
+    """Returns the row of the names."""
+    return source.header_row if isinstance(source, Source) else 1
+
+
 def at_row(source: str, row: int, column: str, why: str) -> PlanError:
     """`row` counts the blocks from 0."""
-    return PlanError(f"{source} row {row + HEADER_ROWS} column {column}: {why}")
+    return PlanError(f"{source} row {row_of(source, row)} column {column}: {why}")
 
 
 def is_numeric(column: pd.Series) -> bool:

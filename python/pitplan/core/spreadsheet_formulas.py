@@ -2,24 +2,30 @@
 
 from __future__ import annotations
 
-from collections.abc import Iterator, Sequence
+from collections.abc import Callable, Iterator, Sequence
 from itertools import chain
+from typing import Any
 
 import pandas as pd
 
-from .numeric_fields import HEADER_ROWS, holds_texts
+from .numeric_fields import header_row_of, holds_texts, row_of
 
 SIGNS = frozenset("=+-@")
 # Of a longer text the beginning is shown.
 MOST_SHOWN = 40
 
 
-def warnings_of(frame: pd.DataFrame, codes: Sequence[str], source: str) -> list[str]:
+def warnings_of(
+    frame: pd.DataFrame, codes: Sequence[str], source: str, nulls: Callable[[str], Sequence[str]] = lambda name: ()
+) -> list[str]:
     """One warning that names the first such text by its row and column, and counts the others; none where there is no such text.
 
-    Among the columns that are no codes a number written as a text is none: a spreadsheet reads it as the same number.
+    Among the columns that are no codes a number written as a text is none: a spreadsheet reads it as the same number. Nor are the null codes
+    of a column, which `nulls` gives.
     """
-    found = list(chain.from_iterable(in_column(frame.iloc[:, place], codes) for place in range(frame.shape[1])))
+    found = list(
+        chain.from_iterable(in_column(frame.iloc[:, place], codes, source, nulls) for place in range(frame.shape[1]))
+    )
     if not found:
         return []
     row, column, text = min(found, key=lambda it: it[0])
@@ -29,19 +35,32 @@ def warnings_of(frame: pd.DataFrame, codes: Sequence[str], source: str) -> list[
     return [f"WARNING: {source} row {row} column {column!r}: {shown!r} begins with =, +, - or @{more}: {kept}"]
 
 
-def in_column(column: pd.Series, codes: Sequence[str]) -> Iterator[tuple[int, str, str]]:
-    """The row, the column's name and the text of each, the header being row 1."""
+def in_column(
+    column: pd.Series, codes: Sequence[str], source: str, nulls: Callable[[str], Sequence[str]]
+) -> Iterator[tuple[int, str, str]]:
+    """The row of the file, the column's name and the text of each."""
     name = str(column.name)
     if name[:1] in SIGNS:
-        yield 1, name, name
+        yield header_row_of(source), name, name
     if not holds_texts(column):
         return
     fields = column.tolist()
-    if SIGNS.isdisjoint({field[:1] for field in fields if isinstance(field, str)}):
+    if not has_formula(fields):
         return
-    for row, field in enumerate(fields, HEADER_ROWS):
-        if isinstance(field, str) and field[:1] in SIGNS and (column.name in codes or not is_number(field)):
-            yield row, name, field
+    known = nulls(name)
+    for row, field in enumerate(fields):
+        is_sign = isinstance(field, str) and field[:1] in SIGNS and field.strip() not in known
+        if is_sign and (column.name in codes or not is_number(field)):
+            yield row_of(source, row), name, field
+
+
+def has_formula(fields: list[Any]) -> bool:
+    """Returns whether a text may begin with a sign; one with line breaks may, too. A search of all texts together is the fastest."""
+    try:
+        whole = "\n" + "\n".join(fields)
+        return any(f"\n{sign}" in whole for sign in SIGNS)
+    except TypeError:
+        return not SIGNS.isdisjoint({field[:1] for field in fields if isinstance(field, str)})
 
 
 def is_number(text: str) -> bool:

@@ -2,38 +2,62 @@
 
 from __future__ import annotations
 
+import re
 import warnings
+from collections.abc import Mapping, Sequence
 from pathlib import Path
+from typing import Optional
 
 import pandas as pd
 
 from pitplan.errors import PlanError
 
-from .numeric_fields import without_truths
+from .numeric_fields import header_row_of, without_truths
 from .text_format import UNREADABLE, NulByte, TableFormat, WholeText, nul_byte, opened, unreadable, wrong_encoding
 
 # Rows that are read at a time: the reader holds several times what it has read.
 PIECE = 500_000
 
 
-def read_columns(file: Path, form: TableFormat, codes: list[str], wanted: list[str]) -> pd.DataFrame:
-    """The file as it is: numbers where a column has no other field, codes as texts, and an empty number as nan.
+def read_columns(
+    file: Path,
+    form: TableFormat,
+    codes: list[str],
+    wanted: list[str],
+    nulls: Optional[Mapping[str, Sequence[str]]] = None,
+) -> pd.DataFrame:
+    """Returns the file as it is: numbers if a column has no other field, codes as texts, and an empty number as nan.
 
-    Raises PlanError where it cannot be read or is no table; whether the wanted columns are there is not looked at.
+    Parameters
+    ----------
+    file : Path
+    form : TableFormat
+    codes : list of str
+        Columns of texts.
+    wanted : list of str
+        Columns of numbers, and codes; whether they exist is not checked.
+    nulls : mapping, optional
+        Texts that stand for an empty field, by the wanted column of numbers.
+
+    Raises
+    ------
+    PlanError
+        If the file cannot be read or is not a table.
     """
     try:
         with warnings.catch_warnings():
             # All columns are read, and a line with more fields than the header is an error: pandas would drop the rest.
             warnings.simplefilter("error", pd.errors.ParserWarning)
-            with opened(file) as data, WholeText(data, encoding=form.encoding, newline="") as text:
+            with opened(file) as data, WholeText(data, encoding=form.encoding, errors=form.errors, newline="") as text:
                 pieces = pd.read_csv(
                     text,
-                    sep=form.separator,
+                    sep=pandas_separator(form),
+                    skiprows=form.skipped,
                     decimal=form.decimal,
                     index_col=False,
                     dtype=dict.fromkeys(codes, str),
                     keep_default_na=False,
-                    na_values={name: [""] for name in wanted if name not in codes},
+                    na_values={name: ["", *(nulls or {}).get(name, ())] for name in wanted if name not in codes},
                     float_precision="round_trip",
                     low_memory=False,
                     chunksize=PIECE,
@@ -44,9 +68,29 @@ def read_columns(file: Path, form: TableFormat, codes: list[str], wanted: list[s
     except UnicodeError as error:
         raise wrong_encoding(file, form.encoding) from error
     except (pd.errors.ParserError, pd.errors.EmptyDataError, pd.errors.ParserWarning) as error:
-        raise PlanError(f"{file}: is not a table: {' '.join(str(error).split())}") from error
+        raise no_table(file, form, str(error)) from error
     except UNREADABLE as error:
         raise unreadable(file, error) from error
+
+
+def no_table(file: Path, form: TableFormat, why: str) -> PlanError:
+    """Returns the error for a text of which pandas makes no table, with the row if pandas names it."""
+    if found := re.search(r"Expected (\d+) fields in line (\d+), saw (\d+)", why):
+        names, row, fields = (int(it) for it in found.groups())
+        remedy = "quote a field that contains the separator, or remove the surplus one"
+        return PlanError(f"{file} row {row}: has {fields} fields, expected the {names} of the names: {remedy}")
+    if "does not match length of data" in why:
+        return PlanError(
+            f"{file} row {form.first_row}: has more fields than names in row {form.header_row}: name each column"
+        )
+    if found := re.search(r"EOF inside string starting at row (\d+)", why):
+        row = int(found[1]) + 1 + len(form.skipped)
+        return PlanError(f"{file} row {row}: a quotation mark is opened and not closed: close it, or remove it")
+    return PlanError(f"{file}: is not a table: {' '.join(why.split())}")
+
+
+def pandas_separator(form: TableFormat) -> str:
+    return r"\s+" if form.has_blanks else form.separator
 
 
 def joined(pieces: list[pd.DataFrame]) -> pd.DataFrame:
@@ -62,7 +106,15 @@ def read_header(file: Path, form: TableFormat) -> list[str]:
     """The names of a table's columns. Raises PlanError where it cannot be read."""
     try:
         with opened(file) as data:
-            return list(pd.read_csv(data, sep=form.separator, nrows=0, encoding=form.encoding).columns)
+            header = pd.read_csv(
+                data,
+                sep=pandas_separator(form),
+                skiprows=form.skipped,
+                nrows=0,
+                encoding=form.encoding,
+                encoding_errors=form.errors,
+            )
+            return list(header.columns)
     except (*UNREADABLE, ValueError) as error:
         raise PlanError(f"{file}: cannot be read: {error}") from error
 
@@ -71,11 +123,17 @@ def demand_columns(frame: pd.DataFrame, wanted: list[str], source: str) -> None:
     for name in wanted:
         if name not in frame.columns:
             there = ", ".join(map(str, frame.columns))
-            raise PlanError(f"{source} row 1: there is no column {name}; the columns are {there}")
+            raise PlanError(f"{source}{of_header(source)}: there is no column {name}; the columns are {there}")
     demand_each_once([name for name in frame.columns if name in wanted], source)
 
 
 def demand_each_once(names: list[str], source: str) -> None:
     for name in names:
         if names.count(name) > 1:
-            raise PlanError(f"{source} row 1: the column {name} occurs twice")
+            raise PlanError(f"{source}{of_header(source)}: the column {name} occurs twice")
+
+
+def of_header(source: str) -> str:
+    """Returns the row of the names, as errors say it; "" for a file that has them in no row."""
+    row = header_row_of(source)
+    return f" row {row}" if row else ""

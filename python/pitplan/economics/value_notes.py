@@ -10,23 +10,17 @@ import pandas as pd
 
 from pitplan.config.economics import ByCode, ByDomain, Curve, Metal
 from pitplan.config.project import Project
-from pitplan.core.numeric_fields import HEADER_ROWS
 
 from .weighing import GRADES, Feed, Rows
 
 
 def grade_notes(rows: Rows) -> list[str]:
-    """Returns warnings about grades that do not fit their unit: more metal than rock, or an unusually high mean."""
+    """Returns warnings about grades with an unusually high mean for their unit."""
     notes = []
     for metal in rows.project.metals:
-        grades, (whole, usual) = rows.frame[metal.column].to_numpy(), GRADES[metal.unit]
+        grades, (_, usual) = rows.frame[metal.column].to_numpy(), GRADES[metal.unit]
         some = grades[grades > 0]
-        if len(some) and some.max() > whole:
-            row = int((grades > whole).argmax()) + HEADER_ROWS
-            notes.append(
-                f"WARNING: {np.count_nonzero(some > whole):,} grades of {metal.name} are above {whole:,g} {metal.sign}, the first in row {row}"
-            )
-        elif len(some) and some.mean() > usual:
+        if len(some) and some.mean() > usual:
             notes.append(
                 f'WARNING: the mean grade of {metal.name} in blocks above 0 is {some.mean():.4g} {metal.sign}: check the unit "{metal.unit}"'
             )

@@ -13,6 +13,7 @@ from pitplan.blockmodel.reader import format_of
 from pitplan.config import project_writer
 from pitplan.config.project import Project
 from pitplan.core.atomic_files import hash_of
+from pitplan.core.numeric_fields import Source
 from pitplan.core.text_format import TableFormat, demand_text, names_in_header
 from pitplan.core.text_tables import read_columns, read_header
 from pitplan.errors import PlanError
@@ -27,7 +28,7 @@ WRITTEN_AS = {"utf-8-sig": "utf-8"}
 
 def write(path: Path, folder: Folder) -> None:
     """Writes the table in its own text format, with the columns FOUND after the planner's. A planner's column of such a name becomes
-    planner_NAME, as in blocks.csv.
+    planner_NAME, as in blocks.csv. Of the header lines the names are written alone; rows that are no blocks have zeros.
 
     Raises
     ------
@@ -37,7 +38,10 @@ def write(path: Path, folder: Folder) -> None:
     project = project_of(folder)
     demand_text(project.table.file, "export --to table")
     frame, form = as_text(project.table.file, project)
-    cells = cells_of(reader.read(project).frame, project, folder.grid)
+    cells = np.full(len(frame), -1)
+    table = reader.read(project)
+    kept = table.source.kept if isinstance(table.source, Source) else None
+    cells[slice(None) if kept is None else kept] = cells_of(table.frame, project, folder.grid)
     blocks = folder.blocks.set_index("id")
     for name in FOUND:
         if name in blocks:

@@ -52,6 +52,8 @@ def unlike_grid(parts: pd.DataFrame, project: Project, grid: dict[str, Any]) -> 
     """Returns differences of block size and edges from the project."""
     columns, rules, found = project.table, project.table.reblock, []
     assert rules is not None
+    if rules.counts is None and rules.size is None:
+        return unlike_parents(parts, project, grid)
     levels, axes = grid["shape"][0], [columns.x, columns.y, columns.z]
     # Metres: of a rotated grid along its own axes from its first block, otherwise the planner's.
     first = np.array([0.0, 0.0, grid["origin"][2]]) if grid.get("azimuth") else np.array(grid["origin"])
@@ -81,6 +83,22 @@ def unlike_grid(parts: pd.DataFrame, project: Project, grid: dict[str, Any]) -> 
             expected, start = rules.size[k], corner + size * np.rint((edge - corner) / size)
         if abs(expected - size) > HAIR or abs(edge - start) > max(HAIR, project.grid.tolerance):
             found.append(f"{name}: blocks of {size:.10g} m from {edge:.10g} on for {expected:.10g} from {start:.10g}")
+    return found
+
+
+def unlike_parents(parts: pd.DataFrame, project: Project, grid: dict[str, Any]) -> list[str]:
+    """Returns differences of the blocks from the largest cells, which are whole blocks along each axis along which they are as large."""
+    axes, found = [project.table.x, project.table.y, project.table.z], []
+    sides, steps = parts[list(project.table.rules.cell_size or ())].to_numpy(), steps_of(parts[axes].to_numpy(), grid)
+    greatest = sides.max(axis=0)
+    for k, name in enumerate(axes):
+        size = grid["size"][k]
+        whole = (sides == greatest).all(axis=1) if (sides == greatest).all(axis=1).any() else sides[:, k] == greatest[k]
+        off = np.abs(steps[whole, k] - np.rint(steps[whole, k])).max() * size
+        if abs(greatest[k] - size) > HAIR or off > max(HAIR, project.grid.tolerance):
+            found.append(
+                f"{name}: blocks of {size:.10g} m for cells of {greatest[k]:.10g} m, which lie {off:.3g} m off them"
+            )
     return found
 
 

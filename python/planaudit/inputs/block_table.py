@@ -2,7 +2,7 @@
 
 from __future__ import annotations
 
-import csv
+import codecs
 import gzip
 import io
 import re
@@ -11,46 +11,86 @@ from collections.abc import Iterator
 from contextlib import contextmanager
 from decimal import Decimal, InvalidOperation
 from pathlib import Path
-from typing import IO, Any, cast
+from typing import IO, Any, Optional, cast
 
 import numpy as np
 import pandas as pd
 
 from planaudit.errors import AuditError, PackageError
-from planaudit.inputs import classes
+from planaudit.inputs import classes, models, row_rules
+from planaudit.inputs.formulas import value_of
 from planaudit.inputs.project import Project, TableColumns
+from planaudit.inputs.text_layout import TextLayout, layout_of
 
 SEPARATORS = ",;\t|"
-# The header is row 1.
+# The first row of a table with one header line.
 FIRST_ROW = 2
 # Tonnes by density are kept to a gram. This close to a half they are computed exactly.
-TONNES_PLACES, NEAR = 6, 1e-3
+TONNES_PLACES, GRADE_PLACES, NEAR = 6, 9, 1e-3
+# The error handler of `codecs` for bytes that are no UTF-8.
+MIXED = "planaudit.windows"
 
 
 def read(project: Project) -> pd.DataFrame:
-    """Returns the columns of the table that the project names, one row per row of the table, and tonnes if they follow from a density.
+    """Returns the columns of the blocks that the project names, one row per row of the table that is a block, with its tonnes.
 
     Raises
     ------
     AuditError
         With file, row and column, if a column is missing or a field is not a number.
     """
-    table = project.table
-    frame = read_columns(table.file, table, project.codes, project.columns)
-    for name in frame.columns.difference([*project.codes, *project.economics.adjusting], sort=False):
-        may_be_empty = table.empty == "zero" and name not in (table.x, table.y, table.z)
-        frame[name] = without_gaps(frame[name].to_numpy(), table.file, name, may_be_empty)
-    if table.density:
-        frame[table.tonnes] = tonnes_by_density(frame, project)
+    table, rules = project.table, project.table.rules
+    frame = with_rules(project)
+    kept = row_rules.within(frame, rules, (table.x, table.y, table.z))
+    amounts = [name for name in frame if name in {*project.columns, *rules.numbers} - set(project.codes)]
+    for name in amounts:
+        if rules.meaning(name, table.empty) == "missing":
+            kept &= frame[name].notna().to_numpy()
+    if not kept.all():
+        frame = frame[kept].reset_index(drop=True)
+    for name in [name for name in amounts if name not in project.economics.adjusting]:
+        frame[name] = without_gaps(frame[name].to_numpy(dtype=float), table.file, name, is_zero(name, table))
+    is_of_parents = table.reblock is not None and table.reblock.counts is None and table.reblock.size is None
+    cells = rules.cell_size or () if is_of_parents else ()
+    frame = with_tonnes(frame, project)
     for name in project.economics.adjusting:
         frame[name] = factors(frame, name, project)
+    demand_classes(frame, project)
+    return frame[list(dict.fromkeys([*project.columns, table.tonnes, *cells]))]
+
+
+def demand_classes(frame: pd.DataFrame, project: Project) -> None:
+    """Raises AuditError as `read` if a block with tonnes has a class that the project refuses."""
+    table = project.table
     refused = classes.treated_as("refuse", frame, project) & (frame[table.tonnes].to_numpy() > 0)
     if refused.any():
         row = int(refused.argmax())
         code = frame[str(table.resource_class)].iloc[row]
         where = f"{table.file} row {row + FIRST_ROW} column {table.resource_class}"
         raise AuditError(f'{where}: found "{code}", which [classes] refuses: correct the class')
+
+
+def with_rules(project: Project) -> pd.DataFrame:
+    """Returns the rows of the file with mapped codes and calculated columns; numbers with nan for a null that is not read as 0."""
+    table, rules = project.table, project.table.rules
+    needed = rules.needed(project.columns)
+    texts = [name for name in needed if name in project.codes or name in rules.mapped]
+    frame = read_columns(table.file, table, texts, needed, [*project.columns, *rules.numbers])
+    for name in needed:
+        if frame[name].dtype.kind == "f" and is_zero(name, table) and name not in project.economics.adjusting:
+            frame[name] = frame[name].fillna(0.0)
+    for name in [name for name in rules.mapped if name in frame]:
+        frame[name] = row_rules.mapped(frame[name], rules.mapped[name], str(table.file))
+    for name, text in rules.calculated.items():
+        value = value_of(text, frame)
+        frame[name] = row_rules.as_code(value) if name in project.codes else value
     return frame
+
+
+def is_zero(name: str, table: TableColumns) -> bool:
+    """Returns whether a null in a column of numbers is read as 0, as in no centroid and no cell size."""
+    never = (table.x, table.y, table.z, *(table.rules.cell_size or ()))
+    return table.rules.meaning(name, table.empty) == "zero" and name not in never
 
 
 def factors(frame: pd.DataFrame, name: str, project: Project) -> np.ndarray:
@@ -66,24 +106,57 @@ def factors(frame: pd.DataFrame, name: str, project: Project) -> np.ndarray:
     return np.where(np.isnan(found), 1.0, found)
 
 
-def read_columns(file: Path, table: TableColumns, codes: list[str], wanted: list[str]) -> pd.DataFrame:
-    """Returns columns of a file in the format of the table: codes as texts without blanks around them, numbers as floats, nan if empty.
+def read_columns(
+    file: Path, table: TableColumns, codes: list[str], wanted: list[str], numeric: Optional[list[str]] = None
+) -> pd.DataFrame:
+    """Returns columns of a file in the format of the table.
 
-    Raises AuditError as `read`.
+    Parameters
+    ----------
+    file : Path
+    table : TableColumns
+    codes : list of str
+        Columns of texts: without blanks around them, "" for a null.
+    wanted : list of str
+    numeric : list of str, optional
+        Columns of numbers: floats, nan for a null. By default all but the codes; others are texts if a field is not a number.
+
+    Raises
+    ------
+    AuditError
+        As `read`.
     """
-    if file.suffix.lower() == ".parquet":
-        frame = parquet(file, wanted)
+    layout = layout_by(file, table)
+    if layout is None:
+        frame = parquet(file, wanted) if is_parquet(file) else models.read(file, codes)
     else:
-        frame = delimited(file, table, codes, wanted)
+        frame = delimited(file, table, layout, (codes, wanted))
     missing = [name for name in wanted if name not in frame]
     if missing:
         raise AuditError(f"{file} row 1: there is no column {missing[0]}")
-    for name in frame:
+    frame = frame[wanted]
+    has_comma = has_commas(table, layout.separator if layout else ",")
+    first = layout.first_row if layout else FIRST_ROW
+    for name in wanted:
+        nulls = table.rules.codes_of(name)
         if name in codes:
-            frame[name] = stripped(frame[name])
-        elif frame[name].dtype.kind not in "if":
-            frame[name] = numbers(frame[name], file, has_commas(table, separator_of(file, table)))
-    return frame[wanted].astype({name: float for name in wanted if name not in codes})
+            texts = stripped(frame[name])
+            frame[name] = texts.mask(row_rules.is_null(texts, nulls), "") if nulls else texts
+            continue
+        if frame[name].dtype.kind not in "if":
+            texts = stripped(frame[name].astype(object))
+            texts = texts.mask(row_rules.is_null(texts, nulls), "") if nulls else texts
+            try:
+                frame[name] = numbers(texts, f"{file}", first, has_comma)
+            except AuditError:
+                if numeric is None or name in numeric:
+                    raise
+                frame[name] = texts
+                continue
+        frame[name] = frame[name].astype(float)
+        if nulls:
+            frame[name] = frame[name].mask(row_rules.is_null(frame[name], nulls))
+    return frame
 
 
 def stripped(codes: pd.Series) -> pd.Series:
@@ -95,13 +168,17 @@ def stripped(codes: pd.Series) -> pd.Series:
     return texts.str.strip() if has_blanks else texts
 
 
-def delimited(file: Path, table: TableColumns, codes: list[str], wanted: list[str]) -> pd.DataFrame:
+def delimited(
+    file: Path, table: TableColumns, layout: TextLayout, columns: tuple[list[str], list[str]]
+) -> pd.DataFrame:
+    """Returns columns of a text; `columns` are the codes and those that are wanted."""
+    codes, wanted = columns
     try:
-        with opened(file) as data:
+        with text_of(file, table) as text:
             return pd.read_csv(
-                data,
-                sep=separator_of(file, table),
-                encoding=table.encoding,
+                text,
+                sep=r"\s+" if layout.separator == " " else layout.separator,
+                skiprows=layout.passed,
                 usecols=lambda name: name in wanted,
                 dtype=dict.fromkeys(codes, str),
                 keep_default_na=False,
@@ -143,23 +220,49 @@ def opened(file: Path) -> Iterator[IO[bytes]]:
 
 def header(file: Path, table: TableColumns) -> list[str]:
     """Returns the names of the columns of a file."""
-    return next(csv.reader([first_line(file, table.encoding)], delimiter=separator_of(file, table)), [])
+    layout = layout_by(file, table)
+    return list(layout.names) if layout else []
 
 
-def separator_of(file: Path, table: TableColumns) -> str:
-    """Returns the separator of the project, otherwise that of the file."""
-    return table.separator or guessed_separator(file, table.encoding)
+def layout_by(file: Path, table: TableColumns) -> Optional[TextLayout]:
+    """Returns the layout of a text; None of another file."""
+    if is_parquet(file) or models.is_model(file):
+        return None
+    with text_of(file, table) as text:
+        return layout_of(iter(text.readline, ""), table.separator, table.header_row, table.first_row)
+
+
+def is_parquet(file: Path) -> bool:
+    return file.suffix.lower() == ".parquet"
+
+
+@contextmanager
+def text_of(file: Path, table: TableColumns) -> Iterator[io.TextIOWrapper]:
+    """Opens a text in the encoding of the project; otherwise that of its byte-order mark, or UTF-8 with bytes of Windows-1252."""
+    with opened(file) as data:
+        start = data.read(2)
+    is_utf_16 = start in (codecs.BOM_UTF16_LE, codecs.BOM_UTF16_BE)
+    encoding = table.encoding or ("utf-16" if is_utf_16 else "utf-8-sig")
+    errors = "strict" if table.encoding or is_utf_16 else MIXED
+    with opened(file) as data, io.TextIOWrapper(data, encoding=encoding, errors=errors, newline="") as text:
+        yield text
+
+
+def of_windows(error: UnicodeError) -> tuple[str, int]:
+    """Reads bytes that are no UTF-8 as Windows-1252."""
+    assert isinstance(error, UnicodeDecodeError)
+    return str(error.object[error.start : error.end], "cp1252", "replace"), error.end
+
+
+codecs.register_error(MIXED, of_windows)
 
 
 def guessed_separator(file: Path, encoding: str) -> str:
-    """Returns the most frequent separator in the header outside quotes."""
-    line = "".join(re.split('"[^"]*"', first_line(file, encoding)))
-    return max(SEPARATORS, key=line.count)
-
-
-def first_line(file: Path, encoding: str) -> str:
+    """Returns the most frequent separator in the first line outside quotes."""
     with opened(file) as data:
-        return io.TextIOWrapper(data, encoding=encoding).readline()
+        first = io.TextIOWrapper(data, encoding=encoding).readline()
+    line = "".join(re.split('"[^"]*"', first))
+    return max(SEPARATORS, key=line.count)
 
 
 def has_commas(table: TableColumns, separator: str) -> bool:
@@ -167,7 +270,7 @@ def has_commas(table: TableColumns, separator: str) -> bool:
     return table.decimal == "," or (table.decimal is None and separator != ",")
 
 
-def numbers(fields: pd.Series, file: Path, is_comma: bool) -> np.ndarray:
+def numbers(fields: pd.Series, file: str, first_row: int, is_comma: bool) -> np.ndarray:
     """Returns the numbers of fields that are not all plain numbers, nan if empty. Raises AuditError as `read`."""
     found = np.full(len(fields), np.nan)
     for row, field in enumerate(fields.tolist()):
@@ -177,7 +280,7 @@ def numbers(fields: pd.Series, file: Path, is_comma: bool) -> np.ndarray:
         try:
             found[row] = number(text.replace(",", ".") if is_comma and text.count(",") == 1 else text)
         except (InvalidOperation, OverflowError) as error:
-            where = f"{file} row {row + FIRST_ROW} column {fields.name}"
+            where = f"{file} row {row + first_row} column {fields.name}"
             raise AuditError(f'{where}: "{text}" is not a number: correct the field, and run pitplan again') from error
     return found
 
@@ -198,21 +301,34 @@ def without_gaps(values: np.ndarray, file: Path, name: str, may_be_empty: bool) 
     return np.where(empty, 0.0, values)
 
 
-def tonnes_by_density(frame: pd.DataFrame, project: Project) -> np.ndarray:
-    """Returns density times the volume of each row or of the grid's blocks, to a gram: by floats, and exactly if these are near a half."""
-    density = frame[project.table.density].to_numpy()
-    if project.table.volume:
-        volume = frame[project.table.volume].to_numpy()
-    else:
-        assert project.grid.size is not None
-        volume = np.full(len(frame), np.prod(project.grid.size))
-    grams = density * volume * 10.0**TONNES_PLACES
-    found = np.rint(grams) / 10.0**TONNES_PLACES
-    near = np.abs(np.abs(grams - np.floor(grams)) - 0.5) < NEAR + 1e-15 * np.abs(grams)
+def with_tonnes(frame: pd.DataFrame, project: Project) -> pd.DataFrame:
+    """Returns the rows with their tonnes, and with grades of whole blocks if the project gives those of the ore in them."""
+    table, rules = project.table, project.table.rules
+    share = [] if rules.rock_percent is None else [frame[rules.rock_percent[0]].to_numpy()]
+    if table.density or share:
+        factors = [*(factors_by_density(frame, project) if table.density else [frame[table.tonnes].to_numpy()]), *share]
+        frame[table.tonnes] = product(factors, rules.rock_percent[1] if rules.rock_percent else 1, TONNES_PLACES)
+    for metal in project.metals if rules.ore_percent else ():
+        assert rules.ore_percent is not None
+        ore = frame[rules.ore_percent[0]].to_numpy()
+        frame[metal.column] = product([frame[metal.column].to_numpy(), ore], rules.ore_percent[1], GRADE_PLACES)
+    return frame
+
+
+def factors_by_density(frame: pd.DataFrame, project: Project) -> list[np.ndarray]:
+    """Returns the density of each row, and what its volume is the product of."""
+    names = [project.table.volume] if project.table.volume else list(project.table.rules.cell_size or ())
+    sides = [frame[name].to_numpy() for name in names] or [np.full(len(frame), it) for it in project.grid.size or ()]
+    return [frame[project.table.density].to_numpy(), *sides]
+
+
+def product(factors: list[np.ndarray], divisor: int, places: int) -> np.ndarray:
+    """Returns the product of numbers by a divisor, rounded to decimals: by floats, and exactly if these are near a half."""
+    units = np.prod(factors, axis=0) / divisor * 10.0**places
+    found = np.rint(units) / 10.0**places
+    near = np.abs(np.abs(units - np.floor(units)) - 0.5) < NEAR + 2e-15 * np.abs(units)
     for row in np.flatnonzero(near).tolist():
-        sides = [volume[row]] if project.table.volume else list(project.grid.size or ())
-        exact = exact_product([density[row], *sides])
-        found[row] = float(round(exact, TONNES_PLACES))
+        found[row] = float(round(exact_product([values[row] for values in factors]) / divisor, places))
     return np.asarray(found)
 
 

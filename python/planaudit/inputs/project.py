@@ -10,6 +10,8 @@ from decimal import Decimal
 from pathlib import Path
 from typing import Optional, Union
 
+from planaudit.inputs.row_rules import RowRules
+
 # Mass of metal per tonne of ore and unit of grade, in tonnes, or grams if the grade is in grams per tonne.
 GRADE_UNITS = {"percent": Decimal("0.01"), "fraction": Decimal("1"), "gram_per_tonne": Decimal("1")}
 # The years of a cash flow that are counted.
@@ -80,11 +82,14 @@ class TableColumns:
     domain: Optional[str]
     separator: Optional[str]
     decimal: Optional[str]
-    encoding: str
+    encoding: Optional[str]
     empty: str
     missing_blocks: Union[str, MissingRock]
     reblock: Optional[Reblock]
     topography: Optional[SurveyFile]
+    header_row: Optional[int] = None
+    first_row: Optional[int] = None
+    rules: RowRules = field(default_factory=RowRules)
     resource_class: Optional[str] = None
 
 

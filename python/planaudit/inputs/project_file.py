@@ -41,6 +41,7 @@ from planaudit.inputs.project import (
     TableColumns,
     Wall,
 )
+from planaudit.inputs.row_rules import row_rules_of
 from planaudit.revenue_factors import BASE_PRICE, PER_MILLE, nearest
 
 Data = Mapping[str, Any]
@@ -177,11 +178,14 @@ def table_of(data: Data, place: Places) -> TableColumns:
         z=data.get("z", "z"),
         tonnes=data.get("tonnes", "tonnes"),
         **optional,
-        encoding=encoding_of(data.get("encoding", "utf-8")),
+        encoding=encoding_of(data["encoding"]) if "encoding" in data else None,
         empty=data.get("empty", "refuse"),
         missing_blocks=missing,
         reblock=reblock_of(data["reblock"]) if "reblock" in data else None,
         topography=survey_of(data["topography"], place) if "topography" in data else None,
+        header_row=data.get("header_row"),
+        first_row=data.get("first_row"),
+        rules=row_rules_of(data),
         resource_class=data.get("class"),
     )
 
@@ -193,6 +197,8 @@ def encoding_of(name: str) -> str:
 
 
 def reblock_of(value: Any) -> Reblock:
+    if value == "parents":
+        return Reblock(None)
     if isinstance(value, dict):
         return Reblock(None, three(value["size"]), three(value["corner"]))
     east, north, up = map(int, value)

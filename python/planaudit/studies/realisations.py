@@ -135,8 +135,9 @@ class Simulated:
             return self.table[[model.columns.get(metal.name, metal.column) for metal in metals]].to_numpy()
         frame, found = self.read_model(model.file), np.zeros((len(self.named), len(metals)))
         at = self.places_of(frame, model.file)
+        frame, at = frame[at >= 0], at[at >= 0]
         for number, metal in enumerate(metals):
-            zero = self.project.table.empty == "zero"
+            zero = self.project.table.rules.meaning(metal.column, self.project.table.empty) == "zero"
             grades = frame[metal.column].to_numpy()
             found[at, number] = block_table.without_gaps(grades, model.file, metal.column, zero)
         return found
@@ -161,7 +162,7 @@ class Simulated:
             at = frame[columns.id].str.strip().map(numbers).fillna(-1).to_numpy(dtype=np.int64)
         else:
             at = self.at_centres(frame[[columns.x, columns.y, columns.z]].to_numpy(dtype=np.float64))
-        if (at < 0).any():
+        if (at < 0).any() and not self.project.table.rules.leaves_out:
             raise AuditError(
                 f"{file}: {np.count_nonzero(at < 0):,} of its blocks are not in the table: has it changed since?"
             )

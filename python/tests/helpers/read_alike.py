@@ -11,6 +11,7 @@ from pitplan.blockmodel import reader
 from pitplan.survey import readers
 from planaudit.inputs import block_table, drawings, project_file, surveys
 from planaudit.inputs.project import SurveyFile, Wall
+from planaudit.inputs.row_rules import RowRules
 
 
 def differences(audit, planner, where="project"):
@@ -18,6 +19,8 @@ def differences(audit, planner, where="project"):
     if isinstance(audit, Wall) and audit.bench:
         # The planner adds the angle of benches; the audit computes with the benches themselves.
         planner = replace(planner, angles=())
+    if isinstance(audit, RowRules):
+        planner = as_audited(planner)
     if is_dataclass(audit):
         for field in fields(audit):
             yield from differences(getattr(audit, field.name), getattr(planner, field.name), f"{where}.{field.name}")
@@ -29,6 +32,21 @@ def differences(audit, planner, where="project"):
             yield from differences(audit[name], planner[name], f"{where}.{name}")
     elif audit != planner or isinstance(audit, Path) != isinstance(planner, Path):
         yield f"{where}: {audit!r} for {planner!r}"
+
+
+def as_audited(rules):
+    """The planner's rules of rows in the fields of the audit's."""
+    shares = {key: (it := getattr(rules, key)) and (it.column, it.whole) for key in ("rock_percent", "ore_percent")}
+    return RowRules(
+        null_values=rules.nulls.values,
+        nulls={name: (rule.values, rule.meaning) for name, rule in rules.nulls.by_column.items()},
+        mapped=rules.mapped,
+        calculated={name: it.text for name, it in rules.calculated.items()},
+        filter=rules.filter and rules.filter.text,
+        clip=rules.clip,
+        cell_size=rules.cell_size,
+        **shares,
+    )
 
 
 def demand_read_alike(path, planner):

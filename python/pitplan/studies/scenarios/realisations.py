@@ -16,10 +16,13 @@ from pitplan import preparation
 from pitplan.blockmodel import reader
 from pitplan.blockmodel.grid import Grid
 from pitplan.blockmodel.reader import Table, format_of
+from pitplan.blockmodel.row_rules import numbers_without
+from pitplan.blockmodel.table_checks import demand_no_more_than_whole, demand_none_below_0
 from pitplan.config.economics import Metal
 from pitplan.config.project import Project
 from pitplan.config.scenarios import Scenarios
-from pitplan.core.numeric_fields import HEADER_ROWS, at_row
+from pitplan.config.table_rules import ZERO
+from pitplan.core.numeric_fields import Source, at_row, numbers_of, row_of
 from pitplan.core.progress import Progress, silent
 from pitplan.core.text_format import demand_text
 from pitplan.core.text_tables import demand_columns, read_header
@@ -164,18 +167,25 @@ def name_of_model(path: Path) -> str:
 def read_model(path: Path, base: Base) -> np.ndarray:
     """Reads the table of a realisation; returns its grades in the order of the block model, shape (rows, metals)."""
     columns, metals = base.project.table, base.project.metals
-    source, grades = str(path), [metal.column for metal in metals]
+    grades = [metal.column for metal in metals]
     places = [columns.x, columns.y, columns.z]
     codes = [columns.id] if columns.id else []
-    frame, _ = reader.read_as_written(path, columns, codes, [*codes, *places, *grades])
+    frame, form = reader.read_as_written(path, columns, codes, [*codes, *places, *grades])
+    source = Source.of(str(path), (form.header_row, form.first_row))
     by_id = columns.id is not None and columns.id in frame.columns
     demand_columns(frame, [*(codes if by_id else places), *grades], source)
     at = rows_by_id(frame, base, source) if by_id else rows_by_place(frame, base, source)
+    if columns.rules.leaves_out:
+        # Realisations have the rows that [table] leaves out, too.
+        source, frame, at = source.at(np.flatnonzero(at >= 0)), frame[at >= 0], at[at >= 0]
     demand_every_block(at, base, source)
     result = np.zeros((len(base.rows), len(metals)))
     for number, name in enumerate(grades):
-        values, _ = reader.filled_numbers(frame[name], source, name, columns.empty == "zero")
-        reader.demand_none_below_0(values, source, name)
+        may_fill = columns.rules.nulls.meaning(name, columns.empty) == ZERO
+        numbers = numbers_without(numbers_of(frame[name], source, name), columns.rules.nulls.of(name))
+        values, _ = reader.filled_numbers(pd.Series(numbers), source, name, may_fill)
+        demand_none_below_0(values, source, name)
+        demand_no_more_than_whole(values, metals[number], source)
         result[at, number] = values
     return result
 
@@ -185,7 +195,7 @@ def rows_by_id(frame: pd.DataFrame, base: Base, source: str) -> np.ndarray:
     name = base.project.table.id
     ids = frame[name].str.strip()
     at = pd.Index(base.rows[name]).get_indexer(ids)
-    if (at < 0).any():
+    if (at < 0).any() and not base.project.table.rules.leaves_out:
         row = int((at < 0).argmax())
         raise at_row(source, row, str(name), f"{ids.iloc[row]} is not the id of a block of {base.prepared.read.source}")
     return at
@@ -197,7 +207,7 @@ def rows_by_place(frame: pd.DataFrame, base: Base, source: str) -> np.ndarray:
     axes = (names.x, names.y, names.z)
     x, y, z = (reader.filled_numbers(frame[name], source, name, False)[0] for name in axes)
     at = rows_on_grid(x, y, z, base) if base.prepared.parts is None else nearest_rows(np.stack([x, y, z], axis=1), base)
-    if (at < 0).any():
+    if (at < 0).any() and not base.project.table.rules.leaves_out:
         why = f"no block of {base.prepared.read.source} has this centroid"
         raise at_row(source, int((at < 0).argmax()), ", ".join(axes), why)
     return at
@@ -231,9 +241,11 @@ def demand_every_block(at: np.ndarray, base: Base, source: str) -> None:
     times = np.bincount(at, minlength=known)[:known]
     if times.max(initial=0) > 1:
         row = int(pd.Series(at).duplicated().to_numpy().argmax())
-        raise PlanError(f"{source} row {row + HEADER_ROWS}: the block is in another row too: expected each block once")
+        raise PlanError(
+            f"{source} row {row_of(source, row)}: the block is in another row too: expected each block once"
+        )
     if times.min() == 0:
-        row = int((times == 0).argmax()) + HEADER_ROWS
+        row = row_of(base.prepared.read.source, int((times == 0).argmax()))
         raise PlanError(
             f"{source}: {np.count_nonzero(times == 0):,} blocks are missing, first that of {base.prepared.read.source} row {row}"
         )

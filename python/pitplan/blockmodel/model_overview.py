@@ -1,0 +1,183 @@
+"""What a planner should see first of a table: how it was recognised, extents, tonnes, grades, a table of its columns, and warnings."""
+
+from __future__ import annotations
+
+from typing import Optional
+
+import numpy as np
+
+from pitplan.config.economics import GRADE_SIGNS
+from pitplan.core.numeric_fields import is_numeric
+from pitplan.core.table_layout import NAMES
+from pitplan.errors import WARNING
+
+from .guessed_model import (
+    NEEDED,
+    Model,
+    has_several_sizes,
+    least_gap,
+    share_of,
+    size_of,
+    tonnes_of,
+    turned_grid,
+    volumes_of,
+)
+from .plausibility import of_codes
+from .summary import Axis, Grade, mean_of, not_used
+
+HEADINGS = ("column", "role", "unit", "nulls", "least", "mean", "greatest", "why")
+UNITS = {"tonnes": "t", "density": "t/m3", "volume": "m3"}
+ROLES = {"rock_type": "rock type", "class": "resource class", "domain": "slope domain", "rock_percent": "share of rock"}
+# Codes of a column that are listed, and letters of each.
+MOST_CODES, MOST_LETTERS = 4, 12
+# Share of the box above which cells overlap.
+MOST_FILLED = 1.001
+
+
+def overview(model: Model) -> list[str]:
+    """Returns the lines; print_notes puts the warnings last."""
+    tonnes = tonnes_of(model)
+    said = [f"{model.file}: {len(model.frame):,} blocks, {tonnes.sum():,.0f} tonnes", *axes_of(model)]
+    grades = [grade_of(model, metal.column, tonnes) for metal in model.columns.metals]
+    said += [f"{grade.line}, {metal.why}" for grade, metal in zip(grades, model.columns.metals)]
+    said += not_used(unused(model))
+    said += [line for line in [model.form.layout.said if model.form.layout else ""] if line]
+    said += format_notes(model)
+    said += volume_lines(model)
+    said += column_lines(model)
+    doubts = [doubt for grade in grades for doubt in grade.doubts]
+    return [*said, *doubts, *warnings_of(model, tonnes)]
+
+
+def axes_of(model: Model) -> list[str]:
+    """Returns a line for each axis, and one for a turned grid."""
+    turned, said = turned_grid(model), []
+    for name, guess in sorted(model.columns.centres.items()):
+        values, step = model.frame[guess.column], None if turned and name != "z" else step_along(model, name)
+        said.append(f"{Axis(name, guess.column, values.min(), values.max(), step).line}, {guess.why}")
+    if turned:
+        east, north = (f"{side:.10g}" for side in turned.size)
+        said.append(
+            f"blocks of {east} x {north} m lie on a grid whose north has azimuth {turned.azimuth:.10g}, found from the centroids"
+        )
+    return said
+
+
+def step_along(model: Model, axis: str) -> Optional[float]:
+    """Returns the block size along an axis in metres; None if there are several."""
+    if has_several_sizes(model):
+        return None
+    size, _ = size_of(model)
+    return size["xyz".index(axis)] if size else least_gap(model, axis)
+
+
+def grade_of(model: Model, column: str, tonnes: np.ndarray) -> Grade:
+    metal = next(it for it in model.columns.metals if it.column == column)
+    values = np.nan_to_num(model.frame[column].to_numpy(dtype=np.float64))
+    return Grade(metal.metal, column, metal.unit, mean_of(values, tonnes), float(values.max(initial=0)))
+
+
+def format_notes(model: Model) -> list[str]:
+    """Returns notes on the text."""
+    said = []
+    if model.form.separator != ",":
+        said.append(f"the fields are separated by {NAMES[model.form.separator]}")
+    if model.form.decimal == ",":
+        said.append("the decimals are written with a comma")
+    if model.form.otherwise:
+        said.append(f"{model.form.otherwise:,} bytes are not UTF-8 and are read as Windows-1252")
+    return said
+
+
+def volume_lines(model: Model) -> list[str]:
+    """Returns how much of the box from edge to edge the cells fill, if their sizes are known; a warning if they overlap."""
+    if "tonnes" in model.columns.named and not model.columns.sizes or turned_grid(model):
+        return []
+    sides = []
+    for axis in "xyz":
+        values, step = model.frame[model.columns.centres[axis].column], step_along(model, axis)
+        sizes = model.frame[model.columns.sizes[axis].column] if step is None else step
+        sides.append(float((values + sizes / 2).max() - (values - sizes / 2).min()))
+    filled, box = float(np.nansum(volumes_of(model))), float(np.prod(sides))
+    said = f"the cells fill {filled:,.0f} m3, {100 * filled / box:.3g} % of the box of {' x '.join(f'{side:,.10g}' for side in sides)} m"
+    return [f"{WARNING}{said}: they overlap, check the cell sizes" if filled > MOST_FILLED * box else said]
+
+
+def column_lines(model: Model) -> list[str]:
+    """Returns the table of columns, aligned, with a line of headings."""
+    rows = [HEADINGS, *(row_of(model, str(name)) for name in model.frame.columns)]
+    wide = [max(len(row[k]) for row in rows) for k in range(len(HEADINGS))]
+    left = (0, 1, 2, 7)
+    return [
+        "  ".join(
+            field.ljust(width) if k in left else field.rjust(width) for k, (field, width) in enumerate(zip(row, wide))
+        ).rstrip()
+        for row in rows
+    ]
+
+
+def row_of(model: Model, name: str) -> tuple[str, ...]:
+    """Returns the fields of a column in the table of columns."""
+    role, unit, why = role_of(model, name)
+    guess, column = model.nulls.get(name), model.frame[name]
+    nulls = "" if guess is None else f"{guess.count:,}" + (f" ({', '.join(guess.codes)})" if guess.codes else "")
+    if not is_numeric(column):
+        codes = column.dropna().astype(str).str.strip()
+        listed = [code[:MOST_LETTERS] for code in codes.value_counts().index[:MOST_CODES]]
+        more = ", .." if codes.nunique() > MOST_CODES else ""
+        return name, role, unit, nulls, "", "", "", f"{codes.nunique():,} codes: {', '.join(listed)}{more}"
+    values = column.to_numpy(dtype=np.float64)
+    some = values[~np.isnan(values)]
+    digits = 10 if unit == "m" else 6
+    figures = [f"{it:.{digits}g}" for it in (some.min(), some.mean(), some.max())] if len(some) else ["", "", ""]
+    return name, role, unit, nulls, *figures, why
+
+
+def role_of(model: Model, name: str) -> tuple[str, str, str]:
+    """Returns the role of a column, its unit and why."""
+    columns = model.columns
+    for group, role in ((columns.centres, "centroid"), (columns.sizes, "cell size")):
+        for axis, guess in group.items():
+            if guess.column == name:
+                return f"{role} {axis}", "m", guess.why
+    for metal in columns.metals:
+        if metal.column == name:
+            return f"grade of {metal.metal}", GRADE_SIGNS[metal.unit], metal.why
+    for key, guess in columns.named.items():
+        if guess.column == name and name not in unused(model):
+            unit = UNITS.get(key, share_of(model)[1] if key == "rock_percent" else "")
+            return ROLES.get(key, key), "%" if unit == "percent" else unit, guess.why
+    return "not used", "", ""
+
+
+def unused(model: Model) -> list[str]:
+    """Returns the columns that the project does not name."""
+    columns = model.columns
+    used = {guess.column for guess in columns.centres.values()} | set(model.grades)
+    used |= {guess.column for guess in columns.sizes.values()}
+    keys = [*model.weighed, "id", "rock_type", "domain", "class", *(["rock_percent"] if share_of(model)[0] else [])]
+    used |= {columns.named[key].column for key in keys if key in columns.named}
+    return [name for name in map(str, model.frame.columns) if name not in used]
+
+
+def warnings_of(model: Model, tonnes: np.ndarray) -> list[str]:
+    """Returns what may not be as it seems."""
+    said = []
+    if has_several_sizes(model):
+        said.append(
+            f"{WARNING}cells have several sizes: parts of blocks are put together to blocks of the largest cell's size"
+        )
+    left_out = model.rows - len(model.frame)
+    named = [model.columns.named[key].column for key in NEEDED if key in model.columns.named]
+    needed = [name for name in named if name in model.nulls]
+    if left_out:
+        said.append(f"{WARNING}{left_out:,} rows are read as missing blocks, since {' or '.join(needed)} is null")
+    for name in model.grades:
+        guess = model.nulls.get(name)
+        if guess is not None:
+            count = int(model.frame[name].isna().sum())
+            codes = f" ({', '.join(guess.codes)}: {guess.why})" if guess.codes else ""
+            said.append(f"{WARNING}{name}: {count:,} of {len(model.frame):,} blocks are null{codes} and are read as 0")
+    for name in (*model.grades, *(model.columns.named[key].column for key in model.weighed)):
+        said += of_codes(name, model.frame[name].to_numpy(dtype=np.float64))
+    return said
