@@ -9,6 +9,7 @@ from conftest import PROJECT, rows
 
 from pitplan import Plan, PlanError, load
 from pitplan.blockmodel import column_guesses, wizard
+from pitplan.blockmodel.plausibility import USUAL_PRICES
 from pitplan.cli import main
 
 ORE = {"cu": lambda i, j, k: 2.0 if k == 1 and i == 4 else 0.0}
@@ -227,7 +228,7 @@ def test_centres_have_few_numbers_at_equal_steps(values, is_one):
 
 def test_placeholders_of_prices_are_round():
     """Two digits, so that nobody takes one for a quotation."""
-    assert {metal: float(f"{price:.2g}") for metal, price in wizard.PRICES.items()} == wizard.PRICES
+    assert {metal: float(f"{price:.2g}") for metal, price in USUAL_PRICES.items()} == USUAL_PRICES
 
 
 def test_ore_a_year_is_by_taylors_rule(tmp_path):
@@ -376,3 +377,36 @@ def test_a_project_that_names_a_workbook_is_told_so(plan_folder, tmp_path):
     rows(3, 3, 3).to_excel(tmp_path / "m.xlsx", index=False)
     with pytest.raises(PlanError, match="m.xlsx: is a workbook or another packed file"):
         Plan.from_project(project)
+
+
+def test_classes_and_cost_factors_are_guessed(tmp_path, capsys):
+    """Classes 1 to 3 are measured, indicated and inferred; MCAF and PCAF multiply costs; -1 is null in a class alone."""
+    more = {
+        "RESCAT": lambda i, j, k: (-1, 1, 2, 3)[i % 4],
+        "MCAF": lambda i, j, k: 1.0 + k / 10,
+        "PCAF": lambda i, j, k: 1.25,
+    }
+    table = rows(8, 8, 4, **{**ORE, **more}).rename(columns={"cu": "cu_pct"})
+    table.to_csv(tmp_path / "m.csv", index=False)
+    assert main(["init", str(tmp_path / "m.csv")]) == 0
+    lines = capsys.readouterr().err.splitlines()
+    assert any(line.split()[:4] == ["RESCAT", "resource", "class", "64"] for line in lines)
+    project = load(tmp_path / "project.toml")
+    assert (project.economics.mcaf, project.economics.pcaf, project.table.resource_class) == ("MCAF", "PCAF", "RESCAT")
+    assert project.table.rules.mapped == {"RESCAT": {"1": "measured", "2": "indicated", "3": "inferred"}}
+    plan = Plan.from_project(tmp_path / "project.toml")
+    assert plan.table["RESCAT"].tolist() == ["", "measured", "indicated", "inferred"] * 64
+    # 100 t at 2.5 USD a tonne, 1.3 times as much in the highest of four levels.
+    assert plan.values.mining.reshape(4, 64)[0].tolist() == [325_000_000] * 64
+
+
+def test_a_null_code_that_is_a_centroid_too_is_one_of_its_own_columns(tmp_path):
+    """Blocks from -99 to -79 m: -99 is an elevation, and in the grades absent data."""
+    table = rows(4, 4, 3, cu=lambda i, j, k: -99 if i == 0 else 1.0).rename(columns={"cu": "cu_pct"})
+    table["z"] = table["z"] - 104
+    table.to_csv(tmp_path / "m.csv", index=False)
+    wizard.write(tmp_path / "m.csv", tmp_path / "project.toml")
+    rules = load(tmp_path / "project.toml").table.rules
+    assert rules.nulls.values == () and rules.nulls.of("cu_pct") == ("-99",) and rules.nulls.of("z") == ()
+    plan = Plan.from_project(tmp_path / "project.toml")
+    assert sorted(set(plan.table["z"])) == [-99, -89, -79] and plan.table["cu_pct"].tolist() == [0, 1, 1, 1] * 12

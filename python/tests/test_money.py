@@ -279,7 +279,7 @@ def test_a_block_that_yields_a_millionth_is_weighed(plan_folder):
 def test_grades_that_a_unit_hardly_allows_are_warned_of(plan_folder, unit, grade, said):
     table = rows(2, 1, 2, cu=lambda i, j, k: grade * i)
     notes = pitplan.Plan.from_project(plan_folder(table, PROJECT, ('unit = "percent"', f'unit = "{unit}"'))).notes
-    warned = [note for note in notes if "grade" in note]
+    warned = [note for note in notes if "grade of copper" in note]
     assert len(warned) == bool(said) and all(note.endswith(said) for note in warned)
 
 

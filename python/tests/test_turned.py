@@ -352,7 +352,7 @@ def test_blocks_of_cells_without_a_row_have_the_planners_centres(plan_folder, on
 
 
 def test_a_simulated_model_is_matched_by_the_planners_centres(plan_folder, tmp_path):
-    table = turned(rows(6, 5, 2, cu=lambda i, j, k: i + 10 * j + 100 * k), 30)
+    table = turned(rows(6, 5, 2, cu=lambda i, j, k: i / 10 + j + 10 * k), 30)
     (tmp_path / "realisations").mkdir()
     table.sample(frac=1, random_state=3)[["x", "y", "z", "cu"]].to_csv(tmp_path / "realisations" / "a.csv", index=False)
     path = plan_folder(table.assign(cu=0.0), PROJECT + '[scenarios]\nrealisations = "realisations"\n')

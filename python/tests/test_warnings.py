@@ -19,8 +19,25 @@ def test_a_price_by_the_pound_is_warned_of(plan_folder):
     """Copper at 4 USD a tonne pays in no block, and at 4 USD a pound, 8818 a tonne, in each."""
     (said,) = warnings_of(plan_folder(ore(), PROJECT, ("price = 8000", "price = 4.0")))
     hint = 'set price_per = "lb" if a price is per lb'
-    assert said == f"WARNING: no block pays for its processing, copper at 4 USD per t: {hint}"
+    # 1.5 % of 4 USD.
+    told = "the metal in a tonne of mean grade is worth 0.06 USD, and 0 of 18 blocks with metal pay"
+    assert said == f"WARNING: no block pays for its processing, copper at 4 USD per t: {hint}; {told}"
     assert not warnings_of(plan_folder(ore(), PROJECT, ("price = 8000", 'price = 4.0\nprice_per = "lb"')))
+
+
+def test_a_price_by_the_ounce_is_warned_of(plan_folder):
+    """Gold of 2 g/t at 2,300 USD a gram is worth 4,600 USD a tonne, 31 times as much as usual; at 2,300 USD an ounce, 148."""
+    gold = [('unit = "percent"', 'unit = "gram_per_tonne"'), ('name = "copper"', 'name = "gold"')]
+    table = ore().assign(cu=[2.0] * 9 + [0.0] * 9)
+    (said,) = warnings_of(plan_folder(table, PROJECT, *gold, ("price = 8000", "price = 2300")))
+    hint = 'gold at 2300 USD per g is 31 times its usual price: set price_per = "oz" if it is per oz'
+    assert (
+        said
+        == f"WARNING: {hint}; the metal in a tonne of mean grade is worth 4,600 USD, and 9 of 9 blocks with metal pay"
+    )
+    assert not warnings_of(plan_folder(table, PROJECT, *gold, ("price = 8000", 'price = 2300\nprice_per = "oz"')))
+    cheap = warnings_of(plan_folder(table, PROJECT, *gold, ("price = 8000", "price = 7")))
+    assert not [note for note in cheap if "usual price" in note]
 
 
 def test_a_table_without_metal_is_not_warned_of_its_price(plan_folder):

@@ -27,6 +27,8 @@ OTHERS = {
     "volume": "volume vol blockvolume cellvolume",
     "id": "id blockid ijk blockno blocknumber bid cellid name",
     "rock_type": "rock rocktype lith lithology litho lithcode material mat oretype geology geol oxidation oxide weathering geomet domain zone gm redox",
+    "mcaf": "mcaf miningcaf miningcostadjustmentfactor miningcostfactor",
+    "pcaf": "pcaf processcaf processingcaf processingcostadjustmentfactor processcostfactor",
     "class": "class rescat resclass resourceclass resourcecat resourcecategory category classification",
     "rock_percent": "topopct topopercent topofrac topo percentrock rockpercent rockpct pctrock percentbelow belowtopo pctbelowtopo "
     "percentbelowtopo partialpercent solidpct",

@@ -27,7 +27,14 @@ from .summary import Axis, Grade, mean_of, not_used
 
 HEADINGS = ("column", "role", "unit", "nulls", "least", "mean", "greatest", "why")
 UNITS = {"tonnes": "t", "density": "t/m3", "volume": "m3"}
-ROLES = {"rock_type": "rock type", "class": "resource class", "domain": "slope domain", "rock_percent": "share of rock"}
+ROLES = {
+    "rock_type": "rock type",
+    "class": "resource class",
+    "mcaf": "MCAF",
+    "pcaf": "PCAF",
+    "domain": "slope domain",
+    "rock_percent": "share of rock",
+}
 # Codes of a column that are listed, and letters of each.
 MOST_CODES, MOST_LETTERS = 4, 12
 # Share of the box above which cells overlap.
@@ -155,7 +162,16 @@ def unused(model: Model) -> list[str]:
     columns = model.columns
     used = {guess.column for guess in columns.centres.values()} | set(model.grades)
     used |= {guess.column for guess in columns.sizes.values()}
-    keys = [*model.weighed, "id", "rock_type", "domain", "class", *(["rock_percent"] if share_of(model)[0] else [])]
+    keys = [
+        *model.weighed,
+        "id",
+        "rock_type",
+        "domain",
+        "class",
+        "mcaf",
+        "pcaf",
+        *(["rock_percent"] if share_of(model)[0] else []),
+    ]
     used |= {columns.named[key].column for key in keys if key in columns.named}
     return [name for name in map(str, model.frame.columns) if name not in used]
 

@@ -6,15 +6,23 @@ from typing import Sequence
 
 import numpy as np
 
-from pitplan.config.economics import Metal
+from pitplan.config.economics import GRADE_UNITS, GRAMS, Metal
 from pitplan.errors import WARNING
 
+from .column_guesses import PRECIOUS
 from .grid import Grid
 
 # Tonnes a cubic metre between which blocks of rock lie, cut ones among them: lighter than pumice, heavier than massive sulphide ore.
 LIGHT, HEAVY = 0.1, 10.0
 # By what a metal that is counted in t or g is sold otherwise.
 SOLD_BY = {"t": "lb", "g": "oz"}
+# Rounded prices of 2024 in US dollars, for a gram of precious metals and a tonne of others.
+USUAL_PRICES = {
+    "gold": 75, "silver": 0.9, "platinum": 30, "palladium": 31, "copper": 9000, "molybdenum": 45000, "nickel": 17000, "zinc": 2700,
+    "lead": 2100, "cobalt": 26000, "iron": 130, "tin": 30000, "tungsten": 40000, "lithium": 60000, "uranium": 170000,
+}  # fmt: skip
+# A price is doubtful if it is so many times the usual one, or less, and within NEAR times in another unit.
+FAR, NEAR = 10.0, 3.0
 
 
 def of_tonnes(tonnes: np.ndarray, grid: Grid) -> list[str]:
@@ -34,15 +42,54 @@ def of_tonnes(tonnes: np.ndarray, grid: Grid) -> list[str]:
 
 
 def of_prices(pays: np.ndarray, metals: Sequence[Metal], grades: Sequence[np.ndarray], currency: str) -> list[str]:
-    """Warns if blocks have metal and processing pays in none of them."""
-    if pays.any() or not any((grade > 0).any() for grade in grades):
+    """Warns if processing pays in no block with metal, or if a price in USD is usual in another unit.
+
+    Parameters
+    ----------
+    pays : bool array
+        Whether a block pays for its processing.
+    metals : sequence of Metal
+    grades : sequence of float array
+        Of each metal the grade of each block.
+    currency : str
+    """
+    with_metal = int(np.any([grade > 0 for grade in grades], axis=0).sum())
+    if not with_metal:
         return []
-    listed = ", ".join(
-        f"{metal.name} at {metal.price.normalize():f} {currency} per {metal.price_unit}" for metal in metals
-    )
+    worth = sum(float(metal.by_quantity(metal.price)) * mean_content(metal, it) for metal, it in zip(metals, grades))
+    paying = int(np.count_nonzero(pays))
+    told = f"the metal in a tonne of mean grade is worth {worth:,.4g} {currency}, and {paying:,} of {with_metal:,} blocks with metal pay"
+    if paying:
+        doubts = [doubt for metal in metals if currency == "USD" and (doubt := of_price(metal))]
+        return [f"{WARNING}{doubt}; {told}" for doubt in doubts]
+    listed = ", ".join(priced(metal, currency) for metal in metals)
     natural = dict.fromkeys(metal.quantity for metal in metals if metal.price_per is None)
     hints = [f'set price_per = "{SOLD_BY[unit]}" if a price is per {SOLD_BY[unit]}' for unit in natural]
-    return [f"{WARNING}no block pays for its processing, {listed}{': ' if hints else ''}{', '.join(hints)}"]
+    return [f"{WARNING}no block pays for its processing, {listed}{': ' if hints else ''}{', '.join(hints)}; {told}"]
+
+
+def priced(metal: Metal, currency: str) -> str:
+    return f"{metal.name} at {metal.price.normalize():f} {currency} per {metal.price_unit}"
+
+
+def mean_content(metal: Metal, grades: np.ndarray) -> float:
+    """Returns the quantity of metal in a tonne with the mean of the grades above 0."""
+    some = grades[grades > 0]
+    return float(some.mean()) * float(GRADE_UNITS[metal.unit]) if len(some) else 0.0
+
+
+def of_price(metal: Metal) -> str:
+    """Returns a doubt if the price is far from usual, and near it if it were per another unit; "" otherwise."""
+    usual = USUAL_PRICES.get(metal.name)
+    if usual is None or not metal.price:
+        return ""
+    for_a_gram = usual if metal.name in PRECIOUS else usual * 1e-6
+    ratio = float(metal.price / GRAMS[metal.price_unit]) / for_a_gram
+    if 1 / FAR < ratio < FAR:
+        return ""
+    units = [unit for unit in GRAMS if 1 / NEAR < float(metal.price / GRAMS[unit]) / for_a_gram < NEAR]
+    said = f"{priced(metal, 'USD')} is {ratio:.2g} times its usual price"
+    return f'{said}: set price_per = "{units[0]}" if it is per {units[0]}' if units else ""
 
 
 def of_codes(name: str, values: np.ndarray) -> list[str]:

@@ -17,17 +17,15 @@ from pitplan.errors import PlanError
 from .column_guesses import PRECIOUS, MetalGuess
 from .guessed_model import Model, has_several_sizes, read, share_of, size_of, tonnes_of
 from .model_overview import overview
+from .plausibility import USUAL_PRICES
 from .reader import filled_numbers
 
 TEMPLATES = Path(__file__).resolve().parents[1] / "templates"
-# Rounded prices of 2024 in US dollars, for a gram of precious metals and a tonne of others.
-PRICES = {
-    "gold": 75, "silver": 0.9, "platinum": 30, "palladium": 31, "copper": 9000, "molybdenum": 45000, "nickel": 17000, "zinc": 2700,
-    "lead": 2100, "cobalt": 26000, "iron": 130, "tin": 30000, "tungsten": 40000, "lithium": 60000, "uranium": 170000,
-}  # fmt: skip
 SHARES = {"percent": 0.01, "fraction": 1.0, "gram_per_tonne": 1.0}
 RECOVERY, PROCESSING = 0.85, 12.0
 MOST_REGIONS = 12
+# The columns that multiply costs, and what they multiply.
+FACTORS = {"mcaf": "the mining cost", "pcaf": "the processing cost"}
 CLASSES = {"1": "measured", "2": "indicated", "3": "inferred"}
 UNITS = {"density": ", in t/m3", "volume": ", in m3"}
 
@@ -93,6 +91,11 @@ def text_of(model: Model, out: Path) -> str:
         "table": table_lines(model),
         "size": size and json.dumps(size),
         "size_why": size_why,
+        "factors": [
+            (key, quoted(model.columns.named[key].column), f"{model.columns.named[key].why}: multiplies {what}")
+            for key, what in FACTORS.items()
+            if key in model.columns.named
+        ],
         "metals": [priced(metal) for metal in model.columns.metals],
         "regions": regions_of(model),
         "processing_capacity": f"{ore:_}",
@@ -180,8 +183,8 @@ def is_whole(model: Model, name: str) -> bool:
 def null_lines(model: Model) -> list[tuple[str, str, str]]:
     """Returns the null codes of the columns that the project names, and what a null means in each."""
     meanings = meanings_of(model)
-    texts = {model.columns.named[key].column for key in ("class",) if key in model.columns.named}
-    named = [name for name in model.nulls if name in meanings or name in texts]
+    others = {model.columns.named[key].column for key in ("class", *FACTORS) if key in model.columns.named}
+    named = [name for name in model.nulls if name in meanings or name in others]
     codes = list(dict.fromkeys(code for name in named for code in model.nulls[name].codes))
     places = [model.frame[guess.column].to_numpy(dtype=np.float64) for guess in model.columns.centres.values()]
     if any(np.any(values == float(code)) for code in codes for values in places if is_number(code)):
@@ -225,7 +228,7 @@ def as_toml(code: str) -> str:
 
 def price_of(metal: MetalGuess) -> float:
     """For a gram where the grade is in grams a tonne, else for a tonne."""
-    for_a_gram = PRICES[metal.metal] * (1 if metal.metal in PRECIOUS else 1e-6)
+    for_a_gram = USUAL_PRICES[metal.metal] * (1 if metal.metal in PRECIOUS else 1e-6)
     return for_a_gram if metal.unit == "gram_per_tonne" else for_a_gram * 1e6
 
 
