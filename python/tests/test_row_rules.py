@@ -136,6 +136,24 @@ def test_an_expression_that_gives_no_grade_is_refused(plan_folder, expression, w
     assert why in refused(plan_folder(table, PROJECT, ("[grid]", f'[table.calculate]\ncu = "{expression}"\n[grid]')))
 
 
+def test_columns_of_which_nothing_is_known_are_texts_or_numbers_as_a_whole(plan_folder, monkeypatch):
+    """Codes "01" and "1" in pieces that look like numbers stay texts, since one other code is "A"; numbers have decimal commas or nulls."""
+    monkeypatch.setattr("pitplan.core.text_tables.PIECE", 3)
+    table = rows(3, 2, 2).drop(columns=["cu", "rock"]).assign(code=["01", "1", "01", "1", "A"] + ["1"] * 7)
+    table["grade"] = [f"{k},5" for k in range(11)] + ["-"]
+    words = [
+        "[table.calculate]",
+        'cu = "if(is_null(grade), 0, grade * 2)"',
+        "rock = \"if(code == '01', 'X', code)\"",
+        "[table.nulls]",
+        'grade = { values = ["-"] }',
+    ]
+    path = plan_folder(table.to_csv(index=False, sep=";", decimal=","), PROJECT, ("[grid]", "\n".join([*words, "[grid]"])))
+    plan = Plan.from_project(path)
+    assert plan.table["cu"].tolist() == [2.0 * k + 1 for k in range(11)] + [0]
+    assert plan.table["rock"].tolist() == ["X", "1", "X", "1", "A"] + ["1"] * 7
+
+
 def test_rows_are_filtered_and_clipped(plan_folder):
     """Of 4 x 3 x 2 blocks the filter leaves those of one rock, and the box those with x up to 25."""
     table = rows(4, 3, 2, rock=lambda i, j, k: "R" if j else "air")

@@ -19,14 +19,22 @@ from pitplan.core import parquet, spreadsheet_formulas
 from pitplan.core.numeric_fields import Source, at_row, holds_texts, numbers_of, row_of
 from pitplan.core.table_layout import NAMES, Layout, layout_of
 from pitplan.core.text_format import MIXED, USUAL, Mixed, TableFormat, encoding_of, first_lines, names_in_header
-from pitplan.core.text_tables import demand_columns, demand_each_once, read_columns
+from pitplan.core.text_tables import Fields, demand_columns, demand_each_once, read_columns
 from pitplan.errors import PlanError
 
 from . import cell_volumes, cost_factors, model_files, resource_classes
 from .cell_volumes import Cells
 from .row_rules import numbers_of_codes, ruled
 from .table_checks import demand_amounts, demand_codes
-from .table_columns import codes_of, demand_codes_apart, file_columns, grades_of, names_of, text_columns
+from .table_columns import (
+    codes_of,
+    demand_codes_apart,
+    file_columns,
+    grades_of,
+    names_of,
+    text_columns,
+    untyped_columns,
+)
 
 
 @dataclass(frozen=True)
@@ -83,7 +91,11 @@ def read(project: Project) -> Table:
         source = Source.of(str(columns.file), model_files.ROWS)
         table = checked(model[0], project, source)
         return replace(table, notes=(model[1], *table.notes))
-    frame, form = read_as_written(columns.file, columns, codes, wanted)
+    # A column of which nothing is known is read as texts, since pieces of it may look like numbers.
+    untyped = untyped_columns(project)
+    frame, form = read_as_written(columns.file, columns, [*codes, *untyped], wanted)
+    for name in untyped if form.decimal == "," else ():
+        frame[name] = with_points(frame[name], columns.rules.nulls.of(name))
     source = Source.of(str(columns.file), (form.header_row, form.first_row))
     table = checked(frame, project, source)
     return replace(table, notes=(*notes_of(form, columns), *table.notes))
@@ -96,10 +108,10 @@ def read_whole(file: Path) -> tuple[pd.DataFrame, TableFormat]:
         header, first = model_files.ROWS
         return model[0], TableFormat(",", ".", USUAL, header, first, layout=Layout(",", kind=model[1]))
     form = recognised(file)
-    frame = read_columns(file, form, [], [])
+    frame = read_columns(file, form)
     if form.separator != "," and form.decimal == "." and has_decimal_commas(frame, list(frame.columns)):
         form = replace(form, decimal=",")
-        frame = read_columns(file, form, [], [])
+        frame = read_columns(file, form)
     return frame, form
 
 
@@ -127,15 +139,27 @@ def read_as_written(
     # The reader would give the second of two columns of one name another.
     source = Source.of(str(file), (form.header_row, form.first_row))
     demand_each_once([name for name in names_in_header(file, form) if name in wanted], source)
-    nulls, before = {name: text_nulls(columns.rules.nulls.of(name)) for name in wanted}, Mixed.count
-    frame = read_columns(file, form, codes, wanted, nulls)
+    before = Mixed.count
+    numbers = [name for name in wanted if name not in codes]
+    fields = Fields(
+        [name for name in codes if name == columns.id or name not in wanted],
+        [name for name in codes if name != columns.id and name in wanted],
+        {name: text_nulls(columns.rules.nulls.of(name)) for name in numbers},
+    )
+    frame = read_columns(file, form, fields)
     form = replace(form, otherwise=Mixed.count - before)
     # Where fields are parted by commas, one within a number parts thousands.
-    if columns.decimal is None and form.separator != ",":
-        if has_decimal_commas(frame, [name for name in wanted if name not in codes]):
-            form = replace(form, decimal=",")
-            frame = read_columns(file, form, codes, wanted, nulls)
+    if columns.decimal is None and form.separator != "," and has_decimal_commas(frame, numbers):
+        form = replace(form, decimal=",")
+        frame = read_columns(file, form, fields)
     return frame, form
+
+
+def with_points(column: pd.Series, nulls: Sequence[str]) -> pd.Series:
+    """Returns a column of texts with points as decimal marks if all of its fields are numbers with commas, empty or null codes."""
+    texts = column.astype(object).str.strip()
+    is_number = texts.str.fullmatch(r"[-+]?\d*(,\d+)?([eE][-+]?\d+)?")
+    return texts.str.replace(",", ".", regex=False) if (is_number | texts.isin(nulls)).all() else column
 
 
 def text_nulls(nulls: Sequence[str]) -> list[str]:

@@ -92,6 +92,8 @@ def typed(column: pd.Series, project: Project, source: str) -> np.ndarray:
     name = str(column.name)
     nulls = project.table.rules.nulls.of(name)
     if name in codes_of(project) or name in project.table.rules.mapped:
+        if isinstance(column.dtype, pd.CategoricalDtype):
+            return of_categories(column, nulls, source)
         texts = stripped(column)
         demand_no_nul(texts, source, name)
         return codes_without(texts, nulls)
@@ -105,6 +107,15 @@ def typed(column: pd.Series, project: Project, source: str) -> np.ndarray:
     numbers = pd.to_numeric(column, errors="coerce")
     is_text = numbers.isna() & column.notna() & (column.astype(str).str.strip() != "")
     return stripped(column) if is_text.any() else numbers_without(numbers.to_numpy(dtype=np.float64), nulls)
+
+
+def of_categories(column: pd.Series, nulls: tuple[str, ...], source: str) -> np.ndarray:
+    """Returns the texts of a column of categories, with "" for null codes: each different code is looked at once."""
+    texts, place = stripped(pd.Series(column.cat.categories, dtype=object)), column.cat.codes.to_numpy()
+    if "\0" in "".join(texts):
+        demand_no_nul(texts[place], source, str(column.name))
+    found = np.append(codes_without(texts, nulls), "")
+    return np.asarray(found[place])
 
 
 def stripped(codes: pd.Series) -> np.ndarray:

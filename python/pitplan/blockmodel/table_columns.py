@@ -69,6 +69,12 @@ def text_columns(project: Project) -> list[str]:
     return [name for name in file_columns(project) if name in codes_of(project) or name in project.table.rules.mapped]
 
 
+def untyped_columns(project: Project) -> list[str]:
+    """Returns the columns that expressions alone name: numbers if all of their fields are, otherwise texts."""
+    known = {*names_of(project), *project.table.rules.amounts, *project.table.rules.mapped}
+    return [name for name in project.table.rules.used if name not in known]
+
+
 def demand_codes_apart(project: Project) -> None:
     """Rejects a column that is both a code and a number."""
     codes = codes_by_key(project)

@@ -44,6 +44,8 @@ def in_column(
         yield header_row_of(source), name, name
     if not holds_texts(column):
         return
+    if isinstance(column.dtype, pd.CategoricalDtype) and not has_formula(column.cat.categories.tolist()):
+        return
     fields = column.tolist()
     if not has_formula(fields):
         return

@@ -5,10 +5,12 @@ from __future__ import annotations
 import re
 import warnings
 from collections.abc import Mapping, Sequence
+from dataclasses import dataclass, field
 from pathlib import Path
-from typing import Optional
+from typing import Any
 
 import pandas as pd
+from pandas.api.types import union_categoricals
 
 from pitplan.errors import PlanError
 
@@ -19,35 +21,36 @@ from .text_format import UNREADABLE, NulByte, TableFormat, WholeText, nul_byte, 
 PIECE = 500_000
 
 
-def read_columns(
-    file: Path,
-    form: TableFormat,
-    codes: list[str],
-    wanted: list[str],
-    nulls: Optional[Mapping[str, Sequence[str]]] = None,
-) -> pd.DataFrame:
+@dataclass(frozen=True)
+class Fields:
+    """How the fields of columns are read; other columns are numbers if all of their fields are.
+
+    Attributes
+    ----------
+    codes : sequence of str
+        Columns of texts.
+    shared : sequence of str
+        Codes that many rows share: they are read as categories, in a fraction of the time.
+    numbers : mapping of str to sequence of str
+        Columns of numbers, with the texts that stand for an empty field besides the empty text.
+    """
+
+    codes: Sequence[str] = ()
+    shared: Sequence[str] = ()
+    numbers: Mapping[str, Sequence[str]] = field(default_factory=dict)
+
+
+def read_columns(file: Path, form: TableFormat, fields: Fields = Fields()) -> pd.DataFrame:
     """Returns the file as it is: numbers if a column has no other field, codes as texts, and an empty number as nan.
 
-    Parameters
-    ----------
-    file : Path
-    form : TableFormat
-    codes : list of str
-        Columns of texts.
-    wanted : list of str
-        Columns of numbers, and codes; whether they exist is not checked.
-    nulls : mapping, optional
-        Texts that stand for an empty field, by the wanted column of numbers.
-
-    Raises
-    ------
-    PlanError
-        If the file cannot be read or is not a table.
+    Raises PlanError if the file cannot be read or is not a table. Whether columns exist is not checked.
     """
     try:
         with warnings.catch_warnings():
             # All columns are read, and a line with more fields than the header is an error: pandas would drop the rest.
             warnings.simplefilter("error", pd.errors.ParserWarning)
+            # A column may have numbers in one piece and texts in another.
+            warnings.simplefilter("ignore", pd.errors.DtypeWarning)
             with opened(file) as data, WholeText(data, encoding=form.encoding, errors=form.errors, newline="") as text:
                 pieces = pd.read_csv(
                     text,
@@ -55,11 +58,10 @@ def read_columns(
                     skiprows=form.skipped,
                     decimal=form.decimal,
                     index_col=False,
-                    dtype=dict.fromkeys(codes, str),
+                    dtype={**dict.fromkeys(fields.codes, str), **dict.fromkeys(fields.shared, "category")},
                     keep_default_na=False,
-                    na_values={name: ["", *(nulls or {}).get(name, ())] for name in wanted if name not in codes},
+                    na_values={name: ["", *nulls] for name, nulls in fields.numbers.items()},
                     float_precision="round_trip",
-                    low_memory=False,
                     chunksize=PIECE,
                 )
                 return joined([without_truths(piece) for piece in pieces])
@@ -98,8 +100,15 @@ def joined(pieces: list[pd.DataFrame]) -> pd.DataFrame:
     if len(pieces) == 1:
         return pieces[0]
     names = list(pieces[0].columns)
-    columns = {name: pd.concat([piece.pop(name) for piece in pieces], ignore_index=True) for name in names}
+    columns = {name: stacked([piece.pop(name) for piece in pieces]) for name in names}
     return pd.DataFrame(columns, copy=False)
+
+
+def stacked(columns: list[pd.Series]) -> Any:
+    """Returns one column of several; categories stay categories."""
+    if all(isinstance(column.dtype, pd.CategoricalDtype) for column in columns):
+        return union_categoricals(columns)
+    return pd.concat(columns, ignore_index=True)
 
 
 def read_header(file: Path, form: TableFormat) -> list[str]:

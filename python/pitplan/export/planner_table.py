@@ -15,7 +15,7 @@ from pitplan.config.project import Project
 from pitplan.core.atomic_files import hash_of
 from pitplan.core.numeric_fields import Source
 from pitplan.core.text_format import TableFormat, demand_text, names_in_header
-from pitplan.core.text_tables import read_columns, read_header
+from pitplan.core.text_tables import Fields, read_columns, read_header
 from pitplan.errors import PlanError
 from pitplan.plan import shown_name
 from pitplan.results.folder import Folder
@@ -84,6 +84,6 @@ def project_of(folder: Folder) -> Project:
 def as_text(file: Path, project: Project) -> tuple[pd.DataFrame, TableFormat]:
     """Returns every column of the table as text, named as in blocks.csv, and the format of the table."""
     form = format_of(file, project.table)
-    frame = read_columns(file, form, read_header(file, form), [])
+    frame = read_columns(file, form, Fields(codes=read_header(file, form)))
     frame.columns = pd.Index([shown_name(name) if name in FOUND else name for name in names_in_header(file, form)])
     return frame, form

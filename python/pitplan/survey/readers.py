@@ -17,7 +17,7 @@ from pitplan.config.survey import SurveyFile
 from pitplan.config.toml_section import FARTHEST
 from pitplan.core.numeric_fields import at_row, numbers_of
 from pitplan.core.text_format import TableFormat, guessed_separator
-from pitplan.core.text_tables import demand_columns, read_columns
+from pitplan.core.text_tables import Fields, demand_columns, read_columns
 from pitplan.errors import PlanError
 
 from . import dxf, gdal, surpac
@@ -171,7 +171,11 @@ def in_layers(layers: dict[str, Layer]) -> str:
 
 def numbers_in(file: Path, names: tuple[str, ...]) -> np.ndarray:
     """Columns of a CSV file as numbers. Raises PlanError, with file, row and column, where one is missing or is no number."""
-    frame = read_columns(file, TableFormat(guessed_separator(file, "utf-8-sig"), ".", "utf-8-sig"), [], list(names))
+    frame = read_columns(
+        file,
+        TableFormat(guessed_separator(file, "utf-8-sig"), ".", "utf-8-sig"),
+        Fields(numbers=dict.fromkeys(names, ())),
+    )
     demand_columns(frame, list(names), str(file))
     columns = [numbers_of(frame[name], str(file), name) for name in names]
     for name, numbers in zip(names, columns):
