@@ -148,7 +148,9 @@ def test_columns_of_which_nothing_is_known_are_texts_or_numbers_as_a_whole(plan_
         "[table.nulls]",
         'grade = { values = ["-"] }',
     ]
-    path = plan_folder(table.to_csv(index=False, sep=";", decimal=","), PROJECT, ("[grid]", "\n".join([*words, "[grid]"])))
+    path = plan_folder(
+        table.to_csv(index=False, sep=";", decimal=","), PROJECT, ("[grid]", "\n".join([*words, "[grid]"]))
+    )
     plan = Plan.from_project(path)
     assert plan.table["cu"].tolist() == [2.0 * k + 1 for k in range(11)] + [0]
     assert plan.table["rock"].tolist() == ["X", "1", "X", "1", "A"] + ["1"] * 7
