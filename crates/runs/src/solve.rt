@@ -1,7 +1,7 @@
 //! `solve`: from the bytes of a model, a precedence file and a file of fixed blocks to the bytes of the pit, of the certificate
 //! that shows it, and of the journal of what workers decided.
 ghost use Rattle.std.specs.Prelude.{◌≡◌, ◌<◌, ◌^◌, Ok, IfOk, IfErr};
-ghost use Rattle.certificate.specs.Certificate.{IsFixedCertificateOf};
+ghost use Rattle.optimality.specs.Certificate.{IsFixedCertificateOf};
 ghost use Rattle.mine_graph.specs.FixedBlocks.{IsFixedOf};
 ghost use Rattle.pit_model.specs.declared.direction.Direction.TheVariants.{Least};
 ghost use Rattle.pit_model.specs.Fixed.{fixed_of, graph_of_mine};

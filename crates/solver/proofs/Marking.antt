@@ -5,7 +5,7 @@ use Rattle.std.proofs.lemmas.Bool.{cases_Bool, cases_eq, true≢false}
 use Rattle.std.proofs.lemmas.List.{get_or-set_same, get_or-set_other, length-set}
 use Rattle.pit_model.specs.Mine.{members}
 use Rattle.pit_model.proofs.Members.{members_each, members_ext, members_place}
-use Rattle.certificate.specs.Check.{has}
+use Rattle.optimality.specs.Check.{has}
 
 -- of n blocks exactly the first k of the list are marked
 pub record IsMarking (n : ℕ) (found : List ℕ) (marks : List Bool) (k : ℕ) : Type 0 where

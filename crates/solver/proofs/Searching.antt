@@ -18,9 +18,9 @@ use Rattle.pit_model.proofs.Members.{members_below, members_each, members_few}
 use Rattle.pit_model.proofs.OpenCertificates.{none_fixed_certifies}
 use Rattle.pit_model.proofs.Dual.{complement_is_greatest, nothing_fixed, rest_gives_pit_toward}
 use Rattle.mine_graph.specs.FixedBlocks.{FixedBlocks, IsFixedOf, forced_closure, barred_closure, no_lists}
-use Rattle.certificate.specs.declared.pit_with_flow.Certificate.{Certificate}
-use Rattle.certificate.specs.Certificate.{IsCertificateOf, IsFixedCertificateOf}
-use Rattle.certificate.specs.Check.{ShowsPit}
+use Rattle.optimality.specs.declared.pit_with_flow.Certificate.{Certificate}
+use Rattle.optimality.specs.Certificate.{IsCertificateOf, IsFixedCertificateOf}
+use Rattle.optimality.specs.Check.{ShowsPit}
 use Rattle.merging.specs.Reduced.{IsRestIn, ListsJoined}
 use Rattle.merging.specs.declared.reduced_mine.ReducedMine.{ReducedMine}
 use Rattle.merging.specs.declared.outcome.Outcome.{Outcome}

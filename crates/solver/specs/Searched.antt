@@ -15,7 +15,7 @@ use Rattle.pit_model.specs.Direction.{IsSearched, IsDual, ListsPit, no_blocks_fi
 use Rattle.pit_model.specs.Graph.{IsGraph}
 use Rattle.mine_graph.specs.FixedBlocks.{FixedBlocks, IsFixedOf, no_lists}
 use Rattle.merging.specs.Reduced.{IsRestIn}
-use Rattle.certificate.specs.Certificate.{IsCertificateOf, IsFixedCertificateOf}
+use Rattle.optimality.specs.Certificate.{IsCertificateOf, IsFixedCertificateOf}
 use Rattle.merging.specs.declared.outcome.Outcome.{Outcome}
 use Rattle.merging.specs.declared.outcome.Outcome.TheVariants as outcomes
 use Rattle.solver.specs.declared.calls.PitOutcome.{PitOutcome}

@@ -4,7 +4,7 @@ ghost use Rattle.std.specs.Prelude.{◌≡◌, ◌<◌, ℕ, Bool, not, pos, ◌
 ghost use Rattle.faults.specs.Refused.{no_memory};
 ghost use Rattle.pit_model.specs.Direction.{IsDual};
 ghost use Rattle.pit_model.specs.Mine.{members, value};
-ghost use Rattle.certificate.specs.Check.{has};
+ghost use Rattle.optimality.specs.Check.{has};
 
 use faults::Fault;
 use mine_graph::{Graph, Instance};

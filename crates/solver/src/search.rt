@@ -5,7 +5,7 @@ ghost use Rattle.pit_model.specs.Direction.{no_blocks_fixed};
 ghost use Rattle.pit_model.specs.Fixed.{fixed_of, graph_of_mine};
 ghost use Rattle.mine_graph.specs.FixedBlocks.{IsFixedOf};
 ghost use Rattle.merging.specs.Reduced.{IsRestIn};
-ghost use Rattle.certificate.specs.Check.{ShowsPit};
+ghost use Rattle.optimality.specs.Check.{ShowsPit};
 ghost use Rattle.solver.specs.Modes.{EndsIn, EndsWithin, LacksRoom, RefusesSolve};
 ghost use Rattle.solver.specs.Searched.{EndsFixed, IsFound, IsLiftedOutcome, IsShown, OfSearched, RefusesSearch};
 

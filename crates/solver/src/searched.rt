@@ -6,7 +6,7 @@ ghost use Rattle.pit_model.specs.declared.direction.Direction.{Direction as AnyD
 ghost use Rattle.pit_model.specs.Direction.{ListsPit, no_blocks_fixed};
 ghost use Rattle.pit_model.specs.Fixed.{fixed_of, graph_of_mine};
 ghost use Rattle.pit_model.specs.Mine.{Instance as AnyInstance};
-ghost use Rattle.certificate.specs.Check.{ShowsPit};
+ghost use Rattle.optimality.specs.Check.{ShowsPit};
 ghost use Rattle.mine_graph.specs.FixedBlocks.{IsFixedOf};
 ghost use Rattle.solver.specs.Searched.{IsFound, IsOpenPart, IsSearch, IsSearchOf, IsToward, ListsRestPit, own_values};
 

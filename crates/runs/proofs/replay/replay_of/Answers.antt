@@ -4,7 +4,7 @@ use Rattle.std.proofs.lemmas.Bool.{true≢false}
 use Rattle.std.proofs.lemmas.Result.{err_from_is_err_and}
 use Rattle.pit_model.specs.Graph.{Graph}
 use Rattle.pit_model.specs.Mine.{members}
-use Rattle.certificate.specs.Check.{open_in}
+use Rattle.optimality.specs.Check.{open_in}
 use Rattle.mine_graph.specs.FixedBlocks.{no_lists}
 use Rattle.merging.specs.Reduced.{ListsJoined}
 use Rattle.merging.proofs.Resting.{none_both}

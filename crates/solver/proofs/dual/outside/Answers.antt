@@ -2,7 +2,7 @@
 use Rattle.std.proofs.Common.{◌≡◌, ℕ, Bool, not, List, arith, ap, subst, ◌∙◌, length}
 use Rattle.std.proofs.lemmas.Result.{IfOk-weaker}
 use Rattle.pit_model.specs.Mine.{members}
-use Rattle.certificate.specs.Check.{has}
+use Rattle.optimality.specs.Check.{has}
 use Rattle.solver.proofs.Marking.{IsMarking, one_more, unmarked_members}
 use Rattle.solver.proofs.dual.outside.Goals as goal
 
