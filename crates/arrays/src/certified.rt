@@ -12,9 +12,9 @@ use crate::marks::write_marks;
 use crate::ordered::ordered_mine_of;
 use csr::CsrView;
 use faults::{Fault, Refusal};
+use merging::{Outcome, solve_single};
 use mine_graph::{Fixed, Instance};
 use optimality::{Certificate, check};
-use solver::{Outcome, solve_single};
 use std::alloc::Global;
 
 /// The most that an amount on a pair may be, in the unit of the values.

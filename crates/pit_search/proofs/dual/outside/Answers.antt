@@ -3,8 +3,8 @@ use Rattle.std.proofs.Common.{◌≡◌, ℕ, Bool, not, List, arith, ap, subst,
 use Rattle.std.proofs.lemmas.Result.{IfOk-weaker}
 use Rattle.pit_model.specs.Mine.{members}
 use Rattle.optimality.specs.Check.{has}
-use Rattle.solver.proofs.Marking.{IsMarking, one_more, unmarked_members}
-use Rattle.solver.proofs.dual.outside.Goals as goal
+use Rattle.pit_search.proofs.Marking.{IsMarking, one_more, unmarked_members}
+use Rattle.pit_search.proofs.dual.outside.Goals as goal
 
 pub loop-u-preserved : goal.loop-u-preserved
 loop-u-preserved c = one_more c.args.n c.args.found.now c.loop-u.inside.items c.loop-u.u-index (c.requires c.loop-u.u-index c.loop-u-test.true) c.loop-u.invariant

@@ -8,10 +8,10 @@ ghost use Rattle.pit_model.specs.Fixed.{fixed_of, graph_of_mine};
 ghost use Rattle.pit_model.specs.Mine.{Instance as AnyInstance};
 ghost use Rattle.optimality.specs.Check.{ShowsPit};
 ghost use Rattle.mine_graph.specs.FixedBlocks.{IsFixedOf};
-ghost use Rattle.solver.specs.Searched.{IsFound, IsOpenPart, IsSearch, IsSearchOf, IsToward, ListsRestPit, own_values};
+ghost use Rattle.pit_search.specs.Searched.{IsFound, IsOpenPart, IsSearch, IsSearchOf, IsToward, ListsRestPit, own_values};
 
 use crate::dual::{dual, outside};
-use crate::search::FoundPit;
+use crate::found_pit::FoundPit;
 use faults::Fault;
 use merging::{ReducedMine, join_pit};
 use mine_graph::{Fixed, Instance, Values};
@@ -123,7 +123,7 @@ fn mine_values(values: Option<Values>, instance: Instance) -> Values
 
 /// What is searched for the pit of a mine toward a direction.
 #[derive(Drop)]
-pub(crate) struct Searched {
+pub struct Searched {
     /// Its least pit is searched.
     pub instance: Instance,
     direction: Direction,

@@ -7,9 +7,9 @@ use Rattle.pit_model.specs.Fixed.{fixed_of}
 use Rattle.pit_model.specs.Mine.{Instance, members}
 use Rattle.merging.proofs.Resting.{none_both}
 use Rattle.merging.specs.Reduced.{ListsJoined}
-use Rattle.solver.specs.Searched.{IsOpenPart}
-use Rattle.solver.proofs.Searching.{found_inside, joined_pit}
-use Rattle.solver.proofs.searched.whole_pit.Goals as goal
+use Rattle.pit_search.specs.Searched.{IsOpenPart}
+use Rattle.pit_search.proofs.Searching.{found_inside, joined_pit}
+use Rattle.pit_search.proofs.searched.whole_pit.Goals as goal
 
 pub join_pit-requires-clause-apart : goal.join_pit-requires-clause-apart
 join_pit-requires-clause-apart c = none_both c.requires.mine c.args.fixed.now c.requires.fixed_blocks

@@ -7,9 +7,9 @@ use Rattle.std.proofs.lemmas.Int.{to_z-of_z}
 use mir.Val.{SFits}
 use Rattle.pit_model.specs.Size.{most_blocks}
 use Rattle.pit_model.specs.Sum.{total, when}
-use Rattle.solver.specs.Searched.{IsToward}
-use Rattle.solver.proofs.Searching.{listed_below, listed_few}
-use Rattle.solver.proofs.searched.Searched.pit.Goals as goal
+use Rattle.pit_search.specs.Searched.{IsToward}
+use Rattle.pit_search.proofs.Searching.{listed_below, listed_few}
+use Rattle.pit_search.proofs.searched.Searched.pit.Goals as goal
 
 pub worth-worth-requires-clause-few : goal.worth-worth-requires-clause-few
 worth-worth-requires-clause-few c =

@@ -3,9 +3,9 @@ use Rattle.std.proofs.Common.{◌≡◌, ℕ, ◌<◌, Bool, not, List, ap, sym,
 use Rattle.pit_model.specs.declared.direction.Direction.TheVariants.{Greatest}
 use Rattle.pit_model.specs.Graph.{Graph}
 use Rattle.pit_model.specs.Mine.{members}
-use Rattle.solver.specs.Searched.{IsToward}
-use Rattle.solver.proofs.Searching.{inside_listed, turned_pit}
-use Rattle.solver.proofs.searched.pit_toward.Goals as goal
+use Rattle.pit_search.specs.Searched.{IsToward}
+use Rattle.pit_search.proofs.Searching.{inside_listed, turned_pit}
+use Rattle.pit_search.proofs.searched.pit_toward.Goals as goal
 
 pub outside-requires : goal.outside-requires
 outside-requires c =

@@ -3,9 +3,9 @@ ghost use Rattle.std.specs.Prelude.{◌≡◌, IfOk, IfErr};
 ghost use Rattle.faults.specs.Refused.{no_memory};
 ghost use Rattle.pit_model.specs.Fixed.{fixed_of, graph_of_mine};
 ghost use Rattle.mine_graph.specs.FixedBlocks.{IsFixedOf};
-ghost use Rattle.solver.specs.Searched.{IsFound};
+ghost use Rattle.pit_search.specs.Searched.{IsFound};
 
-use crate::search::FoundPit;
+use crate::found_pit::FoundPit;
 use crate::searched::Searched;
 use faults::Fault;
 use merging::solve_pit;
