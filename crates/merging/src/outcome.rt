@@ -1,6 +1,6 @@
 //! How a solve ended.
 
-use optimality::Certificate;
+use certificate::Certificate;
 
 /// How a solve ended.
 #[derive(Debug, Drop)]

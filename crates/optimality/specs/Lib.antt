@@ -1,3 +1,0 @@
-pub mod Certificate
-pub mod Check
-pub mod Reaching
