@@ -45,7 +45,8 @@ def test_shells_equal_those_of_the_cleaned_table(tmp_path, package, case):
     )
     found = {}
     for name in ("project", "clean"):
-        assert main(["shells", str(tmp_path / f"{name}.toml"), "--quiet", "--no-figures"]) == 0
+        few = ["--set", "shells.revenue_factors=[0.5, 1.0]"]
+        assert main(["shells", str(tmp_path / f"{name}.toml"), "--quiet", "--no-figures", *few]) == 0
         folder = load(tmp_path / f"{name}.toml").folder
         blocks = pd.read_csv(folder / "tables/blocks.csv")
         axes = load(tmp_path / f"{name}.toml").table
