@@ -8,6 +8,8 @@ from conftest import PROJECT, rows
 from pitplan import Plan, PlanError, load
 from pitplan.blockmodel import row_rules
 from pitplan.cli import main
+from planaudit import AuditError
+from planaudit.inputs import block_table, project_file
 
 FILE = 'file = "blocks.csv"'
 
@@ -184,6 +186,20 @@ def test_errors_name_the_row_of_the_file_below_a_preamble_and_behind_rows_that_a
         with_rules(plan_folder, text, "filter = \"name != 'b0-0-0'\"")
     )
     assert "3 header lines" not in refused(plan_folder(text))
+
+
+def test_the_audit_names_the_same_row(plan_folder):
+    """Below the same preamble the block of row 8 has no tonnes, and then a word for them."""
+    for field, why in (("", "is empty"), ("many", '"many" is not a number')):
+        table = rows(3, 3, 2).astype({"tonnes": object})
+        table.loc[2, "tonnes"] = field
+        text = "Model of 2026\nno constraints\n\n" + table.to_csv(index=False).replace(
+            "region\n", "region\n-,m,m,m,t,%,-,-\n", 1
+        )
+        path = with_rules(plan_folder, text, "filter = \"name != 'b0-0-0'\"")
+        with pytest.raises(AuditError, match=f"blocks.csv row 8 column tonnes: {why}"):
+            block_table.read(project_file.load(path))
+        assert f"blocks.csv row 8 column tonnes: {why}" in refused(path)
 
 
 def test_cells_have_the_volumes_of_their_sizes(plan_folder):

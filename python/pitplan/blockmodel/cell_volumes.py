@@ -23,8 +23,8 @@ from .rotated_grid import azimuth_of
 
 # Tonnes that are computed are kept to a gram, grades to nine decimals; halves to the even one.
 TONNES_PLACES, GRADE_PLACES = 6, 9
-# Shares of a block's volume outside of which its cells are told.
-LEAST_FILLED, MOST_FILLED = 0.999, 1.001
+# Share of a block's volume above which its cells overlap.
+MOST_FILLED = 1.001
 
 
 @dataclass(frozen=True)

@@ -1,7 +1,6 @@
 """Cost adjustment factors of blocks: MCAF multiplies the mining cost, PCAF the processing cost.
 
-A block with tonnes has a factor from 0, as a number of its own: no default stands in for an empty field. A block without tonnes costs nothing, so
-an empty field is 1 there.
+A block with tonnes needs a factor from 0; an empty field is an error. A block without tonnes costs nothing, so an empty field is 1 there.
 """
 
 from __future__ import annotations

@@ -29,7 +29,7 @@ PAGE, DATA, HEAD, FIELD = 512, 508, 24, 7
 MOST_FIELDS = (DATA - HEAD) // FIELD
 # Numbers of the definition, by word from 0: fields, last page, and records on the last page.
 FIELDS, LAST_PAGE, LAST_RECORD = 21, 22, 23
-# Absent data, and what stands for no bound. Single precision holds neither exactly.
+# The magnitude of absent data and of missing bounds. Single precision does not hold it exactly.
 ABSENT, HAIR = 1e30, 1e-6
 CHARACTERS = 4
 ENCODING = "cp1252"
@@ -186,7 +186,7 @@ def definition_of(file: Path, page: bytes, words: Words) -> Definition:
 
 
 def part_of(file: Path, page: bytes, words: Words, number: int) -> Part:
-    """Reads the definition of a field, counted from 0. Raises PlanError if it is none."""
+    """Reads the definition of a field, counted from 0. Raises PlanError if it is not one."""
     at = HEAD + FIELD * number
     name, kind = words.text(page, at, 2), words.text(page, at + 2)
     where = f"{file}: field {number + 1}" + (f" {name}" if name else "")

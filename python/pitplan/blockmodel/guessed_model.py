@@ -1,4 +1,4 @@
-"""A table of which nothing was said: its text, its columns and its nulls, as they are guessed."""
+"""Guesses the text format, the columns and the nulls of a table without a project."""
 
 from __future__ import annotations
 
@@ -32,7 +32,7 @@ NEEDED = ("tonnes", "density", "volume", "rock_percent")
 
 @dataclass(frozen=True)
 class Model:
-    """A table as it was read.
+    """A table with its guessed columns.
 
     Attributes
     ----------
@@ -155,7 +155,7 @@ def turned_grid(model: Model) -> Optional[Places]:
     try:
         return None if azimuth is None else of_centres(centres, azimuth, rules, (str(model.file), "x, y"))
     except PlanError:
-        # What is wrong with them is told where the project is planned.
+        # The first run of the project reports the error.
         return None
 
 

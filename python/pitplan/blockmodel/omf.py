@@ -167,8 +167,8 @@ def opened(file: Path, handle: BinaryIO) -> Archive:
         raise PlanError(f"{file}: has {size} bytes, and the header of OMF has {HEADER.size}: the file is cut")
     _, version, identifier, start = HEADER.unpack(head)
     if version.rstrip(b"\0 ") != VERSION:
-        told = version.rstrip(b"\0 ").decode("ascii", "replace")
-        raise PlanError(f"{file}: is {told}, expected {VERSION.decode()}: save it as OMF 1 (version 0.9)")
+        said = version.rstrip(b"\0 ").decode("ascii", "replace")
+        raise PlanError(f"{file}: is {said}, expected {VERSION.decode()}: save it as OMF 1 (version 0.9)")
     if not HEADER.size <= start < size:
         raise PlanError(f"{file}: the JSON begins at byte {start:,} of {size:,}: the file is cut: export it again")
     handle.seek(start)
@@ -210,10 +210,10 @@ def block_model(archive: Archive, element: dict[str, Any], codes: Sequence[str])
         else:
             frame[column] = as_codes(values) if column in codes else values
     size = " x ".join(f"{len(side):,}" for side in cells.sides)
-    told = f"{len(frame.columns) - len(GIVEN)} attributes" + (
+    said = f"{len(frame.columns) - len(GIVEN)} attributes" + (
         f", {left} of colours or vectors left out" if left else ""
     )
-    return frame, f'OMF 0.9, volume "{name}", {size} cells, {told}'
+    return frame, f'OMF 0.9, volume "{name}", {size} cells, {said}'
 
 
 @dataclass(frozen=True)
@@ -298,8 +298,8 @@ def upright(archive: Archive, axes: np.ndarray, where: str) -> tuple[int, int, i
     vertical = np.abs(axes[:, 2]) > 1 - HAIR
     flat = np.flatnonzero(~vertical)
     if vertical.sum() != 1 or (np.abs(axes[flat, 2]) > HAIR).any() or abs(axes[flat[0]] @ axes[flat[1]]) > HAIR:
-        told = ", ".join(f"({', '.join(f'{part:.6g}' for part in axis)})" for axis in axes)
-        why = f"found the axes {told}, expected a vertical one and two horizontal ones at right angles"
+        said = ", ".join(f"({', '.join(f'{part:.6g}' for part in axis)})" for axis in axes)
+        why = f"found the axes {said}, expected a vertical one and two horizontal ones at right angles"
         raise PlanError(f"{archive.file}: {where}: {why}: export the model without dip or plunge")
     east = int(flat[np.abs(axes[flat, 0]).argmax()])
     north = int(flat[flat != east][0])

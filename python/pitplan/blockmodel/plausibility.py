@@ -58,14 +58,16 @@ def of_prices(pays: np.ndarray, metals: Sequence[Metal], grades: Sequence[np.nda
         return []
     worth = sum(float(metal.by_quantity(metal.price)) * mean_content(metal, it) for metal, it in zip(metals, grades))
     paying = int(np.count_nonzero(pays))
-    told = f"the metal in a tonne of mean grade is worth {worth:,.4g} {currency}, and {paying:,} of {with_metal:,} blocks with metal pay"
+    described = f"the metal in a tonne of mean grade is worth {worth:,.4g} {currency}, and {paying:,} of {with_metal:,} blocks with metal pay"
     if paying:
         doubts = [doubt for metal in metals if currency == "USD" and (doubt := of_price(metal))]
-        return [f"{WARNING}{doubt}; {told}" for doubt in doubts]
+        return [f"{WARNING}{doubt}; {described}" for doubt in doubts]
     listed = ", ".join(priced(metal, currency) for metal in metals)
     natural = dict.fromkeys(metal.quantity for metal in metals if metal.price_per is None)
     hints = [f'set price_per = "{SOLD_BY[unit]}" if a price is per {SOLD_BY[unit]}' for unit in natural]
-    return [f"{WARNING}no block pays for its processing, {listed}{': ' if hints else ''}{', '.join(hints)}; {told}"]
+    return [
+        f"{WARNING}no block pays for its processing, {listed}{': ' if hints else ''}{', '.join(hints)}; {described}"
+    ]
 
 
 def priced(metal: Metal, currency: str) -> str:

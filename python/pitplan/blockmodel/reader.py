@@ -91,7 +91,7 @@ def read(project: Project) -> Table:
         source = Source.of(str(columns.file), model_files.ROWS)
         table = checked(model[0], project, source)
         return replace(table, notes=(model[1], *table.notes))
-    # A column of which nothing is known is read as texts, since pieces of it may look like numbers.
+    # The type of these columns is unknown: they are read as texts, since pieces of them may look like numbers.
     untyped = untyped_columns(project)
     frame, form = read_as_written(columns.file, columns, [*codes, *untyped], wanted)
     for name in untyped if form.decimal == "," else ():
@@ -102,7 +102,7 @@ def read(project: Project) -> Table:
 
 
 def read_whole(file: Path) -> tuple[pd.DataFrame, TableFormat]:
-    """Returns all columns of a file of which nothing is said, and its format. Raises PlanError if it is not a table."""
+    """Returns all columns of a file without a project, and its format. Raises PlanError if it is not a table."""
     model = model_files.read(file)
     if model is not None:
         header, first = model_files.ROWS

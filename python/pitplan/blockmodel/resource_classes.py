@@ -87,8 +87,8 @@ def sum_notes(waste: list[tuple[str, float, float]], project: Project, price: st
             names = listed([named(code) for code, _ in some])
             total = amount(sum(more for _, more in some))
             rule = "by [classes]" if is_given else "by default; [classes] sets a rule for each class"
-            told = f"{names} resources are treated as waste: {total} that would pay for processing at {price}"
-            found.append(f"{told} ({rule})" if is_given else f"{WARNING}{told} ({rule})")
+            said = f"{names} resources are treated as waste: {total} that would pay for processing at {price}"
+            found.append(f"{said} ({rule})" if is_given else f"{WARNING}{said} ({rule})")
     return found
 
 

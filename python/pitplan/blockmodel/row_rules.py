@@ -110,7 +110,7 @@ def typed(column: pd.Series, project: Project, source: str) -> np.ndarray:
 
 
 def of_categories(column: pd.Series, nulls: tuple[str, ...], source: str) -> np.ndarray:
-    """Returns the texts of a column of categories, with "" for null codes: each different code is looked at once."""
+    """Returns the texts of a column of categories, with "" for null codes; each distinct code is processed once."""
     texts, place = stripped(pd.Series(column.cat.categories, dtype=object)), column.cat.codes.to_numpy()
     if "\0" in "".join(texts):
         demand_no_nul(texts[place], source, str(column.name))
@@ -130,7 +130,7 @@ def stripped(codes: pd.Series) -> np.ndarray:
 
 
 def has_no_blanks(fields: np.ndarray) -> bool:
-    """Returns whether all fields are texts of ASCII without blanks: a look at all of them together is faster than one at each."""
+    """Returns whether all fields are texts of ASCII without blanks: one search of the joined text is faster than one of each field."""
     try:
         whole = "".join(fields)
     except TypeError:

@@ -1,4 +1,4 @@
-"""Writes a project.toml for a table of which nothing was said: what its text and its columns tell is guessed, and marked as a guess."""
+"""Writes a project.toml for a table without one; comments mark each guess and give its reason."""
 
 from __future__ import annotations
 

@@ -20,8 +20,8 @@ def warnings_of(
 ) -> list[str]:
     """One warning that names the first such text by its row and column, and counts the others; none where there is no such text.
 
-    Among the columns that are no codes a number written as a text is none: a spreadsheet reads it as the same number. Nor are the null codes
-    of a column, which `nulls` gives.
+    Numbers written as text are skipped, except in codes: a spreadsheet reads the same number. So are the null codes that `nulls` gives for a
+    column.
     """
     found = list(
         chain.from_iterable(in_column(frame.iloc[:, place], codes, source, nulls) for place in range(frame.shape[1]))

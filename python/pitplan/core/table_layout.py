@@ -25,7 +25,7 @@ SEPARATORS = (",", ";", "\t", "|")
 BLANKS = " "
 NAMES = {",": "commas", ";": "semicolons", "\t": "tabs", "|": "bars", BLANKS: "blanks"}
 COMMENT = "#"
-# Lines that are looked at, and letters of each.
+# Lines of the sample, and letters of each.
 MOST_LINES, MOST_LETTERS = 400, 1 << 20
 # Further header lines below the names that are passed over.
 MOST_BELOW = 10

@@ -27,7 +27,7 @@ UNREADABLE = (OSError, EOFError, zipfile.BadZipFile, zlib.error, lzma.LZMAError)
 LOCKED = 1
 # How files begin that Excel writes, new and old.
 PACKED = (b"PK\x03\x04", b"\xd0\xcf\x11\xe0")
-# The encoding of a table of which nothing is said, and that of bytes in it that are not of this encoding.
+# The encoding without a byte-order mark or a key, and that of bytes which are not of this encoding.
 USUAL, OTHERWISE = "utf-8-sig", "cp1252"
 # The error handler of `codecs` that reads these bytes.
 MIXED = "pitplan.cp1252"

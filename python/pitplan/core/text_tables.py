@@ -76,7 +76,7 @@ def read_columns(file: Path, form: TableFormat, fields: Fields = Fields()) -> pd
 
 
 def no_table(file: Path, form: TableFormat, why: str) -> PlanError:
-    """Returns the error for a text of which pandas makes no table, with the row if pandas names it."""
+    """Returns the error for a text that pandas cannot parse, with the row if pandas names it."""
     if found := re.search(r"Expected (\d+) fields in line (\d+), saw (\d+)", why):
         names, row, fields = (int(it) for it in found.groups())
         remedy = "quote a field that contains the separator, or remove the surplus one"

@@ -11,16 +11,16 @@ import pandas as pd
 from pitplan.config.economics import ByCode, ByDomain, Curve, Metal
 from pitplan.config.project import Project
 
-from .weighing import GRADES, Feed, Rows
+from .weighing import HIGH_GRADES, Feed, Rows
 
 
 def grade_notes(rows: Rows) -> list[str]:
     """Returns warnings about grades with an unusually high mean for their unit."""
     notes = []
     for metal in rows.project.metals:
-        grades, (_, usual) = rows.frame[metal.column].to_numpy(), GRADES[metal.unit]
+        grades = rows.frame[metal.column].to_numpy()
         some = grades[grades > 0]
-        if len(some) and some.mean() > usual:
+        if len(some) and some.mean() > HIGH_GRADES[metal.unit]:
             notes.append(
                 f'WARNING: the mean grade of {metal.name} in blocks above 0 is {some.mean():.4g} {metal.sign}: check the unit "{metal.unit}"'
             )

@@ -49,8 +49,8 @@ MILLIONTHS = 6
 # The files' decimals have twelve digits before the point, and a fixed cut-off adds two amounts.
 GREATEST = 10**17
 
-# By unit the grade of pure metal, and a mean grade that hardly any mine reaches.
-GRADES = {"percent": (100.0, 10.0), "fraction": (1.0, 0.1), "gram_per_tonne": (1e6, 100.0)}
+# By unit a mean grade that hardly any mine reaches.
+HIGH_GRADES = {"percent": 10.0, "fraction": 0.1, "gram_per_tonne": 100.0}
 
 
 @dataclass(frozen=True)

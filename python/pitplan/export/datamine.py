@@ -104,9 +104,9 @@ def prototype(folder: Folder) -> tuple[list[Field], list[Field]]:
     (levels, rows, columns), (west, _, south, _, floor, _) = grid.shape, grid.extent()
     column, row, level = grid.indices(ids)
     place = (column * rows + row) * levels + (levels - 1 - level)
-    told = dict(zip(("XINC", "YINC", "ZINC"), grid.size)) | {"XMORIG": west, "YMORIG": south, "ZMORIG": floor}
-    told |= {"NX": columns, "NY": rows, "NZ": levels}
-    fixed = [Field(name, 0, np.array(float(value))) for name, value in told.items()]
+    said = dict(zip(("XINC", "YINC", "ZINC"), grid.size)) | {"XMORIG": west, "YMORIG": south, "ZMORIG": floor}
+    said |= {"NX": columns, "NY": rows, "NZ": levels}
+    fixed = [Field(name, 0, np.array(float(value))) for name, value in said.items()]
     centres = zip(("XC", "YC", "ZC"), grid.centres(ids))
     return fixed, [Field("IJK", 0, place.astype(float)), *(Field(name, 0, axis) for name, axis in centres)]
 

@@ -65,8 +65,8 @@ def write_omf(path: Path, folder: Folder, shape: Shape) -> None:
         project = objects.identifier()
         element = str(uuid.uuid5(project, "blocks"))
         title = str(folder.record.get("title", "Blocks"))
-        told = {"name": title, "description": "", "author": "", "revision": "", "units": "m"}
-        objects.add("Project", **told, origin=[0.0, 0.0, 0.0], elements=[element])
+        said = {"name": title, "description": "", "author": "", "revision": "", "units": "m"}
+        objects.add("Project", **said, origin=[0.0, 0.0, 0.0], elements=[element])
         places = places_of(folder)
         names = [name for name in folder.blocks.columns if name not in places]
         data = [attribute_of(objects, name, folder) for name in names]

@@ -57,7 +57,7 @@ def histograms_of(model: Model) -> list[tuple[str, str]]:
 
 
 def plot_histogram(axis: Axes, values: np.ndarray, label: str) -> None:
-    """Draws how many blocks have which value; the values of 0 and the nulls are told in the title."""
+    """Draws how many blocks have which value; the title counts the values of 0 and the nulls."""
     some = values[values > 0]
     axis.hist(some, bins=BINS, color=ORE)
     axis.set_xlabel(label)

@@ -46,17 +46,16 @@ def read(project: Project) -> pd.DataFrame:
     for name in amounts:
         if rules.meaning(name, table.empty) == "missing":
             kept &= frame[name].notna().to_numpy()
-    if not kept.all():
-        frame = frame[kept].reset_index(drop=True)
+    frame = frame if kept.all() else frame[kept]
     for name in [name for name in amounts if name not in project.economics.adjusting]:
-        frame[name] = without_gaps(frame[name].to_numpy(dtype=float), table.file, name, is_zero(name, table))
+        frame = frame.assign(**{name: without_gaps(frame[name], table.file, is_zero(name, table))})
     is_of_parents = table.reblock is not None and table.reblock.counts is None and table.reblock.size is None
     cells = rules.cell_size or () if is_of_parents else ()
     frame = with_tonnes(frame, project)
     for name in project.economics.adjusting:
         frame[name] = factors(frame, name, project)
     demand_classes(frame, project)
-    return frame[list(dict.fromkeys([*project.columns, table.tonnes, *cells]))]
+    return frame[list(dict.fromkeys([*project.columns, table.tonnes, *cells]))].reset_index(drop=True)
 
 
 def demand_classes(frame: pd.DataFrame, project: Project) -> None:
@@ -66,7 +65,7 @@ def demand_classes(frame: pd.DataFrame, project: Project) -> None:
     if refused.any():
         row = int(refused.argmax())
         code = frame[str(table.resource_class)].iloc[row]
-        where = f"{table.file} row {row + FIRST_ROW} column {table.resource_class}"
+        where = f"{table.file} row {frame.index[row]} column {table.resource_class}"
         raise AuditError(f'{where}: found "{code}", which [classes] refuses: correct the class')
 
 
@@ -100,9 +99,9 @@ def factors(frame: pd.DataFrame, name: str, project: Project) -> np.ndarray:
     wrong = (found < 0) | np.isinf(found) | (np.isnan(found) & (frame[project.table.tonnes].to_numpy() > 0))
     if wrong.any():
         row = int(wrong.argmax())
-        told = "is empty" if np.isnan(found[row]) else f"found {found[row]:g}"
-        where = f"{project.table.file} row {row + FIRST_ROW} column {name}"
-        raise AuditError(f"{where}: {told}, expected a cost adjustment factor from 0: correct the field")
+        said = "is empty" if np.isnan(found[row]) else f"found {found[row]:g}"
+        where = f"{project.table.file} row {frame.index[row]} column {name}"
+        raise AuditError(f"{where}: {said}, expected a cost adjustment factor from 0: correct the field")
     return np.where(np.isnan(found), 1.0, found)
 
 
@@ -121,6 +120,11 @@ def read_columns(
     numeric : list of str, optional
         Columns of numbers: floats, nan for a null. By default all but the codes; others are texts if a field is not a number.
 
+    Returns
+    -------
+    DataFrame
+        Its index has the rows of the file.
+
     Raises
     ------
     AuditError
@@ -134,29 +138,39 @@ def read_columns(
     missing = [name for name in wanted if name not in frame]
     if missing:
         raise AuditError(f"{file} row 1: there is no column {missing[0]}")
-    frame = frame[wanted]
-    has_comma = has_commas(table, layout.separator if layout else ",")
     first = layout.first_row if layout else FIRST_ROW
+    frame = frame[wanted].set_axis(pd.RangeIndex(first, first + len(frame)))
+    has_comma = has_commas(table, layout.separator if layout else ",")
     for name in wanted:
         nulls = table.rules.codes_of(name)
         if name in codes:
-            texts = stripped(frame[name])
-            frame[name] = texts.mask(row_rules.is_null(texts, nulls), "") if nulls else texts
-            continue
-        if frame[name].dtype.kind not in "if":
-            texts = stripped(frame[name].astype(object))
-            texts = texts.mask(row_rules.is_null(texts, nulls), "") if nulls else texts
-            try:
-                frame[name] = numbers(texts, f"{file}", first, has_comma)
-            except AuditError:
-                if numeric is None or name in numeric:
-                    raise
-                frame[name] = texts
-                continue
-        frame[name] = frame[name].astype(float)
-        if nulls:
-            frame[name] = frame[name].mask(row_rules.is_null(frame[name], nulls))
+            frame[name] = without_nulls(stripped(frame[name]), nulls)
+        else:
+            must_be = numeric is None or name in numeric
+            frame[name] = numbers_or_texts(frame[name], str(file), nulls, (has_comma, must_be))
     return frame
+
+
+def without_nulls(texts: pd.Series, nulls: list[str]) -> pd.Series:
+    return texts.mask(row_rules.is_null(texts, nulls), "") if nulls else texts
+
+
+def numbers_or_texts(fields: pd.Series, file: str, nulls: list[str], how: tuple[bool, bool]) -> pd.Series:
+    """Returns numbers, nan for a null; texts if a field is not a number and the column need not be numeric.
+
+    `how` says whether a comma may be a decimal mark, and whether the column must be numeric. Raises AuditError as `read`.
+    """
+    has_comma, must_be = how
+    if fields.dtype.kind not in "if":
+        texts = without_nulls(stripped(fields.astype(object)), nulls)
+        try:
+            fields = pd.Series(numbers(texts, file, has_comma), fields.index)
+        except AuditError:
+            if must_be:
+                raise
+            return texts
+    fields = fields.astype(float)
+    return fields.mask(row_rules.is_null(fields, nulls)) if nulls else fields
 
 
 def stripped(codes: pd.Series) -> pd.Series:
@@ -270,7 +284,7 @@ def has_commas(table: TableColumns, separator: str) -> bool:
     return table.decimal == "," or (table.decimal is None and separator != ",")
 
 
-def numbers(fields: pd.Series, file: str, first_row: int, is_comma: bool) -> np.ndarray:
+def numbers(fields: pd.Series, file: str, is_comma: bool) -> np.ndarray:
     """Returns the numbers of fields that are not all plain numbers, nan if empty. Raises AuditError as `read`."""
     found = np.full(len(fields), np.nan)
     for row, field in enumerate(fields.tolist()):
@@ -280,7 +294,7 @@ def numbers(fields: pd.Series, file: str, first_row: int, is_comma: bool) -> np.
         try:
             found[row] = number(text.replace(",", ".") if is_comma and text.count(",") == 1 else text)
         except (InvalidOperation, OverflowError) as error:
-            where = f"{file} row {row + first_row} column {fields.name}"
+            where = f"{file} row {fields.index[row]} column {fields.name}"
             raise AuditError(f'{where}: "{text}" is not a number: correct the field, and run pitplan again') from error
     return found
 
@@ -293,11 +307,13 @@ def number(text: str) -> float:
     return float(value)
 
 
-def without_gaps(values: np.ndarray, file: Path, name: str, may_be_empty: bool) -> np.ndarray:
-    """Returns numbers with 0 for empty fields if the project reads these so. Raises AuditError as `read`."""
+def without_gaps(fields: pd.Series, file: Path, may_be_empty: bool) -> np.ndarray:
+    """Returns numbers with 0 for empty fields if the project reads these so; the index has the rows of the file. Raises AuditError as `read`."""
+    values = fields.to_numpy(dtype=float)
     empty = np.isnan(values)
     if empty.any() and not may_be_empty:
-        raise AuditError(f"{file} row {int(empty.argmax()) + FIRST_ROW} column {name}: is empty, expected a number")
+        row = fields.index[int(empty.argmax())]
+        raise AuditError(f"{file} row {row} column {fields.name}: is empty, expected a number")
     return np.where(empty, 0.0, values)
 
 

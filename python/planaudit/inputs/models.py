@@ -136,12 +136,12 @@ def datamine(data: bytes) -> Iterator[tuple[str, Any]]:
         parts = [data[size * at : size * at + 4] for at in range(word, word + count)]
         return b"".join(parts).decode("cp1252", "replace").rstrip(" \0")
 
-    told = [FIRST + EACH * number for number in range(fields)]
-    length = max(int(words[at + 3]) for at in told)
+    said = [FIRST + EACH * number for number in range(fields)]
+    length = max(int(words[at + 3]) for at in said)
     rows = np.arange((pages - 2) * (DATA // length) + on_last)
     first = PAGE * (1 + rows // (DATA // length)) + length * (rows % (DATA // length))
     parts: dict[str, dict[int, list[str]]] = {}
-    for at in told:
+    for at in said:
         name, kind, place, part = letters(at, 2), letters(at + 2), int(words[at + 3]), int(words[at + 4])
         if kind == "A":
             texts = [data[size * it : size * it + 4].decode("cp1252", "replace") for it in (first + place - 1).tolist()]

@@ -10,7 +10,7 @@ from itertools import islice
 from typing import Optional
 
 SEPARATORS = (",", ";", "\t", "|", " ")
-# Lines that are looked at, and header lines below the names at most.
+# Lines of the sample, and header lines below the names at most.
 SEEN, BELOW = 400, 10
 NUMBER = re.compile(r"[-+]?(?:\d+[.,]?\d*|[.,]\d+)(?:[eE][-+]?\d+)?")
 VULCAN = re.compile(r"variable (description|type|default)s?\b", re.IGNORECASE)

@@ -138,8 +138,7 @@ class Simulated:
         frame, at = frame[at >= 0], at[at >= 0]
         for number, metal in enumerate(metals):
             zero = self.project.table.rules.meaning(metal.column, self.project.table.empty) == "zero"
-            grades = frame[metal.column].to_numpy()
-            found[at, number] = block_table.without_gaps(grades, model.file, metal.column, zero)
+            found[at, number] = block_table.without_gaps(frame[metal.column], model.file, zero)
         return found
 
     @property
