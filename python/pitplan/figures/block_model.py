@@ -85,7 +85,7 @@ def plot_maps(model: Model, plan: Axes, section: Axes) -> None:
     plan.set_title(f"plan at {floor + (level + 0.5) * height:,.10g} m")
     name_axes(plan, *cube.names)
     section.imshow(cube.values[:, row], extent=(west, east, floor, top), **style)
-    section.set_title(f"section at {cube.names[1]} {south + (row + 0.5) * depth:,.10g} m")
+    section.set_title(f"section at {south + (row + 0.5) * depth:,.10g} m {cube.names[1]}")
     name_axes(section, cube.names[0], "elevation")
     bar = plan.figure.colorbar(image, ax=[plan, section], shrink=0.8, extend="max")
     bar.set_label(f"{metal.column}, {GRADE_SIGNS[metal.unit]}; grey: blocks without a value")
