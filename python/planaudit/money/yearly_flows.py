@@ -5,10 +5,12 @@ from __future__ import annotations
 from dataclasses import dataclass
 
 import numpy as np
-import pandas as pd
 
 from planaudit.inputs.project import MOST_YEARS, Project
 from planaudit.money.period_costs import HAIR, capex, premiums
+
+# Amounts by name.
+Amounts = dict[str, np.ndarray]
 
 
 @dataclass(frozen=True)
@@ -59,7 +61,7 @@ def discounts(until: np.ndarray, years: np.ndarray, project: Project) -> np.ndar
     return np.where(is_moment, (1 + rate) ** -until, mean)
 
 
-def uses_of(pieces: pd.DataFrame, project: Project) -> list[list[float]]:
+def uses_of(pieces: Amounts, project: Project) -> list[list[float]]:
     """Returns the years of each capacity that each piece uses."""
     schedule = project.shells
     capacities = {
@@ -70,26 +72,24 @@ def uses_of(pieces: pd.DataFrame, project: Project) -> list[list[float]]:
     return np.column_stack([pieces[name] / capacity for name, capacity in capacities.items()]).tolist()
 
 
-def years_of(pieces: pd.DataFrame, project: Project) -> tuple[pd.DataFrame, float]:
-    """Returns one row per year and the life in years. Columns are the amounts of the pieces, fixed_cost and capex if the project has any, the
-    cash flow after these at the prices of the year, and the discounted cash flow.
+def years_of(pieces: Amounts, project: Project) -> tuple[Amounts, float]:
+    """Returns the amounts of each year, from the first, and the life in years. These are the amounts of the pieces, fixed_cost and capex if the
+    project has any, the cash flow after these at the prices of the year, and the discounted cash flow.
     """
     parts = parts_of(uses_of(pieces, project))
     years = np.arange(1, int(parts.year.max()) + 1)
-    flows = {name: amounts[parts.piece] * parts.share for name, amounts in zip(pieces, pieces.to_numpy().T)}
-    sums = {name: np.bincount(parts.year, flow, minlength=len(years) + 1)[1:] for name, flow in flows.items()}
-    found = pd.DataFrame(sums, index=pd.Index(years, name="year"))
+    found = {
+        name: np.bincount(parts.year, amounts[parts.piece] * parts.share, minlength=len(years) + 1)[1:]
+        for name, amounts in pieces.items()
+    }
     for name in premiums(project, 1):
-        found["cash_flow"] += found[name] * [premiums(project, int(year))[name] for year in years]
+        gains = np.array([premiums(project, int(year))[name] for year in years])
+        found["cash_flow"] = found["cash_flow"] + found[name] * gains
     money, until = project.economics, np.clip(parts.life, years - 1.0, years)
-    fixed, spent = float(money.fixed_cost_per_year) * (until - (years - 1.0)), np.array(
-        [capex(project, int(year)) for year in years]
-    )
-    present = (found["cash_flow"] - fixed) * discounts(until, years, project) - spent * (
-        1 + project.shells.discount_rate
-    ) ** -(years - 1.0)
+    fixed = float(money.fixed_cost_per_year) * (until - (years - 1.0))
+    spent = np.array([capex(project, int(year)) for year in years])
+    gain = found["cash_flow"] - fixed
     of_years = {"fixed_cost": fixed, "capex": spent} if money.fixed_cost_per_year or money.capex else {}
-    return (
-        found.assign(**of_years, cash_flow=found["cash_flow"] - fixed - spent, discounted_cash_flow=present),
-        parts.life,
-    )
+    spent_now = spent * (1 + project.shells.discount_rate) ** -(years - 1.0)
+    present = gain * discounts(until, years, project) - spent_now
+    return {**found, **of_years, "cash_flow": gain - spent, "discounted_cash_flow": present}, parts.life
