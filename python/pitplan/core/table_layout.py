@@ -97,6 +97,8 @@ def most_frequent(line: str) -> str:
 
 def layout_by(lines: Sequence[str], separator: str) -> Optional[Layout]:
     """Returns the layout with a separator; None if no line has as many names as the rows have fields."""
+    if separator != BLANKS and not any(separator in line for line in lines):
+        return None
     fields = [fields_of(line, separator) for line in lines]
     rows = [row for row in fields[len(fields) // 2 :] if len(row) > 1]
     if not rows:

@@ -58,25 +58,29 @@ def layout_of(
 
 def with_separator(lines: list[str], separator: str) -> Optional[TextLayout]:
     """Returns the layout with a separator; None if the lines have no names for as many fields as most of the later lines have."""
+    if separator != " " and not any(separator in line for line in lines):
+        return None
     parts = [[] if line.startswith("#") else split(line, separator) for line in lines]
     counts = [len(row) for row in parts[len(parts) // 2 :] if len(row) > 1]
     if not counts:
         return None
     width = max(dict.fromkeys(counts), key=counts.count)
     rows = [row for row in parts[len(parts) // 2 :] if len(row) == width]
-    named = [
-        k for k, row in enumerate(parts) if len(row) == width and not numbers(row) and len(list(filter(None, row))) > 1
-    ]
-    if not named:
+    named = next((k for k, row in enumerate(parts) if len(row) == width and are_names(row)), None)
+    if named is None:
         return None
     middle = sorted(map(numbers, rows))
     typical = (middle[(len(middle) - 1) // 2] + middle[len(middle) // 2]) / 2
-    first = named[0] + 1
-    while first < min(len(parts), named[0] + 1 + BELOW) and is_above(parts[first], typical):
+    first = named + 1
+    while first < min(len(parts), named + 1 + BELOW) and is_above(parts[first], typical):
         first += 1
-    if first == min(len(parts), named[0] + 1 + BELOW):
-        first = named[0] + 1
-    return TextLayout(separator, tuple(parts[named[0]]), named[0] + 1, first + 1)
+    if first == min(len(parts), named + 1 + BELOW):
+        first = named + 1
+    return TextLayout(separator, tuple(parts[named]), named + 1, first + 1)
+
+
+def are_names(row: list[str]) -> bool:
+    return len(list(filter(None, row))) > 1 and not numbers(row)
 
 
 def is_above(row: list[str], typical: float) -> bool:
