@@ -6,7 +6,7 @@ from collections.abc import Iterator
 from dataclasses import dataclass
 from itertools import groupby
 from pathlib import Path
-from typing import Optional
+from typing import Any, Optional
 
 import pandas as pd
 from jinja2 import Environment, FileSystemLoader, select_autoescape
@@ -165,14 +165,17 @@ def metal_unit(most: float, metal: Metal) -> tuple[float, str]:
 
 def cells_of(table: pd.DataFrame, columns: Columns) -> list[list[str]]:
     """Returns the cells of a table as texts, with a dash for nan."""
+    texts = [[cell_of(value, column) for value in table[column[0]].tolist()] for column in columns]
+    return [list(row) for row in zip(*texts)]
 
-    def cell(row: pd.Series, name: str, size: float, places: int) -> str:
-        if name in ("method", "case"):
-            return str(row[name])
-        if name == "pushback":
-            return str(int(row[name]))
-        if name == "revenue_factor":
-            return factor_text(row[name])
-        return "–" if pd.isna(row[name]) else f"{row[name] / size:,.{places}f}"
 
-    return [[cell(row, name, size, places) for name, _, size, places in columns] for _, row in table.iterrows()]
+def cell_of(value: Any, column: tuple[str, str, float, int]) -> str:
+    """Returns a cell of a column as a text, with a dash for nan."""
+    name, _, size, places = column
+    if name in ("method", "case"):
+        return str(value)
+    if name == "pushback":
+        return str(int(value))
+    if name == "revenue_factor":
+        return factor_text(value)
+    return "–" if value != value else f"{value / size:,.{places}f}"

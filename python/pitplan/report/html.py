@@ -56,7 +56,7 @@ class Written:
 
     def figure(self, name: str, row: int, column: tuple[str, str, float, int]) -> Figure:
         """Returns a key result with its unit, which follows the comma in the heading of its column."""
-        ((text,),) = report.cells_of(self.frame.loc[[row]], [column])
+        text = report.cell_of(self.frame.at[row, column[0]], column)
         unit = column[1].partition(", ")[2]
         return Figure(name, text if text == "–" else f"{text} {unit}".strip(), self.source(row, column[0]))
 

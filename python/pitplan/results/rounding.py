@@ -21,13 +21,14 @@ def write_csv(table: pd.DataFrame, path: Path, project: Project) -> None:
 
 def shown(table: pd.DataFrame) -> pd.DataFrame:
     """Returns a table with numbers rounded to the decimals of their columns. Raises KeyError if no table has such a column."""
-    result = table.copy()
-    if "value_at_revenue_factor" in result:
-        result["value_at_revenue_factor"] = [f"{Decimal(value):f}" for value in result["value_at_revenue_factor"]]
-    for name in result.columns:
-        if result[name].dtype == np.float64 and (places := decimals_of(name)) is not None:
+    columns = {name: table[name] for name in table.columns}
+    if "value_at_revenue_factor" in columns:
+        columns["value_at_revenue_factor"] = [f"{Decimal(value):f}" for value in table["value_at_revenue_factor"]]
+    for name, values in columns.items():
+        if getattr(values, "dtype", None) == np.float64 and (places := decimals_of(name)) is not None:
             # Adding 0.0 turns -0.0 into 0.0.
-            result[name] = result[name].round(places) + 0.0
+            columns[name] = values.to_numpy().round(places) + 0.0
+    result = pd.DataFrame(columns, index=table.index)
     return with_share_below(result) if "optimality_gap" in result else result
 
 
