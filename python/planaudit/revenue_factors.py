@@ -24,7 +24,7 @@ def nearest(factor: SupportsFloat) -> float:
 def in_thousandths(table: pd.DataFrame) -> pd.DataFrame:
     """Returns a table with revenue factors as `nearest` gives them, since the parser of pandas may miss the last bit."""
     names = [it for it in table if str(it).endswith("revenue_factor") and table[it].dtype.kind in "if"]
-    return table.assign(**{name: (table[name] * PER_MILLE).round() / PER_MILLE for name in names})
+    return table.assign(**{name: (table[name] * PER_MILLE).round() / PER_MILLE for name in names}) if names else table
 
 
 def factor_text(factor: SupportsFloat) -> str:

@@ -3,7 +3,7 @@
 from __future__ import annotations
 
 import numpy as np
-from matplotlib.path import Path as Outline
+import pandas as pd
 
 from planaudit.blocks import own_columns
 from planaudit.ground import depletion
@@ -69,6 +69,9 @@ def within(answer: Answer, polygons: list[list[np.ndarray]], inside: bool) -> np
 
 def in_ring(centres: np.ndarray, corners: np.ndarray) -> tuple[np.ndarray, np.ndarray]:
     """Returns which centroids lie in a ring, without those at its edge and with them."""
+    # Here, since it takes a third of a second and few projects have areas.
+    from matplotlib.path import Path as Outline
+
     middle = corners.mean(axis=0)
     outline = Outline(corners - middle)
     one, other = (outline.contains_points(centres - middle, radius=radius) for radius in (-HAIR, HAIR))
@@ -97,7 +100,7 @@ def verify_places(answer: Answer) -> Rule:
     differences += [
         f"{answer.called(row)} has the id {answer.said['id'].iloc[row]} for {number[row]}" for row in wrong[:TOLD]
     ]
-    strange = np.flatnonzero(~answer.said["revenue_factor"].isin([0, *answer.factors]))
+    strange = unknown(answer.said["revenue_factor"].to_numpy(), [0, *answer.factors])
     differences += [
         f"{answer.called(row)} has the revenue factor {factor_text(answer.said['revenue_factor'].iloc[row])}"
         for row in strange[:TOLD]
@@ -109,6 +112,13 @@ def verify_places(answer: Answer) -> Rule:
         differences,
         count,
     )
+
+
+def unknown(values: np.ndarray, known: list[float]) -> np.ndarray:
+    """Returns the rows with another value than those that are known."""
+    place, distinct = pd.factorize(values)
+    is_known = {*known}
+    return np.flatnonzero(np.array([value not in is_known for value in distinct.tolist()], dtype=bool)[place])
 
 
 def unlike_top(answer: Answer) -> str:

@@ -17,7 +17,7 @@ import numpy as np
 import pandas as pd
 
 from planaudit.errors import AuditError, PackageError
-from planaudit.inputs import classes, models, row_rules
+from planaudit.inputs import classes, models, plain_tables, row_rules
 from planaudit.inputs.formulas import value_of
 from planaudit.inputs.project import Project, TableColumns
 from planaudit.inputs.text_layout import TextLayout, layout_of
@@ -47,8 +47,12 @@ def read(project: Project) -> pd.DataFrame:
         if rules.meaning(name, table.empty) == "missing":
             kept &= frame[name].notna().to_numpy()
     frame = frame if kept.all() else frame[kept]
-    for name in [name for name in amounts if name not in project.economics.adjusting]:
-        frame = frame.assign(**{name: without_gaps(frame[name], table.file, is_zero(name, table))})
+    whole = {
+        name: without_gaps(frame[name], table.file, is_zero(name, table))
+        for name in amounts
+        if name not in project.economics.adjusting
+    }
+    frame = frame.assign(**whole)
     is_of_parents = table.reblock is not None and table.reblock.counts is None and table.reblock.size is None
     cells = rules.cell_size or () if is_of_parents else ()
     frame = with_tonnes(frame, project)
@@ -76,7 +80,8 @@ def with_rules(project: Project) -> pd.DataFrame:
     texts = [name for name in needed if name in project.codes or name in rules.mapped]
     frame = read_columns(table.file, table, texts, needed, [*project.columns, *rules.numbers])
     for name in needed:
-        if frame[name].dtype.kind == "f" and is_zero(name, table) and name not in project.economics.adjusting:
+        is_number = frame[name].dtype.kind == "f" and name not in project.economics.adjusting
+        if is_number and is_zero(name, table) and frame[name].hasnans:
             frame[name] = frame[name].fillna(0.0)
     for name in [name for name in rules.mapped if name in frame]:
         frame[name] = row_rules.mapped(frame[name], rules.mapped[name], str(table.file))
@@ -169,7 +174,7 @@ def numbers_or_texts(fields: pd.Series, file: str, nulls: list[str], how: tuple[
             if must_be:
                 raise
             return texts
-    fields = fields.astype(float)
+    fields = fields.astype(float, copy=False)
     return fields.mask(row_rules.is_null(fields, nulls)) if nulls else fields
 
 
@@ -177,7 +182,7 @@ def stripped(codes: pd.Series) -> pd.Series:
     """Returns codes without blanks around them; missing ones are empty."""
     texts = codes.fillna("").astype(str) if codes.hasnans else codes
     # A look at all of them together is faster than a strip of each.
-    whole = "\0".join(texts.unique())
+    whole = "\0".join(texts.tolist())
     has_blanks = len(whole.split()) > 1 or whole.strip() != whole
     return texts.str.strip() if has_blanks else texts
 
@@ -187,6 +192,10 @@ def delimited(
 ) -> pd.DataFrame:
     """Returns columns of a text; `columns` are the codes and those that are wanted."""
     codes, wanted = columns
+    kinds = {name: "text" if name in codes else "number or empty" for name in wanted}
+    plain = plain_tables.read(file, layout, kinds) if table.encoding is None else None
+    if plain is not None:
+        return plain
     try:
         with text_of(file, table) as text:
             return pd.read_csv(
@@ -311,7 +320,9 @@ def without_gaps(fields: pd.Series, file: Path, may_be_empty: bool) -> np.ndarra
     """Returns numbers with 0 for empty fields if the project reads these so; the index has the rows of the file. Raises AuditError as `read`."""
     values = fields.to_numpy(dtype=float)
     empty = np.isnan(values)
-    if empty.any() and not may_be_empty:
+    if not empty.any():
+        return values
+    if not may_be_empty:
         row = fields.index[int(empty.argmax())]
         raise AuditError(f"{file} row {row} column {fields.name}: is empty, expected a number")
     return np.where(empty, 0.0, values)

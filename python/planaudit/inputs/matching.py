@@ -2,6 +2,7 @@
 
 from __future__ import annotations
 
+import csv
 from pathlib import Path
 from typing import Any, Optional
 
@@ -9,11 +10,12 @@ import numpy as np
 import pandas as pd
 
 from planaudit.errors import AuditError
-from planaudit.inputs import block_table
+from planaudit.inputs import block_table, plain_tables
 from planaudit.inputs.project import MissingRock, Project
 from planaudit.inputs.reblocking import divided, together, written_rows
 from planaudit.inputs.rotated_grid import steps_of
 from planaudit.inputs.tables import demand_numbers
+from planaudit.inputs.text_layout import TextLayout
 
 # The columns of results in blocks.csv.
 SAID = ("id", "mining_cost", "revenue", "processing_cost", "revenue_factor", "process_revenue_factor")
@@ -82,18 +84,28 @@ def read_blocks(path: Path, project: Project, said: Optional[tuple[str, ...]] = 
     is_whole = (
         said is None or isinstance(columns.missing_blocks, MissingRock) or bool(columns.reblock or project.cuts_blocks)
     )
-    usecols = None if is_whole else wanted.__contains__
-    found = pd.read_csv(
-        path,
-        dtype=codes,
-        keep_default_na=False,
-        na_values={},
-        float_precision="round_trip",
-        usecols=usecols,
-        low_memory=False,
-    )
-    demand_numbers(found, path.name, [*codes, PROCESS])
+    texts = [*codes, PROCESS]
+    found = plain_blocks(path, None if is_whole else wanted, texts)
+    if found is None:
+        found = pd.read_csv(
+            path,
+            dtype=codes,
+            keep_default_na=False,
+            na_values={},
+            float_precision="round_trip",
+            usecols=None if is_whole else wanted.__contains__,
+            low_memory=False,
+        )
+    demand_numbers(found, path.name, texts)
     return found
+
+
+def plain_blocks(path: Path, wanted: Optional[set[str]], texts: list[str]) -> Optional[pd.DataFrame]:
+    """Returns columns of blocks.csv, all by default; None if it is not a plain table."""
+    with open(path, encoding="utf-8", newline="") as file:
+        names: list[str] = next(csv.reader(file), [])
+    kinds = {name: "text" if name in texts else "number" for name in names if wanted is None or name in wanted}
+    return plain_tables.read(path, TextLayout(",", tuple(names), 1, 2), kinds)
 
 
 def own_columns(written: pd.DataFrame, rows: pd.DataFrame, order: np.ndarray) -> pd.DataFrame:

@@ -5,6 +5,7 @@ from __future__ import annotations
 from collections.abc import Iterable, Sequence
 from pathlib import Path
 
+import numpy as np
 import pandas as pd
 
 from planaudit.errors import AuditError
@@ -43,12 +44,12 @@ def read_table(path: Path, texts: Sequence[str] = ()) -> pd.DataFrame:
 
 def demand_numbers(frame: pd.DataFrame, source: str, texts: Iterable[str]) -> None:
     """Raises AuditError as `read_table` does."""
-    for name in frame.columns.difference([*texts], sort=False):
-        column = frame[name]
-        if column.dtype.kind in "iuf" and not column.isna().any():
+    words = {*texts}
+    for name, column in frame.items():
+        if name in words or (column.dtype.kind in "iuf" and not np.isnan(column.to_numpy()).any()):
             continue
         lacking = pd.to_numeric(column.astype(str), errors="coerce").isna()
-        if name.startswith(MAY_LACK):
+        if str(name).startswith(MAY_LACK):
             lacking &= column.notna()
         if lacking.any():
             row = int(lacking.to_numpy().argmax())

@@ -88,13 +88,15 @@ def unlike_best(answer: Answer) -> list[str]:
 
 def not_exact(answer: Answer, chosen: np.ndarray, names: tuple[str, str]) -> list[str]:
     """Returns any difference of these rows, by exact decimals."""
-    read, differences = Exactly.of(answer), []
-    told = [answer.said[name].to_numpy() for name in (MINING, *names)]
-    for row in chosen.tolist():
+    rows, results = (frame.iloc[chosen].reset_index(drop=True) for frame in (answer.rows, answer.said))
+    part = replace(answer, rows=rows, said=results, found={})
+    read, differences = Exactly.of(part), []
+    told = [results[name].to_numpy() for name in (MINING, *names)]
+    for row in range(len(rows)):
         for name, column, amount in zip((MINING, *names), told, read.amounts(row)):
             said = column[row]
             if not math.isclose(float(amount), said, rel_tol=1e-15):
-                differences.append(f"{answer.called(row)}: {name} {said:.10g} for {amount}")
+                differences.append(f"{part.called(row)}: {name} {said:.10g} for {amount}")
     return differences
 
 

@@ -3,7 +3,6 @@
 from __future__ import annotations
 
 import numpy as np
-from scipy.optimize import linprog
 
 HAIR = 1e-9
 
@@ -28,6 +27,9 @@ def most_earned(gain: np.ndarray, takes: np.ndarray, most: np.ndarray) -> float:
         return float(gain.sum())
     if len(reached) == 1:
         return at_price_of_one(gain, takes[reached[0]], float(most[reached[0]]))
+    # Here, since most verifications need no linear programme.
+    from scipy.optimize import linprog
+
     unit = takes[reached].max(axis=1)
     rows = np.hstack([-(takes[reached] / unit[:, None]).T, -np.eye(len(gain))])
     found = linprog(np.append(most[reached] / unit, np.ones(len(gain))), A_ub=rows, b_ub=-gain, method="highs")
