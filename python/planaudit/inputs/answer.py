@@ -143,6 +143,12 @@ class Answer:
     is_by_block: bool = False
     own: pd.DataFrame = field(default_factory=pd.DataFrame)
 
+    def of_same_blocks(self, said: pd.DataFrame, **changes: Any) -> Answer:
+        """Returns other results of the same rows, in whose cells the blocks stay."""
+        found = replace(self, said=said, **changes)
+        found.__dict__["cells"] = self.cells
+        return found
+
     @property
     def shape(self) -> tuple[int, int, int]:
         levels, rows, columns = self.record["grid"]["shape"]

@@ -16,6 +16,15 @@ from planaudit.pits import sums
 
 
 def weighed(whole: Answer) -> Answer:
+    """Returns the blocks that are mined at any revenue factor, with exact costs and revenue, and from which factor on each is processed."""
+    return processed(valued(whole))
+
+
+def processed(part: Answer) -> Answer:
+    return replace(part, said=part.said.assign(process_revenue_factor=sums.first_processed(part)))
+
+
+def valued(whole: Answer) -> Answer:
     """Returns the blocks that are mined at any revenue factor, with exact costs and revenue."""
     dug = (whole.said["revenue_factor"] > 0).to_numpy()
     part = replace(whole, rows=whole.rows[dug].reset_index(drop=True), said=whole.said[dug].reset_index(drop=True))
@@ -24,8 +33,7 @@ def weighed(whole: Answer) -> Answer:
         exactly = money.Exactly.of(replace(part, project=way))
         amounts = [[float(amount) for amount in exactly.amounts(row)] for row in range(len(part.rows))]
         told |= dict(zip((money.MINING, *names), np.array(amounts, dtype=np.float64).reshape(-1, 3).T))
-    part = replace(part, said=pd.concat([part.said, with_best(pd.DataFrame(told), part)], axis=1))
-    return replace(part, said=part.said.assign(process_revenue_factor=sums.first_processed(part)))
+    return replace(part, said=pd.concat([part.said, with_best(pd.DataFrame(told), part)], axis=1))
 
 
 def with_best(told: pd.DataFrame, answer: Answer) -> pd.DataFrame:

@@ -2,8 +2,6 @@
 
 from __future__ import annotations
 
-from dataclasses import replace
-
 import numpy as np
 
 from planaudit.blocks import constraints as fixed
@@ -39,7 +37,7 @@ def by_pushback(answer: Answer) -> Answer:
     """Returns the results with pushback numbers in place of revenue factors, so that rules of shells apply."""
     assert answer.pushbacks is not None
     said = answer.said.assign(revenue_factor=answer.said["pushback"])
-    return replace(answer, said=said, factors=tuple(float(number) for number in answer.pushbacks.index))
+    return answer.of_same_blocks(said, factors=tuple(float(number) for number in answer.pushbacks.index))
 
 
 def verify_places(answer: Answer) -> Rule:

@@ -28,7 +28,8 @@ from planaudit.schedules.best_ore import most_earned
 from planaudit.schedules.limits import limits_of
 from planaudit.schedules.pushback_schedule import CENT, discount
 from planaudit.studies.realisations import ONE, Scenario, read
-from planaudit.studies.scenarios import SHARES, Verification, between, named
+from planaudit.studies.scenarios import Verification, named
+from planaudit.studies.spreads import at_prices, spread
 
 RECORD, TABLE, YEARS, QUANTILES = "common_schedule.json", "schedules.csv", "common_schedule_years.csv", "quantiles.csv"
 VALUES = ("npv", "upper_bound", "common_npv")
@@ -50,13 +51,16 @@ def verify(folder: Path, written: Optional[Path] = None) -> list[Rule]:
         return Schedules(Verification(read(folder, written or folder))).rules()
 
 
+Row = dict[str, float]
+
+
 @dataclass(frozen=True)
 class Kept:
     """A schedule as written: year of each row, from 1 (0: never), the share of each that is milled, and amounts by name."""
 
     year: np.ndarray
     share: np.ndarray
-    row: dict[str, float]
+    row: Row
 
     @staticmethod
     def of(file: Path) -> Kept:
@@ -106,7 +110,7 @@ class Schedules:
         )
 
     def out_of_order(self, kept: Kept) -> list[str]:
-        answer = replace(self.ground, said=self.ground.said.assign(revenue_factor=kept.year))
+        answer = self.ground.of_same_blocks(self.ground.said.assign(revenue_factor=kept.year))
         found = [
             difference.replace("mined at revenue factor", "mined in year", 1)
             for difference in walls.verify(answer).differences
@@ -124,16 +128,19 @@ class Schedules:
     def values(self) -> list[Rule]:
         """Verifies amounts and NPV of every schedule, by its scenario, and the tables with them."""
         folder, own, dug = self.whole.folder, [], []
-        total = pd.DataFrame()
+        total, rows = pd.DataFrame(), dict[int, Row]()
         for scenario in folder.scenarios:
             kept = Kept.of(scenario.file) if scenario.file.is_file() else None
             held = self.held(scenario, (self.one.year > 0) | (kept is not None and kept.year > 0))
             total = held if total.empty else total + held
-            own += [] if kept is None else [f"{scenario.label}: {said}" for said in self.unlike(held, kept)]
+            if kept is not None:
+                rows[scenario.number] = kept.row
+                own += [f"{scenario.label}: {said}" for said in self.unlike(held, kept)]
             dug.append(self.dug(held))
         mean = total / len(dug)
         own += [f"the common schedule, as planned: {said}" for said in self.unlike(mean, self.one)]
-        tables = Tables(self, dug, by_year(mean[ORE] * self.one.share, self.one.year))
+        planned = np.bincount(self.one.year, mean[ORE] * self.one.share, minlength=1)[1:]
+        tables = Tables(self, dug, planned, rows)
         words = f"{len(folder.answered):,} schedules and the common one, at mean block values, keep limits, "
         of_one = "in each scenario its years process the best feed, and its NPV is within the upper bound"
         return [
@@ -150,15 +157,19 @@ class Schedules:
         )
         found = at_price(part)
         columns = {ROCK: part.tonnes, ORE: found.ore, **{f"recovered_{name}": it for name, it in found.metals.items()}}
-        frame = pd.DataFrame(columns | {"mining": found.mining, "gain": found.gain})
-        return frame.set_index(np.flatnonzero(is_dug)).reindex(range(len(is_dug)), fill_value=0.0)
+        whole_columns = {}
+        for name, amounts in (columns | {"mining": found.mining, "gain": found.gain}).items():
+            whole_columns[name] = np.zeros(len(is_dug))
+            whole_columns[name][is_dug] = amounts
+        return pd.DataFrame(whole_columns)
 
     def unlike(self, held: pd.DataFrame, kept: Kept) -> Iterator[str]:
         """Yields differences of a schedule: limits, upper bound, amounts and NPV."""
-        milled = held.drop(columns=[ROCK, "mining"]).mul(kept.share, axis=0).assign(**{ROCK: held[ROCK]})
+        whole = (ROCK, "mining")
+        milled = pd.DataFrame({name: held[name] if name in whole else held[name] * kept.share for name in held})
         sums = milled.groupby(kept.year).sum().drop(index=0, errors="ignore")
         yield from self.above_limits(sums)
-        cash = sums["gain"] - held["mining"].groupby(kept.year).sum().drop(index=0, errors="ignore")
+        cash = sums["gain"] - sums["mining"]
         value, bound = (
             float(sum(amount * discount(self.ground, int(year)) for year, amount in cash.items())),
             kept.row["upper_bound"],
@@ -185,15 +196,16 @@ class Schedules:
 
     def dug(self, held: pd.DataFrame) -> pd.DataFrame:
         """Returns one row per year of the common schedule in a scenario; mill feed is nan if several limits select it."""
-        rows = []
+        rows, columns = [], {name: held[name].to_numpy() for name in held}
         of_mill = [(name, ramps, most) for name, ramps, most in self.limits if name != ROCK]
         for year in range(1, int(self.one.year.max()) + 1):
-            blocks = held[self.one.year == year]
-            takes = np.stack([blocks[name].to_numpy() for name, _, _ in of_mill])
+            mine = np.flatnonzero(self.one.year == year)
+            blocks = {name: amounts[mine] for name, amounts in columns.items()}
+            takes = np.stack([blocks[name] for name, _, _ in of_mill])
             most = np.array([most * ramps[min(year, len(ramps)) - 1] for _, ramps, most in of_mill])
             ore = float(blocks[ORE].sum())
             milled = min(ore, most[0]) if len(of_mill) == 1 else ore if (takes.sum(axis=1) <= most).all() else math.nan
-            cash = most_earned(blocks["gain"].to_numpy(), takes, most) - blocks["mining"].sum()
+            cash = most_earned(blocks["gain"], takes, most) - blocks["mining"].sum()
             rows.append(
                 {
                     "year": year,
@@ -210,22 +222,19 @@ class Schedules:
         )
 
 
-def by_year(amounts: pd.Series, year: np.ndarray) -> np.ndarray:
-    """Returns sums by year, from the first."""
-    return np.bincount(year, amounts, minlength=1)[1:]
-
-
 @dataclass(frozen=True)
 class Tables:
     """The tables of schedules, with the expected values.
 
     dug      one row per year of the common schedule, for each scenario
     planned  mill feed of each year of the common schedule at the mean block values, in tonnes
+    kept     the amounts of each schedule as written, by the number of its scenario
     """
 
     schedules: Schedules
     dug: list[pd.DataFrame]
     planned: np.ndarray
+    kept: dict[int, Row]
 
     @property
     def scenarios(self) -> list[Scenario]:
@@ -252,12 +261,12 @@ class Tables:
         """Returns differences of the years of the common schedule in a scenario, and an NPV above the scenario's bound."""
         found: list[str] = []
         for scenario, dug in zip(self.scenarios, self.dug):
-            said = self.years[self.years["scenario"] == scenario.number].set_index("year")
-            if said.index.tolist() != dug.index.tolist():
-                found.append(f"{scenario.label}: years {said.index.tolist()} for 1 to {len(dug)}")
+            said = self.years_of(scenario)
+            if said["year"].tolist() != dug.index.tolist():
+                found.append(f"{scenario.label}: years {said['year'].tolist()} for 1 to {len(dug)}")
                 continue
             found += [f"{scenario.label}, {difference}" for difference in self.unlike_years(said, dug)]
-            bound = Kept.of(scenario.file).row["upper_bound"] if scenario.file.is_file() else math.inf
+            bound = self.kept[scenario.number]["upper_bound"] if scenario.number in self.kept else math.inf
             value = dug["discounted_cash_flow"].sum()
             if value > bound + CENT + 1e-7 * abs(bound):
                 found.append(
@@ -265,20 +274,26 @@ class Tables:
                 )
         return found
 
-    def unlike_years(self, said: pd.DataFrame, dug: pd.DataFrame) -> Iterator[str]:
-        expected = dug.assign(**{PLANNED: self.planned[: len(dug)]})
+    def years_of(self, scenario: Scenario) -> dict[str, np.ndarray]:
+        """Returns the columns of a scenario's years as written."""
+        rows = np.flatnonzero(self.years["scenario"].to_numpy() == scenario.number)
+        return {str(name): amounts.to_numpy()[rows] for name, amounts in self.years.items()}
+
+    def unlike_years(self, said: dict[str, np.ndarray], dug: pd.DataFrame) -> Iterator[str]:
+        expected = {str(name): amounts.to_numpy(dtype=float) for name, amounts in dug.items()}
+        expected[PLANNED] = self.planned[: len(dug)]
         # With several limits any selection with equal gain may be milled.
-        expected[ORE], expected[LEFT] = (expected[name].fillna(said[name]) for name in (ORE, LEFT))
+        for name in (ORE, LEFT):
+            expected[name] = np.where(np.isnan(expected[name]), said[name].astype(float), expected[name])
         for name in (ROCK, ORE, LEFT, PLANNED, "cash_flow", "discounted_cash_flow"):
-            slack = CENT + (1e-7 if name in ("cash_flow", "discounted_cash_flow") else 1e-9) * expected[name].abs()
-            for year in said.index[~((said[name] - expected[name]).abs() <= slack)]:
-                yield f"year {year}: {name} {said[name][year]:.12g} for {expected[name][year]:.12g}"
-        whole = dug["total"]
-        off = said.index[(said[ORE] + said[LEFT] - whole).abs() > CENT + 1e-9 * whole]
-        yield from (
-            f"year {year}: {said[ORE][year]:.12g} and {said[LEFT][year]:.12g} t of ore for {whole[year]:.12g}"
-            for year in off
-        )
+            said[name], due = said[name].astype(float), expected[name]
+            slack = CENT + (1e-7 if name in ("cash_flow", "discounted_cash_flow") else 1e-9) * np.abs(due)
+            for row in np.flatnonzero(~(np.abs(said[name] - due) <= slack)):
+                yield f"year {said['year'][row]}: {name} {said[name][row]:.12g} for {due[row]:.12g}"
+        whole = expected["total"]
+        for row in np.flatnonzero(np.abs(said[ORE] + said[LEFT] - whole) > CENT + 1e-9 * whole):
+            ore, left = said[ORE][row], said[LEFT][row]
+            yield f"year {said['year'][row]}: {ore:.12g} and {left:.12g} t of ore for {whole[row]:.12g}"
 
     def of_all(self) -> list[str]:
         """Returns differences of schedules.csv, blocks, quantiles and record."""
@@ -311,7 +326,7 @@ class Tables:
             "common_unprocessed_tonnes": years[LEFT].sum(),
         }
         expected["common_years_short"] = int((years[ORE] < years[PLANNED] * (1 - 1e-9)).sum())
-        own = Kept.of(scenario.file).row if scenario.file.is_file() else {}
+        own = self.kept.get(scenario.number, {})
         expected |= own or dict.fromkeys(("npv", "upper_bound", "optimality_gap"), math.nan)
         if (row["status"] == "solved") != bool(own) or row["realisation"] != scenario.model.name:
             yield f"status {row['status']!r} of model {row['realisation']}"
@@ -375,21 +390,6 @@ class Tables:
             if not abs(told[name] - amount) <= CENT + 1e-8 * abs(one["upper_bound"]):
                 yield f"{RECORD}: {name} {told[name]:.12g} for {amount:.12g}"
         yield from (f"{RECORD}: {difference}" for difference in unlike_spreads(told, solved))
-
-
-def at_prices(rows: pd.DataFrame, prices: dict[str, float]) -> pd.DataFrame:
-    """Returns the rows of a price deck, given by the names of columns."""
-    mine = np.ones(len(rows), dtype=bool)
-    for name, price in prices.items():
-        mine &= (rows[name] == price).to_numpy()
-    return rows[mine]
-
-
-def spread(values: pd.Series) -> dict[str, float]:
-    """Returns mean, minimum, maximum and quantiles."""
-    rising = sorted(values.tolist())
-    found = {"mean": math.fsum(rising) / len(rising), "least": rising[0], "greatest": rising[-1]}
-    return found | {name: between(rising, share) for name, share in SHARES.items()}
 
 
 def unlike_spreads(said: dict[str, Any], rows: pd.DataFrame) -> Iterator[str]:

@@ -5,7 +5,6 @@ All results are summed and counted; in a sample of scenarios every pit is verifi
 
 from __future__ import annotations
 
-import math
 from contextlib import contextmanager
 from dataclasses import dataclass, replace
 from decimal import Decimal
@@ -24,14 +23,15 @@ from planaudit.inputs.matching import own_columns
 from planaudit.inputs.project import Project
 from planaudit.inputs.tables import TABLES
 from planaudit.money.weighing import weighed
-from planaudit.pits import mineralised, sums
+from planaudit.pits import mineralised
 from planaudit.revenue_factors import factor_text, factor_texts
 from planaudit.rules import TOLD, Rule, rule
+from planaudit.studies import cases
 from planaudit.studies.realisations import QUANTILES, SCENARIOS, Scenario, Simulated, Told, read
+from planaudit.studies.spreads import spread
 
 # The number of scenarios that are verified block by block.
 SAMPLE = 10
-SHARES = {"quantile_0.1": 0.1, "quantile_0.5": 0.5, "quantile_0.9": 0.9}
 # The rules that are verified in each scenario of the sample.
 OF_EACH = {
     "walls": "no block of any shell lacks a block of its slope cone",
@@ -160,13 +160,12 @@ class Verification:
         found: dict[str, list[Rule]] = {name: [] for name in OF_EACH}
         for scenario in self.sample:
             whole = self.of_scenario(scenario)
-            dug = weighed(whole)
-            worth = rule("values", "", sums.unlike_worth(dug))
-            for it in (walls.verify(whole), fixed.verify(whole), sums.verify(dug), worth):
-                told = tuple(f"{scenario.label}: {difference}" for difference in it.differences)
-                found[it.name].append(replace(it, differences=told))
+            of_scenario = cases.verify(whole, weighed(whole))
+            for name, rules in found.items():
+                told = tuple(f"{scenario.label}: {difference}" for difference in of_scenario[name].differences)
+                rules.append(replace(of_scenario[name], differences=told))
         count = f"in {len(self.sample):,} of {len(self.folder.answered):,} solved scenarios: "
-        return [joined(name, count + holds, found[name]) for name, holds in OF_EACH.items()]
+        return [cases.joined(name, count + holds, found[name]) for name, holds in OF_EACH.items()]
 
     def of_scenario(self, scenario: Scenario) -> Answer:
         """Returns the result of a scenario as that of a plan at its prices and grades, without costs and revenue."""
@@ -242,11 +241,6 @@ class Verification:
         return differences, count
 
 
-def joined(name: str, holds: str, found: list[Rule]) -> Rule:
-    """Returns one rule of several scenarios."""
-    return rule(name, holds, [said for it in found for said in it.differences], sum(it.count for it in found))
-
-
 def in_pits(answer: Told, factors: int) -> np.ndarray:
     """Returns whether the pit of each revenue factor holds each block, shape (blocks, factors)."""
     return (answer.places[:, None] > 0) & (answer.places[:, None] <= np.arange(1, factors + 1))
@@ -317,20 +311,10 @@ def unlike_spread(rows: pd.DataFrame, models: list[Any], what: str) -> list[str]
     found = []
     more = [name for name in models[0].index if name.startswith("recovered_") or name == mineralised.NAME]
     for name in [*AMOUNTS, *more]:
-        amounts = sorted(float(model[name]) for model in models)
-        expected = {"mean": math.fsum(amounts) / len(amounts), "least": amounts[0], "greatest": amounts[-1]}
-        expected |= {said: between(amounts, share) for said, share in SHARES.items()}
-        slack = 1e-9 * max(abs(amounts[0]), abs(amounts[-1]))
+        expected = spread(model[name] for model in models)
+        slack = 1e-9 * max(abs(expected["least"]), abs(expected["greatest"]))
         for word, amount in expected.items():
             said = float(rows[f"{name}_{word}"].iloc[0])
             if not abs(said - amount) <= slack + 1e-9 * abs(amount):
                 found.append(f"{what}: {name}_{word} {said:.10g} for {amount:.10g}")
     return found
-
-
-def between(amounts: list[float], share: float) -> float:
-    """Returns the quantile of ascending amounts, linear between two."""
-    place = share * (len(amounts) - 1)
-    low = math.floor(place)
-    high = min(low + 1, len(amounts) - 1)
-    return amounts[low] + (place - low) * (amounts[high] - amounts[low])

@@ -26,13 +26,16 @@ from planaudit.inputs.record import AS_RUN, read_json
 from planaudit.inputs.run import Run
 from planaudit.inputs.tables import read_table
 from planaudit.money import block_values as money, haulage
-from planaudit.money.weighing import weighed
+from planaudit.money.weighing import processed, valued
 from planaudit.pits import sums, years
 from planaudit.revenue_factors import factor_text
 from planaudit.rules import TOLD, Rule, rule
+from planaudit.studies import cases
 
 SHARES = ("-0.2", "-0.1", "0.1", "0.2")
 AXES = ("parameter", "change", "second_parameter", "second_change")
+# The pits of which a case has amounts: its own, that of the base case, and the skin of this.
+CASE, KEPT_PIT, SKIN = "case", "kept", "skin"
 KEPT = ("undiscounted_cash_flow", "npv_best", "npv_worst", "years")
 OF_EACH = {
     "walls": "no block of any pit lacks a block of its slope cone, at the slope angles of the case",
@@ -140,7 +143,7 @@ class Told:
         ]
         of_ground += depletion.verify_cuts(self.ground)
         count = f"in {len(self.cases):,} cases: "
-        return [*of_ground, *(joined(name, count + holds, found[name]) for name, holds in OF_EACH.items())]
+        return [*of_ground, *(cases.joined(name, count + holds, found[name]) for name, holds in OF_EACH.items())]
 
     def listed(self) -> Rule:
         """Verifies that the base case, each parameter with each change, and each pair have a row, and that there are no others."""
@@ -205,70 +208,61 @@ class Told:
 
     def of_case(self, case: Case, row: pd.DataFrame) -> dict[str, Rule]:
         """Verifies a row of a case."""
-        project = changed(self.text, case.changes)
-        whole = self.dug(case.entry, project, case.walls)
-        pit = replace(weighed(whole), shells=row.set_index("revenue_factor"))
+        project, row = changed(self.text, case.changes), row.set_index("revenue_factor")
+        whole, pits = self.dug(case.entry, project, case.walls), self.priced(case, project)
+        found = cases.verify(whole, replace(pits[CASE], shells=row))
         mean = (row["npv_best"] + row["npv_worst"]) / 2
-        unlike = (
-            []
-            if np.allclose(mean, row["npv"], rtol=0, atol=2e-3)
-            else [f"npv {row['npv'].iloc[0]:.12g} for {mean.iloc[0]:.12g}"]
-        )
-        npv = years.verify(pit)
-        return {
-            "walls": walls.verify(whole),
-            "steepness": walls.verify_steepness(whole),
-            "fixed": fixed.verify(whole),
-            "shells": sums.verify(pit),
-            "values": rule("values", "", sums.unlike_worth(pit)),
-            "years": rule("years", "", [*npv.differences, *unlike], npv.count + len(unlike)),
-            "kept": self.kept(
-                project, row.set_index("revenue_factor"), any(name == "slopes" for name, _ in case.changes)
-            ),
-            "skin": self.skin(
-                project, float(row["skin_value"].iloc[0]), any(name == "slopes" for name, _ in case.changes)
-            ),
-        }
+        if not np.allclose(mean, row["npv"], rtol=0, atol=2e-3):
+            unlike = f"npv {row['npv'].iloc[0]:.12g} for {mean.iloc[0]:.12g}"
+            npv = found["years"]
+            found["years"] = rule("years", "", [*npv.differences, unlike], npv.count + 1)
+        return found | {"kept": self.kept(pits.get(KEPT_PIT), row), "skin": self.skin(pits.get(SKIN), row)}
 
-    def kept(self, project: Project, row: pd.DataFrame, moves_walls: bool) -> Rule:
+    def priced(self, case: Case, project: Project) -> dict[str, Answer]:
+        """Returns the pit of a case and, unless the slopes change, that of the base case and its skin, with costs and revenue at the parameters of
+        the case."""
+        base = self.cases[0]
+        assert base.skin is not None
+        entries = {CASE: case.entry}
+        if not any(name == "slopes" for name, _ in case.changes):
+            entries |= {KEPT_PIT: base.entry, SKIN: np.where(base.skin, self.factor, 0)}
+        every = valued(self.dug(np.maximum.reduce([*entries.values()]), project, case.walls))
+        return {name: within(every, entry) for name, entry in entries.items()}
+
+    def kept(self, pit: Optional[Answer], row: pd.DataFrame) -> Rule:
         """Verifies the base case's pit at the parameters of a case; nothing if the slopes change."""
         said = row[[f"kept_{name}" for name in KEPT]].set_axis(list(KEPT), axis=1)
-        if moves_walls:
-            return rule(
-                "kept",
-                "",
-                [] if said.isna().all(axis=None) else ["kept_ amounts are given, although the slopes differ"],
-            )
-        pit = replace(weighed(self.dug(self.cases[0].entry, project, self.cases[0].walls)), shells=said)
-        worth, gross = sums.sums(pit, self.factor)["undiscounted_cash_flow"], float(np.abs(pit.worths).sum())
-        off = abs(float(said["undiscounted_cash_flow"].iloc[0]) - worth) > 6e-4 + 1e-12 * gross
-        wrong = (
-            [f"kept_undiscounted_cash_flow {said['undiscounted_cash_flow'].iloc[0]:.12g} for {worth:.12g}"]
-            if off or said["undiscounted_cash_flow"].isna().any()
-            else []
-        )
-        return rule("kept", "", [*wrong, *years.verify(pit).differences])
+        if pit is None:
+            is_empty = said.isna().all(axis=None)
+            return rule("kept", "", [] if is_empty else ["kept_ amounts are given, although the slopes differ"])
+        wrong = [*self.unlike_cash(pit, said, "kept_", "undiscounted_cash_flow")]
+        return rule("kept", "", [*wrong, *years.verify(replace(pit, shells=said)).differences])
 
-    def skin(self, project: Project, said: float, moves_walls: bool) -> Rule:
+    def skin(self, skin: Optional[Answer], row: pd.DataFrame) -> Rule:
         """Verifies the value of the skin at the parameters of a case; nothing if the slopes change."""
-        if moves_walls:
-            return rule("skin", "", [] if np.isnan(said) else ["skin_value is given, although the slopes differ"])
-        given = self.cases[0]
-        assert given.skin is not None
-        skin = weighed(self.dug(np.where(given.skin, self.factor, 0), project, given.walls))
-        worth, gross = sums.sums(skin, self.factor)["undiscounted_cash_flow"], float(np.abs(skin.worths).sum())
-        is_near = abs(said - worth) <= 6e-4 + 1e-12 * gross
-        return rule("skin", "", [] if is_near else [f"skin_value {said:.12g} for {worth:.12g}"])
+        if skin is None:
+            is_empty = row["skin_value"].isna().all()
+            return rule("skin", "", [] if is_empty else ["skin_value is given, although the slopes differ"])
+        return rule("skin", "", [*self.unlike_cash(skin, row, "", "skin_value")])
+
+    def unlike_cash(self, pit: Answer, row: pd.DataFrame, before: str, name: str) -> Iterator[str]:
+        """Yields the difference of a cash flow from the sum over the blocks of a pit."""
+        said, worth = float(row[name].iloc[0]), float(pit.worths[sums.within(pit, self.factor)].sum())
+        if not abs(said - worth) <= 6e-4 + 1e-12 * float(np.abs(pit.worths).sum()):
+            yield f"{before}{name} {said:.12g} for {worth:.12g}"
 
     def dug(self, entry: np.ndarray, project: Project, patterns: list[Data]) -> Answer:
         """Returns the blocks with pits, at the parameters of a case."""
         said = self.ground.said.assign(revenue_factor=entry[self.ground.said["id"].to_numpy()])
         record = {**self.ground.record, "walls": patterns}
-        return replace(self.ground, project=project, said=said, record=record, found={})
+        return self.ground.of_same_blocks(said, project=project, record=record, found={})
 
 
-def joined(name: str, holds: str, found: list[Rule]) -> Rule:
-    return rule(name, holds, [said for it in found for said in it.differences], sum(it.count for it in found))
+def within(every: Answer, entry: np.ndarray) -> Answer:
+    """Returns those of some blocks that pits hold, with the least revenue factor of each."""
+    first = entry[every.said["id"].to_numpy()]
+    rows, said = (frame[first > 0].reset_index(drop=True) for frame in (every.rows, every.said))
+    return processed(replace(every, rows=rows, said=said.assign(revenue_factor=first[first > 0]), found={}))
 
 
 def cases_in(folder: Path, record: Data) -> Iterator[Case]:
