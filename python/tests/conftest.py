@@ -17,7 +17,8 @@ sys.path.insert(0, str(ROOT / "python"))
 # A failed assertion of a helper is shown as one of a test is.
 pytest.register_assert_rewrite("helpers", "oracle")
 
-from helpers.random_tests import load_profile  # after the line above
+from helpers.blank_figures import blank_figures  # after the line above
+from helpers.random_tests import load_profile
 
 load_profile()
 # Some tests interrupt themselves, and what a shell has put behind is deaf to that.
@@ -175,11 +176,10 @@ def with_figures(monkeypatch):
 
 
 @pytest.fixture
-def with_blank_figures(with_figures, monkeypatch):
-    """The same, but the files of figures are blank: they are laid out and not rendered, which takes most of the time."""
-    from matplotlib.figure import Figure
-
-    monkeypatch.setattr(Figure, "savefig", lambda figure, path, **options: Path(path).write_bytes(b"blank"))
+def with_blank_figures(with_figures):
+    """The same, but figures are not drawn: for tests of which files there are."""
+    with blank_figures():
+        yield
 
 
 @pytest.fixture(scope="session")

@@ -300,7 +300,7 @@ def test_what_has_an_answer_is_not_solved_again(small, monkeypatch):
     assert len(solved) == 6 + 11, "the project's text is another"
 
 
-def test_files_and_what_the_command_line_tells(small, capsys, with_figures):
+def test_files_and_what_the_command_line_tells(small, capsys, with_blank_figures):
     path = small('parameters = ["price", "mining_cost"]\npairs = [["price", "mining_cost"]]')
     assert main(["sensitivity", str(path), "--quiet"]) == 0
     out = capsys.readouterr().out.splitlines()
