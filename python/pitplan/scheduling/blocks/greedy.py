@@ -34,7 +34,11 @@ class Room:
         }
 
     def fits(self, block: int, destination: int, year: int) -> bool:
-        return all(amounts[block][destination] <= left[year] for amounts, left in zip(self.amounts, self.left))
+        # A loop takes half the time of `all` here, where most of the time of filling goes.
+        for amounts, left in zip(self.amounts, self.left):
+            if amounts[block][destination] > left[year]:
+                return False
+        return True
 
     def take(self, block: int, destination: int, year: int, sign: int = 1) -> None:
         for amounts, left in zip(self.amounts, self.left):
@@ -94,7 +98,10 @@ class Filling:
         preferred = self.preferred[block]
         first = ((year, preferred[year][0]) for year in years if self.waits)
         tried = chain(first, ((year, destination) for year in years for destination in preferred[year]))
-        return next(((year, destination) for year, destination in tried if room.fits(block, destination, year)), None)
+        for year, destination in tried:
+            if room.fits(block, destination, year):
+                return year, destination
+        return None
 
     def without_loss(self, sequence: Sequence) -> BlockSchedule:
         """The filled years without what does not pay at its time, filled anew without it as long as that gains."""
