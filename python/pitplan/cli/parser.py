@@ -8,6 +8,7 @@ from __future__ import annotations
 import argparse
 from decimal import Decimal, InvalidOperation
 from difflib import get_close_matches
+from functools import cache
 from pathlib import Path
 from typing import Any, Callable
 
@@ -83,8 +84,9 @@ class Subparsers:
         return sub
 
 
+@cache
 def parser() -> Parser:
-    """The parser of the whole command line."""
+    """The parser of the whole command line, which is made once for all calls in a process."""
     usage = "pitplan [-h] [--version] SUBCOMMAND ..."
     top = Parser(
         prog="pitplan", usage=usage, description=DESCRIPTION, formatter_class=argparse.RawDescriptionHelpFormatter
