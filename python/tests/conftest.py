@@ -151,6 +151,31 @@ def highs_here():
 
 
 @pytest.fixture(scope="session", autouse=True)
+def dask_here():
+    """Dask solves in a thread of the tests' process, since each process of its own imports all libraries; yields what connects to these."""
+    from pitplan.studies import dask_pool
+
+    apart = dask_pool.client_of
+
+    def here(distributed, where):
+        if where.address != "local":
+            return apart(distributed, where)
+        return distributed.Client(processes=False, n_workers=1, threads_per_worker=1, dashboard_address=None)
+
+    with pytest.MonkeyPatch.context() as patch:
+        patch.setattr(dask_pool, "client_of", here)
+        yield apart
+
+
+@pytest.fixture
+def dask_apart(dask_here, monkeypatch):
+    """Dask solves in processes of its own, as for a planner."""
+    from pitplan.studies import dask_pool
+
+    monkeypatch.setattr(dask_pool, "client_of", dask_here)
+
+
+@pytest.fixture(scope="session", autouse=True)
 def one_processor():
     """Dask takes one process where a test names no number, since each imports all libraries."""
     with pytest.MonkeyPatch.context() as patch:

@@ -409,7 +409,7 @@ def without_seconds(folder):
 
 
 @pytest.mark.filterwarnings("ignore:make_current is deprecated:DeprecationWarning")
-def test_processes_of_dask_write_the_same_as_one_after_the_other(plan_folder, tmp_path):
+def test_processes_of_dask_write_the_same_as_one_after_the_other(plan_folder, tmp_path, dask_apart):
     pytest.importorskip("distributed", reason="needs the Debian package python3-distributed")
     rng = np.random.default_rng(3)
     table = rows(5, 4, 3).drop(columns="cu")

@@ -327,7 +327,7 @@ def test_files_and_what_the_command_line_tells(small, capsys, with_blank_figures
     assert json.loads((folder / "sensitivity.json").read_text())["verified"] == []
 
 
-def test_cases_over_dask_are_those_of_one_after_the_other(small, capsys):
+def test_cases_over_dask_are_those_of_one_after_the_other(small, capsys, dask_apart):
     pytest.importorskip("distributed")
     path = small('changes = [-0.1, 0.1]\nparameters = ["price", "capacity"]')
     assert (
