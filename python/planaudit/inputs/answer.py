@@ -11,6 +11,7 @@ import numpy as np
 import pandas as pd
 
 from planaudit.errors import AuditError
+from planaudit.inputs import block_table
 from planaudit.inputs.matching import (
     FREE,
     PROCESS,
@@ -54,9 +55,8 @@ def read_shells(
         *([YEAR] if schedule is not None or is_by_block else []),
         *shares,
     ]
-    said, factors = written[[*said_of(project), *more]].iloc[order].reset_index(drop=True), tuple(
-        record["shells"]["revenue_factors"]
-    )
+    said = block_table.columns_of(written, [*said_of(project), *more], order)
+    factors = tuple(record["shells"]["revenue_factors"])
     found = {"pushbacks": pushbacks, "schedule": schedule, "parts": parts, "beyond": beyond, "is_by_block": is_by_block}
     found["own"] = own_columns(written, rows, order)
     return Answer(folder, project, rows, known, said, shells, years, record, factors, **found)
@@ -73,7 +73,7 @@ def read_pits(
         raise AuditError("pits.csv: has not a row that keeps to the fixed blocks and one that is free")
     frame, parts, beyond = table
     rows, known, order = beside(frame, written, project, record["grid"], "blocks.csv")
-    said = written[[*said_of(project), *FREE]].iloc[order].reset_index(drop=True)
+    said = block_table.columns_of(written, [*said_of(project), *FREE], order)
     other = said.assign(**{name: said[f"free_{name}"] for name in ("revenue_factor", "process_revenue_factor")})
     factors = tuple(record["revenue_factors"])
     alone = Answer(folder, replace(project, constraints=None), rows, known, other, free, None, record, factors)
@@ -251,7 +251,8 @@ class Answer:
     def steps(self) -> tuple[np.ndarray, np.ndarray, np.ndarray]:
         """Blocks east, north and down from the first block; whole numbers up to the tolerance."""
         columns = self.project.table
-        east, north, up = steps_of(self.rows[[columns.x, columns.y, columns.z]].to_numpy(), self.record["grid"]).T
+        centres = np.column_stack([self.rows[name] for name in (columns.x, columns.y, columns.z)])
+        east, north, up = steps_of(centres, self.record["grid"]).T
         return east, north, -up
 
     @cached_property

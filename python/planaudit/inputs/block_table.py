@@ -7,7 +7,7 @@ import gzip
 import io
 import re
 import zipfile
-from collections.abc import Iterator
+from collections.abc import Iterable, Iterator
 from contextlib import contextmanager
 from decimal import Decimal, InvalidOperation
 from pathlib import Path
@@ -59,7 +59,13 @@ def read(project: Project) -> pd.DataFrame:
     for name in project.economics.adjusting:
         frame[name] = factors(frame, name, project)
     demand_classes(frame, project)
-    return frame[list(dict.fromkeys([*project.columns, table.tonnes, *cells]))].reset_index(drop=True)
+    return columns_of(frame, [*project.columns, table.tonnes, *cells])
+
+
+def columns_of(frame: pd.DataFrame, names: Iterable[str], rows: Optional[np.ndarray] = None) -> pd.DataFrame:
+    """Returns columns of a frame, all rows or some, numbered from 0. pandas would put columns of one type together first, in new memory."""
+    arrays = {name: frame[name].array for name in names}
+    return pd.DataFrame(arrays if rows is None else {name: it.take(rows) for name, it in arrays.items()}, copy=False)
 
 
 def demand_classes(frame: pd.DataFrame, project: Project) -> None:
@@ -144,7 +150,7 @@ def read_columns(
     if missing:
         raise AuditError(f"{file} row 1: there is no column {missing[0]}")
     first = layout.first_row if layout else FIRST_ROW
-    frame = frame[wanted].set_axis(pd.RangeIndex(first, first + len(frame)))
+    frame = columns_of(frame, wanted).set_axis(pd.RangeIndex(first, first + len(frame)), copy=False)
     has_comma = has_commas(table, layout.separator if layout else ",")
     for name in wanted:
         nulls = table.rules.codes_of(name)

@@ -141,7 +141,8 @@ def beside(
     """
     columns = project.table
     axes = (columns.x, columns.y, columns.z)
-    centres, answered = table[list(axes)].to_numpy(), written[[own_name(name) for name in axes]].to_numpy()
+    centres = np.column_stack([table[name] for name in axes])
+    answered = np.column_stack([written[own_name(name)] for name in axes])
     row_of = np.full(int(np.prod(grid["shape"])), -1, dtype=np.int64)
     row_of[nearest_cells(answered, grid)] = np.arange(len(written))
     at = row_of[nearest_cells(centres, grid)]

@@ -13,6 +13,7 @@ import numpy as np
 
 from planaudit.inputs import classes
 from planaudit.inputs.answer import Answer
+from planaudit.inputs.block_table import columns_of
 from planaudit.inputs.matching import PROCESS
 from planaudit.inputs.project import GRADE_UNITS, Curve, Project, Recovery
 from planaudit.money import haulage
@@ -88,7 +89,7 @@ def unlike_best(answer: Answer) -> list[str]:
 
 def not_exact(answer: Answer, chosen: np.ndarray, names: tuple[str, str]) -> list[str]:
     """Returns any difference of these rows, by exact decimals."""
-    rows, results = (frame.iloc[chosen].reset_index(drop=True) for frame in (answer.rows, answer.said))
+    rows, results = (columns_of(frame, frame.columns, chosen) for frame in (answer.rows, answer.said))
     part = replace(answer, rows=rows, said=results, found={})
     read, differences = Exactly.of(part), []
     told = [results[name].to_numpy() for name in (MINING, *names)]
