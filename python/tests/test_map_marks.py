@@ -2,6 +2,7 @@
 
 import hashlib
 import json
+from pathlib import Path
 
 import numpy as np
 import pytest
@@ -233,7 +234,9 @@ def test_grades_are_those_of_the_metal_asked_for(project):
     )
 
 
-def test_figures_are_written_as_pdf_and_svg_too(project, with_blank_figures):
+def test_figures_are_written_as_pdf_and_svg_too(project, with_figures, monkeypatch):
+    """Figures are laid out and not rendered, which takes most of the time."""
+    monkeypatch.setattr(Figure, "savefig", lambda figure, path, **options: Path(path).write_bytes(b"blank"))
     pitplan.write_shells(project('formats = ["pdf", "svg"]'), writing=pitplan.Writing(verifies=False))
     folder = project("").parent / "plan"
     record = json.loads((folder / "plan.json").read_text())["files"]
