@@ -15,6 +15,8 @@ from oracle.closures import least_best_pit
 from scipy.optimize import linprog
 from scipy.sparse import csr_matrix
 
+from pitplan.cli import main
+
 EXAMPLE = ROOT / "examples" / "scenarios"
 SHAPE = (10, 9, 7)  # columns, rows, levels of blocks of 20 x 20 x 15 m
 PLACES = (("x", 5010, 20), ("y", 2010, 20), ("z", 2707.5, 15))
@@ -138,20 +140,8 @@ def test_quantiles_by_hand_from_the_oracle(folder, pits):
 def scheduled(tmp_path_factory):
     """What the command line writes by block."""
     place = tmp_path_factory.mktemp("schedules")
-    words = [
-        ROOT / "tools" / "pitplan",
-        "scenarios",
-        EXAMPLE / "project.toml",
-        "--by",
-        "block",
-        "--out",
-        place,
-        "--workers",
-        "1",
-        "--no-figures",
-        "--quiet",
-    ]
-    subprocess.run([sys.executable, *words], check=True)
+    words = ["scenarios", EXAMPLE / "project.toml", "--by", "block", "--out", place, "--workers", "1"]
+    assert main([*map(str, words), "--no-figures", "--quiet"]) == 0
     return place
 
 
