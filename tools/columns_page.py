@@ -10,7 +10,8 @@ import sys
 TOP = pathlib.Path(__file__).resolve().parent.parent
 sys.path.insert(0, str(TOP / "python"))
 
-from pitplan.results.columns import TABLES, Column, Table
+from pitplan.results.column_types import Column, Table
+from pitplan.results.columns import TABLES
 
 PAGE = TOP / "docs" / "FORMATS.md"
 BEGIN, END = "<!-- by tools/columns_page.py -->\n", "<!-- end -->\n"

@@ -46,6 +46,7 @@ OWN_COLUMNS = (
     ),
     "pushback",
     "year",
+    "bin",
     "process",
     *("haul_distance", "haulage_cost", "ore_haulage_cost"),
 )

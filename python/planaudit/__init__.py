@@ -48,7 +48,7 @@ else:
 # What is not recalculated, in words.
 NOT_VERIFIED = (
     "that each shell is optimal, which the proof of the solver covers",
-    "the upper bounds of schedules of pushbacks and of scenarios",
+    "the upper bounds of scenarios, and the cut-offs of schedules",
     "figures, workbooks, 3D views and exported files",
     "whether grades, densities, prices, costs and slope angles are right",
 )

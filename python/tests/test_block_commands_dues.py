@@ -9,7 +9,7 @@ from helpers.block_commands import YEARLY, rewrite, scheduled, with_processes, w
 from helpers.pushbacks import pillars
 
 import pitplan
-from pitplan import PlanError, load
+from pitplan import PlanError, load, verify
 
 # Mill and shovels take all three pillars in a year.
 WIDE = YEARLY.replace("processing_capacity = 100", "processing_capacity = 300").replace(
@@ -269,12 +269,18 @@ def test_an_amount_below_0_is_refused(plan_folder):
         )
 
 
-def test_pushbacks_keep_no_least_amounts(plan_folder):
-    project = load(
-        plan_folder(pillars(), WIDE + "[pushbacks]\ncount = 2\n[schedule]\nyears = 2\nminimum = { feed = 10 }\n")
-    )
-    with pytest.raises(PlanError, match=r"\[schedule\] minimum, limits: apply to --by block only"):
-        pitplan.write_schedule(project)
+def test_pushbacks_keep_minimums_and_sums_too(plan_folder):
+    """Three pillars of 100 t of ore in two years: at least 100 t a year, and 30 kg of arsenic, as each of the two last has."""
+    words = "[pushbacks]\ncount = 2\n[schedule]\nyears = 2\nminimum = { feed = 100 }\n"
+    words += '[[schedule.limits]]\ncolumn = "as_kg"\nof = "feed"\nmax = 30\n'
+    path = plan_folder(pillars(as_kg=lambda i, j, k: 0 if k else 30 * min(i, 1)), WIDE + words)
+    pitplan.write_schedule(path)
+    folder = path.parent / "plan" / "schedule"
+    feed = pd.read_csv(folder / "tables/feed.csv").query("method == 'lp'")
+    assert feed["feed_tonnes"].tolist() == [200, 100] and not any(rule.differences for rule in verify(folder))
+    flows = pd.read_csv(folder / "tables/flows.csv").query("method == 'lp' and destination == 'mill'")
+    # The clean ore and half of the two others, which are one bench, in the first year.
+    assert flows.groupby("year")["contained_copper"].sum().tolist() == pytest.approx([1 + 0.35 + 0.25, 0.35 + 0.25])
 
 
 def test_a_hill_with_all_of_it_passes_the_second_look(plan_folder):

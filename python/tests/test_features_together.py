@@ -17,9 +17,11 @@ def test_what_is_written_is_right(plan_folder, monkeypatch, seed):
     if rng.random() < 0.3:
         # Of 1,440 cells what no shell can reach is left out: no cone above the ore goes beyond the 15th of 20 columns.
         monkeypatch.setattr(pitplan.blockmodel.grid, "MOST_BLOCKS", 1200)
-    rules = "[schedule]\nbench_lag = 1\nyears = 9\n" + (
-        pick(rng, "", "bins = 3\n", "bins = 3\nstockpile = { reclaim_cost = 0.4 }\n") if is_one else ""
+    rules = "[schedule]\nbench_lag = 1\nyears = 9\n" + pick(
+        rng, "", "bins = 3\n", "bins = 3\nstockpile = { reclaim_cost = 0.4 }\n", "stockpile = { reclaim_cost = 0.4 }\n"
     )
+    if is_one:
+        rules += pick(rng, "", "[schedule.feed]\nau = { max = 3 }\n", "[schedule.feed]\ncu = { min = 0.4 }\n")
     text = (
         PROJECT
         + haulage(rng)

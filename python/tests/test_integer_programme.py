@@ -8,7 +8,7 @@ import numpy as np
 import pandas as pd
 import pytest
 from conftest import rows
-from helpers.benches import THREE, benches_of, demand_diggable, problem_of, random_benches
+from helpers.benches import THREE, benches_of, demand_diggable, problem_of, random_benches, without_flows
 from helpers.programmes import integer_optimum, limits, small
 from helpers.pushbacks import PUSHBACKS, pillars, with_pushbacks
 from helpers.random_tests import examples
@@ -19,29 +19,21 @@ import pitplan
 from pitplan import PlanError, load, verify
 from pitplan.config.schedule import Effort
 from pitplan.results.folder import read_record
-from pitplan.scheduling import bench_milp, highs, highs_process
+from pitplan.scheduling import highs, highs_process
 from pitplan.scheduling.bench_sequencing import Limits
-
-
-@pytest.fixture(scope="module")
-def without_orders():
-    """Schedules are made of the programme's own unknowns, without the help of orders."""
-    with pytest.MonkeyPatch.context() as patch:
-        patch.setattr(bench_milp, "diggable", lambda optimum, problem: np.zeros((len(problem.benches), 0)))
-        yield
+from pitplan.scheduling.flow import integer
 
 
 @examples(12)
 @given(small, limits, st.integers(0, 1))
-def test_it_is_the_best_schedule_of_all(without_orders, pit, limits, lag):
+def test_it_is_the_best_schedule_of_all(pit, limits, lag):
     benches, years = random_benches(pit, lag), 5
-    shares, bound = bench_milp.best_diggable(problem_of(benches, limits), years, Effort(0.0, 60.0))
+    model = without_flows(problem_of(benches, limits), years)
+    flows, bound = integer.best_schedule(model, Effort(0.0, 60.0))
     best, slack = integer_optimum(benches, limits, years), 2e-6 * max(1.0, np.abs(benches.of("cash_flow")).sum())
-    assert shares is not None
-    demand_diggable(benches, limits, shares)
-    assert problem_of(benches, limits).value(shares) == pytest.approx(best, abs=slack) and bound == pytest.approx(
-        best, abs=slack
-    )
+    assert flows is not None
+    demand_diggable(benches, limits, flows.dug)
+    assert flows.value == pytest.approx(best, abs=slack) and bound == pytest.approx(best, abs=slack)
 
 
 @pytest.mark.parametrize(
@@ -57,26 +49,26 @@ def test_it_is_the_best_schedule_of_all(without_orders, pit, limits, lag):
 )
 def test_what_keeps_to_the_rules_by_hand(shares, is_kept):
     problem = problem_of(benches_of(*THREE), Limits({"feed_tonnes": 100, "total_tonnes": 200}))
-    assert bench_milp.keeps(problem, np.array(shares, dtype=float)) == is_kept
+    assert integer.keeps(without_flows(problem, 2), np.array(shares, dtype=float)) == is_kept
 
 
 def test_a_pushback_that_sinks_too_fast_does_not_keep_to_the_rules():
     problem = problem_of(benches_of(*THREE), Limits({"feed_tonnes": 1000}, vertical_advance_rate=1.5))
-    assert bench_milp.keeps(problem, np.array([[1, 0], [0.5, 0.5], [1, 0]]))
-    assert not bench_milp.keeps(problem, np.array([[1, 0], [0.6, 0.4], [1, 0]]))
+    assert integer.keeps(without_flows(problem, 2), np.array([[1, 0], [0.5, 0.5], [1, 0]]))
+    assert not integer.keeps(without_flows(problem, 2), np.array([[1, 0], [0.6, 0.4], [1, 0]]))
 
 
 def test_an_integer_programme_is_the_same_in_a_process_of_its_own(highs_apart):
     problem = problem_of(benches_of(*THREE), Limits({"feed_tonnes": 100, "total_tonnes": 200}))
-    shares, bound = bench_milp.best_diggable(problem, 3, Effort(0.0, 60.0))
-    assert bound == pytest.approx(800 / 1.1 + 500 / 1.21) == problem.value(shares)
+    flows, bound = integer.best_schedule(without_flows(problem, 3), Effort(0.0, 60.0))
+    assert bound == pytest.approx(800 / 1.1 + 500 / 1.21) == flows.value
 
 
 def test_pushbacks_sink_each_by_itself():
     """Of three pushbacks each digs its one bench in the same year."""
     benches = benches_of(*((pushback, 0, 100, 100, 500) for pushback in (1, 2, 3)))
     problem = problem_of(benches, Limits({"feed_tonnes": 1000}, vertical_advance_rate=1.5))
-    assert bench_milp.keeps(problem, np.ones((3, 1)))
+    assert integer.keeps(without_flows(problem, 2), np.ones((3, 1)))
 
 
 @pytest.mark.parametrize(("seconds", "more"), [(5.0, {"time_limit": 5.0}), (None, {})])
@@ -92,10 +84,10 @@ def test_a_programme_that_goes_on_when_its_time_is_up_is_ended(highs_apart, monk
     """It would sleep for a minute: it has a quarter of a second, twice that, and half a second more."""
     (tmp_path / "highs.py").write_text("import time\ntime.sleep(60)\n")
     monkeypatch.setattr(highs_process.highs, "__file__", str(tmp_path / "highs.py"))
-    monkeypatch.setattr(bench_milp, "LATE", 0.5)
+    monkeypatch.setattr(integer, "LATE", 0.5)
     began = time.monotonic()
     problem = problem_of(benches_of(*THREE), Limits({"feed_tonnes": 100, "total_tonnes": 200}))
-    assert bench_milp.best_diggable(problem, 3, Effort(0.0, 0.25)) == (None, np.inf)
+    assert integer.best_schedule(without_flows(problem, 3), Effort(0.0, 0.25)) == (None, np.inf)
     assert 1.0 <= time.monotonic() - began < 20
 
 
@@ -111,11 +103,11 @@ def test_it_is_written_as_a_way_of_its_own(plan_folder):
     ) == {"best", "worst", *told["methods"]}
     assert [rule.name for rule in verify(folder) if rule.differences] == []
     notes = read_record(folder)["notes"]
-    assert any("upper bound of milp on the same schedules" in note for note in notes)
+    assert any("upper bound of milp on schedules by these value bins" in note for note in notes)
 
 
 def test_where_none_is_found_in_time_the_others_stand(plan_folder, monkeypatch):
-    monkeypatch.setattr(bench_milp, "solve", lambda programme, effort, patience: highs.Optimum(None, np.inf))
+    monkeypatch.setattr(integer, "solve", lambda programme, effort, patience: highs.Optimum(None, np.inf))
     project = load(plan_folder(pillars(), PUSHBACKS + "[schedule]\nmilp = { seconds = 1 }\n"))
     assert pitplan.write_schedule(project)["method"].tolist() == ["rule", "lp"]
     assert "WARNING: milp found no schedule within its time limit" in read_record(project.folder / "schedule")["notes"]

@@ -3,33 +3,46 @@
 import os
 import signal
 import time
+from dataclasses import replace
 from threading import Timer
 
 import numpy as np
 import pytest
 from conftest import ROOT
-from helpers.benches import THREE, benches_of, demand_diggable, pits, problem_of, random_benches
+from helpers.benches import (
+    THREE,
+    benches_of,
+    demand_diggable,
+    made_of,
+    optimum_of,
+    pits,
+    problem_of,
+    random_benches,
+    without_flows,
+)
 from helpers.programmes import integer_optimum, limits, small, statement
 from helpers.random_tests import examples
 from hypothesis import given, strategies as st
 from scipy.sparse import csr_matrix
 
 from pitplan import PlanError
-from pitplan.scheduling import bench_lp, highs, highs_process
+from pitplan.scheduling import highs, highs_process
 from pitplan.scheduling.bench_sequencing import Limits, by_rule
+from pitplan.scheduling.flow import orders, scheduler
+from pitplan.scheduling.flow.flows import none_of
+from pitplan.scheduling.flow.programme import FlowProgramme
 
 
 def solved(benches, limits, years):
     problem = problem_of(benches, limits)
-    optimum = bench_lp.relaxed(problem, years)
-    return optimum, bench_lp.diggable(optimum, problem)
+    return optimum_of(problem, years), made_of(problem, years)
 
 
 def test_three_benches_by_hand():
     """Shovels take two benches a year and the mill one. The waste is dug with the rich ore under it, and then the poor ore."""
     benches = benches_of(*THREE)
     optimum, shares = solved(benches, Limits({"feed_tonnes": 100, "total_tonnes": 200}), 3)
-    assert optimum.bound == pytest.approx(800 / 1.1 + 500 / 1.21) and optimum.cash == pytest.approx([800, 500, 0])
+    assert optimum.value == pytest.approx(800 / 1.1 + 500 / 1.21) and optimum.cash == pytest.approx([800, 500, 0])
     assert shares.tolist() == [[1, 0], [1, 0], [0, 1]]
 
 
@@ -41,9 +54,9 @@ def test_the_bound_digs_parts_of_benches_together():
     """
     benches = benches_of((1, 0, 200, 0, -200), (1, 1, 100, 100, 900), (2, 0, 100, 100, 100))
     optimum, shares = solved(benches, Limits({"feed_tonnes": 1e6, "total_tonnes": 200}), 2)
-    assert optimum.bound == pytest.approx(-200 / 1.1 + 1000 / 1.21) and shares.tolist() == [[1, 0], [0, 1], [0, 1]]
+    assert optimum.value == pytest.approx(-200 / 1.1 + 1000 / 1.21) and shares.tolist() == [[1, 0], [0, 1], [0, 1]]
     optimum, shares = solved(benches, Limits({"feed_tonnes": 1e6, "total_tonnes": 250}), 2)
-    assert optimum.bound == pytest.approx(400 / 1.1 + 400 / 1.21)
+    assert optimum.value == pytest.approx(400 / 1.1 + 400 / 1.21)
     assert problem_of(benches, Limits({})).value(shares) == pytest.approx((450 - 200) / 1.1 + 550 / 1.21)
 
 
@@ -52,29 +65,30 @@ def test_what_does_not_pay_is_left():
     years, but in the first, which the waste fills."""
     benches = benches_of((1, 0, 100, 0, -100), (1, 1, 100, 100, 105))
     optimum, shares = solved(benches, Limits({"feed_tonnes": 100, "total_tonnes": 100}), 3)
-    assert optimum.bound == pytest.approx(2.5 / 1.21 + 2.5 / 1.331) and shares.shape == (2, 0)
+    assert optimum.value == pytest.approx(2.5 / 1.21 + 2.5 / 1.331) and shares.shape == (2, 0)
     optimum, shares = solved(benches, Limits({"feed_tonnes": 100}), 3)
-    assert optimum.bound == pytest.approx(5 / 1.1) and shares.tolist() == [[1], [1]]
+    assert optimum.value == pytest.approx(5 / 1.1) and shares.tolist() == [[1], [1]]
 
 
 def test_a_mill_that_stands_still_in_all_years():
     """Nothing is dug, since waste alone costs."""
     optimum, shares = solved(benches_of(*THREE), Limits({"feed_tonnes": 100}, (0.0, 0.0, 1.0)), 2)
-    assert optimum.bound == pytest.approx(0) and shares.shape == (3, 0)
+    assert optimum.value == pytest.approx(0) and shares.shape == (3, 0)
 
 
 @examples(20)
 @given(small, limits, st.integers(0, 1))
 def test_rule_and_programme_are_at_most_the_best_schedule_and_this_at_most_the_bound(pit, limits, lag):
     benches, years = random_benches(pit, lag), 5
-    optimum, shares = solved(benches, limits, years)
-    demand_diggable(benches, limits, shares)
     problem = problem_of(benches, limits)
     rule, _ = by_rule(problem, years)
+    model, optimum = without_flows(problem, years), optimum_of(problem, years)
+    shares = scheduler.from_optimum(model, optimum, none_of(replace(model, years=rule.shape[1]), rule)).dug
+    demand_diggable(benches, limits, shares)
     best, value = integer_optimum(benches, limits, years), problem.value(shares)
     slack = 2e-6 * max(1.0, np.abs(benches.of("cash_flow")).sum())
     assert problem.value(rule) <= value + slack
-    assert value <= best + slack and best <= optimum.bound + slack
+    assert value <= best + slack and best <= optimum.value + slack
     # To dig nothing at all earns nothing.
     assert value >= 0
 
@@ -95,21 +109,20 @@ def test_the_bound_is_that_of_another_solver(pit, limits, lag):
         problem += pulp.lpSum(factor * unknown[key] for key, factor in coefficients.items()) <= most
     problem.solve(solver)
     assert pulp.LpStatus[problem.status] == "Optimal"
-    bound = bench_lp.relaxed(problem_of(benches, limits), years).bound
+    bound = optimum_of(problem_of(benches, limits), years).value
     assert bound == pytest.approx(pulp.value(problem.objective) or 0.0, rel=1e-6, abs=1e-3)
 
 
 def test_orders_have_what_the_optimum_digs_by_its_last_year():
     """The ore comes in the last year, and the second pushback is left; each order has the waste before its ore."""
     benches = benches_of(*THREE)
-    optimum = bench_lp.Relaxed(np.array([[1.0, 1], [0, 1], [0, 0]]), 0.0, benches.of("cash_flow"))
-    orders = [sequence.order.tolist() for sequence in bench_lp.sequences(optimum, benches)]
-    assert len(orders) > 3 and all(order == [0, 1] for order in orders)
+    found = [order.tolist() for order in orders.of_optimum(np.array([[1.0, 1], [0, 1], [0, 0]]), benches)]
+    assert len(found) > 3 and all(order == [0, 1] for order in found)
 
 
 def test_solved_in_a_process_of_its_own_the_same(highs_apart):
     benches, limits = benches_of(*THREE), Limits({"feed_tonnes": 100, "total_tonnes": 200})
-    assert bench_lp.relaxed(problem_of(benches, limits), 3).bound == pytest.approx(800 / 1.1 + 500 / 1.21)
+    assert optimum_of(problem_of(benches, limits), 3).value == pytest.approx(800 / 1.1 + 500 / 1.21)
 
 
 def test_an_interruption_ends_a_process_of_its_own(highs_apart, monkeypatch):
@@ -124,7 +137,7 @@ def test_an_interruption_ends_a_process_of_its_own(highs_apart, monkeypatch):
     monkeypatch.setattr(highs_process.subprocess, "Popen", sleep)
     started = time.monotonic()
     with pytest.raises(KeyboardInterrupt):
-        bench_lp.relaxed(problem_of(benches_of(*THREE), Limits({"feed_tonnes": 100})), 3)
+        optimum_of(problem_of(benches_of(*THREE), Limits({"feed_tonnes": 100})), 3)
     assert time.monotonic() - started < 30 and begun[0].wait(5) != 0
 
 
@@ -136,7 +149,8 @@ def test_a_process_that_is_late_is_ended(highs_apart, monkeypatch):
         return begun[0]
 
     monkeypatch.setattr(highs_process.subprocess, "Popen", sleep)
-    programme, _ = bench_lp.programme_of(problem_of(benches_of(*THREE), Limits({"feed_tonnes": 100})), 3)
+    model = without_flows(problem_of(benches_of(*THREE), Limits({"feed_tonnes": 100})), 3)
+    programme = FlowProgramme(model).programme
     found = highs_process.solve(programme, patience=0.3)
     assert found.unknowns is None and found.bound == np.inf and begun[0].wait(5) != 0
 

@@ -8,7 +8,7 @@ import numpy as np
 import pandas as pd
 import pytest
 from conftest import PROJECT, rows
-from helpers.benches import problem_of, random_benches
+from helpers.benches import made_of, optimum_of, problem_of, random_benches, without_flows
 from helpers.programmes import limits, small
 from helpers.random_tests import examples
 from hypothesis import given, strategies as st
@@ -19,8 +19,13 @@ from pitplan.config.schedule import Effort
 from pitplan.economics import period_costs
 from pitplan.economics.period_costs import YearlyMoney
 from pitplan.pushbacks.bench_table import PushbackBenches
-from pitplan.scheduling import bench_lp, bench_milp, cutoff_lp, value_bins
 from pitplan.scheduling.bench_sequencing import Limits, Problem, by_rule
+from pitplan.scheduling.flow import integer, scheduler
+from pitplan.scheduling.flow.bound import upper_bound
+from pitplan.scheduling.flow.flows import none_of
+from pitplan.scheduling.flow.model import FlowModel
+from pitplan.scheduling.flow.ore import Ore
+from pitplan.scheduling.flow.programme import FlowProgramme
 
 MONEY = ("mining_cost = 2\n", "mining_cost = 2\nfixed_cost_per_year = 100\ncapex = [[3, 1000], [1, 300], [2, 50]]\n")
 PRICES = ("price = 8000", "price = 8000\nprices = [8000, 9000]")
@@ -148,19 +153,19 @@ COSTS = YearlyMoney(30, ((1, 5), (2, 8)))
 def test_a_schedule_by_hand(money, by_rules, best):
     problem = two_benches(money)
     assert problem.value(by_rule(problem)[0]) == pytest.approx(by_rules)
-    optimum = bench_lp.relaxed(problem, 2)
-    assert optimum.bound == pytest.approx(best) and optimum.cash.sum() == pytest.approx(best)
-    assert problem.value(bench_lp.diggable(optimum, problem)) == pytest.approx(best)
-    shares, bound = bench_milp.best_diggable(problem, 2, Effort())
-    assert problem.value(shares) == pytest.approx(best) and bound == pytest.approx(best)
+    optimum = optimum_of(problem, 2)
+    assert optimum.value == pytest.approx(best) and optimum.cash.sum() == pytest.approx(best)
+    assert problem.value(made_of(problem, 2)) == pytest.approx(best)
+    flows, bound = integer.best_schedule(without_flows(problem, 2), Effort())
+    assert flows.value == pytest.approx(best) and bound == pytest.approx(best)
 
 
 def test_a_mine_that_costs_more_than_it_earns_is_left():
     """110 in two years, for a capex of 500 and 30 a year."""
     problem = two_benches(YearlyMoney(30, ((1, 500),)))
-    optimum = bench_lp.relaxed(problem, 2)
-    assert optimum.bound == 0 and not optimum.cash.any() and not optimum.cumulative.any()
-    assert problem.value(bench_lp.diggable(optimum, problem)) == 0
+    optimum = optimum_of(problem, 2)
+    assert optimum.value == 0 and not optimum.cash.any() and not optimum.cumulative.any()
+    assert problem.value(made_of(problem, 2)) == 0
 
 
 def test_bins_end_before_capital_that_does_not_pay(plan_folder):
@@ -180,25 +185,16 @@ def test_bins_end_before_capital_that_does_not_pay(plan_folder):
 
 @pytest.mark.parametrize(("money", "best"), [(COSTS, 65), (replace(COSTS, premiums={"recovered_copper": (0, 10)}), 87)])
 def test_a_schedule_of_bins_by_hand(money, best):
-    """The ore of each bench is one bin, and digging costs nothing."""
+    """The ore of each bench is one parcel, and mining costs nothing."""
     problem = two_benches(money)
-    amounts = np.array([[10, 0, 100], [10, 5, 10]], dtype=float)
-    parcels = value_bins.Parcels(
-        np.array([0, 1]), np.array([2, 1]), ("feed_tonnes", "recovered_copper", "gain"), amounts, np.array([5.0])
-    )
-    milled = cutoff_lp.MillingProblem(problem, parcels, 2, None)
-    optimum = milled.relaxed()
-    assert optimum.bound == pytest.approx(best) and optimum.cash.sum() == pytest.approx(best)
-    assert milled.value(*padded(milled.diggable(optimum))) == pytest.approx(best)
-
-
-def padded(pair):
-    """A schedule in both years, whatever it ends with."""
-    dug, milling = pair
-    wide = [(0, 0), (0, 2 - dug.shape[1])]
-    return np.pad(dug, wide), replace(
-        milling, straight=np.pad(milling.straight, wide), reclaimed=np.pad(milling.reclaimed, wide)
-    )
+    benches = replace(problem.benches, amounts=problem.benches.amounts * [1, 0, 0, 0])
+    amounts = {"feed_tonnes": np.array([[10.0, 10.0]]), "recovered_copper": np.array([[0.0, 5.0]])}
+    ore = Ore(np.array([0, 1]), np.array([2, 1]), np.array([[100.0, 10.0]]), amounts)
+    model = FlowModel(replace(problem, benches=benches), ore, 2)
+    optimum = FlowProgramme(model).solved()
+    assert optimum.value == pytest.approx(best) and optimum.cash.sum() == pytest.approx(best)
+    assert upper_bound(model, ore, optimum.prices) == pytest.approx(best)
+    assert scheduler.from_optimum(model, optimum).value == pytest.approx(best)
 
 
 @examples(12)
@@ -210,15 +206,17 @@ def padded(pair):
     st.sampled_from([(), (0, 900, -400)]),
 )
 def test_no_schedule_is_above_the_bound(pit, limits, fixed, capex, premiums):
-    """Nor is the rule's above the programme's, of as many years."""
+    """Nor does the programme earn less than the rule, in as many years."""
     money = YearlyMoney(fixed, capex, {"recovered_copper": premiums} if premiums else {})
     problem = replace(problem_of(random_benches(pit, 0), limits), money=money)
     by_rules = by_rule(problem, 5)[0]
-    optimum = bench_lp.relaxed(problem, 5)
-    made = problem.value(bench_lp.diggable(optimum, problem))
+    model = without_flows(problem, 5)
+    optimum = FlowProgramme(model).solved()
+    made = scheduler.from_optimum(model, optimum, none_of(replace(model, years=by_rules.shape[1]), by_rules)).value
     slack = 1e-6 * max(1.0, np.abs(problem.worths(5)).sum())
-    assert problem.value(by_rules) - slack <= made <= optimum.bound + slack
-    assert optimum.cash @ 1.1 ** -np.arange(1.0, 6) == pytest.approx(optimum.bound, abs=slack)
+    assert problem.value(by_rules) - slack <= made <= optimum.value + slack
+    assert optimum.cash @ 1.1 ** -np.arange(1.0, 6) == pytest.approx(optimum.value, abs=slack)
+    assert upper_bound(model, model.ore, optimum.prices) == pytest.approx(optimum.value, abs=slack)
 
 
 SCHEDULED = (
@@ -253,14 +251,19 @@ def test_the_second_look_at_schedules_agrees(plan_folder, way):
 
 
 @pytest.mark.parametrize(
-    ("name", "without", "rule"), [("fixed_cost", 0.0, "value"), ("capex", (), "value"), ("premiums", {}, "amounts")]
+    ("name", "without", "rule"),
+    [
+        ("fixed_cost", 0.0, "schedule value"),
+        ("capex", (), "schedule value"),
+        ("premiums", {}, "material flow"),
+    ],
 )
 def test_money_that_is_passed_over_is_found(plan_folder, monkeypatch, name, without, rule):
     path, of_project = scheduled(plan_folder, ""), period_costs.of_project
     monkeypatch.setattr(period_costs, "of_project", lambda project: replace(of_project(project), **{name: without}))
     write_schedule(path, writing=pitplan.Writing(verifies=False))
     wrong = {rule.name for rule in verify(path.parent / "plan" / "schedule") if rule.differences}
-    assert {"years", f"schedule {rule}"} <= wrong
+    assert {"years", rule, "upper bound"} <= wrong
 
 
 def test_costs_of_a_year_that_are_bent_are_found(mine):

@@ -14,6 +14,7 @@ from pitplan.config.schedule import ScheduleRules
 from pitplan.config.sensitivity import SensitivityRules
 from pitplan.scheduling import pushback_schedule
 from pitplan.scheduling.blocks import tables as block_result
+from pitplan.scheduling.flow.cutoffs import cutoffs
 from pitplan.solver import mine_files
 
 PAGE = (ROOT / "docs" / "PLANNING.md").read_text(encoding="utf-8")
@@ -126,7 +127,7 @@ def test_the_pushbacks_of_the_page_are_those_of_the_example():
 def test_the_schedule_of_the_page_is_that_of_the_example():
     project = pitplan.load(EXAMPLE)
     rules = ScheduleRules(bench_lag=1, vertical_advance_rate=8.0, ramp_up=(0.5, 1.0))
-    plain, binned = (
+    plain, stocked = (
         pushback_schedule.make(
             pitplan.pushbacks.nested.divide(
                 pitplan.Plan.from_project(
@@ -136,17 +137,20 @@ def test_the_schedule_of_the_page_is_that_of_the_example():
                 )
             )
         )
-        for asked in (rules, replace(rules, bins=8, reclaim_cost=1.0))
+        for asked in (rules, replace(rules, reclaim_cost=1.0))
     )
     ways = pushback_schedule.methods(plain).set_index("method")
     assert f"earn {ways['npv']['rule'] / 1e6:.2f} M USD by rule in {ways['years']['rule']} years" in PAGE
-    assert f"each pushback {plain.lead} benches behind the one before" in PAGE and ways["npv"]["lp"] == pytest.approx(
-        ways["npv"]["rule"]
+    assert f"each pushback {plain.lead} benches behind the one before" in PAGE
+    said = f"The linear programme finds a schedule of {ways['npv']['lp'] / 1e6:.2f} in {ways['years']['lp']} years, "
+    assert (
+        f"{said}{100 * ways['optimality_gap']['lp']:.1f} % below the upper bound of {plain.upper_bound / 1e6:.2f}"
+        in PAGE
     )
-    assert f"The upper bound over {plain.years} years is {plain.optimum.bound / 1e6:.2f}, and" in PAGE
-    assert f"it finds one of {binned.value('lp') / 1e6:.2f}, below a bound of {binned.optimum.bound / 1e6:.2f}:" in PAGE
-    milling = binned.milling["lp"]
-    assert f"in year 2 the cut-off is {milling.cutoffs[1]:.2f} USD per tonne of feed" in PAGE
+    cutoff = cutoffs(plain.flows["lp"], [""])[""][1]
+    assert f"In year 2 its cut-off is {cutoff:.2f} USD per tonne of feed" in PAGE
+    value, bound = stocked.value("lp") / 1e6, stocked.upper_bound / 1e6
+    assert f"With a stockpile that costs 1 USD per tonne it earns {value:.2f}, below {bound:.2f}" in PAGE
 
 
 def test_the_schedule_by_block_of_the_page_is_that_of_the_example():

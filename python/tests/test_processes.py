@@ -289,8 +289,8 @@ def test_pushbacks_and_schedules_keep_to_the_capacities(plan_folder):
             r"\[\[processes\]\] leach recovery: found gold, expected one of the \[\[metals\]\]: copper",
         ),
         (
-            [*WITH, ("[shells]", "[pushbacks]\ncount = 2\n[schedule]\nbins = 2\n[shells]")],
-            r"\[schedule\] bins and processing_capacity are of one process",
+            [*WITH, ("[shells]", "[pushbacks]\ncount = 2\n[schedule]\nprocessing_capacity = 2\n[shells]")],
+            r"\[schedule\] processing_capacity is of one process",
         ),
     ],
 )

@@ -17,9 +17,8 @@ from helpers.blank_figures import blank_figures
 import pitplan
 from pitplan import PlanError, verify
 from pitplan.cli import main
-from pitplan.core.atomic_files import hash_of, read_json, write_json
+from pitplan.core.atomic_files import hash_of, read_json
 from pitplan.report import columns, html
-from pitplan.results import names
 from pitplan.results.folder import read_record
 
 CHROMIUM, PDFTOTEXT = shutil.which("chromium"), shutil.which("pdftotext")
@@ -366,15 +365,8 @@ def test_the_way_of_a_schedule_is_told_in_words(written):
 
 
 def test_the_bound_of_a_schedule_names_its_premise(written):
-    """Each block goes to the process that is assigned to it, or ore is divided by bins: the page says which."""
-    folder, project = written / "plan" / "schedule", pitplan.load(written / "project.toml")
-    page = " ".join((folder / "report.html").read_text().split())
+    page = " ".join((written / "plan" / "schedule" / "report.html").read_text().split())
     assert (
-        "that sends each block to its assigned process earns more" in page and "divides ore by these bins" not in page
+        "wherever each block goes: to a process, to the stockpile or to waste. Other pushbacks may earn more." in page
     )
-    assert "Upper bound, these pushbacks and processes" in page
-    record = read_record(folder)
-    (folder / names.MILLING).write_text("")
-    write_json(folder / names.RECORD, record | {"files": record["files"] | {names.MILLING: "0" * 64}})
-    html.write(written / "binned.html", folder, project)
-    assert "that divides ore by these bins earns more" in " ".join((written / "binned.html").read_text().split())
+    assert "Upper bound, these pushbacks" in page

@@ -9,7 +9,7 @@ import matplotlib
 import numpy as np
 import pandas as pd
 import pytest
-from helpers.benches import THREE, benches_of, problem_of
+from helpers.benches import THREE, benches_of, problem_of, without_flows
 from matplotlib.figure import Figure
 
 from pitplan import PlanError
@@ -19,10 +19,9 @@ from pitplan.figures import schedule as schedule_figures
 from pitplan.report import viewer3d
 from pitplan.results.folder import Folder, read_folder
 from pitplan.scheduling import pushback_schedule
-from pitplan.scheduling.bench_lp import Relaxed
 from pitplan.scheduling.bench_sequencing import Limits
-from pitplan.scheduling.cutoff_lp import Milling
-from pitplan.scheduling.value_bins import Parcels
+from pitplan.scheduling.flow.flows import none_of
+from pitplan.scheduling.flow.programme import FlowOptimum
 
 METAL = Metal("copper", "cu", "percent", 8000, 0, 0.5)
 
@@ -37,9 +36,28 @@ def schedule():
     }
     grid = SimpleNamespace(elevations=lambda: np.array([15.0, 5.0]))
     project = SimpleNamespace(economics=SimpleNamespace(currency="USD"), metals=(METAL,))
+    project.processes = ()
     pushbacks = SimpleNamespace(plan=SimpleNamespace(grid=grid, project=project), factors=(0.5, 1.0))
-    optimum = Relaxed(np.array([[1.0, 1, 1], [0.5, 1, 1], [0, 0.5, 1]]), 990.0, np.array([300.0, 700, 300]))
-    return pushback_schedule.YearlySchedule(pushbacks, problem, shares, 1, 3, optimum)
+    model, nothing = without_flows(problem, 3), np.zeros((0, 3))
+    cumulative, cash = np.array([[1.0, 1, 1], [0.5, 1, 1], [0, 0.5, 1]]), np.array([300.0, 700, 300])
+    optimum = FlowOptimum(cumulative, nothing, nothing, nothing, np.ones(3), 985.0, cash)
+    flows = {method: none_of(model, dug) for method, dug in shares.items()}
+    material = SimpleNamespace(edges={})
+    made = pushback_schedule.YearlySchedule(pushbacks, material, model, flows, 1, optimum, 990.0)
+    feed = {"rule": [50, 100, 50], "lp": [25, 100, 75]}
+    made.__dict__["material_flows"] = pd.concat(
+        [rows_of(method, tonnes, shares[method]) for method, tonnes in feed.items()]
+    )
+    return made
+
+
+def rows_of(method, feed, shares):
+    """The flows of a method: ore to the mill, of 2 % copper, and all else to waste."""
+    ore = pd.DataFrame({"year": [1, 2, 3], "source": "pit", "destination": "mill", "total_tonnes": feed})
+    ore = ore.assign(feed_tonnes=feed, contained_copper=np.array(feed) / 50, recovered_copper=np.array(feed) / 100)
+    waste = ore.assign(destination="waste", total_tonnes=100 * shares.sum(axis=0) - feed, feed_tonnes=0.0)
+    waste = waste.assign(contained_copper=0.0, recovered_copper=0.0)
+    return pd.concat([ore, waste]).assign(method=method, pushback=1, bench=15.0, bin=1)
 
 
 def test_a_gantt_has_a_bar_for_each_share(schedule):
@@ -69,17 +87,12 @@ def test_the_bars_of_years_are_the_ore_and_the_waste_beside_their_limits(schedul
     mill, shovels = axes[0].lines
     assert mill.get_ydata().tolist() == [50, 100, 100, 100] and shovels.get_ydata().tolist() == [200] * 4
     assert mill.get_label() == "processing capacity: 100 t a year"
-    # A hundredth of the ore is recovered as copper.
     right = axes[0].figure.axes[2]
-    assert right.lines[0].get_ydata().tolist() == pytest.approx([1, 1, 1]) and right.get_ylim()[1] > 1
+    assert right.lines[0].get_ydata().tolist() == pytest.approx([2, 2, 2]) and right.get_ylim()[1] > 2
+    assert right.lines[0].get_label() == "head grade of copper"
+    names = [text.get_text() for text in axes[0].figure.legends[0].get_texts()]
+    assert names[:2] == ["mill", "waste"] and "head grade of copper" in names
     assert 200 < axes[0].get_ylim()[1] < 300 and not axes[0].figure.axes[3].get_ylabel().isspace()
-
-
-def test_what_is_recovered_of_a_year_without_ore_is_not_drawn(schedule):
-    table = pd.DataFrame({"feed_tonnes": [0.0, 50.0], "recovered_copper": [0.0, 1.0]})
-    assert np.isnan(schedule_figures.recovered(table, METAL)[0]) and schedule_figures.recovered(table, METAL)[
-        1
-    ] == pytest.approx(2)
 
 
 def test_curves_end_at_what_each_case_earns(schedule):
@@ -92,36 +105,34 @@ def test_curves_end_at_what_each_case_earns(schedule):
     # -200 + 500, 500 + 250 and 250, discounted at the ends of years.
     assert curves["rule"] == pytest.approx(np.cumsum([0, 300 / 1.1, 750 / 1.21, 250 / 1.331]))
     assert curves["best case"].tolist() == [0, 700, 1000] and "worst case" not in curves
-    assert curves["upper bound, these pushbacks"] == pytest.approx(np.cumsum([0, 300 / 1.1, 700 / 1.21, 300 / 1.331]))
-    flat = [line.get_ydata()[0] for line in ax.lines if len(set(np.atleast_1d(line.get_ydata()))) == 1]
-    assert 990.0 in flat
-    assert len(ax.get_legend().get_texts()) == 4
+    assert curves["linear relaxation"] == pytest.approx(np.cumsum([0, 300 / 1.1, 700 / 1.21, 300 / 1.331]))
+    assert set(np.atleast_1d(curves["upper bound, these pushbacks"])) == {990.0}
+    assert len(ax.get_legend().get_texts()) == 5
     # Who does not tell green from red, or orange from either, tells them by their marks.
     seen = [(line.get_marker(), line.get_linestyle(), line.get_linewidth()) for line in ax.lines[:4]]
     assert len(set(seen)) == 4
 
 
-def test_ore_from_a_stockpile_is_a_bar_of_its_own(schedule):
-    """All ore of the second bench is milled a year later than it is dug by the programme."""
-    parcels = Parcels(
-        np.array([1, 2]),
-        np.array([1, 1]),
-        ("feed_tonnes", "recovered_copper", "gain"),
-        np.array([[100, 1, 1100.0], [100, 1, 600]]),
-        np.zeros(0),
-    )
-    straight, reclaimed = np.array([[0.0, 0, 0], [0, 0.25, 0.75]]), np.array([[0, 0.25, 0.75], [0, 0, 0]])
-    stocked = replace(schedule, milling={"lp": Milling(parcels, straight, reclaimed, 0.5, True)})
+def test_each_destination_is_a_layer_of_its_own(schedule):
+    """Of two processes, of which the mill is fed from the stockpile too in the second year."""
+    flows = schedule.material_flows
+    lp = flows[(flows["method"] == "lp") & (flows["destination"] == "mill")]
+    more = [
+        lp.assign(destination="leach", total_tonnes=10, feed_tonnes=10),
+        lp[lp["year"] == 1].assign(destination="stockpile", total_tonnes=30, feed_tonnes=0),
+        lp[lp["year"] == 2].assign(source="stockpile", total_tonnes=30, feed_tonnes=30),
+    ]
+    stocked = replace(schedule, model=replace(schedule.model, reclaim_cost=0.5))
+    stocked.__dict__["material_flows"] = pd.concat([flows, *more])
+    mill, leach = SimpleNamespace(name="mill"), SimpleNamespace(name="leach")
+    stocked.pushbacks.plan.project.processes = (mill, leach)
     axes = schedule_figures.plot_tonnes(stocked, Figure().subplots(1, 2))
-    assert len(axes[0].containers) == 2
-    ore, stock, waste = ([(bar.get_y(), bar.get_height()) for bar in bars] for bars in axes[1].containers)
-    assert ore == [(0, 0), (0, 25), (0, 75)] and stock == [(0, 0), (25, 25), (75, 75)]
-    # By then a quarter and three quarters of the bench are dug, and stocked.
-    assert waste == [(0, 125), (50, 75), (150, 0)]
-    # A year's bar may be higher than the shovels' line, since they do not reclaim.
-    assert axes[1].get_ylim()[1] > 200
-    names = [text.get_text() for text in axes[0].figure.legends[0].get_texts()]
-    assert names[:3] == ["ore", "ore from the stockpile", "waste or stockpiled"]
+    found = {bars.get_label(): [bar.get_height() for bar in bars] for bars in axes[1].containers}
+    assert found["mill"] == [25, 100, 75] and found["mill, reclaimed"] == [0, 30, 0] and found["leach"] == [10] * 3
+    assert found["to the stockpile"] == [30, 0, 0] and list(found)[-1] == "waste"
+    assert axes[1].containers[-1][1].get_y() == 140
+    grades = {line.get_label() for line in axes[1].figure.axes[3].lines}
+    assert grades == {"head grade of mill", "head grade of leach"}
 
 
 @pytest.mark.parametrize("write", [schedule_figures.write_gantt, schedule_figures.write_tonnes])
@@ -185,13 +196,16 @@ def test_a_bound_is_told_to_a_thousandth_where_there_is_one(schedule, bound, tol
 @pytest.mark.parametrize("way", ["rule", "lp"])
 def test_a_way_that_mines_nothing_is_drawn_with_a_sentence(schedule, way):
     """In any place; the other way keeps its bars, and the legend names them."""
-    empty = replace(schedule, shares=schedule.shares | {way: np.zeros((3, 0))})
+    nothing = none_of(replace(schedule.model, years=0), np.zeros((3, 0)))
+    empty = replace(schedule, flows=schedule.flows | {way: nothing})
+    rows = schedule.material_flows
+    empty.__dict__["material_flows"] = rows[rows["method"] != way]
     place = list(empty.shares).index(way)
     axes = schedule_figures.plot_tonnes(empty, Figure().subplots(1, 2))
     assert [text.get_text() for text in axes[place].texts] == ["nothing is mined"] and not axes[place].containers
     assert len(axes[1 - place].containers) == 2
     (legend,) = axes[0].figure.legends
-    assert [text.get_text() for text in legend.get_texts()][:2] == ["ore", "waste"]
+    assert [text.get_text() for text in legend.get_texts()][:2] == ["mill", "waste"]
     axes = schedule_figures.plot_gantt(empty, Figure().subplots(1, 2))
     assert "nothing is mined" in [text.get_text() for text in axes[place].texts]
     (note,) = [note for note in pushback_schedule.notes(empty) if "mines nothing" in note]

@@ -14,7 +14,7 @@ import pitplan
 from pitplan import PlanError, load, verify
 from pitplan.cli import main
 from pitplan.results.folder import read_record
-from pitplan.scheduling import pushback_schedule
+from pitplan.scheduling.flow import programme
 
 # What each pillar is worth: 40 a per cent and tonne, less 10 for processing and 4 for mining.
 WORTHS = [2600, 1400, 600]
@@ -131,16 +131,17 @@ def test_the_command_line_tells_the_ways(plan_folder, capsys):
     ]
     assert (
         "the lead with the highest NPV" in said.err
-        and "upper bound on the NPV of any schedule of these pushbacks of up to 4 years within these limits that sends each block to its assigned process: "
+        and "upper bound on the NPV of any schedule of these pushbacks of up to 4 years within these limits, wherever each block goes: "
         in said.err
     )
     assert (path.parent / "plan" / "schedule" / "report.html").exists()
 
 
 def test_the_size_of_the_programme_is_told_before_it_is_solved(plan_folder, capsys):
-    """Six benches, and a fifth more than the rule's three years."""
+    """Six benches and three parcels of ore, in a fifth more than the rule's three years."""
     assert main(["schedule", str(plan_folder(pillars(), PUSHBACKS))]) == 0
-    assert "solving the linear programme of 4 years, 24 variables .." in capsys.readouterr().err
+    said = "solving the linear programme of 4 years and 3 parcels, 36 variables .."
+    assert said in capsys.readouterr().err
 
 
 @pytest.fixture(scope="module")
@@ -171,14 +172,17 @@ def wrong(folder):
     return {rule.name for rule in verify(folder) if rule.differences}
 
 
-RULES = ["schedule amounts", "schedule order", "schedule limits", "schedule value", "years of blocks"]
+RULES = [
+    *("schedule amounts", "material flow", "schedule order", "schedule limits", "schedule value"),
+    *("upper bound", "years of blocks"),
+]
 
 
 def test_what_is_right_passes(copied, capsys):
     assert wrong(copied) == set()
     assert main(["verify", str(copied)]) == 0
     told = capsys.readouterr().out.splitlines()
-    assert [line.split(":")[0] for line in told][-5:] == RULES
+    assert [line.split(":")[0] for line in told][-len(RULES) :] == RULES
     record = read_record(copied)
     named = ["tables/schedule.csv", "tables/methods.csv", "schedule.json", "tables/schedule.xlsx"]
     assert set(named) <= set(record["files"])
@@ -193,7 +197,7 @@ def test_the_report_and_the_workbook_have_the_schedule(copied):
         and "the schedule and its upper bound, the other numbers" in page
     )
     book = pd.read_excel(copied / "tables/schedule.xlsx", sheet_name=None)
-    assert list(book) == ["methods", "schedule", "years", "pushbacks", "shells"]
+    assert list(book) == ["feed", "flows", "methods", "schedule", "years", "pushbacks", "shells"]
     for name in ("schedule", "pushbacks", "shells"):
         pd.testing.assert_frame_equal(book[name], pd.read_csv(copied / "tables" / f"{name}.csv"), check_dtype=False)
     years = pd.read_csv(copied / "tables/years.csv")
@@ -274,13 +278,16 @@ def test_a_year_above_a_limit_is_found(copied, old, new):
 def test_limits_that_are_told_as_others_are_found(copied, bent):
     told = json.loads((copied / "schedule.json").read_text())
     (copied / "schedule.json").write_text(json.dumps(told | bent))
-    assert wrong(copied) == {"schedule limits"}
+    # The bound follows from the years of the record.
+    assert wrong(copied) - {"upper bound"} == {"schedule limits"}
 
 
-def test_a_lag_that_is_not_kept_is_found(copied):
-    project = copied.parents[1] / "project.toml"
-    project.write_text(project.read_text() + "bench_lag = 3\n")
-    assert "schedule order" in wrong(copied)
+def test_a_lag_that_is_not_kept_is_found(plan_folder):
+    """The waste of the second pillar is mined in the first year, and the ore of the first in the second."""
+    path = plan_folder(pillars(), PUSHBACKS + "[schedule]\nvertical_advance_rate = 1\n")
+    pitplan.write_schedule(path)
+    path.write_text(path.read_text() + "bench_lag = 1\n")
+    assert "schedule order" in wrong(path.parent / "plan" / "schedule")
 
 
 def change_told(folder, **more):
@@ -302,10 +309,12 @@ def test_a_way_above_a_bound_is_found(copied, name):
     told = change_told(copied)
     least = min(way["npv"] for way in told["methods"].values())
     change_told(copied, **{name: least + 1e-4})
-    found = wrong(copied)
-    assert found == ({"schedule value"} if any(way["npv"] > least + 0.1 for way in told["methods"].values()) else set())
+    found, is_another = wrong(copied), name == "upper_bound" and told[name] > least + 0.1
+    is_above = any(way["npv"] > least + 0.1 for way in told["methods"].values())
+    assert found - {"upper bound"} == ({"schedule value"} if is_above or is_another else set())
     change_told(copied, **{name: least - 1})
-    assert wrong(copied) == {"schedule value"}
+    # Another bound does not follow from its multipliers either.
+    assert wrong(copied) - {"upper bound"} == {"schedule value"}
 
 
 def test_what_the_rule_leaves_is_found(copied):
@@ -381,7 +390,7 @@ def test_an_interruption_keeps_what_is_found_so_far(plan_folder, capsys, monkeyp
     def interrupted(programme, effort=None):
         os.kill(os.getpid(), signal.SIGINT)
 
-    monkeypatch.setattr(pushback_schedule.bench_lp, "solve", interrupted)
+    monkeypatch.setattr(programme, "solve", interrupted)
     path = plan_folder(pillars(), PUSHBACKS)
     assert main(["schedule", str(path), "--quiet"]) == 130
     folder = path.parent / "plan" / "schedule"

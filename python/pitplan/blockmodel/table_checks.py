@@ -54,7 +54,7 @@ def demand_near(frame: pd.DataFrame, project: Project, source: str) -> None:
 def demand_amounts(frame: pd.DataFrame, project: Project, source: str) -> None:
     """Raises PlanError for amounts that no block has: below 0, or more metal than the block weighs."""
     demand_near(frame, project, source)
-    sums = project.schedule.columns if project.schedule else ()
+    sums = project.limited_columns
     for name in [*rock_of(project), *grades_of(project), *sums]:
         demand_none_below_0(frame[name].to_numpy(), source, name)
     for metal in project.metals:

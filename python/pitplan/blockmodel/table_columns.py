@@ -35,7 +35,7 @@ def named(project: Project) -> list[str]:
     """Returns the columns of the blocks, as often as the project names them."""
     rules = project.constraints
     fixed = [rules.must_mine, rules.exclude] if rules else []
-    sums = project.schedule.columns if project.schedule else ()
+    sums = project.limited_columns
     table = project.table
     columns = [
         table.id,

@@ -114,7 +114,10 @@ def tables_of(answered: Answered) -> list[str]:
     found += [names.SCHEDULE, names.SCHEDULE_RECORD, names.WORKBOOK] if answered.schedule else []
     found += [names.BLOCK_SCHEDULE, names.BOUND] if answered.blocks else []
     found += [names.METHODS] if answered.schedule or answered.blocks else []
-    return [*found, names.MILLING] if answered.schedule and answered.schedule.milling else found
+    if answered.schedule:
+        found += [names.MATERIAL_FLOWS, names.FEED, *([names.BOUND] if answered.schedule.optimum else [])]
+        found += [names.STOCKPILES] if answered.schedule.is_stocked else []
+    return found
 
 
 def sheets_of(answered: Answered, table: pd.DataFrame, years: pd.DataFrame) -> dict[str, pd.DataFrame]:
@@ -123,7 +126,6 @@ def sheets_of(answered: Answered, table: pd.DataFrame, years: pd.DataFrame) -> d
 
     assert answered.pushbacks is not None and answered.schedule is not None
     project = answered.plan.project
-    bins = {"milling": shown(pushback_schedule.milling(answered.schedule))} if answered.schedule.milling else {}
     sheets = {
         "methods": pushback_schedule.methods(answered.schedule),
         "schedule": shown(pushback_schedule.table(answered.schedule)),
@@ -131,7 +133,16 @@ def sheets_of(answered: Answered, table: pd.DataFrame, years: pd.DataFrame) -> d
         "pushbacks": shown(nested.table(answered.pushbacks)),
         "shells": shown(with_outline(table, project)),
     }
-    return bins | {name: with_discounting(sheet, project) for name, sheet in sheets.items()}
+    of_flows = {name: shown(table) for name, table in flow_tables(answered.schedule).items()}
+    return of_flows | {name: with_discounting(sheet, project) for name, sheet in sheets.items()}
+
+
+def flow_tables(schedule: YearlySchedule) -> dict[str, pd.DataFrame]:
+    """The tables of material flow, by the names of their files."""
+    from pitplan.scheduling.flow import tables
+
+    found = {"feed": tables.feed_table(schedule), "flows": schedule.material_flows}
+    return found | ({"stockpiles": tables.stockpile_table(schedule)} if schedule.is_stocked else {})
 
 
 def write_tables(answered: Answered, stage: Path) -> tuple[pd.DataFrame, pd.DataFrame]:
@@ -147,6 +158,7 @@ def write_tables(answered: Answered, stage: Path) -> tuple[pd.DataFrame, pd.Data
         from pitplan.scheduling import pushback_schedule
 
         blocks["year"] = pushback_schedule.blocks_year(answered.schedule)[blocks["id"].to_numpy()]
+        blocks["bin"] = pushback_schedule.blocks_bin(answered.schedule)[blocks["id"].to_numpy()]
         years = pd.concat([years, pushback_schedule.years(answered.schedule)], ignore_index=True)
         write_schedule_tables(answered.schedule, plan, stage)
     if answered.blocks is not None:
@@ -163,11 +175,14 @@ def write_tables(answered: Answered, stage: Path) -> tuple[pd.DataFrame, pd.Data
 
 
 def write_schedule_tables(schedule: YearlySchedule, plan: Plan, stage: Path) -> None:
-    """Writes schedule.csv, methods.csv, schedule.json, and mill_feed.csv if ore is divided into bins."""
+    """Writes schedule.csv, methods.csv, schedule.json, bound.csv and the tables of material flow."""
     from pitplan.scheduling import pushback_schedule
+    from pitplan.scheduling.flow.tables import bound_table
 
     write_csv(shown(pushback_schedule.table(schedule)), stage / names.SCHEDULE, plan.project)
     write_csv(shown(pushback_schedule.methods(schedule)), stage / names.METHODS, plan.project)
     write_json(stage / names.SCHEDULE_RECORD, pushback_schedule.record(schedule))
-    if schedule.milling:
-        shown(pushback_schedule.milling(schedule)).to_csv(stage / names.MILLING, index=False)
+    for name, table in flow_tables(schedule).items():
+        shown(table).to_csv(stage / layout.TABLES / f"{name}.csv", index=False)
+    if schedule.optimum is not None:
+        bound_table(schedule).to_csv(stage / names.BOUND, index=False)

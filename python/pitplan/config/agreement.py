@@ -147,7 +147,8 @@ def demand_sums_agree(project: Project) -> None:
 
 def demand_sums_of_parts(project: Project, rules: ScheduleRules) -> None:
     """Refuses sums of whole blocks where a topography cuts these, and where those that are put together have the means of that column."""
-    of_a_tonne = (*(metal.column for metal in project.metals), *project.economics.factor_columns)
+    graded = (it.column for it in project.feed_grades)
+    of_a_tonne = (*(metal.column for metal in project.metals), *project.economics.factor_columns, *graded)
     means = {*rules.columns_of(per_tonne=True), *of_a_tonne}
     for it in [it for it in rules.limits if not it.per_tonne]:
         if project.table.topography:
@@ -171,7 +172,11 @@ def demand_processes_agree(project: Project) -> None:
                     f"{path}: [[processes]] {process.name} recovery: found {name}, expected one of the [[metals]]: {', '.join(metals)}"
                 )
     rules = project.schedule
-    if names and rules and (rules.bins is not None or rules.processing_capacity is not None):
+    if names and rules and rules.processing_capacity is not None:
         raise PlanError(
-            f"{path}: [schedule] bins and processing_capacity are of one process: leave them out, or [[processes]]"
+            f"{path}: [schedule] processing_capacity is of one process: set the capacity of each of the [[processes]]"
+        )
+    if names and rules and rules.feed:
+        raise PlanError(
+            f"{path}: [schedule.feed] is of one process: set [processes.feed] below each of the [[processes]]"
         )

@@ -7,6 +7,7 @@ from dataclasses import dataclass
 from decimal import ROUND_HALF_EVEN, Decimal
 from typing import Any, Optional, Union
 
+from .feed_grades import FeedGrade, read_feed
 from .toml_section import Section
 
 # A price or a cost: one for every rock, or one for each rock by its code.
@@ -97,13 +98,14 @@ class Metal:
 
 @dataclass(frozen=True)
 class Process:
-    """One of several ways to treat ore: what it costs a tonne, the recovery of each metal that it recovers, and the tonnes that it takes in
-    a year."""
+    """One of several ways to treat ore: what it costs a tonne, the recovery of each metal that it recovers, the tonnes that it takes in a year,
+    and the limits on its head grades."""
 
     name: str
     cost: ByRock
     recovery: dict[str, Union[Recovery, dict[str, Recovery]]]
     capacity: float
+    feed: tuple[FeedGrade, ...] = ()
 
 
 @dataclass(frozen=True)
@@ -251,6 +253,7 @@ def read_process(section: Section) -> Process:
         cost=section.by_rock("cost"),
         recovery={metal: read_recovery(by_metal, metal) for metal in by_metal.data},
         capacity=float(section.number("capacity", least=1)),
+        feed=read_feed(section.section("feed"), name) if section.has("feed") else (),
     )
     section.finish()
     return process

@@ -15,6 +15,7 @@ from .agreement import demand_agreement
 from .classes import ClassRules, read_classes
 from .constraints import ConstraintRules, read_constraints
 from .economics import Economics, Metal, Process, read_economics, read_metal, read_process
+from .feed_grades import FeedGrade
 from .figures import FigureRules, read_figures
 from .haulage import Haulage, read_haulage
 from .overrides import overridden
@@ -73,6 +74,18 @@ class Project:
     def named_inputs(self) -> dict[str, Path]:
         """The inputs by their places as seen from the project's folder: two files of one name in two folders are two."""
         return {os.path.relpath(path, self.path.parent): path for path in self.inputs}
+
+    @property
+    def feed_grades(self) -> tuple[FeedGrade, ...]:
+        """The limits on head grades of all processes."""
+        of_one = self.schedule.feed if self.schedule else ()
+        return (*of_one, *(limit for process in self.processes for limit in process.feed))
+
+    @property
+    def limited_columns(self) -> tuple[str, ...]:
+        """The columns of the table that schedules limit by sums or head grades."""
+        sums = self.schedule.limits if self.schedule else ()
+        return tuple(dict.fromkeys([*(it.column for it in sums), *(it.column for it in self.feed_grades)]))
 
     @property
     def cuts_blocks(self) -> bool:

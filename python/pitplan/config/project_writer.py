@@ -18,6 +18,7 @@ from pitplan.core.revenue_factors import BASE_PRICE
 
 from .constraints import BLOCKS, ConstraintRules
 from .economics import ByDomain, Curve, Economics, Metal, Process
+from .feed_grades import FeedGrade
 from .figures import FigureRules
 from .haulage import KINDS, Haulage
 from .pushbacks import PushbackRules
@@ -235,7 +236,12 @@ def of_metal(metal: Metal, has_processes: bool) -> Values:
 
 def of_process(process: Process) -> Values:
     recovery = {metal: of_recovery(value) for metal, value in process.recovery.items()}
-    return {"name": process.name, "cost": process.cost, "recovery": recovery, "capacity": process.capacity}
+    values = {"name": process.name, "cost": process.cost, "recovery": recovery, "capacity": process.capacity}
+    return {**values, "feed": of_feed(process.feed)}
+
+
+def of_feed(limits: tuple[FeedGrade, ...]) -> Any:
+    return {it.column: {"min": it.min, "max": it.max} for it in limits} or None
 
 
 def of_slopes(slopes: Slopes) -> Values:
@@ -307,6 +313,7 @@ def of_schedule(rules: ScheduleRules) -> Values:
         "max_metal_per_year": rules.max_metal_per_year or None,
         "minimum": rules.minimum or None,
         "limits": [of_sum(it) for it in rules.limits] or None,
+        "feed": of_feed(rules.feed),
     }
 
 

@@ -7,6 +7,7 @@ from dataclasses import dataclass, field
 from decimal import Decimal
 from typing import Optional
 
+from .feed_grades import FeedGrade, read_feed
 from .toml_section import Section
 
 MOST_YEARS, MOST_BENCHES = 200, 1_000
@@ -52,10 +53,11 @@ class ScheduleRules:
     ramp_up         shares of the mill's tonnes in the first years; the last one stays
     years           so many years at most; None: a fifth more than the rule takes
     milp            whether and how far an integer programme is solved too; None: it is not
-    bins            into so many bins ore is divided, which may be left as waste while the mill is full; None: all ore is milled
-    reclaim_cost      what it costs to reclaim a tonne from a stockpile; None: there is none
-    least           of rock, ore, metals and processes by name what a schedule by block holds each year at least, of ore as ramp_up says
-    sums            of columns of the table, which a schedule by block limits
+    bins            value bins of each process; None: as many as the schedule of pushbacks has by default
+    reclaim_cost    what it costs to reclaim a tonne from a stockpile; None: there is none
+    minimum         of total material, feed, metals and processes by name the minimum of each year, of feed with ramp_up
+    limits          on sums of columns of the table
+    feed            on head grades, in a project with one process
     """
 
     processing_capacity: Optional[float] = None
@@ -70,14 +72,10 @@ class ScheduleRules:
     reclaim_cost: Optional[float] = None
     minimum: dict[str, float] = field(default_factory=dict)
     limits: tuple[Sum, ...] = ()
-
-    @property
-    def columns(self) -> tuple[str, ...]:
-        """The columns of the table that sums are of."""
-        return tuple(it.column for it in self.limits)
+    feed: tuple[FeedGrade, ...] = ()
 
     def columns_of(self, per_tonne: bool) -> tuple[str, ...]:
-        """Those that are multiplied by tonnes, or those that are of the whole block."""
+        """The columns of sums that are multiplied by tonnes, or those of the whole block."""
         return tuple(dict.fromkeys(it.column for it in self.limits if it.per_tonne == per_tonne))
 
     @property
@@ -103,6 +101,7 @@ def read_schedule(section: Section) -> ScheduleRules:
         reclaim_cost=read_stockpile(section.section("stockpile")) if section.has("stockpile") else None,
         minimum=read_minimum(section.section("minimum")) if section.has("minimum") else {},
         limits=tuple(read_sum(it) for it in section.sections("limits")) if section.has("limits") else (),
+        feed=read_feed(section.section("feed")) if section.has("feed") else (),
     )
     section.finish()
     if len({it.name for it in rules.limits}) < len(rules.limits):
@@ -111,10 +110,6 @@ def read_schedule(section: Section) -> ScheduleRules:
         raise section.wrong("years", "is missing: the minimum applies to each of these years")
     if rules.vertical_advance_rate is not None and rules.vertical_advance_rate <= 0:
         raise section.wrong("vertical_advance_rate", "must be above 0 benches per year: remove it if there is no limit")
-    if rules.reclaim_cost is not None and rules.bins is None:
-        raise section.wrong("stockpile", "requires bins")
-    if rules.milp is not None and rules.bins is not None:
-        raise section.wrong("milp", "cannot be combined with bins: remove one of the two")
     return rules
 
 

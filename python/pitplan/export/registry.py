@@ -31,7 +31,10 @@ SURFACES, SINGLE = ("dxf", "stl", "obj"), ("stl", "obj")
 # Those with toes and crests only, with the suffix of their files.
 LINES = {"gpkg": "gpkg", "str": "str", "lines": "csv"}
 # The tables of a folder that become sheets of the workbook.
-SHEETS = (names.SHELLS, names.YEARS, names.PUSHBACKS, names.SCHEDULE, names.MILLING)
+SHEETS = (
+    *(names.SHELLS, names.YEARS, names.PUSHBACKS, names.SCHEDULE),
+    *(names.MATERIAL_FLOWS, names.FEED, names.STOCKPILES),
+)
 # The corners of a cell in the order of a VTK voxel: steps east, north and up.
 CORNERS = np.array([(x, y, z) for z in (0, 1) for y in (0, 1) for x in (0, 1)])
 

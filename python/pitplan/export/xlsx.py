@@ -11,7 +11,8 @@ import numpy as np
 import pandas as pd
 
 from pitplan.core.optional_packages import load
-from pitplan.results.columns import THOUSANDS, unit_of
+from pitplan.results.column_types import THOUSANDS
+from pitplan.results.columns import unit_of
 
 WIDEST = 24
 # The part of a workbook that has the times at which it was made and saved.

@@ -7,15 +7,15 @@ from typing import TYPE_CHECKING, Any
 
 import matplotlib
 import numpy as np
+import pandas as pd
 from matplotlib.axes import Axes
 from matplotlib.figure import Figure
 from matplotlib.ticker import MaxNLocator
 
 from pitplan.core.magnitude import scaled
-from pitplan.figures.style import ORE, PLAIN, STYLE, finish, list_of
+from pitplan.figures.style import ORE, PLAIN, STYLE, WASTE, finish, list_of
 
 from .annual import FAR_ABOVE, MARGIN, MILL, SHOVELS
-from .schedule import draw_bars
 
 if TYPE_CHECKING:
     from pitplan.scheduling.blocks.tables import ScheduledBlocks
@@ -46,11 +46,27 @@ def plot(made: ScheduledBlocks, axes: Any) -> list[Axes]:
     return [tonnes, money]
 
 
+def draw_bars(ax: Axes, years: pd.DataFrame, size: float) -> None:
+    """Draws ore and waste of each year; a text if nothing is mined."""
+    ax.set_xlabel("year")
+    if years.empty:
+        ax.text(0.5, 0.5, "nothing is mined", transform=ax.transAxes, ha="center", va="center")
+        ax.set_xlim(0.4, 1.6)
+        ax.set_xticks([])
+        return
+    ore = years["feed_tonnes"] / size
+    waste = (years["total_tonnes"] / size - ore).clip(lower=0)
+    ax.bar(years["year"], ore, 0.8, color=ORE, label="ore", linewidth=0)
+    ax.bar(years["year"], waste, 0.8, bottom=ore, color=WASTE, label="waste", linewidth=0)
+    ax.xaxis.set_major_locator(MaxNLocator(integer=True))
+    ax.set_xlim(0.4, float(years["year"].max()) + 0.6)
+
+
 def plot_tonnes(made: ScheduledBlocks, ax: Axes) -> None:
     years, limits = made.years, made.planned.limits
     top = max(float(years["total_tonnes"].max()), 1.0) if len(years) else 1.0
     size, sign = scaled(top)
-    draw_bars(ax, years, None, size)
+    draw_bars(ax, years, size)
     edges = np.arange(max(len(years), 1) + 1) + 0.5
     for name, label, colour in (
         ("feed_tonnes", "processing capacity", MILL),

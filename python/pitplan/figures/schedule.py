@@ -3,7 +3,7 @@
 from __future__ import annotations
 
 from pathlib import Path
-from typing import Any, Optional
+from typing import Any
 
 import matplotlib
 import numpy as np
@@ -18,13 +18,23 @@ from pitplan.blockmodel.grid import metres
 from pitplan.config.economics import Metal
 from pitplan.core.magnitude import scaled
 from pitplan.figures.style import BEST, BEST_MARK, ORE, PLAIN, STYLE, WASTE, WORST, WORST_MARK, finish, list_of
+from pitplan.scheduling.flow import tables
+from pitplan.scheduling.flow.parcels import MILL
 from pitplan.scheduling.methods import LP, MILP, NAMES, RULE
-from pitplan.scheduling.pushback_schedule import YearlySchedule, years as years_of
+from pitplan.scheduling.pushback_schedule import YearlySchedule
 
-from .annual import FAR_ABOVE, MARGIN, MILL, SHOVELS
+from .annual import FAR_ABOVE, MARGIN, MILL as MILL_COLOUR, SHOVELS
 
 TITLES = {RULE: "Rule", LP: "Linear programme", MILP: "Integer programme"}
-COLOURS = {"worst": WORST, RULE: "#d08a1d", LP: ORE, MILP: "#7b4fa3", "best": BEST, "upper_bound": PLAIN}
+COLOURS = {
+    "worst": WORST,
+    RULE: "#d08a1d",
+    LP: ORE,
+    MILP: "#7b4fa3",
+    "best": BEST,
+    "relaxed": PLAIN,
+    "upper_bound": PLAIN,
+}
 MARKED = {"marker": "o", "markersize": 3, "linewidth": 1.4}
 # The line of the rule is broad, so that it stays visible below another.
 LINES = {
@@ -33,9 +43,11 @@ LINES = {
     LP: MARKED,
     MILP: MARKED | {"marker": "s"},
     "best": MARKED | {"marker": BEST_MARK, "markersize": 4},
-    "upper_bound": {"linestyle": "--", "linewidth": 1.2},
+    "relaxed": {"linestyle": "--", "linewidth": 1.2},
 }
 GRADE, STOCKED = "#a23b8f", "#8fb3d9"
+# Of several processes, in their order.
+PROCESSES = ("#1f5f9e", "#c8792b", "#4c8c4a", "#7b4fa3", "#b23a48")
 # The least opacity, for the smallest part of a bench.
 PALEST = 0.25
 # The most benches with a label.
@@ -127,7 +139,7 @@ def write_tonnes(schedule: YearlySchedule, path: Path) -> None:
 
 
 def plot_tonnes(schedule: YearlySchedule, axes: Any) -> list[Axes]:
-    """Draws ore and waste of each year with the capacities, and on a second axis the recovered metal per tonne of feed, for the first metal.
+    """Draws where the material of each year goes, with the capacities, and on a second axis the head grade of each process, for the first metal.
 
     Parameters
     ----------
@@ -139,88 +151,89 @@ def plot_tonnes(schedule: YearlySchedule, axes: Any) -> list[Axes]:
     -------
     list of Axes
     """
-    found, table = list_of(axes, len(schedule.shares)), years_of(schedule)
+    found, feed = list_of(axes, len(schedule.shares)), tables.feed_table(schedule)
     metal = schedule.pushbacks.plan.project.metals[0]
-    size, sign = scaled(float(table["total_tonnes"].max()))
+    size, sign = scaled(float(tonnes_of(schedule).groupby(["method", "year"]).sum().max() if len(feed) else 1.0))
     rights = [ax.twinx() for ax in found]
-    most = recovered(table, metal).max() if table["feed_tonnes"].any() else 0.0
+    grades = feed[f"head_grade_{metal.name}"]
     for left, right, way in zip(found, rights, schedule.shares):
-        shown = table[table["case"] == way]
-        draw_bars(left, shown, reclaimed_of(schedule, way), size)
-        draw_limits(left, schedule, len(shown), (size, sign))
+        draw_flows(left, schedule, way, size)
+        draw_limits(left, schedule, schedule.flows[way].years, (size, sign))
         left.set_title(TITLES.get(way, way))
-        right.plot(
-            shown["year"],
-            recovered(shown, metal),
-            color=GRADE,
-            marker="o",
-            markersize=3.5,
-            linewidth=1.4,
-            label=f"{metal.name} recovered",
-        )
-        right.set_ylim(0, 1.25 * most or 1.0)
+        draw_grades(right, feed[feed["method"] == way], metal)
+        right.set_ylim(0, 1.25 * grades.max() if grades.notna().any() and grades.max() > 0 else 1.0)
         right.spines["top"].set_visible(False)
     top = max((bar.get_y() + bar.get_height() for ax in found for bars in ax.containers for bar in bars), default=0.0)
     near = [line.get_ydata().max() for line in found[0].lines if line.get_ydata().max() <= FAR_ABOVE * top]
     for ax in found:
         ax.set_ylim(0, MARGIN * max(top, *near, 0.0) or 1.0)
-    what = "total material" if not schedule.milling else "total material and reclaimed ore"
+    what = "total material and reclaimed ore" if schedule.is_stocked else "total material"
     found[0].set_ylabel(f"{what}, {sign}t")
-    rights[-1].set_ylabel(f"{metal.name} recovered per tonne of feed, {metal.sign}")
-    # The last method that mines anything has a stockpile if any has.
-    last = max((place for place, ax in enumerate(found) if ax.containers), default=-1)
-    drawn = [*found[last].containers, *found[last].lines, *rights[last].lines]
-    names = [str(handle.get_label()) for handle in drawn]
-    found[-1].figure.legend(drawn, names, ncol=len(names), loc="upper center", frameon=False)
+    rights[-1].set_ylabel(f"head grade of {metal.name}, {metal.sign}")
+    add_legend(found, rights)
     return found
 
 
-def recovered(table: pd.DataFrame, metal: Metal) -> pd.Series:
-    """Returns the recovered metal per tonne of feed of each year, in the unit of its grade; nan without feed."""
-    ore = table["feed_tonnes"].where(table["feed_tonnes"] > 0)
-    return table[f"recovered_{metal.name}"] / ore * (100.0 if metal.unit == "percent" else 1.0)
+def add_legend(found: list[Axes], rights: list[Axes]) -> None:
+    """Adds one legend above all axes, of what any of them shows."""
+    drawn: dict[str, Any] = {}
+    bars = [bar for ax in found for bar in ax.containers]
+    for handle in (*bars, *(line for ax in (*found, *rights) for line in ax.lines)):
+        drawn.setdefault(str(handle.get_label()), handle)
+    found[-1].figure.legend(
+        drawn.values(), drawn.keys(), ncol=min(len(drawn), 5) or 1, loc="upper center", frameon=False, fontsize=8
+    )
 
 
-def reclaimed_of(schedule: YearlySchedule, way: str) -> Optional[np.ndarray]:
-    """Returns the tonnes that are reclaimed from the stockpile in each year; None if the method has no stockpile."""
-    milling = schedule.milling.get(way)
-    return None if milling is None or not milling.is_stocked else milling.parcels.of("feed_tonnes") @ milling.reclaimed
+def tonnes_of(schedule: YearlySchedule) -> pd.Series:
+    """Returns the in-situ tonnes that flow, by method, year, source and destination."""
+    return schedule.material_flows.groupby(["method", "year", "source", "destination"])["total_tonnes"].sum()
 
 
-def draw_bars(ax: Axes, shown: pd.DataFrame, reclaimed: Optional[np.ndarray], size: float) -> None:
-    """Draws ore that is milled directly, ore from the stockpile, and the other material; a text if nothing is mined."""
+def draw_grades(ax: Axes, feed: pd.DataFrame, metal: Metal) -> None:
+    """Draws a line per process with the head grade of each year."""
+    processes = list(dict.fromkeys(feed["process"]))
+    for number, process in enumerate(processes):
+        shown = feed[feed["process"] == process]
+        label = f"head grade of {process}" if len(processes) > 1 else f"head grade of {metal.name}"
+        colour = GRADE if len(processes) == 1 else PROCESSES[number % len(PROCESSES)]
+        look = {"marker": "o", "markersize": 3.5, "linewidth": 1.4, "markeredgecolor": "white", "markeredgewidth": 0.5}
+        ax.plot(shown["year"], shown[f"head_grade_{metal.name}"], color=colour, label=label, **look)
+
+
+def layers_of(schedule: YearlySchedule) -> list[tuple[str, str, str, dict[str, Any]]]:
+    """Returns the layers of a year's bar from below: source, destination, label and look."""
+    found: list[tuple[str, str, str, dict[str, Any]]] = []
+    names = [name or MILL for name in schedule.names]
+    for number, name in enumerate(names):
+        colour = ORE if len(names) == 1 else PROCESSES[number % len(PROCESSES)]
+        found.append((tables.PIT, name, name, {"color": colour}))
+        if schedule.is_stocked:
+            look = {"color": colour, "alpha": 0.55, "hatch": "///", "edgecolor": "white"}
+            found.append((tables.STOCKPILE, name, f"{name}, reclaimed", look))
+    if schedule.is_stocked:
+        found.append((tables.PIT, tables.STOCKPILE, "to the stockpile", {"color": STOCKED}))
+    return [*found, (tables.PIT, tables.WASTE, "waste", {"color": WASTE})]
+
+
+def draw_flows(ax: Axes, schedule: YearlySchedule, way: str, size: float) -> None:
+    """Draws a bar per year with a layer per destination; a text if nothing is mined."""
     ax.set_xlabel("year")
-    if shown.empty:
+    count = schedule.flows[way].years
+    if not count:
         ax.text(0.5, 0.5, "nothing is mined", transform=ax.transAxes, ha="center", va="center")
         ax.set_xlim(0.4, 1.6)
         ax.set_xticks([])
         return
-    from_stock = np.zeros(len(shown)) if reclaimed is None else reclaimed / size
-    milled = shown["feed_tonnes"] / size
-    rest = shown["total_tonnes"] / size - (milled - from_stock)
-    ax.bar(shown["year"], milled - from_stock, 0.8, color=ORE, label="ore", linewidth=0)
-    if reclaimed is not None:
-        ax.bar(
-            shown["year"],
-            from_stock,
-            0.8,
-            bottom=milled - from_stock,
-            color=STOCKED,
-            label="ore from the stockpile",
-            linewidth=0,
-        )
-    rest = rest.clip(lower=0)
-    ax.bar(
-        shown["year"],
-        rest,
-        0.8,
-        bottom=milled,
-        color=WASTE,
-        label="waste" if reclaimed is None else "waste or stockpiled",
-        linewidth=0,
-    )
+    tonnes, years, below = tonnes_of(schedule), np.arange(1, count + 1), np.zeros(count)
+    for source, destination, label, look in layers_of(schedule):
+        keys = pd.MultiIndex.from_product([[way], years, [source], [destination]], names=tonnes.index.names)
+        high = tonnes.reindex(keys, fill_value=0.0).to_numpy() / size
+        if high.any():
+            ax.bar(years, high, 0.8, bottom=below, label=label, linewidth=0, **look)
+        below = below + high
     ax.xaxis.set_major_locator(MaxNLocator(integer=True))
-    ax.set_xlim(0.4, float(shown["year"].max()) + 0.6)
+    ax.set_xlim(0.4, count + 0.6)
 
 
 def draw_limits(ax: Axes, schedule: YearlySchedule, count: int, unit: tuple[float, str]) -> None:
@@ -230,7 +243,7 @@ def draw_limits(ax: Axes, schedule: YearlySchedule, count: int, unit: tuple[floa
     edges = np.arange(max(count, 1) + 1) + 0.5
     is_split = any(name.startswith("feed_tonnes_") for name in limits.most)
     mill = "processing capacity (all processes)" if is_split else "processing capacity"
-    for name, label, colour in (("feed_tonnes", mill, MILL), ("total_tonnes", "mining capacity", SHOVELS)):
+    for name, label, colour in (("feed_tonnes", mill, MILL_COLOUR), ("total_tonnes", "mining capacity", SHOVELS)):
         if name in limits.most:
             most = limits.of_years(max(count, 1))[:, list(limits.most).index(name)] / size
             label = f"{label}: {round(limits.most[name] / size, 3):,.12g} {sign}t a year"
@@ -253,8 +266,23 @@ def write_cumulative(schedule: YearlySchedule, years: pd.DataFrame, path: Path) 
         finish(figure, path)
 
 
+def curves_of(schedule: YearlySchedule, years: pd.DataFrame) -> dict[str, np.ndarray]:
+    """Returns by case the discounted cash flow to the end of each year, from year 0."""
+    shown = years[years["revenue_factor"] == schedule.factor]
+    curves = {
+        case: np.append(0.0, shown["discounted_cash_flow"][shown["case"] == case].cumsum())
+        for case in NAMES
+        if case not in ("relaxed", "upper_bound")
+    }
+    if schedule.optimum is not None:
+        cash = schedule.optimum.cash
+        curves["relaxed"] = np.append(0.0, np.cumsum(cash * schedule.discounts(len(cash))))
+    return curves
+
+
 def plot_cumulative(schedule: YearlySchedule, years: pd.DataFrame, ax: Axes) -> Axes:
-    """Draws the cumulative discounted cash flow of each case and method, and of the optimum of the linear programme, which ends at the bound.
+    """Draws the cumulative discounted cash flow of each case and method, of the optimum of the linear programme, and the
+    upper bound.
 
     Parameters
     ----------
@@ -267,15 +295,7 @@ def plot_cumulative(schedule: YearlySchedule, years: pd.DataFrame, ax: Axes) -> 
     -------
     Axes
     """
-    shown = years[years["revenue_factor"] == schedule.factor]
-    curves = {
-        case: np.append(0.0, shown["discounted_cash_flow"][shown["case"] == case].cumsum())
-        for case in NAMES
-        if case != "upper_bound"
-    }
-    if schedule.optimum is not None:
-        cash = schedule.optimum.cash
-        curves["upper_bound"] = np.append(0.0, np.cumsum(cash * schedule.discounts(len(cash))))
+    curves = curves_of(schedule, years)
     size, sign = scaled(max(float(np.abs(curve).max()) for curve in curves.values()))
     for case, curve in curves.items():
         if len(curve) > 1:
@@ -286,8 +306,9 @@ def plot_cumulative(schedule: YearlySchedule, years: pd.DataFrame, ax: Axes) -> 
                 label=f"{NAMES[case]}: {curve[-1] / size:,.2f}",
                 **LINES[case],
             )
-    if schedule.optimum is not None:
-        ax.axhline(schedule.optimum.bound / size, color=COLOURS["upper_bound"], linewidth=0.8, linestyle=":")
+    if schedule.upper_bound is not None:
+        label = f"{NAMES['upper_bound']}: {schedule.upper_bound / size:,.2f}"
+        ax.axhline(schedule.upper_bound / size, color=COLOURS["upper_bound"], linewidth=0.9, linestyle=":", label=label)
     ax.axhline(0, color="black", linewidth=0.8)
     ax.set_xlabel("end of year")
     ax.set_ylabel(

@@ -16,7 +16,7 @@ from pitplan.config.project import Project
 from pitplan.core.magnitude import scaled
 from pitplan.core.revenue_factors import factor_text
 from pitplan.results import columns as schema
-from pitplan.results.columns import Column, Table
+from pitplan.results.column_types import GRADE, METAL, METRES, MONEY, SHARE, TEXT, TONNES, Column, Table
 
 TEMPLATES = Environment(
     loader=FileSystemLoader(Path(__file__).parents[1] / "templates"),
@@ -29,7 +29,7 @@ TEMPLATES.filters["rf"] = factor_text
 Columns = list[tuple[str, str, float, int]]
 # The columns of no file: a case in words, and by how much its NPV differs from that of the base case.
 CASE, NPV_CHANGE = "case", "npv_change"
-COMPUTED = {CASE: Column(CASE, schema.TEXT, "", "case"), NPV_CHANGE: Column(NPV_CHANGE, schema.MONEY, "", "change")}
+COMPUTED = {CASE: Column(CASE, TEXT, "", "case"), NPV_CHANGE: Column(NPV_CHANGE, MONEY, "", "change")}
 
 
 @dataclass(frozen=True)
@@ -91,15 +91,15 @@ class Units:
 
     def of(self, values: pd.Series, column: Column, metal: Optional[Metal]) -> tuple[float, Optional[str]]:
         """By what the values of a column are divided, and its unit in the heading; None if it has none. `metal` is that of its name."""
-        if column.unit is schema.MONEY:
+        if column.unit is MONEY:
             return self.money[0], f"{self.money[1]} {self.currency}".strip()
-        if column.unit is schema.TONNES:
+        if column.unit is TONNES:
             return self.tonnes[0], f"{self.tonnes[1]}t"
-        if column.unit is schema.METAL and metal is not None:
+        if column.unit is METAL and metal is not None:
             return metal_unit(float(values.max()), metal)
-        if column.unit is schema.GRADE and metal is not None:
+        if column.unit is GRADE and metal is not None:
             return 1.0, metal.sign
-        return {schema.SHARE: (0.01, "%"), schema.METRES: (1.0, "m")}.get(column.unit, (1.0, None))
+        return {SHARE: (0.01, "%"), METRES: (1.0, "m")}.get(column.unit, (1.0, None))
 
 
 def named(names: tuple[str, ...], project: Project) -> Iterator[tuple[str, str]]:

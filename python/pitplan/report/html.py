@@ -155,7 +155,6 @@ def write(path: Path, folder: Path, project: Project, sensitivity: Optional[Path
         rate=project.shells.discount_rate,
         discounting=IN_WORDS[project.shells.discounting],
         has_fixed=project.constraints is not None,
-        bins=names.MILLING in record["files"],
         project_file=project_writer.AS_RUN if project_writer.AS_RUN in record["files"] else project.path.name,
         project_text=text_of(folder, project, record),
         count=len(record["shells"]["revenue_factors"]),
@@ -303,7 +302,7 @@ def of_way(ways: Written, shown: str, project: Project) -> list[Figure]:
         column[0]: column
         for column in (report.OF_BLOCKS.of if shown == BY_BLOCK else report.OF_METHODS.of)(only, project)
     }
-    bound = "Upper bound, any schedule by block" if shown == BY_BLOCK else "Upper bound, these pushbacks and processes"
+    bound = "Upper bound, any schedule by block" if shown == BY_BLOCK else "Upper bound, these pushbacks"
     names = {"npv": "Net present value", "upper_bound": bound, "tonnes": "Total material", "feed_tonnes": "Mill feed"}
     names |= {"unmined_tonnes": "Unmined material"} if "unmined_tonnes" in columns else {}
     found = [ways.figure(name, row, columns[column]) for column, name in names.items()]

@@ -8,108 +8,33 @@ In a name, a word in capitals stands for others: recovered_METAL is recovered_co
 
 from __future__ import annotations
 
-import re
-from dataclasses import dataclass, replace
+from dataclasses import replace
 from functools import cache
 from typing import Optional
 
+from .column_types import (
+    AMOUNT,
+    COUNT,
+    EXACT_MONEY,
+    FACTOR,
+    GIVEN,
+    GRADE,
+    METAL,
+    METRES,
+    MONEY,
+    NUMBER,
+    PRICE,
+    RATIO,
+    SHARE,
+    TEXT,
+    TONNES,
+    WHOLE_YEARS,
+    YEARS,
+    Column,
+    Table,
+    Unit,
+)
 from .conventions import DISCOUNTING, OUTLINE
-
-THOUSANDS = "#,##0"
-
-
-@dataclass(frozen=True)
-class Unit:
-    """A unit of columns.
-
-    Attributes
-    ----------
-    text : str
-        As docs/FORMATS.md calls it.
-    decimals : int, optional
-        Decimals in files; None: numbers are written as they are.
-    places : int
-        Decimals where the column is shown.
-    sheet : str
-        Number format in workbooks.
-    """
-
-    text: str
-    decimals: Optional[int] = None
-    places: int = 0
-    sheet: str = THOUSANDS
-
-
-TEXT, COUNT, NUMBER = Unit("text"), Unit("number"), Unit("number", sheet="General")
-FACTOR = Unit("factor", 3, 2, "General")
-METRES = Unit("m", 3, 0, "General")
-TONNES = Unit("t", 3, 2)
-METAL = Unit("t or g", 3, 2, "#,##0.00")
-GRADE = Unit("as in the table", 6, 3, "0.000")
-RATIO = Unit("t/t", 6, 2, "0.00")
-YEARS, WHOLE_YEARS = Unit("years", 6, 1, "0.0"), Unit("years", None, 0, "0.0")
-MONEY, EXACT_MONEY = Unit("currency", 3, 2), Unit("currency", 9)
-SHARE = Unit("share", 9, 2, "0.0000")
-GIVEN = Unit("share", None, 2, "0.0000")
-PRICE, AMOUNT = Unit("currency per t or g"), Unit("that of the amount")
-
-
-@dataclass(frozen=True)
-class Column:
-    """A column of a written table.
-
-    Attributes
-    ----------
-    name : str
-        In files, with words in capitals that stand for others.
-    unit : Unit
-    holds : str
-        What it holds.
-    heading : str
-        Where it is shown, without unit; "" if it never is. METAL and PROCESS stand for the name.
-    when : str
-        When a table has it; "" if always.
-    places : int, optional
-        Decimals where it is shown, if not those of its unit.
-    """
-
-    name: str
-    unit: Unit
-    holds: str
-    heading: str = ""
-    when: str = ""
-    places: Optional[int] = None
-
-    @property
-    def shown_places(self) -> int:
-        """Decimals where it is shown."""
-        return self.unit.places if self.places is None else self.places
-
-    def matches(self, name: str) -> bool:
-        """Whether a column of a file is this one."""
-        return re.fullmatch(re.sub("[A-Z]+", ".+", self.name), name) is not None
-
-
-@dataclass(frozen=True)
-class Table:
-    """A written table: its file, what a row is, its columns in order, and if its numbers are not rounded to decimals, to how many
-    significant digits (0: they are written in full)."""
-
-    file: str
-    rows: str
-    columns: tuple[Column, ...]
-    digits: Optional[int] = None
-
-    def find(self, name: str) -> Optional[Column]:
-        """A column by its name in files, or by its own; None if the table has none."""
-        exact = [it for it in self.columns if it.name == name]
-        return next(iter(exact or [it for it in self.columns if it.matches(name)]), None)
-
-    @property
-    def number_format(self) -> str:
-        """How numbers are written, for %, if the table has significant digits."""
-        return f"%.{self.digits}g"
-
 
 SEVERAL = "with several processes"
 RF = Column("revenue_factor", FACTOR, "that of the shell", "revenue factor")
@@ -243,29 +168,66 @@ SCHEDULE = Table(
     (METHOD, YEAR, PUSHBACK, BENCH, Column("share", SHARE, "of the bench"), MINED, FEED, FEED_OF, RECOVERED)
     + (*FLOWS, DISCOUNTS),
 )
-MILL_FEED = Table(
-    "mill_feed.csv",
-    "with `bins`: a row per method, bin of a bench and year",
+CONTAINED = Column("contained_METAL", METAL, "metal in the feed", "contained METAL")
+BIN = Column("bin", COUNT, "value bin of ore: by process, from the poorest; 0: no ore")
+MATERIAL_FLOWS = Table(
+    "flows.csv",
+    "of a schedule of pushbacks: a row per method, year, lot of a bench, source and destination",
     (
-        *(METHOD, YEAR, PUSHBACK, BENCH),
-        Column("bin", COUNT, "from 1, the poorest"),
-        Column("mined_tonnes", TONNES, "ore that is mined"),
-        Column("milled_tonnes", TONNES, "of these, milled in the year"),
-        Column("reclaimed_tonnes", TONNES, "milled from the stockpile"),
+        *(METHOD, YEAR, PUSHBACK, BENCH, BIN),
+        Column("source", TEXT, "`pit` or `stockpile`", "source"),
+        Column(
+            "destination", TEXT, "a process (`mill` if the project names none), `stockpile` or `waste`", "destination"
+        ),
+        replace(MINED, holds="in-situ tonnes that flow"),
+        replace(FEED, holds="mill feed, if a process takes them"),
+        CONTAINED,
+        RECOVERED,
+        replace(
+            FLOWS[0], holds="revenue less the costs of processing, selling and reclaiming, at the prices of the year"
+        ),
+    ),
+)
+FEEDS = Table(
+    "feed.csv",
+    "of a schedule of pushbacks: a row per method, year and process",
+    (
+        *(METHOD, YEAR),
+        Column("process", TEXT, "`mill` if the project names none", "process"),
+        FEED,
+        Column("reclaimed_tonnes", TONNES, "of these from the stockpile", "from stockpile"),
+        *(HEAD_GRADE, CONTAINED, RECOVERED),
+        Column(
+            "cutoff",
+            Unit("currency per t", 6, 2),
+            "net value per tonne of feed from which on ore is processed; empty for the rule",
+            "cut-off",
+        ),
+    ),
+)
+STOCKPILES = Table(
+    "stockpiles.csv",
+    "with `[schedule.stockpile]`: a row per method and year, in-situ tonnes",
+    (
+        *(METHOD, YEAR),
+        Column("opening_tonnes", TONNES, "in the stockpile at the start of the year", "opening"),
+        Column("in_tonnes", TONNES, "stockpiled in the year", "in"),
+        Column("out_tonnes", TONNES, "reclaimed in the year", "out"),
+        Column("closing_tonnes", TONNES, "at the end of the year", "closing"),
     ),
 )
 METHODS = Table("methods.csv", "a row per method", (METHOD, NPV, BOUND, GAP, *SCHEDULED, DISCOUNTS))
 MULTIPLIERS = Table(
     "bound.csv",
-    "of a schedule by block: a row per limit and year; the upper bound follows from these",
+    "of a schedule: a row per limit and year; the upper bound follows from these",
     (
         Column("limit", TEXT, "the amount that is limited, as in `years.csv`; `must_mine` for must-mine blocks"),
-        Column("side", TEXT, "`max`, or `min` for a minimum"),
+        Column("side", TEXT, "`max`, `min` for a minimum, or `running`: a maximum that shows whether the mine runs"),
         Column("year", COUNT, "from 1; 0 for all years"),
         Column(
             "price",
             Unit("currency per unit of the amount"),
-            "its Lagrange multiplier, discounted; below 0 for a minimum",
+            "its Lagrange multiplier, discounted; by block below 0 for a minimum",
         ),
     ),
     digits=0,
@@ -374,6 +336,7 @@ BLOCK_TABLE = Table(
         *(FIRST, PROCESSED, Column("process", TEXT, "the best one at the base price; empty: waste", when=SEVERAL)),
         replace(PUSHBACK, holds="from 1; 0: none", when="with pushbacks"),
         replace(YEAR, holds="in which its bench is completed; 0: never", when="with a schedule"),
+        replace(BIN, when="with a schedule of pushbacks"),
         Column("share_PROCESS", SHARE, "share of the block that goes to a process; the rest is waste", when="by block"),
         replace(FIRST, name="free_revenue_factor", holds="without the constraints", when="of `pitplan pit`"),
         replace(
@@ -382,7 +345,8 @@ BLOCK_TABLE = Table(
     ),
     digits=0,
 )
-TABLES: tuple[Table, ...] = (BLOCK_TABLE, SHELLS, YEARLY, PITS, PUSHBACKS, SCHEDULE, MILL_FEED, METHODS, SENSITIVITY)
+TABLES: tuple[Table, ...] = (BLOCK_TABLE, SHELLS, YEARLY, PITS, PUSHBACKS, SCHEDULE, METHODS, SENSITIVITY)
+TABLES += (MATERIAL_FLOWS, FEEDS, STOCKPILES)
 TABLES += (MULTIPLIERS, PROBABILITY, SCENARIOS, QUANTILES, COMMON, COMMON_YEARS, SCHEDULES, BLOCK_QUANTILES)
 
 

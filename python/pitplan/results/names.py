@@ -7,7 +7,8 @@ from pitplan.core.layout import FIGURES, TABLES
 RECORD = "plan.json"
 TABLE, SHELLS, YEARS = f"{TABLES}/blocks.csv", f"{TABLES}/shells.csv", f"{TABLES}/years.csv"
 PITS, PUSHBACKS = f"{TABLES}/pits.csv", f"{TABLES}/pushbacks.csv"
-SCHEDULE, MILLING, METHODS = f"{TABLES}/schedule.csv", f"{TABLES}/mill_feed.csv", f"{TABLES}/methods.csv"
+SCHEDULE, METHODS = f"{TABLES}/schedule.csv", f"{TABLES}/methods.csv"
+MATERIAL_FLOWS, FEED, STOCKPILES = f"{TABLES}/flows.csv", f"{TABLES}/feed.csv", f"{TABLES}/stockpiles.csv"
 BOUND = f"{TABLES}/bound.csv"
 WORKBOOK = f"{TABLES}/schedule.xlsx"
 SCHEDULE_RECORD, BLOCK_SCHEDULE = "schedule.json", "block_schedule.json"
@@ -16,7 +17,8 @@ SENSITIVITY, SENSITIVITY_RECORD = f"{TABLES}/sensitivity.csv", "sensitivity.json
 TORNADO, SPIDER = f"{FIGURES}/tornado.png", f"{FIGURES}/spider.png"
 # What only some commands write. A run removes those of an earlier run that it does not write itself, since they show other results.
 OF_SOME = (
-    *(SHELLS, YEARS, PITS, PUSHBACKS, SCHEDULE, MILLING, METHODS, BOUND, WORKBOOK),
+    *(SHELLS, YEARS, PITS, PUSHBACKS, SCHEDULE, METHODS, BOUND, WORKBOOK),
+    *(MATERIAL_FLOWS, FEED, STOCKPILES),
     *(SCHEDULE_RECORD, BLOCK_SCHEDULE, REPORT, VIEW),
 )
 

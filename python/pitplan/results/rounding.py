@@ -10,7 +10,8 @@ import pandas as pd
 
 from pitplan.config.project import Project
 
-from .columns import SHARE, unit_of
+from .column_types import SHARE
+from .columns import unit_of
 from .conventions import with_discounting
 
 

@@ -44,10 +44,12 @@ class Programme:
 
 @dataclass(frozen=True)
 class Optimum:
-    """What was found: the unknowns, or None where the time was up before any were, and a bound that no unknowns exceed."""
+    """What was found: the unknowns, or None where the time was up before any were; a bound that no unknowns exceed; and of a linear programme
+    the dual value of each row, 0 or more."""
 
     unknowns: Optional[np.ndarray]
     bound: float
+    prices: Optional[np.ndarray] = None
 
 
 def optimum_of(programme: Programme, gap: float, seconds: Optional[float]) -> Optimum:
@@ -61,7 +63,7 @@ def optimum_of(programme: Programme, gap: float, seconds: Optional[float]) -> Op
         answer = linprog(-programme.gain, A_ub=programme.matrix, b_ub=programme.most, bounds=bounds, method="highs-ds")
         if answer.status != DONE:
             raise RuntimeError(f"the linear programme: {answer.message}")
-        return Optimum(answer.x, -float(answer.fun))
+        return Optimum(answer.x, -float(answer.fun), np.maximum(-answer.ineqlin.marginals, 0.0))
     options = {"mip_rel_gap": gap} | ({} if seconds is None else {"time_limit": seconds})
     answer = milp(
         -programme.gain,
@@ -79,7 +81,8 @@ def optimum_of(programme: Programme, gap: float, seconds: Optional[float]) -> Op
 def main(folder: Path) -> None:
     found = optimum_of(Programme.load(folder), **json.loads((folder / EFFORT).read_text(encoding="ascii")))
     unknowns = np.zeros(0) if found.unknowns is None else found.unknowns
-    np.savez(folder / OPTIMUM, unknowns=unknowns, bound=found.bound)
+    prices = np.zeros(0) if found.prices is None else found.prices
+    np.savez(folder / OPTIMUM, unknowns=unknowns, bound=found.bound, prices=prices)
 
 
 if __name__ == "__main__":

@@ -40,8 +40,8 @@ def solve(programme: Programme, effort: Effort = Effort(), patience: Optional[fl
         if not run(folder, patience):
             return Optimum(None, np.inf)
         with np.load(folder / highs.OPTIMUM) as found:
-            unknowns = found["unknowns"]
-            return Optimum(unknowns if len(unknowns) else None, float(found["bound"]))
+            unknowns, prices = found["unknowns"], found["prices"]
+            return Optimum(unknowns if len(unknowns) else None, float(found["bound"]), prices if len(prices) else None)
 
 
 def here(programme: Programme, effort: Effort = Effort()) -> Optimum:

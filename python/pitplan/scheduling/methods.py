@@ -9,5 +9,6 @@ NAMES = {
     LP: "linear programme",
     MILP: "integer programme",
     "best": "best case",
+    "relaxed": "linear relaxation",
     "upper_bound": "upper bound, these pushbacks",
 }

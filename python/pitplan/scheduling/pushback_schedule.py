@@ -1,10 +1,11 @@
-"""A yearly schedule of a pit's pushbacks: by rule, and by a linear programme whose optimum bounds them all."""
+"""A yearly schedule of a pit's pushbacks by several methods, with an upper bound on the NPV of all of them."""
 
 from __future__ import annotations
 
 import math
 from collections.abc import Iterator
 from dataclasses import dataclass, field, replace
+from functools import cached_property
 from typing import Any, Optional
 
 import numpy as np
@@ -22,307 +23,370 @@ from pitplan.pushbacks import bench_table
 from pitplan.pushbacks.bench_table import CASH, ORE, ROCK, PushbackBenches
 from pitplan.pushbacks.nested import Pushbacks
 
-from . import bench_lp, bench_milp, value_bins
-from .bench_lp import Relaxed
-from .bench_sequencing import Problem, by_rule, limits_of, running
-from .cutoff_lp import Milling, MillingProblem
+from .bench_sequencing import Problem, running
+from .flow import bound, integer, parcels, scheduler, tables
+from .flow.cutoffs import cutoffs
+from .flow.flows import Flows
+from .flow.model import FlowModel
+from .flow.parcels import Material
+from .flow.programme import FlowOptimum, FlowProgramme, Prices
+from .limits import SUM, all_limits_of
 from .methods import LP, MILP, RULE
 
 # The linear programme may take this part of the rule's years more.
 MORE_YEARS = 0.2
+# If the bound is above the optimum of parcels by more than this share, parcels are made finer once.
+FINE = 0.002
 
 
 @dataclass(frozen=True)
 class YearlySchedule:
-    """What is dug in which year, by each way in which that was found.
+    """What is mined in which year and where it goes, by method.
 
-    shares       by way, rule first: an array of benches and years, of the share of each bench that is dug in each year
-    lead         by how many benches each pushback follows the one before, of the rule
-    years        of which there are so many at most
-    optimum      that of the linear programme; None where it was not solved
-    milp_upper_bound   what the integer programme had shown by its end that no schedule exceeds; None where it was not solved
-    interrupted  whether a way is missing since the run was interrupted
-    milling      what becomes of the ore, of ways in which it is not all milled as it is dug
+    Attributes
+    ----------
+    pushbacks : Pushbacks
+    material : Material
+        Their benches, and their ore by block and in parcels.
+    model : FlowModel
+        The problem of material flow; it has the greatest number of years.
+    flows : dict of str to Flows
+        What each method found, the rule first.
+    lead : int
+        By how many benches each pushback follows the one before, of the rule.
+    optimum : FlowOptimum, optional
+        The optimum of the linear programme; None if it was not solved.
+    upper_bound : float, optional
+        No schedule of these pushbacks has a higher NPV, wherever each block goes.
+    prices : dict
+        The prices of limits from which it follows.
+    milp_upper_bound : float, optional
+        What the integer programme had shown by its end that no schedule of these parcels exceeds; None if it was not solved.
+    interrupted : bool
+        Whether a method is missing since the run was interrupted.
     """
 
     pushbacks: Pushbacks
-    problem: Problem
-    shares: dict[str, np.ndarray]
+    material: Material
+    model: FlowModel
+    flows: dict[str, Flows]
     lead: int
-    years: int
-    optimum: Optional[Relaxed] = None
+    optimum: Optional[FlowOptimum] = None
+    upper_bound: Optional[float] = None
     milp_upper_bound: Optional[float] = None
     interrupted: bool = False
-    milling: dict[str, Milling] = field(default_factory=dict)
+    prices: Prices = field(default_factory=dict)
+
+    @property
+    def problem(self) -> Problem:
+        return self.model.problem
 
     @property
     def benches(self) -> PushbackBenches:
-        return self.problem.benches
+        return self.model.benches
 
     @property
     def settings(self) -> ShellRules:
         return self.problem.settings
 
     @property
+    def years(self) -> int:
+        """The greatest number of years."""
+        return self.model.years
+
+    @cached_property
+    def shares(self) -> dict[str, np.ndarray]:
+        """By method the share of each bench that is mined in each year, shape (benches, years)."""
+        return {method: flows.dug for method, flows in self.flows.items()}
+
+    @property
+    def names(self) -> list[str]:
+        """The processes by name; "" of a project that names none."""
+        return parcels.names_of(self.pushbacks.plan)
+
+    @property
+    def is_stocked(self) -> bool:
+        """Whether there is a stockpile."""
+        return self.model.reclaim_cost is not None
+
+    @cached_property
+    def material_flows(self) -> pd.DataFrame:
+        """The table flows.csv; see `flow.tables.flow_table`."""
+        return tables.flow_table(self)
+
+    @property
     def factor(self) -> float:
-        """That of the last pushback's shell."""
+        """The revenue factor of the last pushback's shell."""
         return self.pushbacks.factors[-1]
 
     @property
     def shown(self) -> str:
-        """The way whose years the blocks have: the one that earns most."""
-        return max(self.shares, key=self.value)
+        """The method whose years the blocks have: the one with the highest NPV."""
+        return max(self.flows, key=self.value)
 
     def discounts(self, count: int) -> np.ndarray:
-        """By year what one of money that flows in it is worth at the start."""
+        """Returns the discount factors of years."""
         return year_discounts(self.settings, count)
 
-    def value(self, way: str) -> float:
-        """What a way earns, discounted, in money."""
-        return float(self.yearly(way)["discounted_cash_flow"].sum())
+    def value(self, method: str) -> float:
+        """Returns the NPV of a method, in the currency."""
+        return float(self.yearly(method)["discounted_cash_flow"].sum())
 
-    def yearly(self, way: str) -> pd.DataFrame:
-        """A row a year of a way: what flows, and where years cost anything fixed_cost and capex; cash after these, and discounted."""
-        flows = self.flows(way)
-        count, amounts = flows.shape[1], dict(zip(self.benches.names, flows.sum(axis=0).T))
-        runs, money = running(flows.transpose(0, 2, 1)), self.problem.money
+    def yearly(self, method: str) -> pd.DataFrame:
+        """Returns one row per year: amounts, fixed_cost and capex if years cost anything, cash_flow after these, and discounted_cash_flow."""
+        flows = self.amounts(method)
+        count = self.flows[method].years
+        found = {name: amounts.sum(axis=0) for name, amounts in flows.items()}
+        runs, money = running(self.flows[method].moved), self.problem.money
         costs = {"fixed_cost": money.fixed_cost * runs, "capex": money.spent(count) * runs} if money.columns else {}
-        cash = amounts.pop(CASH)
+        cash = found.pop(CASH)
         present = cash * self.discounts(count) - self.problem.costs_of_years(count) * runs
-        return pd.DataFrame(amounts | costs | {CASH: cash - sum(costs.values()), "discounted_cash_flow": present})
+        return pd.DataFrame(found | costs | {CASH: cash - sum(costs.values()), "discounted_cash_flow": present})
 
-    def flows(self, way: str) -> np.ndarray:
-        """What flows of each bench in each year: an array of benches, years and the benches' names."""
-        if way in self.milling:
-            return self.problem.priced(self.milling[way].flows(self.benches, self.shares[way]))
-        return self.problem.priced(self.shares[way][:, :, None] * self.benches.amounts[:, None, :])
+    def amounts(self, method: str) -> dict[str, np.ndarray]:
+        """Returns what flows of each bench in each year by the names of tables, each of shape (benches, years)."""
+        flows = self.flows[method].of_benches
+        return {name: flows[:, :, number] for number, name in enumerate(self.benches.names) if not name.startswith(SUM)}
 
-    def left(self, way: str) -> float:
-        """Tonnes of the pushbacks that a way does not dig."""
-        return float(self.benches.of(ROCK) @ (1 - self.shares[way].sum(axis=1)))
+    def left(self, method: str) -> float:
+        """Returns the tonnes of the pushbacks that a method leaves unmined."""
+        return float(self.benches.of(ROCK) @ (1 - self.shares[method].sum(axis=1)))
 
 
 def rules_of(project: Project) -> ScheduleRules:
-    """What `[schedule]` says; without it the limits are those of `[shells]`."""
+    """Returns `[schedule]`; without it the limits are those of `[shells]`."""
     return project.schedule or ScheduleRules()
 
 
 def make(pushbacks: Pushbacks, progress: Progress = silent) -> YearlySchedule:
-    """The schedule of a pit's pushbacks. Where it is interrupted while programmes are solved, the ways that are found by then.
+    """Schedules a pit's pushbacks. An interruption while programmes are solved ends these only.
 
-    Raises PlanError where it takes more than a thousand years, nothing can be dug, HiGHS finds nothing, or the project asks for what is done
-    by block alone.
+    Raises
+    ------
+    PlanError
+        If it takes more than a thousand years, nothing can be mined, no schedule meets the minimums, or HiGHS finds nothing.
     """
     project, rules = pushbacks.plan.project, rules_of(pushbacks.plan.project)
-    if rules.minimum or rules.limits:
-        raise PlanError(
-            f"{project.path}: [schedule] minimum, limits: apply to --by block only: remove them, or schedule by block"
-        )
-    benches = bench_table.of_pushbacks(pushbacks, rules.bench_lag)
-    problem = Problem(benches, limits_of(project, rules), project.shells, period_costs.of_project(project))
-    with progress.step(f"scheduling {len(benches):,} benches of {len(pushbacks.factors)} pushbacks by rule"):
-        shares, lead = by_rule(problem, rules.years)
-    years = rules.years or math.ceil((1 + MORE_YEARS) * shares.shape[1])
-    schedule = YearlySchedule(pushbacks, problem, {RULE: shares}, lead, years)
+    material = parcels.of_pushbacks(pushbacks, rules)
+    limits = parcels.with_grades(all_limits_of(project, rules), material.blocks)
+    problem = Problem(material.benches, limits, project.shells, period_costs.of_project(project))
+    model, count = FlowModel(problem, material.parcels, rules.years or 1, rules.reclaim_cost), len(material.benches)
+    schedule = YearlySchedule(pushbacks, material, model, {}, 0)
+    with progress.step(f"scheduling {count:,} benches of {len(pushbacks.factors)} pushbacks by rule"):
+        flows, lead = scheduler.by_rule(model, pace_of(schedule), rules.years)
+    model = replace(model, years=rules.years or max(1, math.ceil((1 + MORE_YEARS) * flows.years)))
+    schedule = replace(schedule, model=model, lead=lead, flows={} if limits.least else {RULE: flows})
     try:
         for schedule in better(schedule, rules, progress):
             pass
     except KeyboardInterrupt:
+        if not schedule.flows:
+            raise
         schedule = replace(schedule, interrupted=True)
     if not any(shares.any() for shares in schedule.shares.values()):
-        why = f"within these limits nothing can be mined in {years} year{'s' * (years > 1)}: check processing_capacity and ramp_up"
+        years = f"{model.years} year{'s' * (model.years > 1)}"
+        why = f"within these limits nothing can be mined in {years}: check processing_capacity and ramp_up"
         raise PlanError(f"{project.path}: [schedule] years: {why}")
     return schedule
 
 
 def better(schedule: YearlySchedule, rules: ScheduleRules, progress: Progress) -> Iterator[YearlySchedule]:
-    """The schedule with one thing after the other that programmes tell of it. Raises KeyboardInterrupt where one is interrupted."""
-    problem, years = schedule.problem, schedule.years
-    if rules.bins is not None and schedule.benches.of(ORE).any():
-        yield from with_bins(schedule, rules, progress)
-        return
-    with progress.step(f"solving the linear programme of {years} years, {len(problem.benches) * years:,} variables"):
-        optimum = bench_lp.relaxed(problem, years)
-    with progress.step("making its solution a feasible schedule"):
-        shares = bench_lp.diggable(optimum, problem)
-    schedule = replace(schedule, shares=schedule.shares | {LP: shares}, optimum=optimum)
+    """Yields the schedule with one result of the programmes after the other. Raises KeyboardInterrupt if one is interrupted."""
+    schedule = relaxed(schedule, progress)
+    if schedule.flows:
+        yield schedule
+    assert schedule.optimum is not None and schedule.upper_bound is not None
+    if schedule.upper_bound - schedule.optimum.value > FINE * abs(schedule.upper_bound):
+        schedule = relaxed(in_finer_bins(schedule, rules), progress)
+        if schedule.flows:
+            yield schedule
+    model, optimum = schedule.model, schedule.optimum
+    assert optimum is not None
+    with progress.step("making feasible schedules"):
+        flows = scheduler.from_optimum(model, optimum, schedule.flows.get(RULE))
+    schedule = replace(schedule, flows=schedule.flows | {LP: flows})
     yield schedule
     if rules.milp is not None:
         with progress.step(f"solving the integer programme, up to {rules.milp.seconds:,.0f} s"):
-            best, bound = bench_milp.best_diggable(problem, years, rules.milp)
+            best, most = integer.best_schedule(model, rules.milp)
         found = {} if best is None else {MILP: best}
-        yield replace(schedule, shares=schedule.shares | found, milp_upper_bound=bound)
+        yield replace(schedule, flows=schedule.flows | found, milp_upper_bound=most)
 
 
-def with_bins(schedule: YearlySchedule, rules: ScheduleRules, progress: Progress) -> Iterator[YearlySchedule]:
-    """The same where ore is divided into bins, of which some may be left as waste or stocked."""
-    assert rules.bins is not None
-    parcels = value_bins.of_pushbacks(schedule.pushbacks, schedule.benches, rules.bins)
-    problem = MillingProblem(schedule.problem, parcels, schedule.years, rules.reclaim_cost)
-    unknowns = problem.dug + problem.kinds * len(parcels) * problem.years
-    with progress.step(
-        f"solving the linear programme of {schedule.years} years and {len(parcels):,} parcels, {unknowns:,} variables"
-    ):
-        optimum = problem.relaxed()
-    with progress.step("making its solution a feasible schedule"):
-        shares, milling = problem.diggable(optimum)
-    yield replace(schedule, shares=schedule.shares | {LP: shares}, optimum=optimum, milling={LP: milling})
+def relaxed(schedule: YearlySchedule, progress: Progress) -> YearlySchedule:
+    """Returns the schedule with the optimum of the linear programme and the upper bound, unless it has a lower one.
+
+    Raises
+    ------
+    PlanError
+        If no schedule meets the minimums, with those that lack.
+    """
+    model, programme = schedule.model, FlowProgramme(schedule.model)
+    size = f"{model.years} years and {len(model.ore):,} parcels, {len(programme.gain):,} variables"
+    with progress.step(f"solving the linear programme of {size}"):
+        try:
+            optimum = programme.solved()
+        except PlanError as error:
+            lacking = programme.lacking() if model.problem.limits.least else ""
+            raise PlanError(f"{schedule.pushbacks.plan.project.path}: {lacking}") from error if lacking else error
+        upper, before = bound.upper_bound(model, schedule.material.blocks, optimum.prices), schedule.upper_bound
+    found = replace(schedule, optimum=optimum)
+    return found if before is not None and before <= upper else replace(found, upper_bound=upper, prices=optimum.prices)
+
+
+def in_finer_bins(schedule: YearlySchedule, rules: ScheduleRules) -> YearlySchedule:
+    """Returns the schedule with parcels by the cut-offs of the linear programme, and the rule's flows of these."""
+    assert schedule.optimum is not None
+    material = parcels.at_prices(schedule.material, rules, schedule.model, schedule.optimum.prices)
+    model = replace(schedule.model, ore=material.parcels)
+    flows = {RULE: scheduler.by_rule(model, pace_of(schedule), rules.years)[0]}
+    return replace(schedule, material=material, model=model, flows=flows if schedule.flows else {})
+
+
+def pace_of(schedule: YearlySchedule) -> scheduler.Pace:
+    """Returns the benches by which the rule paces the mine."""
+    assigned = bench_table.of_pushbacks(schedule.pushbacks, schedule.benches.lag)
+    return scheduler.pace_of(schedule.problem, assigned)
 
 
 def table(schedule: YearlySchedule) -> pd.DataFrame:
-    """One row for what is dug of a bench in a year.
+    """Returns one row per method, bench and year in which anything of the bench is mined or processed.
 
-    way; year from 1; pushback; bench, the z of its centres in metres; share of the bench; total_tonnes and, of these, feed_tonnes; recovered_NAME
-    recovered (tonnes, or grams); cash at the year's prices, and discounted, in money, both without what years cost.
+    Columns: method; year from 1; pushback; bench, the elevation of its centroids; share of the bench; total_tonnes, feed_tonnes,
+    recovered_METAL; cash_flow at the year's prices, and discounted_cash_flow, both without period costs.
     """
-    return pd.concat([rows_of(schedule, way) for way in schedule.shares], ignore_index=True)
+    return pd.concat([rows_of(schedule, method) for method in schedule.flows], ignore_index=True)
 
 
-def rows_of(schedule: YearlySchedule, way: str) -> pd.DataFrame:
-    benches, shares, flows = schedule.benches, schedule.shares[way], schedule.flows(way)
-    # Ore that is reclaimed from a stockpile has a row although nothing is dug.
-    year, bench = np.nonzero((shares + flows[:, :, benches.names.index(ORE)]).T)
-    amounts = dict(zip(benches.names, flows[bench, year].T))
+def rows_of(schedule: YearlySchedule, method: str) -> pd.DataFrame:
+    benches, shares, amounts = schedule.benches, schedule.shares[method], schedule.amounts(method)
+    # Ore that is reclaimed from a stockpile has a row although nothing is mined.
+    year, bench = np.nonzero((shares + amounts[ORE]).T)
     discounts = schedule.discounts(shares.shape[1])
     head = {
-        "method": np.full(len(year), way, dtype=object),
+        "method": np.full(len(year), method, dtype=object),
         "year": year + 1,
         "pushback": benches.pushback[bench],
         "bench": schedule.pushbacks.plan.grid.elevations()[benches.level[bench]],
         "share": shares[bench, year],
     }
-    return pd.DataFrame(head | amounts | {"discounted_cash_flow": amounts[CASH] * discounts[year]})
+    flows = {name: values[bench, year] for name, values in amounts.items()}
+    return pd.DataFrame(head | flows | {"discounted_cash_flow": flows[CASH] * discounts[year]})
 
 
 def years(schedule: YearlySchedule) -> pd.DataFrame:
-    """One row a way and year, as `shell_tables.years` has of cases; the factor is that of the last pushback."""
+    """Returns one row per method and year, as `shell_tables.years` has of cases; the factor is that of the last pushback."""
     found = []
-    for way in schedule.shares:
-        years = schedule.yearly(way)
-        for place, (name, values) in enumerate(
-            {"case": way, "revenue_factor": schedule.factor, "year": years.index + 1}.items()
-        ):
+    for method in schedule.flows:
+        years = schedule.yearly(method)
+        head = {"case": method, "revenue_factor": schedule.factor, "year": years.index + 1}
+        for place, (name, values) in enumerate(head.items()):
             years.insert(place, name, values)
         found.append(years)
     return pd.concat(found, ignore_index=True)
 
 
 def methods(schedule: YearlySchedule) -> pd.DataFrame:
-    """One row a way: way; value, discounted, and bound, in money; optimality_gap, by which share of the bound it is less; years; tonnes that are
-    dug, feed_tonnes that are milled, and unmined_tonnes that are not dug; recovered_NAME recovered."""
+    """Returns one row per method: NPV, upper bound and optimality gap, years, tonnes that are mined, mill feed, tonnes that stay unmined, and
+    recovered metal."""
     rows = []
-    for way, shares in schedule.shares.items():
-        whole, value = shares.sum(axis=1), schedule.value(way)
-        bound = np.nan if schedule.optimum is None else schedule.optimum.bound
+    for method, flows in schedule.flows.items():
+        value, yearly = schedule.value(method), schedule.yearly(method)
+        most = np.nan if schedule.upper_bound is None else schedule.upper_bound
         rows.append(
             {
-                "method": way,
+                "method": method,
                 "npv": value,
-                "upper_bound": bound,
-                "optimality_gap": (bound - value) / abs(bound) if bound else np.nan,
-                "years": shares.shape[1],
-                "tonnes": schedule.benches.of(ROCK) @ whole,
-                "feed_tonnes": schedule.flows(way)[:, :, schedule.benches.names.index(ORE)].sum(),
-                "unmined_tonnes": schedule.left(way),
-                **schedule.yearly(way).filter(like="recovered_").sum(),
+                "upper_bound": most,
+                "optimality_gap": (most - value) / abs(most) if most else np.nan,
+                "years": flows.years,
+                "tonnes": yearly[ROCK].sum(),
+                "feed_tonnes": yearly[ORE].sum(),
+                "unmined_tonnes": schedule.left(method),
+                **yearly.filter(like="recovered_").sum(),
             }
         )
     return pd.DataFrame(rows)
 
 
-def milling(schedule: YearlySchedule) -> pd.DataFrame:
-    """Of the ways that divide ore into bins one row for a bin of a bench in a year: way; year; pushback; bench, the z of its centres in metres;
-    bin, from 1, the poorest; mined_tonnes of it; milled_tonnes, of these, and reclaimed_tonnes, which are milled from the stockpile.
-    """
-    found = []
-    for way, made in schedule.milling.items():
-        parcels, tonnes = made.parcels, made.parcels.of(ORE)
-        dug = schedule.shares[way][parcels.bench]
-        year, parcel = np.nonzero((dug + made.reclaimed).T)
-        bench = parcels.bench[parcel]
-        columns = {
-            "method": np.full(len(year), way, dtype=object),
-            "year": year + 1,
-            "pushback": schedule.benches.pushback[bench],
-            "bench": schedule.pushbacks.plan.grid.elevations()[schedule.benches.level[bench]],
-            "bin": parcels.bin[parcel],
-        }
-        for name, shares in (("mined", dug), ("milled", made.straight), ("reclaimed", made.reclaimed)):
-            columns[f"{name}_tonnes"] = shares[parcel, year] * tonnes[parcel]
-        found.append(pd.DataFrame(columns))
-    return pd.concat(found, ignore_index=True)
-
-
 def blocks_year(schedule: YearlySchedule) -> np.ndarray:
-    """For each cell the year by whose end its bench of its pushback is through, by the way that earns most; 0 where it never is."""
+    """Returns for each cell the year by whose end its bench of its pushback is mined, by the method that is shown; 0 if it never is."""
     shares, grid = schedule.shares[schedule.shown], schedule.pushbacks.plan.grid
-    # Before the first year nothing is dug.
+    # Before the first year nothing is mined.
     through = (np.pad(shares, ((0, 0), (1, 0))).cumsum(axis=1) > 1 - 1e-6).argmax(axis=1)
     year_of = np.zeros((len(schedule.pushbacks.factors) + 1, grid.shape[0]), dtype=np.int16)
     year_of[schedule.benches.pushback, schedule.benches.level] = through
     return year_of[schedule.pushbacks.pushback, np.arange(grid.count) // grid.per_level]
 
 
+def blocks_bin(schedule: YearlySchedule) -> np.ndarray:
+    """Returns for each cell the value bin of its ore, from 1; 0 if it is none."""
+    found = np.zeros(schedule.pushbacks.plan.grid.count, dtype=np.int16)
+    found[schedule.material.cells] = schedule.material.blocks.bin
+    return found
+
+
 def record(schedule: YearlySchedule) -> dict[str, Any]:
-    """What schedule.json says: of each way the value, the years and the tonnes that are left; the bound; and the limits."""
-    limits, bound = schedule.problem.limits, None if schedule.optimum is None else round(schedule.optimum.bound, 3)
-    found = {
-        way: {
-            "npv": round(schedule.value(way), 3),
-            "years": shares.shape[1],
-            "unmined_tonnes": round(schedule.left(way), 3),
-        }
-        for way, shares in schedule.shares.items()
-    }
+    """Returns what schedule.json has: of each method NPV, years, unmined tonnes and cut-offs; the bounds; and the limits."""
+    limits = schedule.problem.limits
+    most = schedule.milp_upper_bound
     return {
         "revenue_factor": schedule.factor,
-        "methods": found,
-        "upper_bound": bound,
-        "milp_upper_bound": None
-        if schedule.milp_upper_bound is None or math.isinf(schedule.milp_upper_bound)
-        else round(schedule.milp_upper_bound, 3),
+        "methods": {method: record_of(schedule, method) for method in schedule.flows},
+        "upper_bound": None if schedule.upper_bound is None else round(schedule.upper_bound, 3),
+        "milp_upper_bound": None if most is None or math.isinf(most) else round(most, 3),
         "years": schedule.years,
         "shown": schedule.shown,
         "lead": schedule.lead,
         "lag": schedule.benches.lag,
         "limits": limits.most,
+        **({"least": limits.least} if limits.least else {}),
         "ramp_up": list(limits.ramp_up),
         "vertical_advance_rate": None if math.isinf(limits.vertical_advance_rate) else limits.vertical_advance_rate,
-        "bins": {way: record_of(made) for way, made in schedule.milling.items()},
+        "bins": {name or parcels.MILL: edges.tolist() for name, edges in schedule.material.edges.items()},
+        "reclaim_cost": schedule.model.reclaim_cost,
         "interrupted": schedule.interrupted,
         "solver": f"HiGHS of scipy {scipy.__version__}",
     }
 
 
-def record_of(made: Milling) -> dict[str, Any]:
-    """Of a way that divides ore into bins what a tonne is worth between two of them, and at the cut-off of each year."""
+def record_of(schedule: YearlySchedule, method: str) -> dict[str, Any]:
+    """Returns the record of a method; cutoffs, by process, in net value per tonne of feed by year."""
+    found = cutoffs(schedule.flows[method], schedule.names)
+    by_process = {name or parcels.MILL: values.round(6).tolist() for name, values in (found or {}).items()}
     return {
-        "edges": made.parcels.edges.tolist(),
-        "cutoffs": made.cutoffs,
-        "reclaim_cost": made.cost if made.is_stocked else None,
+        "npv": round(schedule.value(method), 3),
+        "years": schedule.flows[method].years,
+        "unmined_tonnes": round(schedule.left(method), 3),
+        **({"cutoffs": by_process} if found else {}),
     }
 
 
 def notes(schedule: YearlySchedule) -> list[str]:
-    """What a planner should know of the schedule."""
-    found = [f"rule: each pushback follows the one before by {schedule.lead} benches, the lead with the highest NPV"]
+    """Returns what a planner should know of the schedule."""
+    found = []
+    if RULE in schedule.flows:
+        found.append(
+            f"rule: each pushback follows the one before by {schedule.lead} benches, the lead with the highest NPV"
+        )
     if schedule.interrupted:
         found.append("WARNING: the run was interrupted before all methods had finished; the table has those that did")
-    if schedule.optimum is not None:
-        how = "divides ore by these bins" if schedule.milling else "sends each block to its assigned process"
-        scope = f"any schedule of these pushbacks of up to {schedule.years} years within these limits that {how}"
-        found.append(f"upper bound on the NPV of {scope}: {schedule.optimum.bound:,.0f}")
-    if schedule.milp_upper_bound is not None and MILP not in schedule.shares:
+    if schedule.upper_bound is not None:
+        scope = f"any schedule of these pushbacks of up to {schedule.years} years within these limits, wherever each block goes"
+        found.append(f"upper bound on the NPV of {scope}: {schedule.upper_bound:,.0f}")
+    if schedule.milp_upper_bound is not None and MILP not in schedule.flows:
         found.append("WARNING: milp found no schedule within its time limit")
     elif schedule.milp_upper_bound is not None:
-        found.append(f"upper bound of milp on the same schedules: {schedule.milp_upper_bound:,.0f}")
-    for way, made in [pair for pair in schedule.milling.items() if pair[1].cutoffs]:
-        told = ", ".join("-" if worth is None else f"{worth:.2f}" for worth in made.cutoffs)
-        found.append(f"{way}: cut-off by year (net value per tonne milled): {told}")
-    for way in schedule.shares:
-        rock = schedule.left(way)
-        if not schedule.shares[way].any():
-            found.append(f"{way} mines nothing: at these prices and costs it finds no schedule with an NPV above 0")
+        found.append(f"upper bound of milp on schedules by these value bins: {schedule.milp_upper_bound:,.0f}")
+    for name, values in (cutoffs(schedule.flows[schedule.shown], schedule.names) or {}).items():
+        told = ", ".join(f"{worth:.2f}" for worth in values)
+        found.append(
+            f"{schedule.shown}: cut-off of {name or parcels.MILL} by year (net value per tonne of feed): {told}"
+        )
+    for method in schedule.flows:
+        rock = schedule.left(method)
+        if not schedule.shares[method].any():
+            found.append(f"{method} mines nothing: at these prices and costs it finds no schedule with an NPV above 0")
         elif rock > 0.5:
-            found.append(f"{way}: {rock:,.0f} t of the pushbacks remain unmined")
+            found.append(f"{method}: {rock:,.0f} t of the pushbacks remain unmined")
     return found

@@ -13,6 +13,7 @@ import pandas as pd
 from planaudit.errors import AuditError
 from planaudit.inputs import block_table
 from planaudit.inputs.matching import (
+    BIN,
     FREE,
     PROCESS,
     PUSHBACK,
@@ -53,6 +54,7 @@ def read_shells(
     more = [
         *([PUSHBACK] if pushbacks is not None else []),
         *([YEAR] if schedule is not None or is_by_block else []),
+        *([BIN] if schedule is not None else []),
         *shares,
     ]
     said = block_table.columns_of(written, [*said_of(project), *more], order)
@@ -328,7 +330,7 @@ def read(written: Path, folder: Optional[Path] = None) -> Answer:
             why = f"walls: found {found}, expected {expected} as in the project"
             raise AuditError(f"{written / PLAN}: {why}: run pitplan shells again")
         own = [own_name(name) for name in (*project.columns, project.table.tonnes)]
-        results = (*said_of(project), *FREE, PUSHBACK, YEAR, *shares_of(project), *own)
+        results = (*said_of(project), *FREE, PUSHBACK, YEAR, BIN, *shares_of(project), *own)
         blocks = read_blocks(written / "tables/blocks.csv", project, results)
         rows = rows_of(project, blocks, record["grid"])
         return (read_shells if "shells" in record else read_pits)(written, record, project, blocks, rows)

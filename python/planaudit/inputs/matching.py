@@ -26,7 +26,7 @@ HAULED = ("haul_distance", "haulage_cost", "ore_haulage_cost")
 # Further columns of `pitplan pit`, of the pit without constraints.
 FREE = ("free_revenue_factor", "free_process_revenue_factor")
 # Further columns of `pitplan pushbacks` and `pitplan schedule`.
-PUSHBACK, YEAR = "pushback", "year"
+PUSHBACK, YEAR, BIN = "pushback", "year", "bin"
 # If a surface cuts blocks: the tonnes of the table. Results have the tonnes below the surface.
 UNCUT = "tonnes before the cut"
 # With a schedule by block the share of each block that goes to a process.
@@ -116,7 +116,7 @@ def own_columns(written: pd.DataFrame, rows: pd.DataFrame, order: np.ndarray) ->
 
 def own_name(column: str) -> str:
     """Returns the name of a planner's column in blocks.csv."""
-    return f"planner_{column}" if column in (*SAID, *FREE, *HAULED, PUSHBACK, YEAR, PROCESS) else column
+    return f"planner_{column}" if column in (*SAID, *FREE, *HAULED, PUSHBACK, YEAR, BIN, PROCESS) else column
 
 
 def beside(

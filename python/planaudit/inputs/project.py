@@ -144,6 +144,16 @@ class Metal:
 
 
 @dataclass(frozen=True)
+class FeedGrade:
+    """An entry of `[processes.feed]` or `[schedule.feed]`; the process is "" if the project names none."""
+
+    process: str
+    column: str
+    min: Optional[float]
+    max: Optional[float]
+
+
+@dataclass(frozen=True)
 class Process:
     """An entry of `[[processes]]`."""
 
@@ -151,6 +161,7 @@ class Process:
     cost: ByRock
     recovery: dict[str, Union[Recovery, dict[str, Recovery]]]
     capacity: float
+    feed: tuple[FeedGrade, ...] = ()
 
 
 @dataclass(frozen=True)
@@ -250,6 +261,8 @@ class ScheduleRules:
     years: Optional[int] = None
     minimum: dict[str, float] = field(default_factory=dict)
     limits: tuple[Sum, ...] = ()
+    feed: tuple[FeedGrade, ...] = ()
+    reclaim_cost: Optional[float] = None
 
 
 @dataclass(frozen=True)
@@ -316,6 +329,12 @@ class Project:
         return replace(self, economics=economics, metals=metals, processes=())
 
     @property
+    def feed_grades(self) -> tuple[FeedGrade, ...]:
+        """The limits on head grades of all processes."""
+        of_one = self.schedule.feed if self.schedule else ()
+        return (*of_one, *(it for process in self.processes for it in process.feed))
+
+    @property
     def cuts_blocks(self) -> bool:
         """Whether a topography or an as-mined surface cuts blocks."""
         return self.table.topography is not None or bool(self.constraints and self.constraints.as_mined)
@@ -333,6 +352,7 @@ class Project:
         tonnes = [table.density, table.volume] if table.density else [table.tonnes]
         marks = [rules.must_mine, rules.exclude] if rules else []
         limited = [it.column for it in self.schedule.limits] if self.schedule else []
+        limited += [it.column for it in self.feed_grades]
         grades = [metal.column for metal in self.metals]
         named = [table.x, table.y, table.z, *tonnes, *self.codes, *grades, *self.economics.adjusting, *marks, *limited]
         return [name for name in dict.fromkeys(named) if name]

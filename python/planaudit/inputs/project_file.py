@@ -22,6 +22,7 @@ from planaudit.inputs.project import (
     ConstraintRules,
     Curve,
     Economics,
+    FeedGrade,
     GridRules,
     Haulage,
     Metal,
@@ -247,7 +248,12 @@ def metal_of(data: Data) -> Metal:
 
 def process_of(data: Data) -> Process:
     recoveries = {metal: recovery_of(value) for metal, value in data["recovery"].items()}
-    return Process(data["name"], by_rock(data["cost"]), recoveries, float(number(data["capacity"])))
+    feed = feed_of(data.get("feed", {}), data["name"])
+    return Process(data["name"], by_rock(data["cost"]), recoveries, float(number(data["capacity"])), feed)
+
+
+def feed_of(data: Data, process: str) -> tuple[FeedGrade, ...]:
+    return tuple(FeedGrade(process, column, metres(it, "min"), metres(it, "max")) for column, it in data.items())
 
 
 def slopes_of(data: Data) -> Slopes:
@@ -314,6 +320,8 @@ def schedule_of(data: Data) -> ScheduleRules:
         years=data.get("years"),
         minimum=floats(data.get("minimum", {})),
         limits=tuple(sum_of(it) for it in data.get("limits", ())),
+        feed=feed_of(data.get("feed", {}), ""),
+        reclaim_cost=float(number(data["stockpile"]["reclaim_cost"])) if "stockpile" in data else None,
     )
 
 

@@ -13,7 +13,10 @@ from planaudit.revenue_factors import factor_texts, in_thousandths
 
 # Prefixes of columns with empty fields if the amount is not defined: a ratio to no ore, the width of an empty pushback, a bound that was not
 # computed, or columns of other cases.
-MAY_LACK = ("strip_ratio", "head_grade_", "min_width", "upper_bound", "optimality_gap", "sum_", "kept_", "skin_value")
+MAY_LACK = (
+    *("strip_ratio", "head_grade_", "cutoff", "min_width", "upper_bound", "optimality_gap"),
+    *("sum_", "kept_", "skin_value"),
+)
 # Exact numbers stay texts.
 EXACT = "value_at_revenue_factor"
 # The folder of an output folder in which its tables lie, and the row of a table below its header.

@@ -18,8 +18,9 @@ from planaudit.inputs.matching import YEAR
 from planaudit.money.period_costs import premiums
 from planaudit.rules import TOLD, Rule, rule
 from planaudit.schedules import bounds, methods as ways_table
+from planaudit.schedules.discounts import discount
 from planaudit.schedules.limits import amounts_of, least_of, limits_of, shares_of
-from planaudit.schedules.pushback_schedule import CENT, discount
+from planaudit.schedules.pushback_schedule import CENT
 
 FILE, CASE = "block_schedule.json", "block"
 SLIGHT = 1e-6

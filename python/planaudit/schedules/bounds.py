@@ -20,9 +20,10 @@ from planaudit.inputs.tables import TABLES
 from planaudit.money.period_costs import premiums
 from planaudit.rules import Rule, rule
 from planaudit.schedules.closure import Closure, maximum_closure
+from planaudit.schedules.discounts import discount
 from planaudit.schedules.limits import amounts_of, least_of, limits_of, shares_of
 from planaudit.schedules.precedences import Precedences, precedences_of
-from planaudit.schedules.pushback_schedule import CENT, discount
+from planaudit.schedules.pushback_schedule import CENT
 
 FILE, MUST_MINE = "bound.csv", "must_mine"
 MAX, MIN = "max", "min"

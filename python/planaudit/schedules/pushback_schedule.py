@@ -13,11 +13,14 @@ import numpy as np
 import pandas as pd
 
 from planaudit.inputs.answer import Answer
-from planaudit.money.period_costs import capex, more_by_prices, most_premium
-from planaudit.pits import years
+from planaudit.money.period_costs import capex
 from planaudit.revenue_factors import factor_texts
 from planaudit.rules import TOLD, Rule, rule
-from planaudit.schedules import methods as ways_table, mill_feed as milling
+from planaudit.schedules import material_flow, methods as ways_table, pushback_bounds
+from planaudit.schedules.discounts import discount, present_costs
+from planaudit.schedules.limits import least_of
+from planaudit.schedules.lots import grade_name
+from planaudit.schedules.material_flow import MaterialFlow
 
 FILE = "schedule.json"
 CENT, SLIGHT = 0.01, 1e-6
@@ -57,30 +60,32 @@ class Way:
 
 
 def verify(answer: Answer) -> list[Rule]:
-    """Verifies order, amounts, limits, values, and the years of blocks."""
+    """Verifies order, amounts, flows, limits, values, the bound, and the years of blocks."""
     told = json.loads((answer.folder / FILE).read_text(encoding="utf-8"))
-    sums = sums_of_benches(answer)
-    misplaced, ways = ways_of(answer, told)
+    flow, strange = material_flow.read(answer)
+    sums = sums_of_benches(flow)
+    misplaced, rows = levelled(answer, told)
+    ways = [Way(answer, name, rows[rows["method"] == name], said) for name, said in told["methods"].items()]
     return [
-        verify_amounts(ways, told, sums, misplaced),
+        verify_amounts(ways, flow, sums, misplaced),
+        material_flow.verify(flow, rows, strange),
         verify_order(ways, sums),
-        verify_limits(ways, told),
+        verify_limits(ways, told, flow),
         verify_value(ways, told, sums),
+        pushback_bounds.verify(answer, told, by_year(answer, int(told["years"]))),
         verify_years_of_blocks(ways, told, sums),
     ]
 
 
-def ways_of(answer: Answer, told: dict[str, Any]) -> tuple[list[str], list[Way]]:
-    """Returns rows with an unknown place, as differences, and the other rows by method."""
+def levelled(answer: Answer, told: dict[str, Any]) -> tuple[list[str], pd.DataFrame]:
+    """Returns rows of schedule.csv with an unknown place, as differences, and the other rows with the level of their bench."""
     assert answer.schedule is not None
     rows = answer.schedule.copy()
     steps = (answer.elevations[0] - rows["bench"]) / answer.size[2]
     rows["level"] = np.rint(steps).astype(int)
     lost = (abs(steps - rows["level"]) > SLIGHT) | ~rows["level"].between(0, answer.shape[0] - 1)
     # Reclaiming ore from a stockpile mines nothing.
-    nothing = (rows["share"] < 0) | (
-        (rows["share"] == 0) & ((rows["feed_tonnes"] <= 0) | ~rows["method"].isin(told["bins"]))
-    )
+    nothing = (rows["share"] < 0) | ((rows["share"] == 0) & (rows["feed_tonnes"] <= 0))
     lost |= ~rows["pushback"].between(1, answer.said["pushback"].max()) | (rows["year"] < 1) | nothing
     differences = [
         f"{row.method}, year {row.year}: no bench {row.bench:.10g} of pushback {row.pushback}, or no share {row.share:g}"
@@ -88,52 +93,82 @@ def ways_of(answer: Answer, told: dict[str, Any]) -> tuple[list[str], list[Way]]
     ]
     if not set(rows["method"]) <= set(told["methods"]):
         differences.append(f"methods {sorted(set(rows['method']))} for {sorted(told['methods'])}")
-    rows = rows[~lost]
-    return differences, [
-        Way(answer, name, rows[rows["method"] == name], said) for name, said in told["methods"].items()
-    ]
+    return differences, rows[~lost]
 
 
-def sums_of_benches(answer: Answer) -> pd.DataFrame:
-    """Returns the sums over the blocks of each bench with tonnes, by pushback and level."""
-    columns = {
-        "total_tonnes": answer.tonnes,
-        "feed_tonnes": np.where(answer.ore, answer.feed, 0.0),
-        "cash_flow": answer.earned,
-    }
-    columns |= answer.feeds
-    columns |= {f"recovered_{name}": np.where(answer.ore, metal, 0.0) for name, metal in answer.quantities.items()}
-    frame = pd.DataFrame(columns | {"pushback": answer.said["pushback"].to_numpy(), "level": answer.cells[0]})
-    return frame[(frame["pushback"] > 0) & (frame["total_tonnes"] > 0)].groupby(["pushback", "level"]).sum()
+def sums_of_benches(flow: MaterialFlow) -> pd.DataFrame:
+    """Returns total material and the cash flow of mining of each bench, by pushback and level."""
+    lots = flow.blocks.lots[["total_tonnes", "mining_cash"]]
+    return lots.groupby(level=["pushback", "level"]).sum().rename(columns={"mining_cash": "cash_flow"})
 
 
-def verify_amounts(ways: list[Way], told: dict[str, Any], sums: pd.DataFrame, misplaced: list[str]) -> Rule:
-    """Verifies that each row is a share of its bench, or what is milled of it, and that the shares of a bench sum to at most 1."""
+def by_year(answer: Answer, years: int) -> dict[str, tuple[np.ndarray, np.ndarray]]:
+    """Returns the minimum and maximum of each limited amount in each year."""
+    rules, nothing = answer.project.schedule, np.zeros(years)
+    ramp_up = rules.ramp_up if rules else (1.0,)
+    ramp = np.array([ramp_up[min(year, len(ramp_up) - 1)] for year in range(years)])
+
+    def of_years(name: str, amount: float) -> np.ndarray:
+        return amount * (ramp if name.startswith("feed_tonnes") else np.ones(years))
+
+    found = {name: (nothing, of_years(name, most)) for name, most in maxima_of(answer).items()}
+    for name, least in least_of(answer):
+        found[name] = of_years(name, least), found.get(name, (nothing, np.full(years, np.inf)))[1]
+    return found
+
+
+def maxima_of(answer: Answer) -> dict[str, float]:
+    """Returns the annual maximum of each limited amount, with the full capacity of processes; 0 of head grades."""
+    rules, shells = answer.project.schedule, answer.project.shells
+    found = {"feed_tonnes": (rules and rules.processing_capacity) or shells.processing_capacity}
+    found |= {"total_tonnes": (rules and rules.mining_capacity) or shells.mining_capacity or math.inf}
+    found |= {f"feed_tonnes_{process.name}": process.capacity for process in answer.project.processes}
+    found |= {f"recovered_{name}": most for name, most in (rules.max_metal_per_year if rules else {}).items()}
+    found |= {f"sum_{it.name}": it.max for it in (rules.limits if rules else ()) if it.max is not None}
+    for limit in answer.project.feed_grades:
+        sides = (("max", limit.max), ("min", limit.min))
+        found |= {grade_name(limit.process, limit.column, side): 0.0 for side, grade in sides if grade is not None}
+    return {name: most for name, most in found.items() if most < math.inf}
+
+
+def verify_amounts(ways: list[Way], flow: MaterialFlow, sums: pd.DataFrame, misplaced: list[str]) -> Rule:
+    """Verifies that each row is the share of its bench and the sum of its flows, and that the shares of a bench sum to at most 1."""
     differences = list(misplaced)
     for way in ways:
-        whole = (
-            sums.reindex(pd.MultiIndex.from_frame(way.rows[["pushback", "level"]])).fillna(0.0).reset_index(drop=True)
-        )
         rows = way.rows.reset_index(drop=True)
-        amounts, slack = whole.mul(rows["share"], axis=0), AMOUNT + SHARE * whole.abs()
-        if way.name in told["bins"]:
-            amounts, more, wrong = milling.amounts(way.answer, rows, amounts, told["bins"][way.name])
-            slack, differences = slack + more, [*differences, *wrong]
-        amounts["cash_flow"] += more_by_prices(way.answer.project, amounts.assign(year=rows["year"]))
-        slack["cash_flow"] += AMOUNT * most_premium(way.answer.project)
-        for name in sums.columns:
-            said, expected = rows[name].to_numpy(), amounts[name].to_numpy()
-            off = np.abs(said - expected) > slack[name].to_numpy() + 1e-9 * np.abs(expected)
+        whole = sums.reindex(pd.MultiIndex.from_frame(rows[["pushback", "level"]])).fillna(0.0).reset_index(drop=True)
+        mined, slack = whole.mul(rows["share"], axis=0), AMOUNT + SHARE * whole.abs()
+        flowed, loose = flows_of(way, rows, flow)
+        expected = flowed.assign(total_tonnes=mined["total_tonnes"], cash_flow=flowed["cash_flow"] + mined["cash_flow"])
+        loose["total_tonnes"] = 0.0
+        for name in [name for name in expected if name in rows]:
+            said, due = rows[name].to_numpy(), expected[name].to_numpy()
+            open_to = slack[name].to_numpy() if name in slack else AMOUNT
+            off = np.abs(said - due) > open_to + loose[name].to_numpy() + 1e-9 * np.abs(due)
             differences += [
-                f"{place(row)}: {name} {said[row.Index]:.10g} for {expected[row.Index]:.10g}" for row in some(rows, off)
+                f"{place(row)}: {name} {said[row.Index]:.10g} for {due[row.Index]:.10g}" for row in some(rows, off)
             ]
         twice = np.argwhere(way.done[:, :, -1] > 1 + SLIGHT)
         differences += [
             f"{way.name}: pushback {pushback}, level {level} is mined {way.done[pushback, level, -1]:.9g} times"
             for pushback, level in twice
         ]
-    holds = "each row of the schedule is a share of the blocks of its bench, and no tonne is mined twice"
+    holds = "each row of the schedule is a share of its bench with the flows of its ore, and no tonne is mined twice"
     return rule("schedule amounts", holds, differences[:TOLD], len(differences))
+
+
+def flows_of(way: Way, rows: pd.DataFrame, flow: MaterialFlow) -> tuple[pd.DataFrame, pd.DataFrame]:
+    """Returns the sums of flows.csv for each row of schedule.csv, and their tolerances."""
+    mine = flow.rows[flow.rows["method"] == way.name]
+    names = ["feed_tonnes", *(f"recovered_{metal.name}" for metal in way.answer.project.metals), "cash_flow"]
+    keys = ["year", "pushback", "level"]
+    at = pd.MultiIndex.from_frame(rows[keys])
+    found = mine.groupby(keys)[names].sum().reindex(at).fillna(0.0).reset_index(drop=True)
+    for process in way.answer.project.processes:
+        of_one = mine[mine["destination"] == process.name].groupby(keys)["feed_tonnes"].sum()
+        found[f"feed_tonnes_{process.name}"] = of_one.reindex(at).fillna(0.0).to_numpy()
+    count = mine.groupby(keys).size().reindex(at).fillna(0).to_numpy()
+    return found, pd.DataFrame({name: AMOUNT * count for name in found})
 
 
 def some(rows: pd.DataFrame, mask: np.ndarray) -> Iterator[Any]:
@@ -168,24 +203,11 @@ def verify_order(ways: list[Way], sums: pd.DataFrame) -> Rule:
     return rule("schedule order", holds, differences[:TOLD], len(differences))
 
 
-def limits_of(way: Way) -> Iterator[tuple[str, float, float]]:
-    """Yields the name of an amount, its annual limit, and the rounding error of its sum."""
-    rules, shells = way.project_rules, way.answer.project.shells
-    ore, rock = (rules and rules.processing_capacity) or shells.processing_capacity, (
-        rules and rules.mining_capacity
-    ) or shells.mining_capacity
-    yield "feed_tonnes", ore, CENT
-    yield "total_tonnes", rock or math.inf, CENT
-    for process in way.answer.project.processes:
-        yield f"feed_tonnes_{process.name}", process.capacity, CENT
-    for name, most in (rules.max_metal_per_year if rules else {}).items():
-        yield f"recovered_{name}", most, CENT
-
-
 def unlike_limits(way: Way, told: dict[str, Any]) -> Iterator[str]:
     """Yields differences of limits and years in schedule.json from the project."""
     rules = way.project_rules
-    due: dict[str, Any] = {"limits": {name: most for name, most, _ in limits_of(way) if most < math.inf}}
+    due: dict[str, Any] = {"limits": maxima_of(way.answer)}
+    due |= {"least": dict(least_of(way.answer))} if dict(least_of(way.answer)) else {}
     due |= {
         "ramp_up": list(rules.ramp_up) if rules else [1.0],
         "lag": rules.bench_lag if rules else 0,
@@ -197,29 +219,40 @@ def unlike_limits(way: Way, told: dict[str, Any]) -> Iterator[str]:
     )
 
 
-def verify_limits(ways: list[Way], told: dict[str, Any]) -> Rule:
-    """Verifies that no year exceeds a limit, ramp-up and vertical advance rate included, or the last year, and that the record has these
-    limits."""
+def verify_limits(ways: list[Way], told: dict[str, Any], flow: MaterialFlow) -> Rule:
+    """Verifies that each year keeps all limits, ramp-up, head grades and vertical advance rate included, or the last year, and that the record
+    has these limits."""
     differences = list(unlike_limits(ways[0], told)) if ways else []
     for way in ways:
-        rules = way.project_rules
-        ramp_up = rules.ramp_up if rules else (1.0,)
-        by_year = way.rows.groupby("year")
-        for name, most, slack in limits_of(way):
-            for year, amount in by_year[name].sum().items():
-                share = ramp_up[min(int(year), len(ramp_up)) - 1] if name.startswith("feed_tonnes") else 1.0
-                if amount > most * share * (1 + 1e-8) + slack:
-                    differences.append(f"{way.name}, year {year}: {name} {amount:.10g} above {most * share:.10g}")
+        limits, deepest = by_year(way.answer, max(way.last, 1)), (
+            way.project_rules and way.project_rules.vertical_advance_rate
+        )
+        for name, (least, most) in limits.items():
+            used, slack = used_of(way, flow, name)
+            for year, amount in used.items():
+                if amount > most[year - 1] * (1 + 1e-8) + CENT + slack.get(year, 0.0):
+                    differences.append(f"{way.name}, year {year}: {name} {amount:.10g} above {most[year - 1]:.10g}")
+            differences += [
+                f"{way.name}, year {year}: {name} {used.get(year, 0.0):.10g} below {due:.10g}"
+                for year, due in enumerate(least, 1)
+                if due > 0 and used.get(year, 0.0) < due * (1 - 1e-6) - CENT - slack.get(year, 0.0)
+            ]
         sunk = way.rows.groupby(["pushback", "year"])["share"].sum()
-        deepest = (rules and rules.vertical_advance_rate) or math.inf
         differences += [
             f"{way.name}: pushback {at[0]} advances {by:.9g} benches in year {at[1]}"
-            for at, by in sunk[sunk > deepest + SLIGHT].items()
+            for at, by in sunk[sunk > (deepest or math.inf) + SLIGHT].items()
         ]
         if way.last > told["years"]:
             differences.append(f"{way.name}: material is mined in year {way.last}")
-    holds = "no year exceeds a limit of feed, total material, metal or vertical advance"
+    holds = "no year exceeds a limit of feed, total material, metal, sums, head grades or vertical advance, or misses a minimum"
     return rule("schedule limits", holds, differences[:TOLD], len(differences))
+
+
+def used_of(way: Way, flow: MaterialFlow, name: str) -> tuple[pd.Series, pd.Series]:
+    """Returns a limited amount by year, and its tolerance."""
+    if name in way.rows:
+        return way.rows.groupby("year")[name].sum(), pd.Series(dtype=float)
+    return flow.used(name, way.name, way.rows.set_index(["year", "pushback", "level"])["share"])
 
 
 def verify_value(ways: list[Way], told: dict[str, Any], sums: pd.DataFrame) -> Rule:
@@ -261,20 +294,6 @@ def verify_value(ways: list[Way], told: dict[str, Any], sums: pd.DataFrame) -> R
         differences += ways_table.differences(ways[0].answer, of_record)
     holds = "cash flows are discounted as in the project, NPVs and years are their sums, and no NPV exceeds its bound"
     return rule("schedule value", holds, differences[:TOLD], len(differences))
-
-
-def discount(answer: Answer, year: int) -> float:
-    """Returns the discount factors of years."""
-    settings = answer.project.shells
-    if settings.discounting == "continuous":
-        return years.mean(year - 1, year, settings.discount_rate)
-    return (1 + settings.discount_rate) ** -(year - (0.5 if settings.discounting == "mid_year" else 0.0))
-
-
-def present_costs(answer: Answer, year: int) -> float:
-    """Returns fixed cost and capex of a whole year, discounted."""
-    of_year = float(answer.project.economics.fixed_cost_per_year) * discount(answer, year)
-    return of_year + capex(answer.project, year) * (1 + answer.project.shells.discount_rate) ** -(year - 1)
 
 
 def unlike_years(way: Way, factor: float) -> list[str]:

@@ -25,8 +25,9 @@ from planaudit.inputs.tables import TABLES
 from planaudit.money.weighing import at_price
 from planaudit.rules import TOLD, Rule, rule
 from planaudit.schedules.best_ore import most_earned
+from planaudit.schedules.discounts import discount
 from planaudit.schedules.limits import limits_of
-from planaudit.schedules.pushback_schedule import CENT, discount
+from planaudit.schedules.pushback_schedule import CENT
 from planaudit.studies.realisations import ONE, Scenario, read
 from planaudit.studies.scenarios import Verification, named
 from planaudit.studies.spreads import at_prices, spread

@@ -6,14 +6,35 @@ import numpy as np
 from hypothesis import strategies as st
 
 from pitplan.pushbacks.bench_table import PushbackBenches
-from pitplan.scheduling.bench_milp import TOLERATED
 from pitplan.scheduling.bench_sequencing import Problem
+from pitplan.scheduling.flow import scheduler
+from pitplan.scheduling.flow.model import FlowModel
+from pitplan.scheduling.flow.ore import Ore
+from pitplan.scheduling.flow.programme import FlowProgramme
 
+# By so much of it a limit may be missed.
+TOLERATED = 1e-8
 NAMES = ("total_tonnes", "feed_tonnes", "recovered_copper", "cash_flow")
 
 
 def problem_of(benches, limits, rate=0.1, discounting="end_of_year"):
     return Problem(benches, limits, SimpleNamespace(discount_rate=rate, discounting=discounting))
+
+
+def without_flows(problem, years):
+    """A model whose benches hold all that is limited and earned: there is no ore that could go elsewhere."""
+    nothing = np.zeros(0, dtype=np.int64)
+    return FlowModel(problem, Ore(nothing, nothing, np.zeros((1, 0)), {}), years)
+
+
+def optimum_of(problem, years):
+    return FlowProgramme(without_flows(problem, years)).solved()
+
+
+def made_of(problem, years):
+    """The shares of benches by year of the schedule that is made of the optimum."""
+    model = without_flows(problem, years)
+    return scheduler.from_optimum(model, FlowProgramme(model).solved()).dug
 
 
 def benches_of(*benches, lag=0):
@@ -36,7 +57,7 @@ def random_benches(pit, lag):
 
 
 def demand_diggable(benches, limits, shares):
-    """Each bench once, within the limits to the tolerance of `bench_milp`, and begun in no year by whose end what it waits for is not
+    """Each bench once, within the limits to the tolerance of the solver, and begun in no year by whose end what it waits for is not
     through."""
     done = shares.cumsum(axis=1)
     assert (shares >= 0).all() and (done <= 1 + 1e-9).all()

@@ -2,7 +2,7 @@
 
 from __future__ import annotations
 
-from dataclasses import dataclass, replace
+from dataclasses import dataclass
 
 import numpy as np
 from numpy.typing import NDArray
@@ -15,7 +15,8 @@ from pitplan.errors import PlanError
 from pitplan.pits.best_worst_case import year_discounts
 from pitplan.plan import MILLION, Plan
 from pitplan.pushbacks.bench_table import CASH, ORE, ROCK
-from pitplan.scheduling.bench_sequencing import Limits, limits_of
+from pitplan.scheduling.bench_sequencing import Limits
+from pitplan.scheduling.limits import SUM, all_limits_of
 from pitplan.slopes import closure
 from pitplan.slopes.arcs import ABSENT, slices
 
@@ -28,8 +29,6 @@ MORE_YEARS = 0.2
 WASTE, MILL = "waste", "mill"
 # Sums of floats may be above a limit by a hair.
 HAIR = 1e-9
-# How the names of sums of the table's columns begin.
-SUM = "sum_"
 # By block and destination.
 Flows = dict[str, NDArray[np.float64]]
 
@@ -56,7 +55,7 @@ def of_plan(plan: Plan) -> PlannedBlocks:
     """The blocks of a plan. Raises PlanError where the project asks for what is not done by block, or for too many years."""
     project, rules = plan.project, plan.project.schedule or ScheduleRules()
     demand_of_blocks(project, rules)
-    flows, limits, money = flows_of(plan), limits_of_blocks(project, rules), of_project(project)
+    flows, limits, money = flows_of(plan), all_limits_of(project, rules), of_project(project)
     best = cash_of(flows, money, 1 + max((len(more) for more in money.premiums.values()), default=0)).max(axis=(1, 2))
     cells, needs = diggable(plan, (best > 0) | owing(plan, flows, limits))
     pays, forced = pays_of(plan)[cells], np.isin(cells, plan.fixed.forced)
@@ -111,19 +110,6 @@ def dues_of(forced: NDArray[np.bool_], destinations: int) -> tuple[Due, ...]:
     return (Due(f"{forced.sum():,} must-mine blocks", of_each, float(forced.sum())),) if forced.any() else ()
 
 
-def limits_of_blocks(project: Project, rules: ScheduleRules) -> Limits:
-    """The limits of `[schedule]` and `[shells]`, those of sums and the least amounts among them."""
-    limits, names = limits_of(project, rules), {FEED: ORE, TOTAL: ROCK}
-    names |= {metal.name: f"recovered_{metal.name}" for metal in project.metals} | {
-        it.name: f"{ORE}_{it.name}" for it in project.processes
-    }
-    most = limits.most | {f"{SUM}{it.name}": it.max for it in rules.limits if it.max is not None}
-    least = {names[name]: amount for name, amount in rules.minimum.items()} | {
-        f"{SUM}{it.name}": it.min for it in rules.limits if it.min
-    }
-    return replace(limits, most=most, least={name: amount for name, amount in least.items() if amount > 0})
-
-
 def cells_of(plan: Plan, wanted: NDArray[np.bool_]) -> NDArray[np.int64]:
     """The cells that are wanted, or must be dug, with all that they need; none that may not be dug, and none that needs one such."""
     left = np.zeros(plan.grid.count, dtype=bool) if plan.settled is None else plan.settled.left
@@ -158,6 +144,10 @@ def demand_of_blocks(project: Project, rules: ScheduleRules) -> None:
         "[schedule] vertical_advance_rate: applies to the benches of a pushback": rules.vertical_advance_rate
         is not None,
         "[schedule] bins: apply to benches; a block is sent to one destination": rules.bins is not None,
+        "[schedule] stockpile: applies to pushbacks": rules.reclaim_cost is not None,
+        "[processes.feed] and [schedule.feed]: head grades are limited in schedules of pushbacks": bool(
+            project.feed_grades
+        ),
         "[economics] fixed_cost_per_year, capex: period costs are not part of a schedule by block": costs_years,
         "[pushbacks] mining_cost_added: applies to pushbacks": bool(
             project.pushbacks and project.pushbacks.mining_cost_added

@@ -21,7 +21,8 @@ from pitplan.plan import MILLION, Plan
 from pitplan.pushbacks.bench_table import CASH, ROCK
 from pitplan.scheduling.bench_sequencing import Limits
 from pitplan.scheduling.blocks import BlockProblem, Limit, Needs
-from pitplan.scheduling.blocks.from_plan import Flows, at_best, dues_of, limits_of_blocks, years_of
+from pitplan.scheduling.blocks.from_plan import Flows, at_best, dues_of, years_of
+from pitplan.scheduling.limits import all_limits_of
 
 # The destinations of a block, by their numbers.
 WASTE, MILL = 0, 1
@@ -104,7 +105,7 @@ def weights_of(plan: Plan, cells: NDArray[np.int64]) -> Weights:
 
 def limits_of_scenarios(project: Project) -> Limits:
     """Returns the annual limits, which are the same for every scenario and the mean."""
-    return limits_of_blocks(project, project.schedule or ScheduleRules())
+    return all_limits_of(project, project.schedule or ScheduleRules())
 
 
 def years_asked(weights: Weights, pit: NDArray[np.bool_], project: Project) -> int:

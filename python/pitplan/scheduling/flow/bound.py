@@ -1,0 +1,121 @@
+"""The upper bound of all material flows of pushbacks, from Lagrange multipliers.
+
+With a price on each limit in each year no schedule earns more than the sum of the prices times the limits, and the greatest value of benches
+that are mined in order, a linear programme. There each block of a mined bench goes where it earns most, less the prices of what it uses: to a
+process, to the stockpile until its best later year, or to waste. A real stockpile, which blends, returns no block better than that. This holds
+for any prices; those of the linear programme of parcels give nearly the least bound.
+"""
+
+from __future__ import annotations
+
+from dataclasses import dataclass, replace
+from functools import cached_property
+
+import numpy as np
+from numpy.typing import NDArray
+from scipy.optimize import linprog
+
+from .model import FlowModel
+from .ore import Ore
+from .programme import ADVANCE, MIN, RUNNING, FlowProgramme, Prices
+from .rows import by_end, order_rows
+
+
+@dataclass(frozen=True)
+class Lagrangian:
+    """The relaxation of a model at prices of its limits.
+
+    Attributes
+    ----------
+    model : FlowModel
+        Whose ore may be parcels or single blocks.
+    prices : dict
+        The price of each limit.
+    """
+
+    model: FlowModel
+    prices: Prices
+
+    def priced(self, amounts: dict[str, NDArray[np.float64]], whole: NDArray[np.float64]) -> NDArray[np.float64]:
+        """Returns `whole`, shape (.., years), less the prices of amounts, each of shape (..)."""
+        found = whole.copy()
+        for (name, side), price in self.prices.items():
+            if name in amounts and price.any():
+                found -= amounts[name][..., None] * (-price if side == MIN else price)
+        return found
+
+    @cached_property
+    def worths(self) -> NDArray[np.float64]:
+        """What each unit of ore earns beyond waste, by the year in which it is mined, shape (units, years)."""
+        model, ore = self.model, self.model.ore
+        present = model.gains * model.discounts
+        best = np.maximum(self.priced(ore.amounts, present).max(axis=0, initial=0.0), 0.0)
+        if model.reclaim_cost is None:
+            return np.asarray(best)
+        later = present - model.handling[None, :, None] * model.discounts
+        reclaimed = self.priced(ore.amounts, later).max(axis=0, initial=-np.inf)
+        after = np.maximum.accumulate(reclaimed[:, ::-1], axis=1)[:, ::-1]
+        best[:, :-1] = np.maximum(best[:, :-1], after[:, 1:])
+        return np.asarray(best)
+
+    @cached_property
+    def earned(self) -> NDArray[np.float64]:
+        """What each bench earns with its ore, less the prices of what it uses, by the year in which it is mined, shape (benches, years)."""
+        model, benches = self.model, self.model.benches
+        amounts = {name: model.dug(name) for name in model.limits}
+        amounts |= {
+            f"{ADVANCE}{number}": (benches.pushback == number).astype(float) for number in np.unique(benches.pushback)
+        }
+        found = self.priced(amounts, model.mining_cash)
+        np.add.at(found, model.ore.bench, self.worths)
+        return found
+
+    @cached_property
+    def programme(self) -> FlowProgramme:
+        return FlowProgramme(self.model)
+
+    @property
+    def of_limits(self) -> float:
+        """The prices times the limits."""
+        limits = {(it.name, it.side): it.sign * it.amount for it in self.programme.limits}
+        return float(sum(price @ limits[key] for key, price in self.prices.items() if key in limits))
+
+    @property
+    def of_running(self) -> float:
+        """What running as many years as is best earns: the prices of limits that show it, less what the years cost."""
+        costs = self.programme.costs
+        used = sum(
+            (self.prices.get((it.name, RUNNING), 0.0) * it.amount for it in self.programme.bounding),
+            np.zeros(len(costs)),
+        )
+        return float((used - costs).cumsum().max(initial=-np.inf))
+
+    @property
+    def of_benches(self) -> float:
+        """The greatest value of benches mined in order, each by each year no further than the limits of mining alone allow."""
+        gain = by_end(self.earned).ravel()
+        unit = float(np.abs(gain).max(initial=0.0)) or 1.0
+        matrix, most = order_rows(self.model.benches, self.model.years)
+        bounds = np.column_stack([np.zeros(len(gain)), self.programme.reachable.ravel()])
+        found = linprog(-gain / unit, A_ub=matrix, b_ub=most, bounds=bounds, method="highs-ds")
+        return -float(found.fun) * unit
+
+    @property
+    def value(self) -> float:
+        """The bound. To mine nothing earns nothing, unless a minimum forbids it."""
+        found = self.of_limits + self.of_running + self.of_benches
+        return found if self.model.problem.limits.least else max(found, 0.0)
+
+
+def upper_bound(model: FlowModel, blocks: Ore, prices: Prices) -> float:
+    """Returns the upper bound on the value of any flow of these blocks.
+
+    Parameters
+    ----------
+    model : FlowModel
+    blocks : Ore
+        Its ore block by block.
+    prices : dict
+        The prices of the limits, such as those of the optimum for parcels.
+    """
+    return Lagrangian(replace(model, ore=blocks), prices).value

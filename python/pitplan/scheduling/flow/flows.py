@@ -1,0 +1,208 @@
+"""Flows of a schedule whose benches are given: the best by a linear programme, or the richest ore first."""
+
+from __future__ import annotations
+
+from dataclasses import dataclass, replace
+from functools import cached_property
+from typing import Optional
+
+import numpy as np
+from numpy.typing import NDArray
+
+from pitplan.pushbacks.bench_table import CASH
+
+from .model import FlowModel
+from .programme import FlowProgramme, Prices
+
+# A share that may be the solver's tolerance alone.
+SLIGHT = 1e-7
+
+
+@dataclass(frozen=True)
+class Flows:
+    """What is mined of each bench in each year, and where its ore goes.
+
+    Attributes
+    ----------
+    model : FlowModel
+    dug : array, shape (benches, years)
+        Shares of benches.
+    direct : array, shape (processes, parcels, years)
+        Shares of parcels that processes take in the year in which they are mined.
+    stocked : array, shape (parcels, years)
+        Shares that go to the stockpile.
+    reclaimed : array, shape (processes, parcels, years)
+        Shares that processes take from the stockpile.
+    prices : dict
+        The price of each limit, if a linear programme chose the flows.
+    """
+
+    model: FlowModel
+    dug: NDArray[np.float64]
+    direct: NDArray[np.float64]
+    stocked: NDArray[np.float64]
+    reclaimed: NDArray[np.float64]
+    prices: Optional[Prices] = None
+
+    @property
+    def fed(self) -> NDArray[np.float64]:
+        """Shares of parcels by process and year."""
+        return self.direct + self.reclaimed
+
+    @property
+    def waste(self) -> NDArray[np.float64]:
+        """Shares of parcels that go to waste, shape (parcels, years)."""
+        return np.maximum(self.dug[self.model.ore.bench] - self.direct.sum(axis=0) - self.stocked, 0.0)
+
+    @cached_property
+    def of_benches(self) -> NDArray[np.float64]:
+        """What flows of each bench in each year, by the names of the benches, shape (benches, years, names). Cash is not discounted."""
+        model, ore = self.model, self.model.ore
+        flows = model.problem.priced(self.dug[:, :, None] * model.benches.amounts[:, None, :])
+        for number, name in enumerate(model.benches.names):
+            if name in ore.amounts:
+                np.add.at(flows[:, :, number], ore.bench, np.einsum("kp,kpt->pt", ore.amounts[name], self.fed))
+        handled = model.handling[:, None] * self.reclaimed.sum(axis=0)
+        gained = np.einsum("kpt,kpt->pt", model.gains[:, :, : self.years], self.fed) - handled
+        np.add.at(flows[:, :, model.benches.names.index(CASH)], ore.bench, gained)
+        return flows
+
+    @property
+    def years(self) -> int:
+        return self.dug.shape[1]
+
+    def used(self, name: str) -> NDArray[np.float64]:
+        """Returns what flows of a limited amount in each year, shape (years,)."""
+        return np.asarray(self.model.dug(name) @ self.dug + np.einsum("kp,kpt->t", self.model.ore.of(name), self.fed))
+
+    @property
+    def earned(self) -> NDArray[np.float64]:
+        """What each bench earns, discounted, without period costs, shape (benches,)."""
+        return self.of_benches[:, :, self.model.benches.names.index(CASH)] @ self.model.discounts[: self.years]
+
+    @property
+    def value(self) -> float:
+        """The net present value, in the currency."""
+        return float(self.earned.sum() - self.model.problem.costs(self.moved).sum())
+
+    @property
+    def moved(self) -> NDArray[np.float64]:
+        """What is mined and fed by year, in rows: shape (rows, years)."""
+        return np.concatenate([self.dug, self.fed.reshape(np.prod(self.fed.shape[:2]), self.years)])
+
+    def until(self, year: int) -> Flows:
+        """Returns the flows up to a year; nothing moves in later years."""
+        runs = np.arange(self.years) < year
+        parts = {name: getattr(self, name) * runs for name in ("dug", "direct", "stocked", "reclaimed")}
+        return replace(self, **parts)
+
+    def cut(self, years: int) -> Flows:
+        """Returns the flows of the first years only."""
+        parts = {name: getattr(self, name)[..., :years] for name in ("dug", "direct", "stocked", "reclaimed")}
+        return replace(self, **parts)
+
+    @property
+    def last(self) -> int:
+        """The last year, from 1, in which anything moves; 0 if nothing does."""
+        moved = self.dug.any(axis=0) | self.fed.any(axis=(0, 1))
+        return int(np.flatnonzero(moved)[-1]) + 1 if moved.any() else 0
+
+
+def none_of(model: FlowModel, dug: NDArray[np.float64]) -> Flows:
+    """Returns flows in which all that is mined is waste."""
+    shape = (model.ore.processes, len(model.ore), model.years)
+    return Flows(model, dug, np.zeros(shape), np.zeros(shape[1:]), np.zeros(shape))
+
+
+def best(model: FlowModel, dug: NDArray[np.float64]) -> Flows:
+    """Returns the best flows of what is mined in all years.
+
+    Raises
+    ------
+    PlanError
+        If no flow meets the minimums.
+    KeyboardInterrupt
+        If the run is interrupted.
+    """
+    programme = FlowProgramme(model, dug)
+    if not len(programme.gain):
+        return none_of(model, dug)
+    found = programme.solved()
+    empty = none_of(model, dug)
+    empty.direct[model.direct.process, model.direct.parcel] = found.direct
+    empty.reclaimed[model.reclaimed.process, model.reclaimed.parcel] = found.reclaimed
+    empty.stocked[model.stocked] = found.stocked
+    return replace(within(empty), prices=found.prices)
+
+
+def within(flows: Flows) -> Flows:
+    """Returns the flows without the solver's tolerance: within what is mined, what is stocked, and the maxima of each year."""
+    dug = flows.dug[flows.model.ore.bench]
+    direct, stocked, reclaimed = (
+        np.where(part > SLIGHT, part, 0.0) for part in (flows.direct, flows.stocked, flows.reclaimed)
+    )
+    direct *= share_of(dug, direct.sum(axis=0))
+    stocked = np.minimum(stocked, np.maximum(dug - direct.sum(axis=0), 0.0))
+    stock = np.zeros(len(dug))
+    found = replace(flows, direct=direct, stocked=stocked, reclaimed=reclaimed)
+    for year in range(flows.years):
+        reclaimed[:, :, year] *= share_of(stock, reclaimed[:, :, year].sum(axis=0))
+        keep_maxima(found, year)
+        stock = np.maximum(stock + stocked[:, year] - reclaimed[:, :, year].sum(axis=0), 0.0)
+    return found
+
+
+def share_of(most: NDArray[np.float64], used: NDArray[np.float64]) -> NDArray[np.float64]:
+    """Returns by what to multiply what is used so that it is at most `most`."""
+    return np.divide(most, used, out=np.ones_like(used), where=used > most)
+
+
+def keep_maxima(flows: Flows, year: int) -> None:
+    """Scales, in place, what is fed in a year down to each maximum above 0. Limits on grades, whose maximum is 0, hold for any scale."""
+    model, ore = flows.model, flows.model.ore
+    limits = model.problem.limits
+    for name, most in zip(limits.most, limits.of_year(year + 1)):
+        amounts = ore.of(name)
+        if not amounts.any() or (amounts < 0).any():
+            continue
+        fed = (amounts * (flows.direct[:, :, year] + flows.reclaimed[:, :, year])).sum()
+        free = max(float(most - model.dug(name) @ flows.dug[:, year]), 0.0)
+        if fed > free:
+            takes = (amounts > 0).any(axis=1)
+            flows.direct[takes, :, year] *= free / fed
+            flows.reclaimed[takes, :, year] *= free / fed
+
+
+def richest_first(model: FlowModel, dug: NDArray[np.float64], prices: Optional[Prices] = None) -> Flows:
+    """Returns flows in which each year's ore goes where it gains most per tonne of feed, the richest first, as far as the maxima allow.
+
+    Nothing is stockpiled. With prices the gain is less those of the maxima, as the linear programme weighs it.
+    """
+    flows, feed = none_of(model, dug), model.ore.feed
+    process, parcel = model.direct.process, model.direct.parcel
+    names = [name for name in model.problem.limits.most if model.ore.of(name).any()]
+    takes = np.array([model.direct.of(model.ore.of(name)) for name in names]).reshape(len(names), len(process))
+    of_years = dict(zip(model.problem.limits.most, model.problem.limits.of_years(model.years).T))
+    free = np.array([of_years[name] - model.dug(name) @ dug for name in names]).reshape(len(names), model.years)
+    for year in np.flatnonzero(dug.any(axis=0)):
+        gain = model.gains[process, parcel, year] * model.discounts[year]
+        for name, part in zip(names, takes):
+            gain = gain - part * (0.0 if prices is None else prices.get((name, "max"), np.zeros(model.years))[year])
+        some = np.flatnonzero((gain > 0) & (dug[model.ore.bench[parcel], year] > 0))
+        order = some[np.argsort(-gain[some] / feed[parcel[some]], kind="stable")]
+        left, there = np.maximum(free[:, year], 0.0), dug[model.ore.bench, year].copy()
+        for pair in order.tolist():
+            share = room(takes[:, pair], left, there[parcel[pair]])
+            if share > SLIGHT:
+                flows.direct[process[pair], parcel[pair], year] = share
+                there[parcel[pair]] -= share
+                left -= share * takes[:, pair]
+    return flows
+
+
+def room(takes: NDArray[np.float64], left: NDArray[np.float64], there: float) -> float:
+    """Returns the share of a parcel that fits into what is left of each limit."""
+    some = takes > 0
+    if not some.any():
+        return there
+    return float(max(min(there, (left[some] / takes[some]).min()), 0.0))

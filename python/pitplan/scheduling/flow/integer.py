@@ -1,0 +1,88 @@
+"""The material flow as an integer programme: the best schedule of parcels, if it is small enough to be found.
+
+To the unknowns of the linear programme come whole ones: whether a bench may be started by the end of a year. It may only when all that it
+waits for is mined by then, and only then may any of it be mined.
+"""
+
+from __future__ import annotations
+
+from typing import Optional
+
+import numpy as np
+from numpy.typing import NDArray
+from scipy.sparse import csr_matrix, hstack, vstack
+
+from pitplan.config.schedule import Effort
+from pitplan.scheduling.bench_sequencing import HAIR
+from pitplan.scheduling.highs import Programme
+from pitplan.scheduling.highs_process import solve
+
+from . import scheduler
+from .flows import Flows
+from .model import FlowModel
+from .programme import FlowProgramme
+from .rows import started_rows
+
+# What the solver's tolerance may add to a share, and by how much a limit may be missed.
+SLIGHT, TOLERATED = 1e-6, 1e-8
+# HiGHS may go on for long when its time is up: it is ended after so many times that and so many seconds more, with nothing found.
+TIMES, LATE = 2.0, 30.0
+
+
+def integer_programme(flow: FlowProgramme) -> Programme:
+    """Returns the linear programme with the whole unknowns behind its own."""
+    given, size = flow.programme, flow.sizes[0]
+    started = started_rows(flow.model.benches, flow.years)
+    between = csr_matrix((started.shape[0], len(given.gain) - size))
+    matrix = vstack(
+        [
+            hstack([given.matrix, csr_matrix((given.matrix.shape[0], size))]),
+            hstack([started[:, :size], between, started[:, size:]]),
+        ],
+        format="csr",
+    )
+    return Programme(
+        gain=np.concatenate([given.gain, np.zeros(size)]),
+        matrix=matrix,
+        most=np.concatenate([given.most, np.zeros(started.shape[0])]),
+        upper=np.concatenate([given.upper, (given.upper[:size] > SLIGHT).astype(float)]),
+        whole=np.repeat([False, True], [len(given.gain), size]),
+    )
+
+
+def best_schedule(model: FlowModel, effort: Effort) -> tuple[Optional[Flows], float]:
+    """Returns the best schedule found, None if there was none in time, and the bound shown by then, infinite if HiGHS had to be ended.
+
+    Raises KeyboardInterrupt if the run is interrupted.
+    """
+    flow = FlowProgramme(model)
+    found = solve(integer_programme(flow), effort, None if effort.seconds is None else TIMES * effort.seconds + LATE)
+    most = found.bound * flow.unit - flow.costs[0]
+    if found.unknowns is None:
+        return None, most
+    if most < 0 and not model.problem.limits.least:
+        most = 0.0
+    dug = whole_shares(found.unknowns[: flow.sizes[0]].reshape(-1, model.years))
+    flows = scheduler.feasible(model, dug) if keeps(model, dug) else None
+    if flows is None:
+        return None, most
+    return scheduler.ended(scheduler.without_loss(flows)), most
+
+
+def keeps(model: FlowModel, dug: NDArray[np.float64]) -> bool:
+    """Returns whether each bench is started when all that it waits for is mined, and no year is above a limit of mining, but for the tolerance."""
+    benches, limits, years = model.benches, model.of_mining, dug.shape[1]
+    done = dug.cumsum(axis=1)
+    for bench, others in enumerate(benches.waits):
+        if (done[others][:, dug[bench] > 0] < 1 - HAIR).any():
+            return False
+    sunk = np.stack([dug[benches.pushback == pushback].sum(axis=0) for pushback in np.unique(benches.pushback)])
+    is_within = (limits.amounts(benches).T @ dug).T <= limits.of_years(years) * (1 + TOLERATED)
+    return bool(is_within.all() and (sunk <= limits.vertical_advance_rate + TOLERATED).all())
+
+
+def whole_shares(cumulative: NDArray[np.float64]) -> NDArray[np.float64]:
+    """Returns the shares of benches by year without the solver's tolerance."""
+    rounded = np.where(cumulative > 1 - SLIGHT, 1.0, np.where(cumulative < SLIGHT, 0.0, cumulative))
+    shares = np.diff(np.maximum.accumulate(rounded, axis=1), axis=1, prepend=0.0)
+    return np.where(shares > HAIR, shares, 0.0)

@@ -1,0 +1,66 @@
+"""Ore of pushbacks in units, single blocks or parcels of them: what each adds to money and amounts in each process."""
+
+from __future__ import annotations
+
+from dataclasses import dataclass
+
+import numpy as np
+from numpy.typing import NDArray
+
+from pitplan.economics.period_costs import YearlyMoney
+
+FEED = "feed_tonnes"
+
+
+@dataclass(frozen=True)
+class Ore:
+    """Units of ore.
+
+    Attributes
+    ----------
+    bench : int array, shape (units,)
+        The number of the bench that each unit is mined with.
+    bin : int array, shape (units,)
+        The value bin of each, from 1.
+    gain : array of float, shape (processes, units)
+        Revenue less the cost of processing and selling of a whole unit at the base price, in the currency.
+    amounts : dict of str to array, shape (processes, units)
+        What a whole unit adds to an amount where it is processed: feed_tonnes, feed_tonnes_PROCESS, recovered_METAL, and limited sums and grades.
+    """
+
+    bench: NDArray[np.int64]
+    bin: NDArray[np.int64]
+    gain: NDArray[np.float64]
+    amounts: dict[str, NDArray[np.float64]]
+
+    def __len__(self) -> int:
+        return len(self.bench)
+
+    @property
+    def processes(self) -> int:
+        """The number of processes."""
+        return len(self.gain)
+
+    @property
+    def feed(self) -> NDArray[np.float64]:
+        """Mill feed of each unit, in tonnes; it is the same in each process."""
+        return np.asarray(self.of(FEED).max(axis=0, initial=0.0))
+
+    def of(self, name: str) -> NDArray[np.float64]:
+        """Returns what whole units add to an amount, shape (processes, units); 0 if processing does not change it."""
+        return self.amounts.get(name, np.zeros_like(self.gain))
+
+    def gains(self, money: YearlyMoney, years: int) -> NDArray[np.float64]:
+        """Returns the gain of whole units by process and year, at the year's prices, shape (processes, units, years)."""
+        names, found = tuple(money.premiums), np.repeat(self.gain[:, :, None], years, axis=2)
+        for name, premium in zip(names, money.premium(names, years).T):
+            found += self.of(name)[:, :, None] * premium
+        return found
+
+    def merged(self, parcel: NDArray[np.int64], bench: NDArray[np.int64], bins: NDArray[np.int64]) -> Ore:
+        """Returns the sums over units by their parcel; `bench` and `bins` are those of the parcels."""
+
+        def sums(values: NDArray[np.float64]) -> NDArray[np.float64]:
+            return np.stack([np.bincount(parcel, row, minlength=len(bench)) for row in values])
+
+        return Ore(bench, bins, sums(self.gain), {name: sums(values) for name, values in self.amounts.items()})

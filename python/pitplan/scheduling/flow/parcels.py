@@ -1,0 +1,268 @@
+"""The ore of pushbacks, block by block and in parcels: the blocks of a bench whose best process and value bin are the same."""
+
+from __future__ import annotations
+
+from dataclasses import dataclass, replace
+from typing import Optional
+
+import numpy as np
+from numpy.typing import NDArray
+
+from pitplan.config.feed_grades import FeedGrade
+from pitplan.config.schedule import FEED as OF_FEED, TOTAL, ScheduleRules
+from pitplan.economics import period_costs
+from pitplan.plan import MILLION, Plan
+from pitplan.pushbacks import bench_table
+from pitplan.pushbacks.bench_table import CASH, ROCK, PushbackBenches
+from pitplan.pushbacks.nested import Pushbacks
+from pitplan.scheduling.bench_sequencing import Limits
+from pitplan.scheduling.limits import SUM
+
+from .model import FlowModel
+from .ore import FEED, Ore
+from .programme import MAX, Prices
+
+# Value bins of each process, unless [schedule] bins sets another number.
+BINS = 8
+# A limit on a grade divides ore into so many parts of even feed, by that grade, so that parcels can be blended.
+GRADE_PARTS = 3
+GRADE = "grade_"
+# How the only process of a project is called in tables.
+MILL = "mill"
+
+
+@dataclass(frozen=True)
+class Material:
+    """The material of pushbacks.
+
+    Attributes
+    ----------
+    benches : PushbackBenches
+        With the amounts and the cash flow of mining alone.
+    cells : int array, shape (blocks,)
+        The cells of the blocks of ore.
+    parcel : int array, shape (blocks,)
+        The parcel of each.
+    blocks, parcels : Ore
+        The ore block by block, and in parcels.
+    edges : dict of str to array
+        By process the net values per tonne of feed between its bins, in the currency.
+    """
+
+    benches: PushbackBenches
+    cells: NDArray[np.int64]
+    parcel: NDArray[np.int64]
+    blocks: Ore
+    parcels: Ore
+    edges: dict[str, NDArray[np.float64]]
+
+
+def of_pushbacks(pushbacks: Pushbacks, rules: ScheduleRules) -> Material:
+    """Returns the material of pushbacks, with value bins of nearly even tonnage."""
+    plan, assigned = pushbacks.plan, bench_table.of_pushbacks(pushbacks, rules.bench_lag)
+    bench_at = np.full((len(pushbacks.factors) + 1, plan.grid.shape[0]), -1)
+    bench_at[assigned.pushback, assigned.level] = np.arange(len(assigned))
+    cells = ore_cells(pushbacks, rules)
+    blocks = ore_of(plan, rules, cells, bench_at[pushbacks.pushback[cells], cells // plan.grid.per_level])
+    per_tonne, names = per_tonne_of(blocks, blocks.gain), names_of(plan)
+    best, count = per_tonne.argmax(axis=0), rules.bins or BINS
+    edges = {
+        name: edges_of(per_tonne[process, best == process], blocks.feed[best == process], count)
+        for process, name in enumerate(names)
+    }
+    kind = kinds_of(blocks, per_tonne, list(edges.values()), grade_parts(blocks))
+    return in_parcels(Material(mined_alone(pushbacks, assigned, rules), cells, kind, blocks, blocks, edges), kind)
+
+
+def at_prices(material: Material, rules: ScheduleRules, model: FlowModel, prices: Prices) -> Material:
+    """Returns the same material with the cut-offs of the years, by the prices of the linear programme, as further edges of bins.
+
+    Within such a bin blocks go to the same destinations in most years, so that parcels lose less of what single blocks can earn. If head grades
+    are limited, the value of a block is less their prices, in the mean of the years, and the cut-offs are all edges.
+    """
+    blocks, count = material.blocks, rules.bins or BINS
+    nothing = np.zeros(model.years)
+    present = {name: prices.get((name, MAX), nothing) / model.discounts for name in blocks.amounts}
+    graded = [name for name in blocks.amounts if name.startswith(GRADE)]
+    reduced = blocks.gain - sum((present[name].mean() * blocks.amounts[name] for name in graded), 0.0)
+    edges = {
+        name: cutoff_edges(present[FEED] + (present[f"{FEED}_{name}"] if name else 0.0), count)
+        for name in material.edges
+    }
+    if not graded:
+        edges = {name: np.union1d(edges[name], before) for name, before in material.edges.items()}
+    above = np.array([blocks.amounts[name].sum(axis=0) > 0 for name in graded], dtype=np.int64).reshape(-1, len(blocks))
+    part = above.T @ (2 ** np.arange(len(graded)))
+    return in_parcels(material, kinds_of(blocks, per_tonne_of(blocks, reduced), list(edges.values()), part), edges)
+
+
+def cutoff_edges(cutoffs: NDArray[np.float64], count: int) -> NDArray[np.float64]:
+    """Returns at most count - 1 of the cut-offs of years, evenly among those that differ."""
+    found = np.unique(np.round(cutoffs[cutoffs > 0], 9))
+    if len(found) < count:
+        return found
+    return (
+        np.unique(found[np.linspace(0, len(found) - 1, count - 1).round().astype(np.int64)]) if count > 1 else found[:0]
+    )
+
+
+def in_parcels(
+    material: Material, kind: NDArray[np.int64], edges: Optional[dict[str, NDArray[np.float64]]] = None
+) -> Material:
+    """Returns the material with the blocks of a bench and a bin as a parcel."""
+    blocks, kinds = replace(material.blocks, bin=kind), int(kind.max(initial=0))
+    used, parcel = np.unique(blocks.bench * (kinds + 1) + kind, return_inverse=True)
+    parcels = blocks.merged(parcel, used // (kinds + 1), used % (kinds + 1))
+    return replace(material, parcel=parcel, blocks=blocks, parcels=parcels, edges=edges or material.edges)
+
+
+def per_tonne_of(blocks: Ore, values: NDArray[np.float64]) -> NDArray[np.float64]:
+    """Returns values of blocks per tonne of feed, shape (processes, blocks); -inf in processes that cannot take a block."""
+    return np.where(blocks.of(FEED) > 0, values / np.where(blocks.feed > 0, blocks.feed, 1.0), -np.inf)
+
+
+def names_of(plan: Plan) -> list[str]:
+    """The processes by name; "" of a project that names none."""
+    return [process.name for process in plan.project.processes] or [""]
+
+
+def ore_cells(pushbacks: Pushbacks, rules: ScheduleRules) -> NDArray[np.int64]:
+    """The cells of the pushbacks that some process may take: those that gain in some year, or, where limits may ask for ore, yield anything."""
+    plan = pushbacks.plan
+    inside = np.flatnonzero((pushbacks.pushback > 0) & (plan.values.tonnes > 0))
+    inside = inside[np.any([way.revenue[inside] > 0 for way in plan.values.by_process], axis=0)]
+    if rules.asks_least or plan.project.feed_grades:
+        return inside
+    money = period_costs.of_project(plan.project)
+    years = 1 + max((len(more) for more in money.premiums.values()), default=0)
+    ore = ore_of(plan, rules, inside, np.zeros(len(inside), dtype=np.int64))
+    return inside[ore.gains(money, years).max(axis=(0, 2), initial=-np.inf) > 0]
+
+
+def ore_of(plan: Plan, rules: ScheduleRules, cells: NDArray[np.int64], bench: NDArray[np.int64]) -> Ore:
+    """Returns cells as ore, with the bench of each."""
+    values, ways = plan.values, plan.values.by_process
+    # A block without revenue in a process is never sent there.
+    takes = np.array([way.revenue[cells] > 0 for way in ways], dtype=float)
+    amounts = {FEED: takes * values.feed[cells]}
+    for number, process in enumerate(plan.project.processes):
+        amounts[f"{FEED}_{process.name}"] = alone(amounts[FEED], number)
+    for name in values.metal:
+        amounts[f"recovered_{name}"] = takes * np.stack([way.metal[name][cells] for way in ways])
+    amounts |= sums_of(plan, rules, cells, takes) | grades_of(plan, cells, takes)
+    gain = np.stack([(way.revenue[cells] - way.cost[cells]) / MILLION for way in ways])
+    return Ore(bench, np.ones(len(cells), dtype=np.int64), gain, amounts)
+
+
+def alone(values: NDArray[np.float64], process: int) -> NDArray[np.float64]:
+    """Returns the values of one process, and 0 in the others."""
+    found = np.zeros_like(values)
+    found[process] = values[process]
+    return found
+
+
+def column_of(plan: Plan, name: str, cells: NDArray[np.int64]) -> NDArray[np.float64]:
+    """Returns a column of the table by cell."""
+    return np.asarray(plan.grid.spread(plan.table[name].to_numpy())[cells], dtype=float)
+
+
+def sums_of(
+    plan: Plan, rules: ScheduleRules, cells: NDArray[np.int64], takes: NDArray[np.float64]
+) -> dict[str, NDArray[np.float64]]:
+    """Returns what processing adds to the limited sums of columns that count feed."""
+    found, names = {}, names_of(plan)
+    for it in [it for it in rules.limits if it.of != TOTAL]:
+        weight = plan.values.undiluted[cells] if it.per_tonne else np.ones(len(cells))
+        whole = takes * (column_of(plan, it.column, cells) * weight)
+        found[f"{SUM}{it.name}"] = whole if it.of == OF_FEED else alone(whole, names.index(it.of))
+    return found
+
+
+def grades_of(plan: Plan, cells: NDArray[np.int64], takes: NDArray[np.float64]) -> dict[str, NDArray[np.float64]]:
+    """Returns by limited head grade what processing adds to the content above the maximum, or below the minimum: at most 0 in each year."""
+    found = {}
+    for number, limit in feed_grades(plan):
+        content = column_of(plan, limit.column, cells) * plan.values.undiluted[cells]
+        for side, grade, sign in (("max", limit.max, 1.0), ("min", limit.min, -1.0)):
+            if grade is not None:
+                excess = sign * (content - grade * plan.values.feed[cells])
+                found[grade_name(limit, side)] = alone(takes * excess, number)
+    return found
+
+
+def grade_name(limit: FeedGrade, side: str) -> str:
+    """The name of the amount of a limited head grade, such as grade_mill_as_ppm_max."""
+    return GRADE + "_".join([*([limit.process] if limit.process else []), limit.column, side])
+
+
+def feed_grades(plan: Plan) -> list[tuple[int, FeedGrade]]:
+    """Returns the limited head grades with the number of their process."""
+    names = names_of(plan)
+    return [(names.index(limit.process), limit) for limit in plan.project.feed_grades]
+
+
+def kinds_of(
+    blocks: Ore, per_tonne: NDArray[np.float64], edges: list[NDArray[np.float64]], part: NDArray[np.int64]
+) -> NDArray[np.int64]:
+    """Returns the bin of each block, from 1, by its best process, the processes that may take it, its value per tonne, rising, and limited grades.
+
+    Parameters
+    ----------
+    blocks : Ore
+    per_tonne : array, shape (processes, blocks)
+        Values per tonne of feed.
+    edges : list of arrays
+        The values between bins, by process.
+    part : int array, shape (blocks,)
+        The part of each block by limited grades.
+    """
+    best = per_tonne.argmax(axis=0)
+    takers = (blocks.of(FEED) > 0).T @ (2 ** np.arange(blocks.processes))
+    value = np.zeros(len(blocks), dtype=np.int64)
+    for process, between in enumerate(edges):
+        some = np.flatnonzero(best == process)
+        value[some] = np.searchsorted(between, per_tonne[process, some])
+    key = np.stack([best, takers, value, part], axis=1)
+    return np.unique(key, axis=0, return_inverse=True)[1].ravel().astype(np.int64) + 1
+
+
+def grade_parts(blocks: Ore) -> NDArray[np.int64]:
+    """Returns the part of each block by its limited grades."""
+    part = np.zeros(len(blocks), dtype=np.int64)
+    for name in [name for name in blocks.amounts if name.startswith(GRADE)]:
+        grade = blocks.amounts[name].sum(axis=0) / np.where(blocks.feed > 0, blocks.feed, 1.0)
+        edges = edges_of(grade, blocks.feed, GRADE_PARTS)
+        part = part * (len(edges) + 1) + np.searchsorted(edges, grade)
+    return part
+
+
+def edges_of(worth: NDArray[np.float64], tonnes: NDArray[np.float64], count: int) -> NDArray[np.float64]:
+    """Returns the values between `count` bins of nearly even tonnage, or fewer: each the middle between two adjacent values."""
+    found, place = np.unique(worth, return_inverse=True)
+    if len(found) < 2 or count < 2:
+        return np.zeros(0)
+    through = np.cumsum(np.bincount(place, tonnes))
+    shares = through[-1] * np.arange(1, count) / count
+    last = np.unique(np.abs(through[None, :-1] - shares[:, None]).argmin(axis=1))
+    return np.asarray((found[last] + found[last + 1]) / 2)
+
+
+def mined_alone(pushbacks: Pushbacks, assigned: PushbackBenches, rules: ScheduleRules) -> PushbackBenches:
+    """Returns the benches with the amounts of mining alone: total material, limited sums of all material, and the mining cost."""
+    plan = pushbacks.plan
+    inside = np.flatnonzero((pushbacks.pushback > 0) & (plan.values.tonnes > 0))
+    bench_at = np.full((len(pushbacks.factors) + 1, plan.grid.shape[0]), -1)
+    bench_at[assigned.pushback, assigned.level] = np.arange(len(assigned))
+    bench = bench_at[pushbacks.pushback[inside], inside // plan.grid.per_level]
+    tonnes = plan.values.tonnes[inside]
+    flows = {name: np.zeros(len(inside)) for name in assigned.names} | {ROCK: tonnes}
+    flows[CASH] = -plan.values.mining[inside] / MILLION - pushbacks.mining_cost_added[inside]
+    for it in [it for it in rules.limits if it.of == TOTAL]:
+        flows[f"{SUM}{it.name}"] = column_of(plan, it.column, inside) * (tonnes if it.per_tonne else 1.0)
+    sums = np.column_stack([np.bincount(bench, flow, minlength=len(assigned)) for flow in flows.values()])
+    return PushbackBenches(assigned.pushback, assigned.level, tuple(flows), sums, assigned.lag)
+
+
+def with_grades(limits: Limits, blocks: Ore) -> Limits:
+    """Returns the limits with those on head grades: the content above a maximum, or below a minimum, is at most 0."""
+    return replace(limits, most=limits.most | {name: 0.0 for name in blocks.amounts if name.startswith(GRADE)})

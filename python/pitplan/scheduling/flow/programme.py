@@ -1,0 +1,324 @@
+"""The linear programme of material flow.
+
+Unknowns, each by year: the share of a bench that is mined by the end of the year; the share of a parcel that a process takes as it is mined,
+that goes to the stockpile, that lies there at the end of the year, and that a process takes from there; and, if years cost anything, whether the
+mine runs. What a parcel sends nowhere is waste. The stockpile gives each parcel back as it was laid.
+"""
+
+from __future__ import annotations
+
+from collections.abc import Iterator
+from dataclasses import dataclass, field
+from functools import cached_property
+from typing import Optional
+
+import numpy as np
+from numpy.typing import NDArray
+from scipy.sparse import csr_matrix, diags, eye, hstack, kron, vstack
+
+from pitplan.config.schedule import Effort
+from pitplan.scheduling.highs import Programme
+from pitplan.scheduling.highs_process import solve
+
+from .model import FlowModel
+from .rows import by_end, furthest, order_rows
+
+MAX, MIN, RUNNING = "max", "min", "running"
+ADVANCE = "vertical_advance_"
+# A share of a minimum that may lack by the solver's tolerance alone.
+LACKING = 1e-6
+# By name of the limit and side the price of a unit in each year, discounted: shape (years,).
+Prices = dict[tuple[str, str], NDArray[np.float64]]
+
+
+@dataclass(frozen=True)
+class Limit:
+    """A limit by year: `used @ unknowns` is at most `most` for a maximum, at least for a minimum.
+
+    Attributes
+    ----------
+    name, side : str
+        The limited amount, and MAX or MIN.
+    used : csr matrix, shape (years, unknowns)
+    amount : array, shape (years,)
+    """
+
+    name: str
+    side: str
+    used: csr_matrix
+    amount: NDArray[np.float64]
+
+    @property
+    def sign(self) -> float:
+        return -1.0 if self.side == MIN else 1.0
+
+    @property
+    def scale(self) -> float:
+        """A unit in which the limit is near 1."""
+        return float(np.abs(self.amount).max(initial=0.0)) or float(np.abs(self.used.data).max(initial=0.0)) or 1.0
+
+
+@dataclass(frozen=True)
+class FlowOptimum:
+    """The optimum of the linear programme.
+
+    Attributes
+    ----------
+    cumulative : array, shape (benches, years)
+        The share of each bench that is mined by the end of each year.
+    direct, stocked, reclaimed : array, shape (pairs or parcels, years)
+        Shares of parcels by the pairs of `FlowModel.direct`, the parcels of `FlowModel.stocked`, and the pairs of `FlowModel.reclaimed`.
+    running : array, shape (years,)
+        How far the mine runs in each year; 1 if years cost nothing.
+    value : float
+        Its value, discounted, in the currency.
+    cash : array, shape (years,)
+        Its cash flow after period costs, not discounted; capex as if it flowed with the year's other cash.
+    prices : dict
+        The price of each limit.
+    """
+
+    cumulative: NDArray[np.float64]
+    direct: NDArray[np.float64]
+    stocked: NDArray[np.float64]
+    reclaimed: NDArray[np.float64]
+    running: NDArray[np.float64]
+    value: float
+    cash: NDArray[np.float64]
+    prices: Prices = field(default_factory=dict)
+
+
+@dataclass(frozen=True)
+class FlowProgramme:
+    """The programme of a model; with `dug`, shape (benches, years), of what is mined already, so that only its flows are chosen."""
+
+    model: FlowModel
+    dug: Optional[NDArray[np.float64]] = None
+
+    @property
+    def years(self) -> int:
+        return self.model.years
+
+    @cached_property
+    def sizes(self) -> list[int]:
+        """The number of unknowns: of mining, direct feed, to the stockpile, in it and from it."""
+        model, stocked = self.model, len(self.model.stocked)
+        counts = [0 if self.dug is not None else len(model.benches), len(model.direct)]
+        return [count * self.years for count in (*counts, stocked, stocked, len(model.reclaimed))]
+
+    def row(self, *parts: Optional[csr_matrix]) -> csr_matrix:
+        """Returns rows of all unknowns from rows of those of mining, direct feed, to, in and from the stockpile."""
+        height = next(part.shape[0] for part in parts if part is not None)
+        wide = [csr_matrix((height, size)) if part is None else part for part, size in zip(parts, self.sizes)]
+        return csr_matrix(hstack(wide, format="csr"))
+
+    @cached_property
+    def gain(self) -> NDArray[np.float64]:
+        """What each unknown adds to the value, discounted."""
+        model = self.model
+        present = model.gains * model.discounts
+        again = (model.gains - model.handling[None, :, None]) * model.discounts
+        mined = by_end(model.mining_cash).ravel() if self.dug is None else np.zeros(0)
+        parts = [
+            mined,
+            model.direct.of(present).ravel(),
+            np.zeros(sum(self.sizes[2:4])),
+            model.reclaimed.of(again).ravel(),
+        ]
+        return np.concatenate(parts)
+
+    @cached_property
+    def unit(self) -> float:
+        """The money that one unit of the programme's gain is."""
+        return float(np.abs(self.gain).max(initial=0.0)) or 1.0
+
+    @cached_property
+    def each_year(self) -> csr_matrix:
+        return csr_matrix(eye(self.years))
+
+    @cached_property
+    def step(self) -> csr_matrix:
+        """From what is done by the end of each year to what is done in it."""
+        return csr_matrix(diags([1.0, -1.0], [0, -1], shape=(self.years, self.years)))
+
+    def parcel_rows(self) -> tuple[csr_matrix, NDArray[np.float64]]:
+        """No more of a parcel is sent anywhere in a year than is mined of it."""
+        model, count = self.model, len(self.model.ore)
+        takes = incidence(model.direct.parcel, count)
+        stocked = incidence(model.stocked, count)
+        if self.dug is not None:
+            most = self.dug[model.ore.bench].ravel()
+            return self.row(None, kron(takes, self.each_year), kron(stocked, self.each_year), None, None), most
+        mined = kron(incidence(model.ore.bench, len(model.benches)).T, self.step)
+        parts = (-mined, kron(takes, self.each_year), kron(stocked, self.each_year), None, None)
+        return self.row(*parts), np.zeros(count * self.years)
+
+    def stock_rows(self) -> Iterator[tuple[csr_matrix, NDArray[np.float64]]]:
+        """What lies in the stockpile is what lay there and came, less what was reclaimed; no more is reclaimed than lay there a year before."""
+        model, count = self.model, len(self.model.stocked)
+        if not count:
+            return
+        place = np.full(len(model.ore), -1)
+        place[model.stocked] = np.arange(count)
+        leaves = kron(incidence(place[model.reclaimed.parcel], count), self.each_year)
+        each, before = eye(count), eye(self.years, k=-1)
+        nothing = np.zeros(count * self.years)
+        yield self.row(None, None, -kron(each, self.each_year), kron(each, self.step), leaves), nothing
+        yield self.row(None, None, None, -kron(each, before), leaves), nothing
+
+    @cached_property
+    def limits(self) -> list[Limit]:
+        """All limits of years; without those of mining if it is given."""
+        model, limits = self.model, self.model.problem.limits
+        most, least = limits.of_years(self.years).T, limits.least_of_years(self.years)
+        found = [Limit(name, MAX, self.used(name), amount) for name, amount in zip(limits.most, most)]
+        found += [Limit(name, MIN, self.used(name), amount) for name, amount in least.items()]
+        if self.dug is not None:
+            found = [
+                Limit(it.name, it.side, it.used, it.amount - model.dug(it.name) @ self.dug)
+                for it in found
+                if model.ore.of(it.name).any()
+            ]
+        elif np.isfinite(limits.vertical_advance_rate):
+            found += [self.advance(pushback) for pushback in np.unique(model.benches.pushback)]
+        return found
+
+    def used(self, name: str) -> csr_matrix:
+        """Returns what each unknown adds to an amount in each year, shape (years, unknowns)."""
+        model = self.model
+        mined = None if self.dug is not None else kron(csr_matrix(model.dug(name)[None]), self.step)
+        amounts = model.ore.of(name)
+        direct, again = (
+            kron(csr_matrix(uses.of(amounts)[None]), self.each_year) for uses in (model.direct, model.reclaimed)
+        )
+        return self.row(mined, direct, None, None, again)
+
+    def advance(self, pushback: int) -> Limit:
+        """The limit of the vertical advance of a pushback, in benches."""
+        mined = kron(csr_matrix((self.model.benches.pushback == pushback)[None].astype(float)), self.step)
+        most = np.full(self.years, self.model.problem.limits.vertical_advance_rate)
+        return Limit(f"{ADVANCE}{pushback}", MAX, self.row(mined, None, None, None, None), most)
+
+    @cached_property
+    def costs(self) -> NDArray[np.float64]:
+        """What each year costs if the mine runs, discounted; nothing if mining is given."""
+        return np.zeros(self.years) if self.dug is not None else self.model.problem.costs_of_years(self.years)
+
+    @cached_property
+    def programme(self) -> Programme:
+        """All rows: order, parcels, stockpile, then limits, and limits of running years."""
+        parts = [] if self.dug is not None else [self.order_rows()]
+        parts += [self.parcel_rows(), *self.stock_rows()]
+        parts += [(it.used * (it.sign / it.scale), it.sign * it.amount / it.scale) for it in self.limits]
+        matrix, most = vstack([rows for rows, _ in parts], format="csr"), np.concatenate([right for _, right in parts])
+        size = sum(self.sizes)
+        upper = np.ones(size)
+        if self.dug is None:
+            upper[: self.sizes[0]] = self.reachable.ravel()
+        programme = Programme(self.gain / self.unit, matrix, most, upper, np.zeros(size, dtype=bool))
+        return self.with_running_years(programme) if self.costs[1:].any() else programme
+
+    def order_rows(self) -> tuple[csr_matrix, NDArray[np.float64]]:
+        matrix, most = order_rows(self.model.benches, self.years)
+        return self.row(matrix, None, None, None, None), most
+
+    @cached_property
+    def reachable(self) -> NDArray[np.float64]:
+        """The greatest share of each bench that can be mined by the end of each year, shape (benches, years)."""
+        return furthest(self.model.benches, self.model.of_mining, self.years)
+
+    @property
+    def bounding(self) -> list[Limit]:
+        """The maxima that show whether the mine runs in a year."""
+        return [it for it in self.limits if it.side == MAX and np.isfinite(it.amount).all() and it.amount.any()]
+
+    def with_running_years(self, programme: Programme) -> Programme:
+        """Returns the programme with an unknown for each year: how far the mine runs, at least as far as any limit is used and as it runs in the
+        next year. The first year costs its whole in any case."""
+        size, years = len(programme.gain), self.years
+        used = [hstack([it.used / it.scale, -diags(it.amount / it.scale)]) for it in self.bounding]
+        order = hstack([csr_matrix((years, size)), eye(years, k=1) - diags([1.0] * (years - 1) + [0.0])])
+        rows = [hstack([programme.matrix, csr_matrix((programme.matrix.shape[0], years))]), *used, order]
+        matrix = vstack(rows, format="csr")
+        more = np.zeros(matrix.shape[0] - programme.matrix.shape[0])
+        return Programme(
+            np.append(programme.gain, -np.append(0.0, self.costs[1:]) / self.unit),
+            matrix,
+            np.append(programme.most, more),
+            np.append(programme.upper, np.ones(years)),
+            np.append(programme.whole, np.repeat(programme.whole.any(), years)),
+        )
+
+    def solved(self) -> FlowOptimum:
+        """Solves the programme. Raises PlanError if there is no solution, KeyboardInterrupt if the run is interrupted."""
+        found = solve(self.programme, Effort())
+        assert found.unknowns is not None and found.prices is not None
+        value = found.bound * self.unit - self.costs[0]
+        return self.optimum(found.unknowns, value, self.prices(found.prices))
+
+    def lacking(self) -> str:
+        """Says, if minimums are infeasible, by how much which ones lack in which years at least; "" if they can be met.
+
+        An elastic programme lets each minimum lack at the cost of the share that lacks.
+        """
+        given, elastic = self.programme, [it for it in self.limits if it.side == MIN]
+        rows = given.matrix.shape[0] - (self.years * (len(self.bounding) + 1) if self.costs[1:].any() else 0)
+        first = rows - len(self.limits) * self.years
+        at = np.concatenate([first + self.limits.index(it) * self.years + np.arange(self.years) for it in elastic])
+        more = csr_matrix((-np.ones(len(at)), (at, np.arange(len(at)))), shape=(given.matrix.shape[0], len(at)))
+        found = solve(
+            Programme(
+                np.concatenate([np.zeros(len(given.gain)), -np.ones(len(at))]),
+                csr_matrix(hstack([given.matrix, more])),
+                given.most,
+                np.concatenate([given.upper, np.full(len(at), np.inf)]),
+                np.zeros(len(given.gain) + len(at), dtype=bool),
+            ),
+            Effort(),
+        )
+        assert found.unknowns is not None
+        short = found.unknowns[len(given.gain) :].reshape(len(elastic), self.years)
+        told = [
+            f"{it.name} in year {year + 1} by {lacks * it.scale:,.6g} of {it.amount[year]:,.6g}"
+            for it, of_years in zip(elastic, short)
+            for year, lacks in enumerate(of_years)
+            if lacks > LACKING
+        ]
+        return f"infeasible: no schedule of these pushbacks meets the minimum of {'; of '.join(told)}" if told else ""
+
+    def optimum(self, unknowns: NDArray[np.float64], value: float, prices: Prices) -> FlowOptimum:
+        """Returns the optimum by its parts; nothing is mined if that is worth more."""
+        if value < 0 and self.dug is None and not self.model.problem.limits.least:
+            unknowns, value = np.zeros_like(unknowns), 0.0
+        ends = np.cumsum(self.sizes)
+        by_end_of_years, direct, stocked, _, reclaimed = (
+            part.reshape(-1, self.years) for part in np.split(unknowns[: ends[-1]], ends[:-1])
+        )
+        running = unknowns[ends[-1] :] if len(unknowns) > ends[-1] else np.ones(self.years)
+        cumulative = np.maximum.accumulate(np.clip(by_end_of_years, 0.0, 1.0), axis=1)
+        fed = (self.gain[ends[0] :] * unknowns[ends[0] : ends[-1]]).reshape(-1, self.years).sum(axis=0)
+        mined = (
+            (self.model.mining_cash * np.diff(cumulative, axis=1, prepend=0.0)).sum(axis=0) if len(cumulative) else 0.0
+        )
+        cash = (mined + fed - self.costs * running) / self.model.discounts
+        return FlowOptimum(cumulative, direct, stocked, reclaimed, running, value, cash, prices)
+
+    def prices(self, of_rows: NDArray[np.float64]) -> Prices:
+        """Returns the prices of the limits, from the dual value of each row."""
+        first = (
+            self.programme.matrix.shape[0] - self.years * (len(self.bounding) + 1)
+            if self.costs[1:].any()
+            else len(of_rows)
+        )
+        tagged = [(it.name, it.side, it.scale) for it in self.limits]
+        before = np.split(of_rows[first - len(tagged) * self.years : first], max(len(tagged), 1))
+        found = {(name, side): part * self.unit / scale for (name, side, scale), part in zip(tagged, before)}
+        if self.costs[1:].any():
+            after = np.split(of_rows[first:], len(self.bounding) + 1)
+            found |= {(it.name, RUNNING): part * self.unit / it.scale for it, part in zip(self.bounding, after)}
+        return found
+
+
+def incidence(place: NDArray[np.int64], count: int) -> csr_matrix:
+    """Returns a matrix of shape (count, items): 1 where an item has this place."""
+    return csr_matrix((np.ones(len(place)), (place, np.arange(len(place)))), shape=(count, len(place)))

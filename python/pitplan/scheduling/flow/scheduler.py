@@ -1,0 +1,167 @@
+"""Feasible schedules of material flow: by rule, and from orders of benches at their best pace."""
+
+from __future__ import annotations
+
+from collections.abc import Iterator
+from dataclasses import dataclass, replace
+from itertools import combinations
+from typing import Optional
+
+import numpy as np
+from numpy.typing import NDArray
+
+from pitplan.errors import PlanError
+from pitplan.pushbacks.bench_table import ORE, PushbackBenches
+from pitplan.scheduling.bench_sequencing import Problem, Sequence, by_lead, dig, leads
+
+from . import orders
+from .flows import Flows, best, richest_first
+from .model import FlowModel
+from .orders import Ordered
+from .pacing import Pacing
+from .programme import FlowOptimum
+from .rows import paying
+
+# Of more processes than these the mine is paced by each one alone or by all.
+MOST_PACING = 3
+# For so many of the best orders the best flows are sought; with minimums, of which any may fail, for more.
+TRIED, TRIED_WITH_MINIMUMS = 4, 40
+
+
+@dataclass(frozen=True)
+class Pace:
+    """Benches by which a rule paces the mine.
+
+    Attributes
+    ----------
+    problem : Problem
+        Benches whose ore is all processed by its best process as it is mined, and the limits.
+    """
+
+    problem: Problem
+
+    def paced_by(self, names: tuple[str, ...]) -> Problem:
+        """Returns the problem in which a year ends when a limit of mining, or one of these of feed and metal, is used up."""
+        limits = self.problem.limits
+        most = {name: amount for name, amount in limits.most.items() if name in names or not is_of_ore(name)}
+        return replace(self.problem, limits=replace(limits, most=most))
+
+    @property
+    def sets(self) -> list[tuple[str, ...]]:
+        """The sets of limits that may pace the mine: of several processes any of them; and those of mining alone, if there are any."""
+        most = self.problem.limits.most
+        split = [name for name in most if name.startswith(f"{ORE}_")]
+        of_ore = split or [name for name in most if name == ORE]
+        others = tuple(name for name in most if is_of_ore(name) and not name.startswith(ORE))
+        counts = range(1, len(of_ore) + 1) if len(of_ore) <= MOST_PACING else (1, len(of_ore))
+        found = [(*some, *others) for count in counts for some in combinations(of_ore, count)]
+        is_limited = any(not is_of_ore(name) for name in most) or np.isfinite(self.problem.limits.vertical_advance_rate)
+        return [*found[::-1], *([()] if is_limited else [])]
+
+    def schedules(self, years: Optional[int] = None) -> Iterator[tuple[int, NDArray[np.float64]]]:
+        """Yields each lead of pushbacks and the shares of benches by year, for each set of limits."""
+        for names in self.sets:
+            problem = self.paced_by(names)
+            for lead in leads(problem.benches):
+                yield lead, dig(problem, by_lead(problem.benches, lead), years)
+
+
+def pace_of(problem: Problem, assigned: PushbackBenches) -> Pace:
+    """Returns the benches whose ore is all processed by its best process as it is mined, with the limits on what they then add."""
+    names, limits = problem.benches.names, problem.limits
+    columns = [assigned.of(name) if name in assigned.names else problem.benches.of(name) for name in names]
+    benches = replace(assigned, names=names, amounts=np.column_stack(columns))
+    most = {name: amount for name, amount in limits.most.items() if name in names}
+    return Pace(replace(problem, benches=benches, limits=replace(limits, most=most, least={})))
+
+
+def is_of_ore(name: str) -> bool:
+    return name.startswith((ORE, "recovered_"))
+
+
+def padded(shares: NDArray[np.float64], years: int) -> NDArray[np.float64]:
+    return np.pad(shares, ((0, 0), (0, max(0, years - shares.shape[1]))))
+
+
+def by_rule(model: FlowModel, pace: Pace, years: Optional[int]) -> tuple[Flows, int]:
+    """Returns the schedule by rule with the highest NPV, and its lead.
+
+    Each pushback follows the one before by the same lead, and a year ends when a limit is used up. Its ore goes where it gains most, the
+    richest first. `years` limits the years; None: all is mined, for which the model gets as many years as that takes.
+    """
+    found = list(pace.schedules(years))
+    longest = max(shares.shape[1] for _, shares in found)
+    model = replace(model, years=longest, reclaim_cost=None)
+    pacing = Pacing(model)
+    lead, shares = max(found, key=lambda pair: pacing.value(padded(pair[1], longest)))
+    flows = richest_first(model, padded(shares, longest))
+    return flows.cut(flows.last), lead
+
+
+def from_optimum(model: FlowModel, optimum: FlowOptimum, rule: Optional[Flows] = None) -> Flows:
+    """Returns the best schedule of those made of orders of benches at their best pace, and of the benches of the rule, without what does not
+    pay in it.
+
+    Raises
+    ------
+    PlanError
+        If none of them meets the minimums.
+    """
+    tries = TRIED_WITH_MINIMUMS if model.problem.limits.least else TRIED
+    given = None if rule is None else feasible(model, padded(rule.dug, model.years))
+    made = [] if given is None else [given]
+    for found in orders_of(model, optimum)[:tries]:
+        flows = feasible(model, mined(model, found.order, optimum))
+        made += [] if flows is None else [flows]
+        if model.problem.limits.least and len(made) >= TRIED:
+            break
+    if not made:
+        raise PlanError("no schedule that was tried meets the minimums: lower them, or set [schedule] milp")
+    return ended(without_loss(max(made, key=lambda it: it.value)))
+
+
+def orders_of(model: FlowModel, optimum: FlowOptimum) -> list[Ordered]:
+    """Returns orders of benches, the best first: by leads, and as the optimum of the linear programme is expected to mine them."""
+    pacing = Pacing(model, optimum.prices)
+    found = orders.by_one_lead(pacing)
+    found.append(orders.improved(pacing, found[0]))
+    seen = {tuple(it.order) for it in found}
+    for order in orders.of_optimum(optimum.cumulative, model.benches):
+        if tuple(order) not in seen:
+            seen.add(tuple(order))
+            found.append(Ordered(order, pacing.coarse(order)))
+    return sorted(found, key=lambda it: it.course.value, reverse=True)
+
+
+def mined(model: FlowModel, order: NDArray[np.int64], optimum: FlowOptimum) -> NDArray[np.float64]:
+    """Returns the shares of benches by year of an order at its best pace, at the prices of the optimum."""
+    mining = Problem(model.benches, model.of_mining, model.problem.settings, model.problem.money)
+    pace = Pacing(model, optimum.prices).best(order).tonnes
+    return padded(dig(mining, Sequence(order, pace=pace), model.years), model.years)
+
+
+def feasible(model: FlowModel, dug: NDArray[np.float64]) -> Optional[Flows]:
+    """Returns the best flows of what is mined; None if they cannot meet the minimums."""
+    try:
+        return best(model, dug)
+    except PlanError:
+        if model.problem.limits.least:
+            return None
+        raise
+
+
+def without_loss(flows: Flows) -> Flows:
+    """Returns the schedule without benches that do not pay with all that waits for them."""
+    pays = paying(flows.earned, flows.model.benches)
+    if pays.all() or flows.model.problem.limits.least:
+        return flows
+    less = best(flows.model, flows.dug * pays[:, None])
+    return max(less, flows, key=lambda it: it.value)
+
+
+def ended(flows: Flows) -> Flows:
+    """Returns the schedule up to the year with whose end it is worth most: the last, unless years cost more than they earn."""
+    model = flows.model
+    if model.problem.costs_of_years(model.years).any() and not model.problem.limits.least:
+        flows = max((flows.until(year) for year in range(model.years, -1, -1)), key=lambda it: it.value)
+    return flows.cut(flows.last)

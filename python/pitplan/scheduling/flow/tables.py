@@ -1,0 +1,238 @@
+"""Tables of material flow: flows.csv, feed.csv, stockpiles.csv and bound.csv."""
+
+from __future__ import annotations
+
+from collections.abc import Iterator
+from dataclasses import dataclass
+from functools import cached_property
+from typing import TYPE_CHECKING, Optional
+
+import numpy as np
+import pandas as pd
+from numpy.typing import NDArray
+
+from pitplan.config.economics import GRADE_UNITS
+from pitplan.pits import shell_tables
+from pitplan.plan import Plan, shown_name
+
+from .cutoffs import cutoffs
+from .flows import Flows
+from .parcels import MILL, column_of
+
+if TYPE_CHECKING:
+    from pitplan.scheduling.pushback_schedule import YearlySchedule
+
+PIT, STOCKPILE, WASTE = "pit", "stockpile", "waste"
+
+
+@dataclass(frozen=True)
+class Move:
+    """A flow from a source to a destination: shares of parcels by year, shape (parcels, years), and the process that takes it, if any."""
+
+    source: str
+    destination: str
+    shares: NDArray[np.float64]
+    process: Optional[int] = None
+
+
+def moves_of(flows: Flows, names: list[str]) -> Iterator[Move]:
+    """Yields the flows of ore; `names` are the processes."""
+    for number, name in enumerate(names):
+        yield Move(PIT, name or MILL, flows.direct[number], number)
+    if flows.model.reclaim_cost is not None:
+        yield Move(PIT, STOCKPILE, flows.stocked)
+        for number, name in enumerate(names):
+            yield Move(STOCKPILE, name or MILL, flows.reclaimed[number], number)
+    yield Move(PIT, WASTE, flows.waste)
+
+
+@dataclass(frozen=True)
+class Lots:
+    """The blocks of pushbacks by bench, value bin, and the codes of rock type and resource class.
+
+    Attributes
+    ----------
+    schedule : YearlySchedule
+    """
+
+    schedule: YearlySchedule
+
+    @property
+    def plan(self) -> Plan:
+        return self.schedule.pushbacks.plan
+
+    @cached_property
+    def cells(self) -> NDArray[np.int64]:
+        return np.flatnonzero((self.schedule.pushbacks.pushback > 0) & (self.plan.values.tonnes > 0))
+
+    @cached_property
+    def keys(self) -> pd.DataFrame:
+        """The key of each block: bench, parcel (-1: no ore), bin, and codes."""
+        plan, cells, material = self.plan, self.cells, self.schedule.material
+        benches = material.benches
+        bench_at = np.full((len(self.schedule.pushbacks.factors) + 1, plan.grid.shape[0]), -1)
+        bench_at[benches.pushback, benches.level] = np.arange(len(benches))
+        parcel = np.full(plan.grid.count, -1)
+        parcel[material.cells] = material.parcel
+        found = {
+            "bench": bench_at[self.schedule.pushbacks.pushback[cells], cells // plan.grid.per_level],
+            "parcel": parcel[cells],
+            "bin": np.append(material.parcels.bin, 0)[parcel[cells]],
+        }
+        row = np.full(plan.grid.count, -1)
+        row[plan.grid.rows] = np.arange(len(plan.table))
+        codes = {name: plan.table[name].astype(str).to_numpy()[row[cells]] for name in self.codes}
+        return pd.DataFrame(found | codes)
+
+    @property
+    def codes(self) -> list[str]:
+        """The columns of rock type and resource class."""
+        table = self.plan.project.table
+        return [name for name in (table.rock_type, table.resource_class) if name]
+
+    @cached_property
+    def sums(self) -> pd.DataFrame:
+        """One row per lot: its key, total_tonnes, feed_tonnes, contained_METAL, and recovered_METAL and gain by process."""
+        plan, cells, values = self.plan, self.cells, self.plan.values
+        columns = {"total_tonnes": values.tonnes[cells], "feed_tonnes": values.feed[cells]}
+        for metal in plan.project.metals:
+            content = column_of(plan, metal.column, cells) * values.undiluted[cells]
+            columns[f"contained_{metal.name}"] = content * float(GRADE_UNITS[metal.unit])
+        for number, way in enumerate(values.by_process):
+            columns |= {f"recovered_{name} {number}": amounts[cells] for name, amounts in way.metal.items()}
+            columns[f"gain {number}"] = (way.revenue[cells] - way.cost[cells]) / 1e6
+        keys = list(self.keys)
+        return pd.concat([self.keys, pd.DataFrame(columns)], axis=1).groupby(keys, sort=True).sum().reset_index()
+
+    @cached_property
+    def of_parcels(self) -> dict[int, NDArray[np.int64]]:
+        return {int(parcel): rows.to_numpy() for parcel, rows in self.sums.groupby("parcel").groups.items()}
+
+
+def flow_table(schedule: YearlySchedule) -> pd.DataFrame:
+    """Returns one row per method, year, lot, source and destination with a flow.
+
+    Columns: method, year, pushback, bench (elevation), bin, rock type and class if the table has them, source, destination, total_tonnes,
+    feed_tonnes, contained_METAL in what goes to a process, recovered_METAL, and cash_flow: revenue less the costs of processing, selling and
+    reclaiming, at the year's prices.
+    """
+    lots = Lots(schedule)
+    found = [of_method(schedule, method, lots) for method in schedule.flows]
+    return pd.concat(found, ignore_index=True)
+
+
+def of_method(schedule: YearlySchedule, method: str, lots: Lots) -> pd.DataFrame:
+    flows = schedule.flows[method]
+    parts = [of_move(flows, move, lots) for move in moves_of(flows, schedule.names)]
+    parts.append(of_waste(flows, lots))
+    table = pd.concat(parts, ignore_index=True)
+    order = ["year", "pushback", "bench", "bin", *lots.codes, "source", "destination"]
+    table = table.sort_values(order, ascending=[True, True, False, *[True] * (len(order) - 3)], kind="stable")
+    table.insert(0, "method", method)
+    return table.reset_index(drop=True)
+
+
+def of_waste(flows: Flows, lots: Lots) -> pd.DataFrame:
+    """Returns the rows of material that is no ore: all of it goes to waste as it is mined."""
+    rows = np.flatnonzero(lots.sums["parcel"] < 0)
+    bench = lots.sums["bench"].to_numpy()[rows]
+    return written(flows, Move(PIT, WASTE, flows.dug), lots, rows, bench)
+
+
+def of_move(flows: Flows, move: Move, lots: Lots) -> pd.DataFrame:
+    rows = np.flatnonzero(lots.sums["parcel"] >= 0)
+    return written(flows, move, lots, rows, lots.sums["parcel"].to_numpy()[rows])
+
+
+def written(flows: Flows, move: Move, lots: Lots, rows: NDArray[np.int64], at: NDArray[np.int64]) -> pd.DataFrame:
+    """Returns the rows of a move for some lots; `at` is the row of its shares for each lot."""
+    lot, year = np.nonzero(move.shares[at])
+    share, sums = move.shares[at[lot], year], lots.sums.iloc[rows[lot]].reset_index(drop=True)
+    benches, plan = flows.model.benches, lots.plan
+    found = pd.DataFrame(
+        {
+            "year": year + 1,
+            "pushback": benches.pushback[sums["bench"]],
+            "bench": plan.grid.elevations()[benches.level[sums["bench"]]],
+            "bin": sums["bin"],
+            **{shown_name(name): sums[name] for name in lots.codes},
+            "source": move.source,
+            "destination": move.destination,
+            "total_tonnes": sums["total_tonnes"] * share,
+        }
+    )
+    fed = 0.0 if move.process is None else share
+    found["feed_tonnes"] = sums["feed_tonnes"] * fed
+    for metal in plan.project.metals:
+        found[f"contained_{metal.name}"] = sums[f"contained_{metal.name}"] * fed
+    names = [f"recovered_{metal.name}" for metal in plan.project.metals]
+    for name in names:
+        found[name] = 0.0 if move.process is None else sums[f"{name} {move.process}"] * share
+    found["cash_flow"] = 0.0 if move.process is None else sums[f"gain {move.process}"] * share
+    if move.source == STOCKPILE:
+        found["cash_flow"] -= found["feed_tonnes"] * (flows.model.reclaim_cost or 0.0)
+    premiums = flows.model.problem.money.premium(tuple(names), flows.years)[year]
+    found["cash_flow"] += (found[names].to_numpy() * premiums).sum(axis=1)
+    return found
+
+
+def feed_table(schedule: YearlySchedule) -> pd.DataFrame:
+    """Returns one row per method, year and process.
+
+    Columns: method, year, process, feed_tonnes, reclaimed_tonnes (of these from the stockpile), head_grade_METAL, contained_METAL,
+    recovered_METAL, and cutoff: the net value per tonne of feed from which on ore is processed; empty for the rule.
+    """
+    metals, flows = schedule.pushbacks.plan.project.metals, schedule.material_flows
+    amounts = ["feed_tonnes", *(f"{kind}_{metal.name}" for kind in ("contained", "recovered") for metal in metals)]
+    processes = [name or MILL for name in schedule.names]
+    keys = [
+        (method, year, name)
+        for method, found in schedule.flows.items()
+        for year in range(1, found.years + 1)
+        for name in processes
+    ]
+    index = pd.MultiIndex.from_tuples(keys, names=["method", "year", "destination"])
+    sums = flows.groupby(["method", "year", "destination"])[amounts].sum().reindex(index, fill_value=0.0)
+    again = flows[flows["source"] == STOCKPILE].groupby(["method", "year", "destination"])["feed_tonnes"].sum()
+    sums.insert(1, "reclaimed_tonnes", again.reindex(index, fill_value=0.0))
+    for place, metal in enumerate(metals):
+        unit = float(GRADE_UNITS[metal.unit])
+        grade = shell_tables.ratio(sums[f"contained_{metal.name}"].to_numpy() / unit, sums["feed_tonnes"].to_numpy())
+        sums.insert(2 + place, f"head_grade_{metal.name}", grade)
+    sums["cutoff"] = cutoff_column(schedule, keys)
+    return sums.reset_index().rename(columns={"destination": "process"})
+
+
+def cutoff_column(schedule: YearlySchedule, keys: list[tuple[str, int, str]]) -> list[float]:
+    found = {method: cutoffs(flows, schedule.names) for method, flows in schedule.flows.items()}
+    named = {name or MILL: name for name in schedule.names}
+    cases = ((found[method], year, named[process]) for method, year, process in keys)
+    return [np.nan if case is None else float(case[name][year - 1]) for case, year, name in cases]
+
+
+def stockpile_table(schedule: YearlySchedule) -> pd.DataFrame:
+    """Returns one row per method and year: opening_tonnes, in_tonnes, out_tonnes and closing_tonnes of in-situ material in the stockpile."""
+    found, flows = [], schedule.material_flows
+    for method, of_method in schedule.flows.items():
+        years = pd.RangeIndex(1, of_method.years + 1, name="year")
+        rows = flows[flows["method"] == method]
+        stocked, out = (
+            rows[rows[side] == STOCKPILE].groupby("year")["total_tonnes"].sum().reindex(years, fill_value=0.0)
+            for side in ("destination", "source")
+        )
+        closing = (stocked - out).cumsum()
+        table = pd.DataFrame({"in_tonnes": stocked, "out_tonnes": out, "closing_tonnes": closing})
+        table.insert(0, "opening_tonnes", closing.shift(1, fill_value=0.0))
+        table.insert(0, "method", method)
+        found.append(table.reset_index()[["method", "year", *table.columns[1:]]])
+    return pd.concat(found, ignore_index=True)
+
+
+def bound_table(schedule: YearlySchedule) -> pd.DataFrame:
+    """Returns one row per limit and year: the price, discounted, from which the upper bound follows."""
+    rows = [
+        (name, side, year, price)
+        for (name, side), prices in schedule.prices.items()
+        for year, price in enumerate(prices, 1)
+    ]
+    return pd.DataFrame(rows, columns=["limit", "side", "year", "price"])

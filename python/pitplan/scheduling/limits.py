@@ -1,0 +1,25 @@
+"""All limits of a year that `[schedule]`, `[shells]` and `[[processes]]` set, by the names of the limited amounts."""
+
+from __future__ import annotations
+
+from dataclasses import replace
+
+from pitplan.config.project import Project
+from pitplan.config.schedule import FEED, TOTAL, ScheduleRules
+from pitplan.pushbacks.bench_table import ORE, ROCK
+
+from .bench_sequencing import Limits, limits_of
+
+# How the names of sums of the table's columns begin.
+SUM = "sum_"
+
+
+def all_limits_of(project: Project, rules: ScheduleRules) -> Limits:
+    """Returns capacities, limits on metal and sums, and the minimums."""
+    limits, names = limits_of(project, rules), {FEED: ORE, TOTAL: ROCK}
+    names |= {metal.name: f"recovered_{metal.name}" for metal in project.metals}
+    names |= {it.name: f"{ORE}_{it.name}" for it in project.processes}
+    most = limits.most | {f"{SUM}{it.name}": it.max for it in rules.limits if it.max is not None}
+    least = {names[name]: amount for name, amount in rules.minimum.items()}
+    least |= {f"{SUM}{it.name}": it.min for it in rules.limits if it.min}
+    return replace(limits, most=most, least={name: amount for name, amount in least.items() if amount > 0})

@@ -1,0 +1,162 @@
+"""The material of pushbacks in lots: the blocks of a bench with the same value bin, rock type and resource class."""
+
+from __future__ import annotations
+
+from dataclasses import dataclass
+from functools import cached_property
+
+import numpy as np
+import pandas as pd
+
+from planaudit.inputs.answer import Answer
+from planaudit.inputs.matching import BIN, PUSHBACK, own_name
+from planaudit.inputs.project import GRADE_UNITS
+from planaudit.money.feed import recovered
+
+MILL = "mill"
+
+
+@dataclass(frozen=True)
+class BlockAmounts:
+    """What each block of the pushbacks adds to amounts by mining, and in each process.
+
+    Attributes
+    ----------
+    answer : Answer
+    """
+
+    answer: Answer
+
+    @cached_property
+    def inside(self) -> np.ndarray:
+        """The rows of blocks of pushbacks with tonnes."""
+        return np.flatnonzero((self.answer.said[PUSHBACK].to_numpy() > 0) & (self.answer.tonnes > 0))
+
+    @property
+    def processes(self) -> list[str]:
+        """The processes by name; "" if the project names none."""
+        return [process.name for process in self.answer.project.processes] or [""]
+
+    @cached_property
+    def tonnes(self) -> np.ndarray:
+        return self.answer.tonnes[self.inside]
+
+    @cached_property
+    def mining_cash(self) -> np.ndarray:
+        """What mining each block earns, below 0: its mining cost and what its pushback adds."""
+        answer, rules = self.answer, self.answer.project.pushbacks
+        a_tonne = np.array([0.0, *(map(float, rules.mining_cost_added) if rules else ())])
+        pushback = np.minimum(answer.said[PUSHBACK].to_numpy()[self.inside], len(a_tonne) - 1)
+        added = a_tonne[pushback] if len(a_tonne) > 1 else 0.0
+        return -answer.said["mining_cost"].to_numpy()[self.inside] - added * self.tonnes
+
+    @cached_property
+    def takes(self) -> np.ndarray:
+        """Whether each block has a revenue in each process, shape (processes, blocks)."""
+        return np.stack(
+            [self.answer.said[revenue].to_numpy()[self.inside] > 0 for revenue, _ in self.answer.amounts_of_ways]
+        )
+
+    @cached_property
+    def gain(self) -> np.ndarray:
+        """Revenue less processing cost of each block in each process, shape (processes, blocks)."""
+        said = self.answer.said
+        pairs = self.answer.amounts_of_ways
+        return np.stack([(said[revenue] - said[cost]).to_numpy()[self.inside] for revenue, cost in pairs])
+
+    @cached_property
+    def feed(self) -> np.ndarray:
+        return self.answer.feed[self.inside]
+
+    @cached_property
+    def contained(self) -> dict[str, np.ndarray]:
+        """Metal in the feed of each block, in tonnes or grams, by metal."""
+        answer = self.answer
+        return {
+            metal.name: self.column(metal.column) * answer.undiluted[self.inside] * float(GRADE_UNITS[metal.unit])
+            for metal in answer.project.metals
+        }
+
+    @cached_property
+    def recovered(self) -> dict[str, np.ndarray]:
+        """Recovered metal by metal, shape (processes, blocks)."""
+        answer, found = self.answer, {}
+        for number, metal in enumerate(answer.project.metals):
+            grades = np.stack(
+                [recovered(way.metals[number], answer.rows, way)[self.inside] for way in answer.project.by_process]
+            )
+            found[metal.name] = grades * answer.undiluted[self.inside] * float(GRADE_UNITS[metal.unit])
+        return found
+
+    def column(self, name: str) -> np.ndarray:
+        """Returns a column of the table."""
+        return np.asarray(self.answer.rows[name].to_numpy()[self.inside], dtype=float)
+
+    def of_mining(self, name: str) -> np.ndarray:
+        """Returns what mining each block adds to a limited amount."""
+        for it in self.sums:
+            if name == f"sum_{it.name}" and it.of == "total":
+                return self.column(it.column) * (self.tonnes if it.per_tonne else 1.0)
+        return self.tonnes if name == "total_tonnes" else np.zeros(len(self.inside))
+
+    def of_process(self, name: str, process: int) -> np.ndarray:
+        """Returns what processing each block adds to a limited amount."""
+        called, undiluted = self.processes[process], self.answer.undiluted[self.inside]
+        if name in ("feed_tonnes", f"feed_tonnes_{called}"):
+            return self.feed * self.takes[process]
+        if name.startswith("recovered_"):
+            return self.recovered[name.removeprefix("recovered_")][process] * self.takes[process]
+        for it in self.sums:
+            if name == f"sum_{it.name}" and it.of in ("feed", called):
+                return self.column(it.column) * (undiluted if it.per_tonne else 1.0) * self.takes[process]
+        for limit in self.answer.project.feed_grades:
+            for side, grade, sign in (("max", limit.max, 1.0), ("min", limit.min, -1.0)):
+                if name == grade_name(limit.process, limit.column, side) and limit.process == called:
+                    excess = self.column(limit.column) * undiluted - (grade or 0.0) * self.feed
+                    return sign * excess * self.takes[process]
+        return np.zeros(len(self.inside))
+
+    @property
+    def sums(self) -> tuple:
+        rules = self.answer.project.schedule
+        return rules.limits if rules else ()
+
+    @cached_property
+    def keys(self) -> pd.DataFrame:
+        """The lot of each block, as in flows.csv, with the level of its bench from the top."""
+        answer, table = self.answer, self.answer.project.table
+        found = {
+            "pushback": answer.said[PUSHBACK].to_numpy()[self.inside],
+            "level": answer.cells[0][self.inside],
+            "bin": answer.said[BIN].to_numpy()[self.inside],
+        }
+        codes = [name for name in (table.rock_type, table.resource_class) if name]
+        return pd.DataFrame(found | {own_name(it): answer.rows[it].astype(str).to_numpy()[self.inside] for it in codes})
+
+    @cached_property
+    def lots(self) -> pd.DataFrame:
+        """The sums of each lot, by its key: total_tonnes, mining cash, feed, contained metal, and by process recovered metal, gain, whether all
+        of its blocks have a revenue there, and limited amounts."""
+        columns = {"total_tonnes": self.tonnes, "mining_cash": self.mining_cash, "feed_tonnes": self.feed}
+        columns |= {f"contained_{name}": amounts for name, amounts in self.contained.items()}
+        for process in range(len(self.processes)):
+            columns |= {f"recovered_{name} {process}": amounts[process] for name, amounts in self.recovered.items()}
+            columns |= {f"gain {process}": self.gain[process], f"not taken {process}": 1.0 - self.takes[process]}
+            columns |= {f"{name} {process}": self.of_process(name, process) for name in self.limited}
+        columns |= {name: self.of_mining(name) for name in self.limited}
+        keys = list(self.keys)
+        return pd.concat([self.keys, pd.DataFrame(columns)], axis=1).groupby(keys).sum()
+
+    @property
+    def limited(self) -> list[str]:
+        """The names of limited sums and head grades."""
+        found = [f"sum_{it.name}" for it in self.sums]
+        for limit in self.answer.project.feed_grades:
+            sides = (("max", limit.max), ("min", limit.min))
+            found += [grade_name(limit.process, limit.column, side) for side, grade in sides if grade is not None]
+        return list(dict.fromkeys(found))
+
+
+def grade_name(process: str, column: str, side: str) -> str:
+    """Returns the name of a limited head grade, such as grade_mill_as_ppm_max."""
+    return "_".join(["grade", *([process] if process else []), column, side])

@@ -1,0 +1,257 @@
+"""Recomputes the upper bound of a schedule of pushbacks from its Lagrange multipliers, tables/bound.csv.
+
+With a price on each limit in each year no schedule earns more than the prices times the limits, what the running years earn at these prices, and the
+greatest value of benches mined in order, where each block goes where it earns most less the prices of what it uses: to a process, to the
+stockpile until its best later year, or to waste. This holds for any prices.
+"""
+
+from __future__ import annotations
+
+from collections.abc import Iterator
+from dataclasses import dataclass
+from functools import cached_property
+from typing import Any
+
+import numpy as np
+import pandas as pd
+from scipy.optimize import linprog
+from scipy.sparse import coo_matrix
+
+from planaudit.inputs.answer import Answer
+from planaudit.inputs.tables import TABLES
+from planaudit.money.period_costs import capex, premiums
+from planaudit.rules import Rule, rule
+from planaudit.schedules.discounts import discount
+from planaudit.schedules.lots import BlockAmounts
+
+FILE = "bound.csv"
+MAX, MIN, RUNNING = "max", "min", "running"
+ADVANCE = "vertical_advance_"
+NAME = "upper bound"
+HOLDS = (
+    "the upper bound follows from the multipliers of bound.csv: no schedule of these pushbacks within these limits and years has a higher NPV, "
+    "wherever each block goes"
+)
+CENT, HAIR, SLIGHT = 0.01, 1e-9, 1e-7
+# A limit by year.
+Limits = dict[tuple[str, str], np.ndarray]
+
+
+def verify(answer: Answer, told: dict[str, Any], limits: dict[str, tuple[np.ndarray, np.ndarray]]) -> Rule:
+    """Verifies the upper bound of schedule.json.
+
+    Parameters
+    ----------
+    answer : Answer
+    told : dict
+        schedule.json.
+    limits : dict
+        By name of the limited amount its minimum and maximum in each year.
+    """
+    path = answer.folder / TABLES / FILE
+    if told["upper_bound"] is None:
+        return rule(NAME, "not recomputed: the run was interrupted before there was one", [])
+    if not path.is_file():
+        return rule(NAME, HOLDS, [f"{FILE} is missing"])
+    prices = pd.read_csv(path, float_precision="round_trip", dtype={"limit": str, "side": str})
+    bound = Bound(answer, prices, int(told["years"]), limits)
+    differences = list(bound.unlike_limits())
+    if not differences:
+        value = bound.value
+        if abs(told["upper_bound"] - value) > CENT + SLIGHT * max(abs(value), bound.size):
+            differences = [f"{told['upper_bound']:.12g} for {value:.12g}"]
+    return rule(NAME, HOLDS, differences)
+
+
+@dataclass(frozen=True)
+class Bound:
+    """A bound that is recomputed; the attributes are those of `verify`."""
+
+    answer: Answer
+    prices: pd.DataFrame
+    years: int
+    given: dict[str, tuple[np.ndarray, np.ndarray]]
+
+    @cached_property
+    def blocks(self) -> BlockAmounts:
+        return BlockAmounts(self.answer)
+
+    @cached_property
+    def limits(self) -> Limits:
+        """The limits of the project, by name and side."""
+        found: Limits = {}
+        for name, (least, most) in self.given.items():
+            found |= {(name, MAX): most} if np.isfinite(most).all() else {}
+            found |= {(name, MIN): least} if (least > 0).any() else {}
+        rules = self.answer.project.schedule
+        if rules and rules.vertical_advance_rate:
+            rate = np.full(self.years, float(rules.vertical_advance_rate))
+            found |= {(f"{ADVANCE}{number}", MAX): rate for number in np.unique(self.benches["pushback"])}
+        return found
+
+    @cached_property
+    def by_price(self) -> dict[tuple[str, str], np.ndarray]:
+        rows = self.prices.sort_values("year", kind="stable").groupby(["limit", "side"], sort=False)["price"]
+        return {(str(name), str(side)): values.to_numpy() for (name, side), values in rows}
+
+    def unlike_limits(self) -> Iterator[str]:
+        """Yields prices of no limit, of other years or below 0."""
+        for (name, side), prices in self.by_price.items():
+            if (name, MAX if side == RUNNING else side) not in self.limits:
+                yield f"{FILE}: {name} {side} is no limit of the project"
+            elif len(prices) != self.years:
+                yield f"{FILE}: {name} {side} has {len(prices)} years for {self.years}"
+            elif not (prices >= 0).all():
+                yield f"{FILE}: {name} {side} has a price below 0"
+
+    @cached_property
+    def discounts(self) -> np.ndarray:
+        return np.array([discount(self.answer, year) for year in range(1, self.years + 1)])
+
+    @cached_property
+    def benches(self) -> pd.DataFrame:
+        """One row per bench, by pushback and level, and the rows of its blocks."""
+        keys = self.blocks.keys[["pushback", "level"]]
+        return keys.drop_duplicates().sort_values(["pushback", "level"]).reset_index(drop=True)
+
+    @cached_property
+    def bench_of(self) -> np.ndarray:
+        """The bench of each block."""
+        number = pd.Series(np.arange(len(self.benches)), index=pd.MultiIndex.from_frame(self.benches))
+        return number.reindex(pd.MultiIndex.from_frame(self.blocks.keys[["pushback", "level"]])).to_numpy()
+
+    def charged(self, name: str, side: str, amounts: np.ndarray) -> np.ndarray:
+        """Returns what amounts of blocks cost at the prices of a limit, shape (blocks, years)."""
+        sign = -1.0 if side == MIN else 1.0
+        return sign * amounts[:, None] * self.by_price[name, side]
+
+    def in_process(self, process: int, cost: float) -> np.ndarray:
+        """What each block earns in a process in each year, less prices and a cost per tonne of feed, shape (blocks, years)."""
+        blocks = self.blocks
+        found = np.empty((len(blocks.inside), self.years))
+        for year in range(self.years):
+            money = blocks.gain[process] - cost * blocks.feed * blocks.takes[process]
+            for name, premium in premiums(self.answer.project, year + 1).items():
+                money = money + premium * blocks.of_process(name, process)
+            found[:, year] = money * self.discounts[year]
+        for name, side in self.by_price:
+            found -= self.charged(name, side, blocks.of_process(name, process))
+        # A block without revenue in a process is never sent there.
+        return np.where(blocks.takes[process][:, None], found, -np.inf)
+
+    @cached_property
+    def earned(self) -> np.ndarray:
+        """What each block earns, mined in each year, shape (blocks, years)."""
+        blocks, rules = self.blocks, self.answer.project.schedule
+        count = len(blocks.processes)
+        best = np.maximum(np.max([self.in_process(number, 0.0) for number in range(count)], axis=0), 0.0)
+        if rules is not None and rules.reclaim_cost is not None:
+            later = np.max([self.in_process(number, rules.reclaim_cost) for number in range(count)], axis=0)
+            for year in range(self.years - 1):
+                best[:, year] = np.maximum(best[:, year], later[:, year + 1 :].max(axis=1))
+        best = best + blocks.mining_cash[:, None] * self.discounts
+        for name, side in self.by_price:
+            best -= self.charged(name, side, blocks.of_mining(name))
+        return best
+
+    @cached_property
+    def of_bench(self) -> np.ndarray:
+        """What each bench earns, mined in each year, shape (benches, years)."""
+        found = np.zeros((len(self.benches), self.years))
+        np.add.at(found, self.bench_of, self.earned)
+        for (name, _), prices in self.by_price.items():
+            if name.startswith(ADVANCE):
+                found[self.benches["pushback"] == int(name.removeprefix(ADVANCE))] -= prices
+        return found
+
+    @cached_property
+    def needs(self) -> list[tuple[int, int]]:
+        """Pairs of a bench and one that must be mined before it starts: the one above it in its pushback, and in each earlier pushback the lowest
+        down to the lag below it."""
+        rules = self.answer.project.schedule
+        lag, found = rules.bench_lag if rules else 0, []
+        pushback, level = self.benches["pushback"].to_numpy(), self.benches["level"].to_numpy()
+        for bench in range(len(self.benches)):
+            for other in range(pushback[bench] + 1):
+                deepest = level[bench] - 1 if other == pushback[bench] else level[bench] + lag
+                some = np.flatnonzero((pushback == other) & (level <= deepest))
+                if len(some):
+                    found.append((bench, int(some[-1])))
+        return found
+
+    @cached_property
+    def most(self) -> np.ndarray:
+        """The greatest share of each bench that the limits of mining let be mined by the end of each year, shape (benches, years)."""
+        before = np.zeros((len(self.benches), len(self.benches)), dtype=bool)
+        for bench, other in self.needs:
+            before[bench] |= before[other]
+            before[bench, other] = True
+        found = np.ones((len(self.benches), self.years))
+        for name, (_, most) in self.given.items():
+            if not np.isfinite(most).all() or self.is_of_ore(name):
+                continue
+            takes = np.bincount(self.bench_of, self.blocks.of_mining(name), minlength=len(self.benches))
+            found = np.minimum(found, left_over(takes, before, most.cumsum()))
+        rules = self.answer.project.schedule
+        if rules and rules.vertical_advance_rate:
+            pushback = self.benches["pushback"].to_numpy()
+            above = before & (pushback[:, None] == pushback)
+            sunk = float(rules.vertical_advance_rate) * np.arange(1, self.years + 1)
+            found = np.minimum(found, left_over(np.ones(len(self.benches)), above, sunk))
+        return found
+
+    def is_of_ore(self, name: str) -> bool:
+        return any(self.blocks.of_process(name, number).any() for number in range(len(self.blocks.processes)))
+
+    @property
+    def of_limits(self) -> float:
+        signed = {key: (-1.0 if key[1] == MIN else 1.0) * amounts for key, amounts in self.limits.items()}
+        return float(sum(prices @ signed[key] for key, prices in self.by_price.items() if key in signed))
+
+    @property
+    def of_running(self) -> float:
+        """What running as many years as is best earns: the prices of limits that show it, less what the years cost."""
+        project, rate = self.answer.project, self.answer.project.shells.discount_rate
+        fixed = float(project.economics.fixed_cost_per_year) * self.discounts
+        spent = np.array([capex(project, year) * (1 + rate) ** -(year - 1) for year in range(1, self.years + 1)])
+        earned = -fixed - spent
+        for (name, side), prices in self.by_price.items():
+            if side == RUNNING:
+                earned = earned + prices * self.limits[name, MAX]
+        return float(earned.cumsum().max())
+
+    @cached_property
+    def size(self) -> float:
+        """The money that flows in the relaxation, by which its rounding is judged."""
+        return float(np.abs(self.of_bench).max(axis=1, initial=0.0).sum())
+
+    @property
+    def of_benches(self) -> float:
+        """The greatest value of benches mined in order; unknowns are the shares that are mined by the end of each year."""
+        count, years = len(self.benches), self.years
+        at = np.arange(count * years).reshape(count, years)
+        less = [at[:, :-1].ravel(), *(at[bench] for bench, _ in self.needs)]
+        more = [at[:, 1:].ravel(), *(at[other] for _, other in self.needs)]
+        pairs = np.stack([np.concatenate(less), np.concatenate(more)])
+        rows = np.arange(pairs.shape[1])
+        signs = np.repeat([1.0, -1.0], pairs.shape[1])
+        matrix = coo_matrix((signs, (np.tile(rows, 2), pairs.ravel())), shape=(pairs.shape[1], count * years))
+        gain = (self.of_bench - np.append(self.of_bench[:, 1:], np.zeros((count, 1)), axis=1)).ravel()
+        unit = float(np.abs(gain).max(initial=0.0)) or 1.0
+        bounds = np.column_stack([np.zeros(count * years), self.most.ravel()])
+        found = linprog(-gain / unit, A_ub=matrix.tocsr(), b_ub=np.zeros(len(rows)), bounds=bounds, method="highs")
+        return -float(found.fun) * unit
+
+    @property
+    def value(self) -> float:
+        """The bound; without a minimum to mine nothing earns 0."""
+        found = self.of_limits + self.of_running + self.of_benches
+        return found if any(side == MIN for _, side in self.limits) else max(found, 0.0)
+
+
+def left_over(takes: np.ndarray, before: np.ndarray, most: np.ndarray) -> np.ndarray:
+    """Returns by bench and year the share of a bench for which a limit leaves room once all before it is mined."""
+    free = most - (before @ takes)[:, None]
+    with np.errstate(divide="ignore", invalid="ignore"):
+        share = np.where(takes[:, None] > 0, free / takes[:, None], np.where(free >= -HAIR * most, 1.0, 0.0))
+    return np.clip(share + HAIR, 0.0, 1.0)

@@ -1,0 +1,202 @@
+"""Random problems of material flow, and their optima by programmes that the tests state themselves."""
+
+import numpy as np
+from helpers.benches import benches_of, problem_of
+from hypothesis import strategies as st
+from scipy.optimize import Bounds, LinearConstraint, linprog, milp
+
+from pitplan.scheduling.bench_sequencing import Limits
+from pitplan.scheduling.flow.model import FlowModel
+from pitplan.scheduling.flow.ore import Ore
+
+# Tonnes of a parcel, and what it gains in the first process.
+parcel = st.tuples(st.sampled_from([10, 50]), st.integers(0, 400))
+bench = st.tuples(st.sampled_from([20, 100]), st.lists(parcel, max_size=2), st.integers(0, 200))
+mines = st.lists(st.tuples(st.integers(0, 1), st.lists(bench, min_size=1, max_size=3)), min_size=1, max_size=2).filter(
+    lambda pits: any(parcels for _, benches in pits for _, parcels, _ in benches)
+)
+# By what the gain of a process differs from that of the first, and its capacity.
+processes = st.lists(
+    st.tuples(st.sampled_from([1.0, 0.6, 0.3]), st.sampled_from([25.0, 60.0, 1e5])), min_size=2, max_size=3
+)
+
+
+def mine_of(pits, lag):
+    """Benches, and of each parcel its bench, number in it, tonnes and gain."""
+    found, parcels = [], []
+    for pushback, (top, benches) in enumerate(pits, 1):
+        for k, (waste, ore, mining) in enumerate(benches):
+            parcels += [(len(found), number, tonnes, gain) for number, (tonnes, gain) in enumerate(ore, 1)]
+            found.append((pushback, top + k, waste + sum(tonnes for tonnes, _ in ore), 0, -mining))
+    return benches_of(*found, lag=lag), np.array(parcels, dtype=float).reshape(-1, 4)
+
+
+def model_of(mine, processes, limits, years, cost, favour=3):
+    """The problem of a mine; the capacity of all processes together is the feed of the limits. Each later process gains by `favour` more of
+    second parcels."""
+    benches, parcels = mine
+    place, tonnes, gain = parcels[:, :2].astype(np.int64), parcels[:, 2], parcels[:, 3]
+    amounts = {"feed_tonnes": np.tile(tonnes, (len(processes), 1))}
+    most = dict(limits.most)
+    for number, (_, capacity) in enumerate(processes):
+        of_one = np.zeros((len(processes), len(tonnes)))
+        of_one[number] = tonnes
+        amounts[f"feed_tonnes_{number}"] = of_one
+        most[f"feed_tonnes_{number}"] = capacity
+    gains = np.stack(
+        [gain * factor + favour * number * (place[:, 1] == 2) for number, (factor, _) in enumerate(processes)]
+    )
+    ore = Ore(place[:, 0], place[:, 1], gains, amounts)
+    limits = Limits(most, limits.ramp_up, limits.vertical_advance_rate)
+    return FlowModel(problem_of(benches, limits), ore, years, cost)
+
+
+class Statement:
+    """The programme by what is mined, fed, stocked and reclaimed in each year: gains, and rows of at most."""
+
+    def __init__(self, model: FlowModel) -> None:
+        self.model, ore = model, model.ore
+        counts = [len(model.benches), ore.processes * len(ore), len(ore), ore.processes * len(ore)]
+        self.starts = np.concatenate([[0], np.cumsum(counts)]) * model.years
+        self.rows: list[np.ndarray] = []
+        self.most: list[float] = []
+        self.state()
+
+    @property
+    def size(self) -> int:
+        return int(self.starts[-1])
+
+    def dug(self, bench: int, year: int) -> int:
+        return bench * self.model.years + year
+
+    def fed(self, process: int, unit: int, year: int, again: bool = False) -> int:
+        return int(self.starts[3 if again else 1]) + (process * len(self.model.ore) + unit) * self.model.years + year
+
+    def stocked(self, unit: int, year: int) -> int:
+        return int(self.starts[2]) + unit * self.model.years + year
+
+    def add(self, most: float, terms: dict[int, float]) -> None:
+        row = np.zeros(self.size)
+        for place, factor in terms.items():
+            row[place] += factor
+        self.rows.append(row)
+        self.most.append(most)
+
+    def before(self) -> list[list[int]]:
+        benches, found = self.model.benches, []
+        for bench in range(len(benches)):
+            direct = [
+                other
+                for other in range(len(benches))
+                if (benches.pushback[other] == benches.pushback[bench] and benches.level[other] < benches.level[bench])
+                or (
+                    benches.pushback[other] < benches.pushback[bench]
+                    and benches.level[other] <= benches.level[bench] + benches.lag
+                )
+            ]
+            found.append(direct)
+        for bench, direct in enumerate(found):
+            found[bench] = sorted(set(direct).union(*(found[other] for other in direct)))
+        return found
+
+    def state(self) -> None:
+        model, ore = self.model, self.model.ore
+        limits, years, benches = model.problem.limits, range(model.years), model.benches
+        ramp = [limits.ramp_up[min(year, len(limits.ramp_up) - 1)] for year in years]
+        for year in years:
+            for name, most in limits.most.items():
+                terms = {self.dug(b, year): model.dug(name)[b] for b in range(len(benches))}
+                for process in range(ore.processes):
+                    for unit in range(len(ore)):
+                        for again in (False, True):
+                            terms[self.fed(process, unit, year, again)] = ore.of(name)[process, unit]
+                self.add(most * (ramp[year] if name.startswith("feed") else 1.0), terms)
+            if np.isfinite(limits.vertical_advance_rate):
+                for pushback in set(benches.pushback.tolist()):
+                    some = np.flatnonzero(benches.pushback == pushback)
+                    self.add(limits.vertical_advance_rate, {self.dug(b, year): 1.0 for b in some})
+            for unit, bench in enumerate(ore.bench.tolist()):
+                sent = {self.fed(process, unit, year): 1.0 for process in range(ore.processes)}
+                self.add(0.0, sent | {self.stocked(unit, year): 1.0, self.dug(bench, year): -1.0})
+                out = {self.fed(k, unit, t, True): 1.0 for k in range(ore.processes) for t in range(year + 1)}
+                self.add(0.0, out | {self.stocked(unit, t): -1.0 for t in range(year)})
+        self.state_order()
+
+    def state_order(self) -> None:
+        model = self.model
+        limits, benches = model.problem.limits, model.benches
+        rock = limits.most.get("total_tonnes", np.inf)
+        for bench, others in enumerate(self.before()):
+            for year in range(model.years):
+                done = {self.dug(bench, t): 1.0 for t in range(year + 1)}
+                self.add(1.0, done)
+                for other in others:
+                    self.add(0.0, done | {self.dug(other, t): -1.0 for t in range(year + 1)})
+                # By the end of the year all before it is mined, and of it what the limits of mining leave.
+                own, above = benches.of("total_tonnes"), [
+                    o for o in others if benches.pushback[o] == benches.pushback[bench]
+                ]
+                if np.isfinite(rock):
+                    self.add(max(0.0, (rock * (year + 1) - own[others].sum()) / own[bench]), done)
+                if np.isfinite(limits.vertical_advance_rate):
+                    self.add(max(0.0, limits.vertical_advance_rate * (year + 1) - len(above)), done)
+
+    @property
+    def gain(self) -> np.ndarray:
+        model, ore = self.model, self.model.ore
+        found = np.zeros(self.size)
+        for year in range(model.years):
+            present = 1.1 ** -(year + 1)
+            for bench, cash in enumerate(model.benches.of("cash_flow")):
+                found[self.dug(bench, year)] = cash * present
+            for process in range(ore.processes):
+                for unit in range(len(ore)):
+                    gain, cost = ore.gain[process, unit], (model.reclaim_cost or 0.0) * ore.feed[unit]
+                    found[self.fed(process, unit, year)] = gain * present
+                    found[self.fed(process, unit, year, True)] = (gain - cost) * present
+        return found
+
+    @property
+    def upper(self) -> np.ndarray:
+        found = np.ones(self.size)
+        if self.model.reclaim_cost is None:
+            found[self.starts[2] :] = 0.0
+        return found
+
+
+def linear_optimum(model: FlowModel) -> float:
+    """The optimum of the linear programme."""
+    stated = Statement(model)
+    bounds = np.column_stack([np.zeros(stated.size), stated.upper])
+    found = linprog(-stated.gain, A_ub=np.array(stated.rows), b_ub=stated.most, bounds=bounds, method="highs-ipm")
+    assert found.status == 0, found.message
+    return -float(found.fun)
+
+
+def complete_optimum(model: FlowModel) -> float:
+    """The optimum where a bench starts only once all that it waits for is mined: whole unknowns say by which year it may start."""
+    stated, years, count = Statement(model), model.years, len(model.benches)
+    size, rows, most = stated.size, [], []
+
+    def add(right: float, terms: dict[int, float]) -> None:
+        row = np.zeros(size + count * years)
+        for place, factor in terms.items():
+            row[place] += factor
+        rows.append(row)
+        most.append(right)
+
+    for bench, others in enumerate(stated.before()):
+        for year in range(years):
+            start = size + bench * years + year
+            add(0.0, {stated.dug(bench, year): 1.0, start: -1.0})
+            for other in others:
+                add(1e-9, {start: 1.0} | {stated.dug(other, t): -1.0 for t in range(year + 1)})
+    table = np.vstack([np.pad(np.array(stated.rows), ((0, 0), (0, count * years))), np.array(rows)])
+    found = milp(
+        np.concatenate([-stated.gain, np.zeros(count * years)]),
+        integrality=np.repeat([0, 1], [size, count * years]),
+        bounds=Bounds(0, np.concatenate([stated.upper, np.ones(count * years)])),
+        constraints=LinearConstraint(table, -np.inf, [*stated.most, *most]),
+    )
+    assert found.status == 0, found.message
+    return -float(found.fun)

@@ -1,0 +1,204 @@
+"""Material flow of pushbacks against cases worked by hand, a programme stated by the tests, and an integer programme over single blocks."""
+
+from dataclasses import replace
+
+import numpy as np
+import pytest
+from helpers.benches import benches_of, demand_diggable, problem_of
+from helpers.flows import complete_optimum, linear_optimum, mine_of, mines, model_of, processes
+from helpers.programmes import limits
+from helpers.random_tests import examples
+from hypothesis import given, strategies as st
+
+from pitplan import PlanError
+from pitplan.scheduling.bench_sequencing import Limits
+from pitplan.scheduling.flow import scheduler
+from pitplan.scheduling.flow.bound import upper_bound
+from pitplan.scheduling.flow.cutoffs import cutoffs
+from pitplan.scheduling.flow.flows import best
+from pitplan.scheduling.flow.model import FlowModel
+from pitplan.scheduling.flow.ore import Ore
+from pitplan.scheduling.flow.parcels import edges_of
+from pitplan.scheduling.flow.programme import FlowProgramme
+
+
+def test_bins_are_even_by_tonnes_as_far_as_values_let_them():
+    worth, tonnes = np.array([4.0, 1, 2, 3, 2]), np.array([10.0, 10, 5, 10, 5])
+    assert edges_of(worth, tonnes, 4).tolist() == [1.5, 2.5, 3.5] and edges_of(worth, tonnes, 2).tolist() == [2.5]
+    # Ore of one value is more than a bin; there are fewer then, and one where all is of one value, or none is asked apart.
+    assert edges_of(np.array([1.0, 10, 10]), np.array([100.0, 100, 100]), 5).tolist() == [5.5]
+    assert edges_of(np.array([7.0, 7]), np.array([1.0, 2]), 3).tolist() == []
+    assert edges_of(worth, tonnes, 1).tolist() == [] and edges_of(np.zeros(0), np.zeros(0), 3).tolist() == []
+
+
+def two_benches(limits, years, cost=None):
+    """Ore of 1 and of 10 a tonne, 100 t of each, over 100 t of the rich; mining costs 1 a tonne. They sink a bench a year."""
+    benches = benches_of((1, 0, 200, 0, -200), (1, 1, 100, 0, -100))
+    amounts = {"feed_tonnes": np.array([[100.0, 100, 100]]), "recovered_copper": np.ones((1, 3))}
+    ore = Ore(np.array([0, 0, 1]), np.array([1, 2, 2]), np.array([[100.0, 1000, 1000]]), amounts)
+    return FlowModel(problem_of(benches, limits), ore, years, cost)
+
+
+@pytest.mark.parametrize(
+    ("cost", "years", "value", "reclaimed"),
+    [
+        # The rich ore of each bench in its year; the poor is waste.
+        (None, 2, 800 / 1.1 + 900 / 1.21, 0),
+        # The poor comes from the stockpile in the third year, but not for more than it is worth.
+        (0.5, 3, 800 / 1.1 + 900 / 1.21 + 50 / 1.331, 1),
+        (1.5, 2, 800 / 1.1 + 900 / 1.21, 0),
+    ],
+)
+def test_two_benches_by_hand(cost, years, value, reclaimed):
+    model = two_benches(Limits({"feed_tonnes": 100}, vertical_advance_rate=1.0), years, cost)
+    optimum = FlowProgramme(model).solved()
+    flows = scheduler.from_optimum(model, optimum)
+    assert optimum.value == pytest.approx(value) and flows.dug[:, :2].tolist() == [[1, 0], [0, 1]]
+    assert upper_bound(model, model.ore, optimum.prices) == pytest.approx(value)
+    assert flows.direct[0, :, :2].tolist() == [[0, 0], [1, 0], [0, 1]]
+    assert flows.reclaimed.sum() == pytest.approx(reclaimed) == flows.stocked.sum()
+    assert flows.years == years and flows.value == pytest.approx(value)
+    of_benches = flows.of_benches
+    assert of_benches[:, 0].tolist() == [[200, 100, 1, 800], [0, 0, 0, 0]]
+    assert of_benches[:, 1].tolist() == [[0, 0, 0, 0], [100, 100, 1, 900]]
+    if reclaimed:
+        assert of_benches[0, 2].tolist() == pytest.approx([0, 100, 1, 50])
+
+
+def test_the_cutoff_is_the_price_of_capacity():
+    """A tonne more of the mill in year 1 would take ore of 1 a tonne, in year 2 nothing: all that is mined then is milled."""
+    model = two_benches(Limits({"feed_tonnes": 100}, vertical_advance_rate=1.0), 2)
+    flows = best(model, np.array([[1.0, 0], [0, 1]]))
+    found = cutoffs(flows, [""])[""]
+    # Between the ore of 1, which is waste, and that of 10, which is milled.
+    assert 1 - 1e-9 <= found[0] <= 10 + 1e-9 and 0 <= found[1] <= 10 + 1e-9
+    assert cutoffs(replace(flows, prices=None), [""]) is None
+
+
+def test_a_limit_on_metal_is_one_on_feed():
+    """A tonne of copper a year at most: all ore holds a hundredth, so 100 t a year, although the mill takes 300."""
+    model = two_benches(Limits({"feed_tonnes": 300, "recovered_copper": 1}, vertical_advance_rate=1.0), 2)
+    assert FlowProgramme(model).solved().value == pytest.approx(800 / 1.1 + 900 / 1.21)
+
+
+def test_a_mill_that_stands_still_in_all_years():
+    model = two_benches(Limits({"feed_tonnes": 100}, (0.0, 0.0, 1.0)), 2, 0.5)
+    optimum = FlowProgramme(model).solved()
+    assert optimum.value == pytest.approx(0) and scheduler.from_optimum(model, optimum).dug.shape == (2, 0)
+
+
+def blended(cost):
+    """A bench of 100 t with 180 ppm of arsenic over one with 60; a bench is mined a year, and there are two. The mill takes 150 t a year with
+    100 ppm at most. A tonne of the upper ore gains 10, of the lower 100."""
+    benches = benches_of((1, 0, 100, 0, 0), (1, 1, 100, 0, 0))
+    excess = 100 * (np.array([[180.0, 60]]) - 100)
+    amounts = {"feed_tonnes": np.array([[100.0, 100]]), "grade_as_max": excess}
+    ore = Ore(np.array([0, 1]), np.array([2, 1]), np.array([[1000.0, 10_000]]), amounts)
+    limits = Limits({"feed_tonnes": 150, "total_tonnes": 100, "grade_as_max": 0.0})
+    return FlowModel(problem_of(benches, limits), ore, 2, cost)
+
+
+@pytest.mark.parametrize(("cost", "dirty"), [(None, 0.0), (0.0, 50.0), (4.0, 50.0), (11.0, 0.0)])
+def test_arsenic_is_blended_from_the_stockpile_by_hand(cost, dirty):
+    """In year 1 the ore is too dirty for the mill. If it waits, 50 t of it go with the clean ore of year 2: (50 x 180 + 100 x 60) / 150 is 100."""
+    model = blended(cost)
+    value = (10_000 + dirty * (10 - (cost or 0.0))) / 1.21
+    optimum = FlowProgramme(model).solved()
+    flows = scheduler.from_optimum(model, optimum)
+    found = [optimum.value, flows.value, upper_bound(model, model.ore, optimum.prices)]
+    assert found == pytest.approx([value] * 3)
+    assert flows.dug.tolist() == [[1, 0], [0, 1]] and flows.direct[0].tolist() == [[0, 0], [0, 1]]
+    assert flows.reclaimed[0].tolist() == [[0, pytest.approx(dirty / 100)], [0, 0]]
+    assert flows.used("grade_as_max").max() < 1e-6
+
+
+def test_two_limits_that_no_flow_meets_are_an_error():
+    """A feed of 150 t a year of a bench that holds 100."""
+    model = two_benches(Limits({"feed_tonnes": 200}, least={"feed_tonnes": 150.0}, vertical_advance_rate=1.0), 2)
+    with pytest.raises(PlanError, match="infeasible"):
+        FlowProgramme(model).solved()
+
+
+def slack_of(model):
+    return 3e-6 * max(1.0, np.abs(model.benches.of("cash_flow")).sum() + np.abs(model.ore.gain).sum())
+
+
+@examples(14)
+@given(mines, limits, processes, st.integers(0, 1), st.sampled_from([None, 0.0, 0.5]))
+def test_the_bound_and_what_is_made_of_it(pits, limits, several, lag, cost):
+    model = model_of(mine_of(pits, lag), several, limits, 4, cost)
+    optimum, slack = FlowProgramme(model).solved(), slack_of(model)
+    assert optimum.value == pytest.approx(linear_optimum(model), abs=slack)
+    assert optimum.cash @ model.discounts == pytest.approx(optimum.value, abs=slack)
+    assert upper_bound(model, model.ore, optimum.prices) == pytest.approx(optimum.value, abs=slack)
+    flows = scheduler.from_optimum(model, optimum)
+    if flows.years:
+        demand_diggable(model.benches, model.of_mining, flows.dug)
+    demand_kept(flows)
+    assert -slack <= flows.value <= optimum.value + slack
+
+
+def demand_kept(flows):
+    """No limit is exceeded, and no more of a parcel flows than is mined and stocked."""
+    model, dug = flows.model, flows.dug[flows.model.ore.bench]
+    for number, (name, _) in enumerate(model.problem.limits.most.items()):
+        most = model.problem.limits.of_years(max(flows.years, 1))[: flows.years, number]
+        assert (flows.used(name) <= most * (1 + 1e-8) + 1e-6).all(), name
+    assert (flows.direct.sum(axis=0) + flows.stocked <= dug + 1e-12).all()
+    before = np.pad((flows.stocked - flows.reclaimed.sum(axis=0)).cumsum(axis=1), ((0, 0), (1, 0)))[:, :-1]
+    assert (flows.reclaimed.sum(axis=0) <= before + 1e-9).all()
+    assert model.reclaim_cost is not None or not (flows.stocked.any() or flows.reclaimed.any())
+
+
+@examples(8)
+@given(mines, limits, processes, st.integers(0, 1), st.sampled_from([None, 0.0, 0.5]))
+def test_whatever_each_block_does_earns_no_more_than_the_bound(pits, limits, several, lag, cost):
+    """Parcels hold two blocks each. Any schedule of whole benches in which each block goes its own way is below the bound, and what is made of
+    the parcels is below the best of these."""
+    blocks = model_of(mine_of(pits, lag), several, limits, 3, cost)
+    parcel = blocks.ore.bench
+    used, place = np.unique(parcel, return_inverse=True)
+    model = replace(blocks, ore=blocks.ore.merged(place, used, np.ones(len(used), dtype=np.int64)))
+    optimum, slack = FlowProgramme(model).solved(), slack_of(model)
+    complete = complete_optimum(blocks)
+    assert complete <= upper_bound(model, blocks.ore, optimum.prices) + slack
+    assert scheduler.from_optimum(model, optimum).value <= complete + slack
+
+
+@examples(10)
+@given(mines, limits, processes, st.sampled_from([0.0, 0.5]), st.sampled_from(["process", "stockpile", "capacity"]))
+def test_more_freedom_never_lowers_the_optimum(pits, limits, several, cost, more):
+    """Nor the bound, which is the optimum where each parcel is one block."""
+    wide = model_of(mine_of(pits, 0), several, limits, 4, cost)
+    if more == "process":
+        limited = dict(list(wide.problem.limits.most.items())[:-1])
+        ore = Ore(
+            wide.ore.bench,
+            wide.ore.bin,
+            wide.ore.gain[:-1],
+            {name: values[:-1] for name, values in wide.ore.amounts.items() if name in limited},
+        )
+        narrow = replace(wide, ore=ore, problem=replace(wide.problem, limits=replace(limits_of(wide), most=limited)))
+    elif more == "stockpile":
+        narrow = replace(wide, reclaim_cost=None)
+    else:
+        least = {name: 0.8 * most for name, most in limits_of(wide).most.items()}
+        narrow = replace(wide, problem=replace(wide.problem, limits=replace(limits_of(wide), most=least)))
+    found = [FlowProgramme(it).solved() for it in (narrow, wide)]
+    slack = slack_of(wide)
+    assert found[0].value <= found[1].value + slack
+    bounds = [upper_bound(it, it.ore, one.prices) for it, one in zip((narrow, wide), found)]
+    assert bounds[0] <= bounds[1] + slack
+
+
+def limits_of(model):
+    return model.problem.limits
+
+
+@examples(8)
+@given(mines, limits, st.sampled_from([None, 0.5]))
+def test_a_process_twice_with_half_its_capacity_is_the_process(pits, limits, cost):
+    one = model_of(mine_of(pits, 0), [(1.0, 60.0)], limits, 4, cost)
+    two = model_of(mine_of(pits, 0), [(1.0, 30.0), (1.0, 30.0)], limits, 4, cost, favour=0)
+    found = [FlowProgramme(it).solved().value for it in (one, two)]
+    assert found[0] == pytest.approx(found[1], abs=slack_of(one))
