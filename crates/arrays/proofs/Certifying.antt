@@ -7,8 +7,8 @@ use Rattle.pit_model.specs.Graph.{AreInRange, AreRising, AreSamePairs, IsGraph}
 use Rattle.pit_model.specs.Mine.{Instance, members}
 use Rattle.pit_model.proofs.Members.{members_ext, members_rise}
 use Rattle.pit_model.proofs.OneOrder.{pairs_have_one_order}
-use Rattle.certificate.proofs.SameSet.{members_agree}
-use Rattle.certificate.specs.Check.{AreAscending as AreRisingBlocks}
+use Rattle.optimality.proofs.SameSet.{members_agree}
+use Rattle.optimality.specs.Check.{AreAscending as AreRisingBlocks}
 use Rattle.arrays.specs.Certified.{CertifyMarks}
 use Rattle.csr.specs.Rows.{pairs_of, IsCsr, RowsRise}
 use Rattle.csr.proofs.Begun.{csr_offsets}

@@ -5,7 +5,7 @@ use Rattle.faults.specs.declared.refusal.Refusal.{Refusal}
 use Rattle.faults.specs.declared.refusal.Refusal.TheVariants.{OverLimit, IdOutOfPlace, CountsDiffer, WrongHeader, NegativeColumn}
 use Rattle.pit_model.specs.Certificate.{Certifies}
 use Rattle.pit_model.specs.Mine.{Instance, IsPit, worth}
-use Rattle.certificate.specs.Check.{most_amount}
+use Rattle.optimality.specs.Check.{most_amount}
 use Rattle.csr.specs.Rows.{RowsRise}
 use Rattle.arrays.specs.Halves.{AreHalves, RefusesHalves}
 use Rattle.arrays.specs.Refused.{RefusesRows}

@@ -2,19 +2,19 @@
 ghost use Rattle.std.specs.Prelude.{◌≡◌, ◌↔◌, ◌<◌, ◌≤◌, ℕ, pos, ◌≤ℤ◌, IsTrue, length, get_or, IfOk, IfErr, IfSome, IfNone};
 ghost use Rattle.pit_model.specs.Mine.{arcs};
 ghost use Rattle.pit_model.specs.Size.{most_pairs};
-ghost use Rattle.certificate.specs.Certificate.{IsCertificateOf};
-ghost use Rattle.certificate.specs.Check.{AreAmounts};
+ghost use Rattle.optimality.specs.Certificate.{IsCertificateOf};
+ghost use Rattle.optimality.specs.Check.{AreAmounts};
 ghost use Rattle.arrays.specs.Certified.{CertifyMarks, MarkCertified, RefusesCertified, RefusesCertificateArrays, RefusesFlow};
 
 use crate::array_error::ArrayError;
 use crate::fixing::{blocks_with, first_above};
 use crate::marks::write_marks;
 use crate::ordered::ordered_mine_of;
-use certificate::{Certificate, check};
 use csr::CsrView;
 use faults::{Fault, Refusal};
+use merging::{Outcome, solve_single};
 use mine_graph::{Fixed, Instance};
-use solver::{Outcome, solve_single};
+use optimality::{Certificate, check};
 use std::alloc::Global;
 
 /// The most that an amount on a pair may be, in the unit of the values.

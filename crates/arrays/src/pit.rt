@@ -1,6 +1,6 @@
 //! The pit of a mine that arrays encode, by one thread.
 ghost use Rattle.std.specs.Prelude.{◌≡◌, length, IfOk, IfErr};
-ghost use Rattle.solver.specs.Searched.{IsFound};
+ghost use Rattle.pit_search.specs.Searched.{IsFound};
 ghost use Rattle.arrays.specs.Fixing.{AreForBlocks, RefusesFixing, fixed_by, toward};
 ghost use Rattle.arrays.specs.Refused.{RefusesPitArrays};
 ghost use Rattle.arrays.specs.Solved.{MarkPit};
@@ -12,7 +12,7 @@ use crate::mine::mine_of;
 use csr::CsrView;
 use faults::Refusal;
 use mine_graph::Instance;
-use solver::{FoundPit, solve_pit_sequential};
+use pit_search::{FoundPit, solve_pit_sequential};
 use std::alloc::Global;
 
 /// The value of each block in millionths, and which blocks each needs; and of each block, or of none at all, a number that says whether

@@ -2,7 +2,7 @@
 use Rattle.std.proofs.Common.{◌≡◌, ℕ, suc, ◌+◌, List, ◌∷◌, [], ◌++◌, true, false, arith, ap, ◌∙◌}
 use Rattle.std.specs.Prelude.{ℤ, pos, int_lt}
 use Rattle.pit_model.proofs.Members.{members-in, members-out}
-use Rattle.certificate.specs.Check.{amount}
+use Rattle.optimality.specs.Check.{amount}
 use Rattle.certificate.specs.CertificateText.{carrying}
 
 pub carries : (flow : List ℤ) (k : ℕ) → int_lt (pos 0) (amount flow k) ≡ true → carrying flow (k + 1) ≡ carrying flow k ++ k ∷ []

@@ -9,7 +9,7 @@ use Rattle.minelib_reader.specs.Text.{Row}
 use Rattle.pit_model.specs.Fixed.{FixedLists}
 use Rattle.pit_model.specs.Graph.{Graph}
 use Rattle.pit_model.specs.Limits.{Between}
-use Rattle.certificate.specs.Check.{amount, most_amount, AreAscending, IsCandidate}
+use Rattle.optimality.specs.Check.{amount, most_amount, AreAscending, IsCandidate}
 use Rattle.certificate.specs.CertificateLines.{PitAndFlow}
 use Rattle.certificate.specs.CertificateGrammar.{SpellsPitBlocks, SpellsFlow, SpellsCertificateRows}
 

@@ -1,13 +1,5 @@
-pub mod OfTree
-pub mod Adding
-pub mod Found
-pub mod Visiting
-pub mod Spreading
-pub mod SameSet
-pub mod Checked
 pub mod Carrying
 pub mod ArcOf
-pub mod Sending
 pub mod Steps
 pub mod LinesRead
 pub mod HeadRead

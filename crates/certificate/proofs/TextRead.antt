@@ -7,7 +7,7 @@ use Rattle.minelib_reader.specs.Text.{Row}
 use Rattle.pit_model.specs.Fixed.{FixedLists}
 use Rattle.pit_model.specs.Graph.{Graph, AreRising}
 use Rattle.certificate.specs.declared.due.CertificateLine.TheVariants.{Block, Arc}
-use Rattle.certificate.specs.Check.{amount}
+use Rattle.optimality.specs.Check.{amount}
 use Rattle.certificate.specs.CertificateLines.{State, PitAndFlow, pit_and_flow, state, first_state, step, end, block_step, arc_step, step_at, end_at, certificate_from, count_line, arc_line}
 use Rattle.certificate.specs.CertificateGrammar.{SpellsPitBlock, SpellsPitBlocks, SpellsFlow, SpellsCertificateRows}
 use Rattle.report.specs.LineByLine.{read_from}

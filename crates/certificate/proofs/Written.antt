@@ -15,7 +15,7 @@ use Rattle.pit_model.specs.Limits.{Between}
 use Rattle.pit_model.specs.PitText.{line_of}
 use Rattle.csr.proofs.Pigeon.{pigeon}
 use Rattle.pit_model.proofs.Members.{members_few, members_below}
-use Rattle.certificate.specs.Check.{amount, AreAscending, IsCandidate}
+use Rattle.optimality.specs.Check.{amount, AreAscending, IsCandidate}
 use Rattle.certificate.specs.CertificateText.{carrying, certificate_head, certificate_text, flow_head, flow_line, graph_head, list_text}
 use Rattle.certificate.specs.CertificateLines.{fixes_nothing, pit_and_flow}
 use Rattle.certificate.specs.CertificateGrammar.{SpellsPitBlock, SpellsPitBlocks, SpellsList, SpellsFormat, SpellsArc, SpellsFlow, SpellsCertificate}

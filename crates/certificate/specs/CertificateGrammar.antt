@@ -6,7 +6,7 @@ use Rattle.pit_model.specs.Fixed.{FixedLists}
 use Rattle.pit_model.specs.Graph.{Graph, first_of, second_of}
 use Rattle.mine_graph.specs.FixedBlocks.{no_lists}
 use Rattle.report.specs.HeadLines.{SpellsNumber}
-use Rattle.certificate.specs.Check.{amount}
+use Rattle.optimality.specs.Check.{amount}
 use Rattle.certificate.specs.CertificateLines.{PitAndFlow}
 
 -- the line of a block of n, which is at least from

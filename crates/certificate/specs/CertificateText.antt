@@ -5,7 +5,7 @@ use Rattle.pit_model.specs.Fixed.{FixedLists}
 use Rattle.pit_model.specs.Graph.{Graph, first_of, second_of}
 use Rattle.pit_model.specs.Mine.{members}
 use Rattle.pit_model.specs.PitText.{line_of}
-use Rattle.certificate.specs.Check.{amount}
+use Rattle.optimality.specs.Check.{amount}
 use Rattle.certificate.specs.CertificateLines.{fixes_nothing, kind_word}
 use Rattle.certificate.specs.declared.due.Kind.TheVariants.{Forced, Barred}
 

@@ -1,6 +1,3 @@
-pub mod Certificate
-pub mod Check
-pub mod Reaching
 pub mod CertificateText
 pub mod CertificateLines
 pub mod CertificateFault

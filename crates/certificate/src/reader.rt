@@ -8,7 +8,7 @@ ghost use Rattle.minelib_reader.specs.Answer.{Gives, Answers, AnswersBy, FailsBy
 ghost use Rattle.minelib_reader.specs.Text.{row, fields_of};
 ghost use Rattle.pit_model.specs.Fixed.{FixedLists};
 ghost use Rattle.pit_model.specs.Graph.{AreRising, Graph as AnyGraph};
-ghost use Rattle.certificate.specs.Check.{IsCandidate};
+ghost use Rattle.optimality.specs.Check.{IsCandidate};
 ghost use Rattle.certificate.specs.CertificateLines.{arc_step, block_step, certificate_of, end_at, pit_and_flow, state, step_at, PitAndFlow};
 ghost use Rattle.certificate.specs.CertificateFault.{IsFirstCertificateFault};
 ghost use Rattle.certificate.specs.CertificateGrammar.{SpellsCertificate};
@@ -16,10 +16,10 @@ ghost use Rattle.certificate.specs.CertificateGrammar.{SpellsCertificate};
 use crate::due::{CertificateLine, Head};
 use crate::head::take_head;
 use crate::lines::{in_certificate, read_arc, read_count, read_id};
-use crate::pit_with_flow::Certificate;
 use faults::{Fault, Refusal, Source};
 use mine_graph::{Fixed, Graph};
 use minelib_reader::{InBytes, Row, TextRows, read_all};
+use optimality::Certificate;
 use std::alloc::Global;
 
 /// The line of a block, while some are left; then how many arcs follow.

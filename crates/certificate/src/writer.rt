@@ -6,7 +6,7 @@ ghost use Rattle.minelib_reader.specs.Device.{Writes};
 ghost use Rattle.faults.specs.Refused.{write_failed};
 ghost use Rattle.pit_model.specs.PitText.{line_of};
 ghost use Rattle.report.specs.Puts.{IsReady, Puts};
-ghost use Rattle.certificate.specs.Check.{amount, IsCandidate};
+ghost use Rattle.optimality.specs.Check.{amount, IsCandidate};
 ghost use Rattle.certificate.specs.CertificateGrammar.{SpellsCertificate};
 ghost use Rattle.certificate.specs.CertificateLines.{pit_and_flow};
 ghost use Rattle.mine_graph.specs.FixedBlocks.{IsFixedOf};
@@ -14,10 +14,10 @@ ghost use Rattle.certificate.specs.CertificateText.{carrying, certificate_head, 
 
 use crate::due::Kind;
 use crate::head::{fixes_nothing, word_of};
-use crate::pit_with_flow::Certificate;
 use faults::Fault;
 use mine_graph::{Fixed, Graph};
 use minelib_reader::OutBytes;
+use optimality::Certificate;
 use report::{Out, end_line, finish, put, put_line, put_number};
 
 /// Writes the title, with the number of the format, and how many blocks and arcs the graph has.

@@ -8,7 +8,7 @@ use Rattle.pit_model.specs.Mine.{Instance}
 use Rattle.pit_model.specs.Tree.{is_merger}
 use Rattle.pit_model.specs.Journal.{is_used_up, applied_count, IsLawful, AreSeated, replay}
 use Rattle.pit_model.specs.FirstRun.{HasMerger, HasNoMerger, IsFirstMerger}
-use Rattle.certificate.specs.Certificate.{IsCertificateOf}
+use Rattle.optimality.specs.Certificate.{IsCertificateOf}
 use Rattle.pit_model.specs.Version.{applied_arcs, version_tree}
 use Rattle.proposals.specs.declared.seat_state.WorkerLedger.{WorkerLedger}
 use Rattle.tree_lock.specs.HolderState.{HolderState, Decides}

@@ -6,10 +6,10 @@ ghost use Rattle.pit_model.specs.Tree.{is_merger};
 ghost use Rattle.pit_model.specs.FirstRun.{IsFirstMerger};
 ghost use Rattle.crew.specs.Solved.{EndsBy, DecidesFirst, IsEnded, IsSolvedTogether, RoundEnds};
 
-use certificate::of_tree;
 use faults::Fault;
 use merging::Outcome;
 use norm_tree::NormTree;
+use optimality::of_tree;
 use rayon::prelude::*;
 use std::alloc::Global;
 use std::sync::Wait;

@@ -14,7 +14,7 @@ use Rattle.pit_model.proofs.Joined.{certificates_join}
 use Rattle.mine_graph.specs.declared.part.Part.{Part}
 use Rattle.mine_graph.specs.Parts.{AreParts}
 use Rattle.pit_model.proofs.Members.{members_below, members_each, members_place, members_rise}
-use Rattle.certificate.specs.Check.{IsCandidate, has, amount, most_amount}
+use Rattle.optimality.specs.Check.{IsCandidate, has, amount, most_amount}
 use Rattle.merging.specs.declared.solved_part.SolvedPart.{SolvedPart}
 use Rattle.merging.specs.Parts.{graph_of_instance, IsSolvedPart, AreSolved, named, ArePitMarks, AreCarried, IsListed, ArePlaced}
 

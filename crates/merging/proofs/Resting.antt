@@ -13,9 +13,9 @@ use Rattle.pit_model.proofs.Members.{members_below, members_each, members_ext, m
 use Rattle.pit_model.proofs.RestCertificates.{rest_certificate_is_open}
 use Rattle.pit_model.proofs.Simple.{instance_is_simple}
 use Rattle.mine_graph.specs.FixedBlocks.{FixedBlocks, IsFixedOf, forced_closure, barred_closure}
-use Rattle.certificate.specs.Certificate.{IsCertificateOf}
-use Rattle.certificate.specs.Check.{IsCandidate, amount, has, most_amount, open_in}
-use Rattle.certificate.specs.declared.pit_with_flow.Certificate.{Certificate}
+use Rattle.optimality.specs.Certificate.{IsCertificateOf}
+use Rattle.optimality.specs.Check.{IsCandidate, amount, has, most_amount, open_in}
+use Rattle.optimality.specs.declared.pit_with_flow.Certificate.{Certificate}
 use Rattle.merging.specs.Parts.{AreCarried, ArePitMarks, named}
 use Rattle.merging.specs.Reduced.{IsRestIn, ListsJoined}
 use Rattle.merging.specs.declared.reduced_mine.ReducedMine.{ReducedMine}

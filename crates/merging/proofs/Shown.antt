@@ -6,11 +6,11 @@ use Rattle.pit_model.specs.Mine.{Instance, members}
 use Rattle.pit_model.specs.Limits.{IsInstance}
 use Rattle.pit_model.specs.Tree.{MineTree, is_strong, is_merger, IsNormalised}
 use Rattle.pit_model.proofs.Simple.{instance_is_simple}
-use Rattle.certificate.specs.declared.pit_with_flow.Certificate.{Certificate}
-use Rattle.certificate.specs.Certificate.{IsCertificateOf}
-use Rattle.certificate.specs.Check.{ShowsPit}
-use Rattle.certificate.proofs.Checked.{shows}
-use Rattle.certificate.proofs.OfTree.{is_certificate}
+use Rattle.optimality.specs.declared.pit_with_flow.Certificate.{Certificate}
+use Rattle.optimality.specs.Certificate.{IsCertificateOf}
+use Rattle.optimality.specs.Check.{ShowsPit}
+use Rattle.optimality.proofs.Checked.{shows}
+use Rattle.optimality.proofs.OfTree.{is_certificate}
 
 pub strong_blocks_show :
     (t : MineTree) (mine : Instance) (pit : List ℕ) → t.mine ≡ mine → IsInstance t.mine → IsNormalised t.mine t.tree

@@ -5,8 +5,8 @@ use Rattle.pit_model.specs.Mine.{Instance, value, arcs, source, target}
 use Rattle.pit_model.specs.Limits.{IsInstance}
 use Rattle.pit_model.specs.Part.{IsPart, IsRenumbered, StandsAt}
 use Rattle.mine_graph.specs.declared.part.Part.{Part}
-use Rattle.certificate.specs.Certificate.{IsCertificateOf}
-use Rattle.certificate.specs.Check.{has, amount}
+use Rattle.optimality.specs.Certificate.{IsCertificateOf}
+use Rattle.optimality.specs.Check.{has, amount}
 use Rattle.merging.specs.declared.solved_part.SolvedPart.{SolvedPart}
 
 abbrev pub graph_of_instance : Instance → Graph

@@ -6,7 +6,7 @@ use Rattle.pit_model.specs.Journal.{is_used_up}
 use Rattle.pit_model.specs.Mine.{Instance}
 use Rattle.pit_model.specs.Tree.{MineTree}
 use Rattle.pit_model.specs.Replay.{DiffersAt, IsComplete, IsSpentAt, IsOpenAt}
-use Rattle.certificate.specs.Check.{ShowsPit}
+use Rattle.optimality.specs.Check.{ShowsPit}
 use Rattle.merging.specs.declared.replayed.Replayed.{Replayed}
 use Rattle.merging.specs.declared.replayed.Replayed.TheVariants.{Pit, Differs, Exhausted, Open}
 

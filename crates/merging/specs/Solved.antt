@@ -4,7 +4,7 @@ use Rattle.pit_model.specs.Mine.{Instance}
 use Rattle.pit_model.specs.Tree.{MineTree}
 use Rattle.pit_model.specs.Rank.{rank}
 use Rattle.pit_model.specs.FirstRun.{HasMerger, HasNoMerger, first_run}
-use Rattle.certificate.specs.Certificate.{IsCertificateOf}
+use Rattle.optimality.specs.Certificate.{IsCertificateOf}
 use Rattle.merging.specs.declared.outcome.Outcome.{Outcome}
 use Rattle.merging.specs.declared.outcome.Outcome.TheVariants.{Pit, Exhausted}
 

@@ -3,14 +3,14 @@ ghost use Rattle.std.specs.Prelude.{◌≡◌, ◌<◌, ℕ, Bool, false, length
 ghost use Rattle.faults.specs.Refused.{no_memory};
 ghost use Rattle.pit_model.specs.Mine.{arcs, members};
 ghost use Rattle.pit_model.specs.Part.{IsPart, IsRenumbered};
-ghost use Rattle.certificate.specs.Check.{has};
-ghost use Rattle.certificate.specs.Certificate.{IsCertificateOf};
+ghost use Rattle.optimality.specs.Check.{has};
+ghost use Rattle.optimality.specs.Certificate.{IsCertificateOf};
 ghost use Rattle.merging.specs.Parts.{graph_of_instance, AreSolved, ArePitMarks, AreCarried, ArePlaced};
 
 use crate::solved_part::SolvedPart;
-use certificate::Certificate;
 use faults::Fault;
 use mine_graph::{Graph, Instance, marked_numbers};
+use optimality::Certificate;
 use std::alloc::{AllocError, Global};
 
 /// Marks the blocks of a part's pit.

@@ -1,6 +1,6 @@
 //! How a solve ended.
 
-use certificate::Certificate;
+use optimality::Certificate;
 
 /// How a solve ended.
 #[derive(Debug, Drop)]

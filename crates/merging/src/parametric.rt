@@ -5,7 +5,7 @@ ghost use Rattle.faults.specs.Refused.{no_memory};
 ghost use Rattle.pit_model.specs.Mine.{value};
 ghost use Rattle.mine_graph.specs.Raised.{raised_at};
 ghost use Rattle.norm_tree.specs.Over.{most_rise};
-ghost use Rattle.certificate.specs.Check.{ShowsPit};
+ghost use Rattle.optimality.specs.Check.{ShowsPit};
 
 use crate::closing::merge_remaining;
 use crate::lowest_label::{LowestLabel, take_turns};

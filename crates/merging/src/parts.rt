@@ -6,17 +6,17 @@ ghost use Rattle.std.specs.Prelude.{◌≡◌, ◌<◌, ℕ, false, pos, length,
 ghost use Rattle.std.specs.List.{All, AllZip};
 ghost use Rattle.faults.specs.Refused.{no_memory};
 ghost use Rattle.pit_model.specs.Mine.{value};
-ghost use Rattle.certificate.specs.Certificate.{IsCertificateOf};
-ghost use Rattle.certificate.specs.Check.{ShowsPit};
+ghost use Rattle.optimality.specs.Certificate.{IsCertificateOf};
+ghost use Rattle.optimality.specs.Check.{ShowsPit};
 ghost use Rattle.merging.specs.Parts.{graph_of_instance, IsPartOf, IsSolvedPart};
 
 use crate::lift::join_parts;
 use crate::single::{solve_certificate, solve_pit};
 use crate::solved_part::SolvedPart;
 use crate::union_find::is_one_part;
-use certificate::Certificate;
 use faults::Fault;
 use mine_graph::{Graph, Instance, Part};
+use optimality::Certificate;
 use rayon::prelude::*;
 use std::alloc::{AllocError, Global};
 use std::sync::Arc;

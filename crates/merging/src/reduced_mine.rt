@@ -5,16 +5,16 @@ ghost use Rattle.faults.specs.Refused.{no_memory};
 ghost use Rattle.pit_model.specs.Fixed.{IsFixedRest, fixed_of, graph_of_mine};
 ghost use Rattle.pit_model.specs.Mine.{arcs, members};
 ghost use Rattle.pit_model.specs.Size.{most_blocks};
-ghost use Rattle.certificate.specs.Certificate.{IsCertificateOf, IsFixedCertificateOf};
-ghost use Rattle.certificate.specs.Check.{amount, has, open_in};
+ghost use Rattle.optimality.specs.Certificate.{IsCertificateOf, IsFixedCertificateOf};
+ghost use Rattle.optimality.specs.Check.{amount, has, open_in};
 ghost use Rattle.mine_graph.specs.FixedBlocks.{IsFixedOf, forced_closure, barred_closure};
 ghost use Rattle.merging.specs.Reduced.{IsRestIn, ListsJoined};
 
 use crate::lift::{carry_flow, mark_pit};
 use crate::parts::values_at;
-use certificate::Certificate;
 use faults::Fault;
 use mine_graph::{Fixed, Graph, Instance, marked_numbers};
+use optimality::Certificate;
 use std::alloc::{AllocError, Global};
 use std::sync::Arc;
 

@@ -3,8 +3,8 @@ ghost use Rattle.std.specs.Prelude.{◌≡◌, ℕ, false, Some, None, IfOk, IfE
 ghost use Rattle.faults.specs.Refused.{no_memory};
 ghost use Rattle.pit_model.specs.FirstRun.{first_run};
 ghost use Rattle.pit_model.specs.Tree.{is_merger};
-ghost use Rattle.certificate.specs.Certificate.{IsCertificateOf};
-ghost use Rattle.certificate.specs.Check.{ShowsPit};
+ghost use Rattle.optimality.specs.Certificate.{IsCertificateOf};
+ghost use Rattle.optimality.specs.Check.{ShowsPit};
 ghost use Rattle.merging.specs.Solved.{IsSolvedAlone};
 
 use crate::budget_bound::is_enough;
@@ -12,10 +12,10 @@ use crate::closing::merge_remaining;
 use crate::first_mergers::make_first_mergers;
 use crate::lowest_label::merge_by_lowest_label;
 use crate::outcome::Outcome;
-use certificate::{Certificate, of_tree};
 use faults::Fault;
 use mine_graph::Instance;
 use norm_tree::{BareTree, NormTree};
+use optimality::{Certificate, of_tree};
 use pit_model::budget_suffices;
 use std::alloc::Global;
 

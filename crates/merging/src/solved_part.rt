@@ -1,7 +1,7 @@
 //! A part of an instance with its own answer.
 
-use certificate::Certificate;
 use mine_graph::Instance;
+use optimality::Certificate;
 
 /// A part of an instance as an instance of its own, in which block i is `blocks[i]` of the whole, and its certificate.
 #[derive(Drop)]

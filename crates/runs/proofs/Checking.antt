@@ -20,7 +20,7 @@ use Rattle.pit_model.proofs.SamePairs.{turned, fixed_pit_knows_no_order}
 use Rattle.certificate.specs.CertificateGrammar.{SpellsCertificate}
 use Rattle.certificate.specs.CertificateLines.{PitAndFlow}
 use Rattle.certificate.specs.CertificateFault.{IsFirstCertificateFault}
-use Rattle.certificate.proofs.Checked.{shows_fixed}
+use Rattle.optimality.proofs.Checked.{shows_fixed}
 use Rattle.report.specs.AnswerText.{answer_text}
 use Rattle.runs.specs.Solve.{Files, FixedInstance, Gave, HoldsMine, Reading, fixed_in}
 use Rattle.merging.specs.Parts.{graph_of_instance}

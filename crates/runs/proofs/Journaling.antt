@@ -23,7 +23,7 @@ use Rattle.solver.specs.declared.mode.Mode.{Mode}
 use Rattle.solver.specs.declared.mode.Mode.TheVariants.{Single, Parts, Shared}
 use Rattle.solver.specs.Modes.{EndsIn}
 use Rattle.solver.specs.Searched.{EndsFixed, IsLiftedOutcome}
-use Rattle.solver.proofs.Searching.{named_block}
+use Rattle.pit_search.proofs.Searching.{named_block}
 use Rattle.runs.specs.Solve.{Files, FixedInstance, HoldsMine, fixed_in}
 use Rattle.runs.specs.Chosen.{Chosen, OfWriter, OfWriterIfAny}
 use Rattle.runs.specs.Journaled.{JournalEnd, AtBudget, EndOf, AtAnyEnd, MayPutEntries, PutsEntries, RefusesEntries, SaysJournal, WritesJournal, PutsJournal, IsJournaled, IsJournalCut}

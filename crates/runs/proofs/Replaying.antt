@@ -19,7 +19,7 @@ use Rattle.merging.specs.Replayed.{EndsReplay}
 use Rattle.merging.specs.Reduced.{IsRestIn, ListsJoined}
 use Rattle.merging.specs.declared.reduced_mine.ReducedMine.{ReducedMine}
 use Rattle.mine_graph.specs.FixedBlocks.{FixedBlocks, no_lists}
-use Rattle.solver.proofs.Searching.{is_rest_of, joined_pit, least_pit, none_is_rest, plain_pit}
+use Rattle.pit_search.proofs.Searching.{is_rest_of, joined_pit, least_pit, none_is_rest, plain_pit}
 use Rattle.merging.specs.declared.replayed.Replayed.{Replayed}
 use Rattle.merging.specs.declared.replayed.Replayed.TheVariants as ends
 use Rattle.pit_model.specs.declared.direction.Direction.TheVariants.{Least}

@@ -11,8 +11,8 @@ use Rattle.pit_model.specs.Graph.{AreSamePairs}
 use Rattle.pit_model.specs.Mine.{Instance, instance_of, members, worth}
 use Rattle.pit_model.specs.PitText.{pit_text}
 use Rattle.pit_model.proofs.SamePairs.{turned, fixed_pit_knows_no_order}
-use Rattle.solver.specs.declared.search.FoundPit.{FoundPit}
-use Rattle.solver.specs.Searched.{IsFound}
+use Rattle.pit_search.specs.declared.found_pit.FoundPit.{FoundPit}
+use Rattle.pit_search.specs.Searched.{IsFound}
 use Rattle.runs.specs.Solve.{Files, FixedInstance, HoldsMine, IsPitText, Solves, IsDone, IsCutShort, fixed_in}
 use Rattle.runs.specs.declared.status.Status.TheVariants.{Done}
 

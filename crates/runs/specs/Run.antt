@@ -9,7 +9,7 @@ use Rattle.pit_model.specs.declared.direction.Direction.{Direction}
 use Rattle.pit_model.specs.declared.direction.Direction.TheVariants.{Least}
 use Rattle.pit_model.specs.Mine.{Instance}
 use Rattle.pit_model.specs.Replay.{IsComplete}
-use Rattle.certificate.specs.Certificate.{IsFixedCertificateOf}
+use Rattle.optimality.specs.Certificate.{IsFixedCertificateOf}
 use Rattle.merging.specs.declared.outcome.Outcome.{Outcome}
 use Rattle.merging.specs.declared.outcome.Outcome.TheVariants as outcomes
 use Rattle.solver.specs.declared.mode.Mode.{Mode}

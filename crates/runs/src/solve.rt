@@ -1,7 +1,7 @@
 //! `solve`: from the bytes of a model, a precedence file and a file of fixed blocks to the bytes of the pit, of the certificate
 //! that shows it, and of the journal of what workers decided.
 ghost use Rattle.std.specs.Prelude.{◌≡◌, ◌<◌, ◌^◌, Ok, IfOk, IfErr};
-ghost use Rattle.certificate.specs.Certificate.{IsFixedCertificateOf};
+ghost use Rattle.optimality.specs.Certificate.{IsFixedCertificateOf};
 ghost use Rattle.mine_graph.specs.FixedBlocks.{IsFixedOf};
 ghost use Rattle.pit_model.specs.declared.direction.Direction.TheVariants.{Least};
 ghost use Rattle.pit_model.specs.Fixed.{fixed_of, graph_of_mine};
@@ -13,7 +13,8 @@ ghost use Rattle.runs.specs.Journaled.{EndOf, IsJournaled, MayJournal, MayPutEnt
 ghost use Rattle.runs.specs.Run.{settings_of, EndsJournaled, HoldsOfSearched, MayWrite, RefusesOutcome, RefusesPit, RefusesRun};
 ghost use Rattle.runs.specs.Solve.{files_of, mine_files, fixed_instance_of, IsDone, MayRead};
 ghost use Rattle.solver.specs.Modes.{EndsWithin};
-ghost use Rattle.solver.specs.Searched.{EndsFixed, IsFound, OfSearched};
+ghost use Rattle.pit_search.specs.Searched.{IsFound};
+ghost use Rattle.solver.specs.Searched.{EndsFixed, OfSearched};
 
 use crate::mine::{FixedMine, read_mine};
 use crate::settings::SolveSettings;

@@ -1,56 +1,25 @@
--- What is found on the instance that is searched, by the numbers of the whole mine.
-use Rattle.std.specs.Global.{Vec}
-use Rattle.std.proofs.Common.{◌≡◌, ℕ, ◌<◌, ◌||◌, ◌≤◌, Bool, true, not, refl, sym, ap, subst, ◌∙◌, List, [], ◌∷◌, get_or, length}
-use Rattle.std.specs.Prelude.{IsTrue, Option, None, Some, pos}
-use Rattle.std.specs.List.{All}
-use Rattle.std.proofs.lemmas.Bool.{eq-eqb, or_left, or_right}
+-- How a solve of a mine ends, by that of the instance that is searched.
+use Rattle.std.proofs.Common.{◌≡◌, refl, List, get_or}
+use Rattle.std.specs.Prelude.{pos}
 use Rattle.faults.specs.declared.fault.Fault.{Fault}
 use Rattle.faults.specs.declared.refusal.Refusal.{Refusal}
 use Rattle.faults.specs.declared.refusal.Refusal.TheVariants as refusals
 use Rattle.pit_model.specs.declared.direction.Direction.{Direction}
-use Rattle.pit_model.specs.declared.direction.Direction.TheVariants.{Least, Greatest}
 use Rattle.pit_model.specs.declared.journal.Entry.{Entry}
-use Rattle.pit_model.specs.Mine.{Instance, members}
-use Rattle.pit_model.specs.Direction.{IsSearched, IsDual, ListsPit, no_blocks_fixed, IsPitToward}
-use Rattle.pit_model.specs.Fixed.{Fixed, FixedLists, IsNothingFixed, IsRestOf, all_open, some_fixed, fixed_of, graph_of_mine, is_among}
-use Rattle.pit_model.proofs.Fixed.{none_fixes_nothing}
-use Rattle.pit_model.proofs.Members.{members_below, members_each, members_few}
+use Rattle.pit_model.specs.Mine.{Instance}
+use Rattle.pit_model.specs.Direction.{IsSearched}
+use Rattle.pit_model.specs.Fixed.{Fixed, fixed_of, graph_of_mine}
 use Rattle.pit_model.proofs.OpenCertificates.{none_fixed_certifies}
-use Rattle.pit_model.proofs.Dual.{complement_is_greatest, nothing_fixed, rest_gives_pit_toward}
 use Rattle.mine_graph.specs.FixedBlocks.{FixedBlocks, IsFixedOf, forced_closure, barred_closure, no_lists}
-use Rattle.certificate.specs.declared.pit_with_flow.Certificate.{Certificate}
-use Rattle.certificate.specs.Certificate.{IsCertificateOf, IsFixedCertificateOf}
-use Rattle.certificate.specs.Check.{ShowsPit}
-use Rattle.merging.specs.Reduced.{IsRestIn, ListsJoined}
-use Rattle.merging.specs.declared.reduced_mine.ReducedMine.{ReducedMine}
+use Rattle.optimality.specs.declared.pit_with_flow.Certificate.{Certificate}
+use Rattle.optimality.specs.Certificate.{IsCertificateOf, IsFixedCertificateOf}
 use Rattle.merging.specs.declared.outcome.Outcome.{Outcome}
 use Rattle.merging.specs.declared.outcome.Outcome.TheVariants as outcomes
+use Rattle.pit_search.proofs.Searching.{none_is_rest, none_named}
 use Rattle.solver.specs.declared.mode.Mode.{Mode}
 use Rattle.solver.specs.declared.mode.Mode.TheVariants.{Single, Parts, Shared}
 use Rattle.solver.specs.Modes.{EndsIn, RefusesSolve}
-use Rattle.solver.specs.Searched.{EndsFixed, IsLiftedOutcome, IsOpenPart, IsSearchOf, IsShown, RefusesSearch}
-use Rattle.solver.specs.declared.searched.Searched.{Searched}
-
--- ---- the rest
-none_named : (lists : FixedLists) → lists ≡ no_lists → IsNothingFixed (fixed_of lists)
-none_named lists none = record { none_forced = λ u. ap (λ (l : FixedLists). is_among l.forced u) none; none_barred = λ u. ap (λ (l : FixedLists). is_among l.barred u) none }
-
-pub none_is_rest : (mine : Instance) (lists : FixedLists) → lists ≡ no_lists → IsRestOf mine (fixed_of lists) mine
-none_is_rest mine lists none = all_open (none_named lists none) refl
-
-first_among : (x : ℕ) (xs : List ℕ) → is_among (x ∷ xs) x ≡ true
-first_among x xs = or_left _ _ (eq-eqb x x refl)
-
--- a block of a list that is not empty
-pub named_block : (forced barred : List ℕ) → (record { forced = forced; barred = barred } ≡ no_lists → ⊥) → (u : ℕ) × IsTrue (is_among forced u || is_among barred u)
-named_block (x ∷ xs) barred some = (x, or_left _ _ (first_among x xs))
-named_block [] (y ∷ ys) some = (y, or_right (is_among [] y) _ (first_among y ys))
-named_block [] [] some = absurd (some refl)
-
-pub is_rest_of : (mine : Instance) (fixed : FixedBlocks) (rest : ReducedMine) → (fixed.lists ≡ no_lists → ⊥) → IsRestIn mine fixed rest → IsRestOf mine (fixed_of fixed.lists) rest.mine
-is_rest_of mine fixed rest some is =
-    let named = named_block fixed.lists.forced fixed.lists.barred some in
-    some_fixed named.0 named.1 (forced_closure fixed) (barred_closure fixed) rest.blocks.items (graph_of_mine rest.mine) is.is_rest is.mine_is
+use Rattle.solver.specs.Searched.{EndsFixed, IsLiftedOutcome, IsShown, RefusesSearch}
 
 -- ---- outcomes
 pub shown_of : (mode : Mode) (mine : Instance) (outcome : Outcome) (journal : List Entry) → EndsIn mode mine outcome journal → IsShown mine outcome
@@ -83,63 +52,7 @@ pub ends_plain : (mode : Mode) (mine : Instance) (fixed : FixedBlocks) (outcome 
 ends_plain mode mine fixed outcome journal of none ended =
     (mine, none_is_rest mine fixed.lists none, (outcome, ended, lifts_itself mine fixed outcome of none (shown_of mode mine outcome journal ended)))
 
--- ---- pits
-pub plain_pit : (direction : Direction) (mine : Instance) (lists : FixedLists) (pit : List ℕ) → lists ≡ no_lists → ListsPit direction mine no_blocks_fixed pit → ListsPit direction mine (fixed_of lists) pit
-plain_pit direction mine lists pit none shown = subst (λ (l : FixedLists). ListsPit direction mine (fixed_of l) pit) (sym none) shown
-
-pub joined_pit : (direction : Direction) (mine : Instance) (fixed : FixedBlocks) (rest : ReducedMine) (found pit : List ℕ) → IsRestIn mine fixed rest → ListsPit direction rest.mine no_blocks_fixed found
-    → ((set : ℕ → Bool) → found ≡ members (length rest.blocks.items) set → ListsJoined mine.blocks fixed rest.blocks.items set pit) → ListsPit direction mine (fixed_of fixed.lists) pit
-joined_pit direction mine fixed rest found pit is shown joined =
-    let list = joined shown.set (shown.listed ∙ ap (λ n. members n shown.set) is.is_rest.is_part.count) in
-    let here = subst (λ (m : Instance). IsPitToward direction m no_blocks_fixed shown.set) is.mine_is shown.is_pit in
-    record {
-      set = list.after;
-      listed = list.listed;
-      is_pit = rest_gives_pit_toward direction mine (fixed_of fixed.lists) (forced_closure fixed) (barred_closure fixed) rest.blocks.items (graph_of_mine rest.mine) shown.set list.after is.is_rest here list.joined;
-    }
-
--- the blocks outside the pit of the dual instance
-pub turned_pit : (mine other : Instance) (found list : List ℕ) → IsDual mine other → ShowsPit other found
-    → ((set : ℕ → Bool) → found ≡ members mine.blocks set → list ≡ members mine.blocks (λ u. not (set u))) → ListsPit Greatest mine no_blocks_fixed list
-turned_pit mine other found list is shown outside = record {
-  set = λ u. not (shown.set u);
-  listed = outside shown.set (shown.listed ∙ ap (λ n. members n shown.set) is.reversed.same_blocks);
-  is_pit = complement_is_greatest mine other shown.set is shown.is_pit;
-}
-
--- with nothing fixed the pit of a mine is its least pit, and the mine itself is searched
-pub least_pit : (mine : Instance) (pit : List ℕ) → ShowsPit mine pit → ListsPit Least mine no_blocks_fixed pit
-least_pit mine pit shown = record { set = shown.set; listed = shown.listed; is_pit = (none_fixes_nothing mine no_blocks_fixed shown.set nothing_fixed).1 shown.is_pit }
-
--- ---- what is searched
-pub rest_is : (mine : Instance) (fixed : FixedBlocks) (blocks : Option (Vec ℕ)) (rest : Instance) → IsOpenPart mine fixed blocks rest → IsRestOf mine (fixed_of fixed.lists) rest
-rest_is mine fixed None rest is = subst (λ (m : Instance). IsRestOf mine (fixed_of fixed.lists) m) (sym is.1) (none_is_rest mine fixed.lists is.0)
-rest_is mine fixed (Some blocks) rest is = is_rest_of mine fixed (record { blocks = blocks; mine = rest }) is.0 is.1
-
-pub is_searched : (direction : Direction) (mine : Instance) (fixed : FixedBlocks) (searched : Searched) → IsSearchOf direction mine fixed searched → IsSearched direction mine (fixed_of fixed.lists) searched.instance
-is_searched Least mine fixed searched is = subst (λ (m : Instance). IsRestOf mine (fixed_of fixed.lists) m) (sym is.faced) (rest_is mine fixed searched.blocks is.rest is.open_part)
-is_searched Greatest mine fixed searched is = (is.rest, rest_is mine fixed searched.blocks is.rest is.open_part, is.faced.0, is.faced.1)
-
 pub search_refused : (mode : Mode) (direction : Direction) (mine : Instance) (fixed : Fixed) (searched : Instance) (r : Refusal) (e : Fault) → IsSearched direction mine fixed searched
     → RefusesSolve mode searched r e → RefusesSearch mode direction mine fixed r e
 search_refused mode direction mine fixed searched (refusals.Exhausted count) e is h = (h.0, (searched, is, h.1))
 search_refused mode direction mine fixed searched _ e is h = h
-
--- the blocks of a set lie below its bound
-pub inside_listed : (n : ℕ) (found : List ℕ) (set : ℕ → Bool) → found ≡ members n set → (i : ℕ) → i < length found → get_or found i 0 < n
-inside_listed n found set listed i l =
-    let each = (members_each n set i (subst (λ (xs : List ℕ). i < length xs) listed l)).0 in
-    subst (λ v. v < n) (sym (ap (λ (xs : List ℕ). get_or xs i 0) listed)) each
-
--- and so the values of each of them can be summed
-pub listed_few : (n : ℕ) (pit : List ℕ) (set : ℕ → Bool) → pit ≡ members n set → length pit ≤ n
-listed_few n pit set listed = subst (λ xs. length xs ≤ n) (sym listed) (members_few n set)
-
-pub listed_below : (n : ℕ) (pit : List ℕ) (set : ℕ → Bool) → pit ≡ members n set → All (λ u. u < n) pit
-listed_below n pit set listed = subst (λ xs. All (λ u. u < n) xs) (sym listed) (members_below n set)
-
--- what was found of the rest lies in it
-pub found_inside : (mine : Instance) (fixed : FixedBlocks) (rest : ReducedMine) (found : List ℕ) (set : ℕ → Bool) → IsRestIn mine fixed rest → found ≡ members rest.mine.blocks set
-    → (i : ℕ) → i < length found → get_or found i 0 < length rest.blocks.items
-found_inside mine fixed rest found set is listed =
-    inside_listed (length rest.blocks.items) found set (listed ∙ ap (λ n. members n set) is.is_rest.is_part.count)

@@ -9,7 +9,7 @@ use Rattle.pit_model.specs.Mine.{Instance}
 use Rattle.pit_model.specs.JournalText.{most_seat}
 use Rattle.pit_model.specs.Journal.{applied_count, AreSeated, IsLawful, replay}
 use Rattle.pit_model.specs.FirstRun.{HasMerger, HasNoMerger, first_run}
-use Rattle.certificate.specs.Certificate.{IsCertificateOf}
+use Rattle.optimality.specs.Certificate.{IsCertificateOf}
 use Rattle.crew.specs.Solved.{IsSolvedTogether}
 use Rattle.merging.specs.declared.outcome.Outcome.{Outcome}
 use Rattle.merging.specs.declared.outcome.Outcome.TheVariants.{Pit, Exhausted}

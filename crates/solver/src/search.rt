@@ -5,17 +5,18 @@ ghost use Rattle.pit_model.specs.Direction.{no_blocks_fixed};
 ghost use Rattle.pit_model.specs.Fixed.{fixed_of, graph_of_mine};
 ghost use Rattle.mine_graph.specs.FixedBlocks.{IsFixedOf};
 ghost use Rattle.merging.specs.Reduced.{IsRestIn};
-ghost use Rattle.certificate.specs.Check.{ShowsPit};
+ghost use Rattle.optimality.specs.Check.{ShowsPit};
 ghost use Rattle.solver.specs.Modes.{EndsIn, EndsWithin, LacksRoom, RefusesSolve};
-ghost use Rattle.solver.specs.Searched.{EndsFixed, IsFound, IsLiftedOutcome, IsShown, OfSearched, RefusesSearch};
+ghost use Rattle.pit_search.specs.Searched.{IsFound};
+ghost use Rattle.solver.specs.Searched.{EndsFixed, IsLiftedOutcome, IsShown, OfSearched, RefusesSearch};
 
 use crate::mode::Mode;
-use crate::searched::Searched;
 use crew::{Entry, Gate, solve_shared};
 use faults::Fault;
 use merging::{Outcome, ReducedMine, pit_by_parts, solve_parts, solve_pit, solve_single};
 use mine_graph::{Fixed, Instance};
 use pit_model::Direction;
+use pit_search::{FoundPit, Searched};
 use std::alloc::Global;
 use std::sync::Wait;
 use std::thread::Threads;
@@ -30,13 +31,6 @@ pub struct Search<'a, R, G> {
     pub direction: Direction,
     /// Is told of the steps of workers.
     pub gate: &'a G,
-}
-
-/// The blocks of a pit, rising, and what they are worth together, in millionths where the values are.
-#[derive(Debug, Drop)]
-pub struct FoundPit {
-    pub blocks: Vec<u32>,
-    pub worth: i128,
 }
 
 /// The outcome of the rest by the numbers of the whole.

@@ -3,7 +3,7 @@ use Rattle.std.proofs.Common.{rules, ◌≡◌, ◌∙◌, ◌<◌, length, get_
 use Rattle.std.specs.Prelude.{◌==◌}
 use Rattle.std.specs.List.{All}
 use Rattle.pit_model.specs.Fixed.{FixedLists, IsNothingFixed, fixed_of, graph_of_mine}
-use Rattle.certificate.specs.Check.{AreAmounts}
+use Rattle.optimality.specs.Check.{AreAmounts}
 use Rattle.arrays.proofs.Certifying.{blocks_rise, certify_marks, marks_certify}
 use Rattle.arrays.proofs.Marking.{listed_below}
 use Rattle.arrays.proofs.certified.check_marks.Goals as goal

@@ -1,6 +1,6 @@
 -- The amounts so far are as they must be.
 use Rattle.std.proofs.Common.{ℕ, ◌<◌, pos}
-use Rattle.certificate.specs.Check.{amount, most_amount}
+use Rattle.optimality.specs.Check.{amount, most_amount}
 use Rattle.pit_model.specs.Limits.{Between}
 use Rattle.arrays.proofs.certified.first_unfit.Given as goal
 

@@ -5,7 +5,7 @@ use Rattle.minelib_reader.specs.Text.{rows_of, count_of_lines}
 use Rattle.minelib_reader.proofs.AnswerLemmas.{value_told, fault_told}
 use Rattle.certificate.specs.CertificateLines.{certificate_of, first_state, pit_and_flow, step, end}
 use Rattle.certificate.specs.CertificateFault.{IsFirstCertificateFault}
-use Rattle.certificate.specs.Check.{IsCandidate}
+use Rattle.optimality.specs.Check.{IsCandidate}
 use Rattle.certificate.specs.CertificateGrammar.{SpellsCertificate}
 use Rattle.certificate.proofs.Lawful.{lawful}
 use Rattle.certificate.proofs.TextRead.{reads}

@@ -3,7 +3,7 @@ use Rattle.std.proofs.Common.{arith, ap, sym, ◌∙◌, length}
 use Rattle.std.specs.Prelude.{pos, int_lt}
 use Rattle.std.proofs.lemmas.List.{length_push}
 use Rattle.pit_model.proofs.Members.{members_few}
-use Rattle.certificate.specs.Check.{amount}
+use Rattle.optimality.specs.Check.{amount}
 use Rattle.certificate.specs.CertificateText.{carrying}
 use Rattle.certificate.proofs.Carrying.{carries, carries_not}
 use Rattle.certificate.proofs.writer.count_carrying.Goals as goal

@@ -5,7 +5,7 @@ use Rattle.std.proofs.lemmas.Int.{to_z-of_z}
 use mir.Val.{SFits}
 use mir.Syntax.{w128}
 use Rattle.report.proofs.PutLemmas.{puts_then, puts_as}
-use Rattle.certificate.specs.Check.{amount}
+use Rattle.optimality.specs.Check.{amount}
 use Rattle.certificate.specs.CertificateText.{flow_line}
 use Rattle.certificate.proofs.writer.put_arc.Goals as goal
 

@@ -2,7 +2,7 @@
 use Rattle.std.proofs.Common.{◌≡◌, ◌∙◌, arith, ap, drop, length}
 use Rattle.std.proofs.lemmas.List.{take_at}
 use Rattle.pit_model.specs.Mine.{members}
-use Rattle.certificate.specs.Check.{has}
+use Rattle.optimality.specs.Check.{has}
 use Rattle.merging.proofs.Joining.{answer_is}
 use Rattle.merging.proofs.lift.join_parts.Goals as goal
 

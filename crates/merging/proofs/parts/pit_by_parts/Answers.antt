@@ -1,6 +1,6 @@
 use Rattle.std.proofs.Common.{subst}
 use Rattle.std.specs.Prelude.{IfSome}
-use Rattle.certificate.specs.Certificate.{IsCertificateOf}
+use Rattle.optimality.specs.Certificate.{IsCertificateOf}
 use Rattle.merging.proofs.Shown.{certificate_shows}
 use Rattle.merging.proofs.parts.pit_by_parts.Goals as goal
 

@@ -2,7 +2,7 @@
 use Rattle.std.proofs.Common.{◌≡◌, ℕ, Bool, List, length, ap, sym, ◌∙◌}
 use Rattle.pit_model.specs.Graph.{Graph}
 use Rattle.pit_model.specs.Mine.{arcs}
-use Rattle.certificate.specs.Check.{has}
+use Rattle.optimality.specs.Check.{has}
 use Rattle.merging.proofs.Planning.{listed_below, listed_rising, listed_few}
 use Rattle.merging.proofs.plan.links_of.Goals as goal
 

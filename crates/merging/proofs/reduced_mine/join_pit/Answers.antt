@@ -3,7 +3,7 @@ use Rattle.std.proofs.Common.{◌≡◌, ℕ, ◌∙◌, arith, ap, sym, subst, 
 use Rattle.std.specs.Prelude.{Bool}
 use Rattle.std.proofs.lemmas.List.{take_at}
 use Rattle.pit_model.specs.Mine.{members}
-use Rattle.certificate.specs.Check.{has}
+use Rattle.optimality.specs.Check.{has}
 use Rattle.merging.specs.Parts.{ArePitMarks}
 use Rattle.merging.specs.Reduced.{ListsJoined}
 use Rattle.merging.proofs.Resting.{is_open_block, lists_joined}

@@ -3,7 +3,7 @@ use Rattle.std.specs.Int.{w128}
 use Rattle.std.proofs.lemmas.Int.{to_z-of_z}
 use mir.Val.{SFits}
 use Rattle.runs.specs.Solve.{fixed_instance_of}
-use Rattle.solver.proofs.Searching.{listed_below, listed_few}
+use Rattle.pit_search.proofs.Searching.{listed_below, listed_few}
 use Rattle.runs.proofs.Solving.{shown_text}
 use Rattle.runs.proofs.replay.put_pit.Goals as goal
 

@@ -4,11 +4,11 @@ use Rattle.std.proofs.lemmas.Bool.{true≢false}
 use Rattle.std.proofs.lemmas.Result.{err_from_is_err_and}
 use Rattle.pit_model.specs.Graph.{Graph}
 use Rattle.pit_model.specs.Mine.{members}
-use Rattle.certificate.specs.Check.{open_in}
+use Rattle.optimality.specs.Check.{open_in}
 use Rattle.mine_graph.specs.FixedBlocks.{no_lists}
 use Rattle.merging.specs.Reduced.{ListsJoined}
 use Rattle.merging.proofs.Resting.{none_both}
-use Rattle.solver.proofs.Searching.{found_inside, is_rest_of}
+use Rattle.pit_search.proofs.Searching.{found_inside, is_rest_of}
 use Rattle.runs.specs.Replay.{IsReplayedOn}
 use Rattle.runs.specs.Solve.{reading, fixed_instance_of}
 use Rattle.runs.proofs.Replaying.{open_replayed, pit_replayed, plain_refused, plain_replayed, rest_refused}

@@ -4,8 +4,8 @@ use Rattle.std.specs.Int.{w128}
 use Rattle.std.proofs.lemmas.Int.{to_z-of_z}
 use mir.Val.{SFits}
 use Rattle.pit_model.proofs.Simple.{instance_is_simple}
-use Rattle.certificate.proofs.Checked.{shows_fixed}
-use Rattle.solver.proofs.Searching.{listed_few}
+use Rattle.optimality.proofs.Checked.{shows_fixed}
+use Rattle.pit_search.proofs.Searching.{listed_few}
 use Rattle.runs.specs.Run.{EndsSolve}
 use Rattle.runs.specs.Solve.{fixed_in, fixed_instance_of}
 use Rattle.runs.proofs.solve.recorded_pit.Goals as goal

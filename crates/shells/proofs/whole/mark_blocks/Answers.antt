@@ -1,6 +1,6 @@
 -- At the end the blocks of the list are marked, and no others.
 use Rattle.std.proofs.Common.{◌≡◌, arith, length, subst}
-use Rattle.solver.proofs.Marking.{IsMarking, marks_members}
+use Rattle.pit_search.proofs.Marking.{IsMarking, marks_members}
 use Rattle.shells.proofs.whole.mark_blocks.Goals as goal
 
 pub returns-clause-marks : goal.returns-clause-marks

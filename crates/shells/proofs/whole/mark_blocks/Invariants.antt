@@ -1,5 +1,5 @@
 -- Marked are exactly the blocks of the list so far.
-use Rattle.solver.proofs.Marking.{IsMarking}
+use Rattle.pit_search.proofs.Marking.{IsMarking}
 use Rattle.shells.proofs.whole.mark_blocks.Given as goal
 
 abbrev pub invariant-loop-block : goal.invariant-loop-block

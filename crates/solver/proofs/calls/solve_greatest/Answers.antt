@@ -6,8 +6,9 @@ use Rattle.pit_model.specs.Direction.{ListsPit}
 use Rattle.pit_model.specs.Fixed.{fixed_of}
 use Rattle.pit_model.specs.Mine.{Instance}
 use Rattle.solver.specs.Modes.{EndsWithin}
-use Rattle.solver.specs.Searched.{IsFound, OfSearched}
-use Rattle.solver.specs.declared.search.FoundPit.{FoundPit}
+use Rattle.pit_search.specs.Searched.{IsFound}
+use Rattle.solver.specs.Searched.{OfSearched}
+use Rattle.pit_search.specs.declared.found_pit.FoundPit.{FoundPit}
 use Rattle.solver.proofs.calls.solve_greatest.Goals as goal
 
 pub returns-in-Ok-clause-ended : goal.returns-in-Ok-clause-ended

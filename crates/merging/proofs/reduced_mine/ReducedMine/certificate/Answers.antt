@@ -7,7 +7,7 @@ use Rattle.pit_model.specs.Graph.{Graph}
 use Rattle.pit_model.specs.Mine.{arcs, members}
 use Rattle.pit_model.specs.Fixed.{graph_of_mine, is_open}
 use Rattle.mine_graph.specs.FixedBlocks.{forced_closure, barred_closure}
-use Rattle.certificate.specs.Check.{amount}
+use Rattle.optimality.specs.Check.{amount}
 use Rattle.merging.specs.Parts.{AreCarried}
 use Rattle.merging.specs.Reduced.{ListsJoined}
 use Rattle.merging.proofs.Resting.{certificate_of_whole, none_both, zeros}

@@ -6,7 +6,7 @@ use Rattle.pit_model.specs.Graph.{Graph, IsGraph}
 use Rattle.pit_model.specs.Mine.{members}
 use Rattle.pit_model.specs.Part.{IsPart}
 use Rattle.pit_model.proofs.Members.{members_below}
-use Rattle.solver.proofs.Searching.{listed_below}
+use Rattle.pit_search.proofs.Searching.{listed_below}
 use Rattle.shells.specs.Grown.{marked}
 use Rattle.shells.specs.Outermost.{amounts_of}
 use Rattle.shells.proofs.Outer.{is_outermost}

@@ -2,11 +2,13 @@
 use Rattle.std.proofs.lemmas.Result.{IfOk-weaker, err_from_is_err_and}
 use Rattle.pit_model.specs.Fixed.{fixed_of}
 use Rattle.solver.specs.Modes.{EndsWithin}
-use Rattle.solver.specs.Searched.{IsFound, IsSearchOf, OfSearched}
-use Rattle.solver.specs.declared.search.FoundPit.{FoundPit}
+use Rattle.pit_search.specs.Searched.{IsFound, IsSearchOf}
+use Rattle.solver.specs.Searched.{OfSearched}
+use Rattle.pit_search.specs.declared.found_pit.FoundPit.{FoundPit}
 use Rattle.pit_model.specs.declared.direction.Direction.{Direction}
 use Rattle.pit_model.specs.Mine.{Instance}
-use Rattle.solver.proofs.Searching.{is_searched, search_refused}
+use Rattle.pit_search.proofs.Searching.{is_searched}
+use Rattle.solver.proofs.Searching.{search_refused}
 use Rattle.solver.proofs.search.Search.pit.Goals as goal
 
 pub returns-in_err-found-clause-refused : goal.returns-in_err-found-clause-refused

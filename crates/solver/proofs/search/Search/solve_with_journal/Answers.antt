@@ -6,7 +6,8 @@ use Rattle.pit_model.specs.Fixed.{fixed_of}
 use Rattle.mine_graph.specs.FixedBlocks.{no_lists}
 use Rattle.solver.specs.Modes.{EndsIn}
 use Rattle.solver.specs.Searched.{EndsFixed}
-use Rattle.solver.proofs.Searching.{ends_plain, is_rest_of}
+use Rattle.pit_search.proofs.Searching.{is_rest_of}
+use Rattle.solver.proofs.Searching.{ends_plain}
 use Rattle.solver.proofs.search.Search.solve_with_journal.Goals as goal
 
 pub returns-then-is_empty-clause-ended : goal.returns-then-is_empty-clause-ended

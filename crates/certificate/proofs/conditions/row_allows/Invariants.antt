@@ -1,5 +1,0 @@
-use Rattle.certificate.specs.Check.{RowAllows, open_in}
-use Rattle.certificate.proofs.conditions.row_allows.Given as goal
-
-abbrev pub invariant-loop-k : goal.invariant-loop-k
-invariant-loop-k l = RowAllows l.graph.pairs (open_in l.fixed) l.flow l.inside l.u l.k

@@ -1,9 +1,0 @@
-use Rattle.std.proofs.Common.{◌≤◌}
-use Rattle.certificate.specs.Reaching.{IsReachedSoFar}
-use Rattle.certificate.proofs.reach.reached_of.Given as goal
-
-abbrev pub invariant-loop-head : goal.invariant-loop-head
-invariant-loop-head l = record {
-  state : IsReachedSoFar l.mine l.inside l.flow l.search l.head;
-  ahead : l.head ≤ l.search.tail;
-}
