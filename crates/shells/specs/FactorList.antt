@@ -7,7 +7,7 @@ use Rattle.faults.specs.declared.refusal.Refusal.{Refusal}
 use Rattle.faults.specs.declared.refusal.Refusal.TheVariants.{OverLimit, NotWhole, FactorsNotRising}
 use Rattle.faults.specs.declared.source.Source.TheVariants.{Factors}
 use Rattle.minelib_reader.specs.Number.{whole_of}
-use Rattle.minelib_reader.specs.FirstFault.{IsFirstFault}
+use Rattle.faults.specs.FirstFault.{IsFirstFault}
 use Rattle.faults.specs.Refused.{at_line}
 
 abbrev pub is_comma : ℕ → Bool
