@@ -11,7 +11,7 @@ use crate::graph::graph_of;
 use csr::CsrView;
 use faults::Refusal;
 use pit_model::Shell;
-use shells::{Factors, shells_sequential};
+use nesting::{Factors, shells_sequential};
 use std::alloc::{AllocError, Global};
 
 /// The revenue and the cost of each block in millionths, and which blocks each needs.
