@@ -15,7 +15,7 @@ use pit_search::PitSolver;
 use std::alloc::Global;
 
 /// The shell of each factor, in their order: each is found on what the shell before leaves, and joined with that shell. A budget
-/// of mergers counts anew for each.
+/// of mergers counts for each factor.
 ///
 /// # Errors
 ///

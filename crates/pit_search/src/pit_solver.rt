@@ -11,10 +11,10 @@ use mine_graph::Instance;
 
 /// Finds minimal pits: by one thread, by the parts of an instance, or by workers.
 pub trait PitSolver {
-    /// It may be called, and what it finds is a pit.
+    /// It may be called, and each pit that it finds is minimal.
     ghost FindsPits: { Self → Type 0 };
 
-    /// What is known of an instance whose pit was found: whether a budget of mergers sufficed.
+    /// What holds of an instance whose pit it found, such as that a budget of mergers sufficed.
     ghost Ends: { Self → AnyInstance → Type 0 };
 
     /// Why it finds no pit of an instance.

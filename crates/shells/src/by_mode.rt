@@ -53,8 +53,8 @@ fn all_shells<G: Gate + Sync, R: Threads + Wait + Sync>(
 
 /// The shells of a mine with these revenues and costs toward a direction: for each factor its least or its greatest pit, with
 /// the pit's worth in the factor's own values, in billionths. Each lies within all later ones. A factor is solved on what the
-/// shell before leaves, for the greatest pit on the dual of that rest; a budget of mergers counts anew for each. The gate is
-/// told of the steps of workers.
+/// shell before leaves, for the greatest pit on the dual of that rest; a budget of mergers counts for each factor. Workers
+/// report their steps to the gate.
 ///
 /// Refused for want of memory (1), where the budget is used up with a merger arc left on some factor's rest (20), and where
 /// a worker could not be started (22).
