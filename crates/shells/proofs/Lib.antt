@@ -1,2 +1,10 @@
-pub mod ByMode
-pub mod ItemTexts
+pub mod ItemChecks
+pub mod Joining
+pub mod Nests
+pub mod Marking
+pub mod PriceBounds
+pub mod Lifting
+pub mod Amounts
+pub mod Ends
+pub mod Outer
+pub mod Parametric

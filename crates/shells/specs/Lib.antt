@@ -1,3 +1,7 @@
-pub mod Columns
-pub mod FactorText
-pub mod ByMode
+pub mod FactorList
+pub mod Prices
+pub mod Grown
+pub mod Parametric
+pub mod Outermost
+pub mod Within
+pub mod Planned

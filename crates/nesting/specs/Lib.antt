@@ -1,7 +1,0 @@
-pub mod FactorList
-pub mod Prices
-pub mod Grown
-pub mod Parametric
-pub mod Outermost
-pub mod Within
-pub mod Planned
