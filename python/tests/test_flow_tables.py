@@ -226,6 +226,40 @@ def test_minimum_feed_is_kept(plan_folder):
     assert "rule" not in found and (feed["feed_tonnes"][2:] >= 50 - 1e-3).all() and len(feed) == 5
 
 
+@pytest.mark.parametrize("milp", ["", "milp = { seconds = 30 }\n"])
+def test_minimum_total_material_is_kept(plan_folder, milp):
+    """Three pillars of 200 t in two years, of 290 t at least, though the mill takes the ore of one pillar a year."""
+    from helpers.pushbacks import PUSHBACKS, pillars
+
+    text = PUSHBACKS.replace("mining_capacity = 200", "mining_capacity = 400")
+    path = plan_folder(pillars(), f"{text}[schedule]\nyears = 2\nminimum = {{ total = 290 }}\n{milp}")
+    table = pitplan.write_schedule(path).set_index("method")
+    years = pd.read_csv(path.parent / "plan" / "schedule" / "tables/years.csv").set_index("case")
+    assert (
+        list(table.index) == (["lp", "milp"] if milp else ["lp"]) and wrong(path.parent / "plan" / "schedule") == set()
+    )
+    assert (years.loc[list(table.index), "total_tonnes"] >= 290 - 1e-3).all()
+
+
+def test_a_minimum_that_no_trial_meets_is_left_to_the_integer_programme(plan_folder, monkeypatch):
+    """Without the one the error names the other."""
+    from pitplan.scheduling.flow import scheduler
+
+    words = "[schedule]\nyears = 5\nramp_up = [0, 0, 1.0]\nminimum = { feed = 50 }\n"
+
+    def none(model, optimum, rule=None):
+        raise scheduler.NoSchedule("no schedule that was tried meets the minimums: lower them, or set [schedule] milp")
+
+    monkeypatch.setattr(scheduler, "from_optimum", none)
+    with pytest.raises(PlanError, match=r"project.toml: \[schedule\] minimum: no schedule .* set \[schedule\] milp"):
+        pitplan.write_schedule(hill(plan_folder, words))
+    path = hill(plan_folder, f"{words}milp = {{ gap = 0.05, seconds = 60 }}\n")
+    assert (
+        pitplan.write_schedule(path)["method"].tolist() == ["milp"]
+        and wrong(path.parent / "plan" / "schedule") == set()
+    )
+
+
 def test_a_minimum_that_nothing_meets_is_an_error(plan_folder, capsys):
     path = hill(plan_folder, "[schedule]\nyears = 30\nminimum = { feed = 99 }\n")
     assert main(["schedule", str(path), "--quiet"]) == 1

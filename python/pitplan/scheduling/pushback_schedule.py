@@ -202,25 +202,32 @@ def better(schedule: YearlySchedule, rules: ScheduleRules, progress: Progress) -
             yield schedule
     model, optimum = schedule.model, schedule.optimum
     assert optimum is not None
+    path = schedule.pushbacks.plan.project.path
     with progress.step("making feasible schedules"):
-        flows = scheduler.from_optimum(model, optimum, schedule.flows.get(RULE))
-    schedule = replace(schedule, flows=schedule.flows | {LP: flows})
-    yield schedule
+        try:
+            found = {LP: scheduler.from_optimum(model, optimum, schedule.flows.get(RULE))}
+        except scheduler.NoSchedule as error:
+            if rules.milp is None:
+                raise PlanError(f"{path}: [schedule] minimum: {error}") from error
+            found = {}
+    schedule = replace(schedule, flows=schedule.flows | found)
+    if schedule.flows:
+        yield schedule
     if rules.milp is not None:
         with progress.step(f"solving the integer programme, up to {rules.milp.seconds:,.0f} s"):
             best, most = integer.best_schedule(model, rules.milp)
         found = {} if best is None else {MILP: best}
-        yield replace(schedule, flows=schedule.flows | found, milp_upper_bound=most)
+        schedule = replace(schedule, flows=schedule.flows | found, milp_upper_bound=most)
+        if not schedule.flows:
+            raise PlanError(
+                f"{path}: [schedule] milp: found no schedule that meets the minimums: lower them, or raise seconds"
+            )
+        yield schedule
 
 
 def relaxed(schedule: YearlySchedule, progress: Progress) -> YearlySchedule:
-    """Returns the schedule with the optimum of the linear programme and the upper bound, unless it has a lower one.
-
-    Raises
-    ------
-    PlanError
-        If no schedule meets the minimums, with those that lack.
-    """
+    """Returns the schedule with the optimum of the linear programme and the upper bound, unless it has a lower one. Raises PlanError, with the
+    minimums that lack, if no schedule meets them."""
     model, programme = schedule.model, FlowProgramme(schedule.model)
     size = f"{model.years} years and {len(model.ore):,} parcels, {len(programme.gain):,} variables"
     with progress.step(f"solving the linear programme of {size}"):

@@ -174,7 +174,7 @@ def untaken(flow: MaterialFlow) -> Iterator[str]:
 
 
 def unlike_mined(flow: MaterialFlow, schedule: pd.DataFrame) -> Iterator[str]:
-    """Yields lots of which another tonnage leaves the pit in a year than is mined of their bench."""
+    """Yields lots whose tonnage that leaves the pit in a year differs from what is mined of their bench."""
     keys = ["method", "year", *flow.keys]
     from_pit = flow.rows[flow.rows["source"] == PIT].groupby(keys)["total_tonnes"].agg(["sum", "count"])
     lots = flow.blocks.lots["total_tonnes"].reset_index()
@@ -188,7 +188,7 @@ def unlike_mined(flow: MaterialFlow, schedule: pd.DataFrame) -> Iterator[str]:
 
 
 def unlike_stock(flow: MaterialFlow) -> Iterator[str]:
-    """Yields lots of which more is reclaimed by the end of a year than was stockpiled before it."""
+    """Yields lots from which more is reclaimed by the end of a year than was stockpiled before it."""
     keys = ["method", *flow.keys]
     years = range(1, int(flow.rows["year"].max()) + 1) if len(flow.rows) else range(0)
     tables = []

@@ -2,7 +2,7 @@
 
 With a price on each limit in each year no schedule earns more than the sum of the prices times the limits, and the greatest value of benches
 that are mined in order, a linear programme. There each block of a mined bench goes where it earns most, less the prices of what it uses: to a
-process, to the stockpile until its best later year, or to waste. A real stockpile, which blends, returns no block better than that. This holds
+process, to the stockpile until its best later year, or to waste. A share of a bench is the same share of each of its blocks. A real stockpile, which blends, returns no block better than that. This holds
 for any prices; those of the linear programme of parcels give nearly the least bound.
 """
 

@@ -70,7 +70,7 @@ def best_schedule(model: FlowModel, effort: Effort) -> tuple[Optional[Flows], fl
 
 
 def keeps(model: FlowModel, dug: NDArray[np.float64]) -> bool:
-    """Returns whether each bench is started when all that it waits for is mined, and no year is above a limit of mining, but for the tolerance."""
+    """Returns whether each bench is started when all that it waits for is mined, and no year exceeds a limit of mining, within a tolerance."""
     benches, limits, years = model.benches, model.of_mining, dug.shape[1]
     done = dug.cumsum(axis=1)
     for bench, others in enumerate(benches.waits):

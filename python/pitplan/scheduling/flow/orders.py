@@ -19,7 +19,7 @@ from .pacing import Course, Pacing
 
 # Changes of one pushback's lead that are tried, the largest first; and how often in all.
 STEPS, MOST_TRIALS = (4, 2, 1), 80
-# Shares of a bench by which the year in which it is mined is told, besides the expected year.
+# Shares of a bench that date it: it counts as mined in the year that completes the share. The expected year is another date.
 PARTS = (0.1, 0.5, 0.9)
 # A bench of which the optimum mines less than this share is left; and a share that may be the solver's tolerance alone.
 LEFT, SLIGHT = 0.5, 1e-6

@@ -278,13 +278,17 @@ class FlowProgramme:
         )
         assert found.unknowns is not None
         short = found.unknowns[len(given.gain) :].reshape(len(elastic), self.years)
-        told = [
+        lacks_of = [
             f"{it.name} in year {year + 1} by {lacks * it.scale:,.6g} of {it.amount[year]:,.6g}"
             for it, of_years in zip(elastic, short)
             for year, lacks in enumerate(of_years)
             if lacks > LACKING
         ]
-        return f"infeasible: no schedule of these pushbacks meets the minimum of {'; of '.join(told)}" if told else ""
+        return (
+            f"infeasible: no schedule of these pushbacks meets the minimum of {'; of '.join(lacks_of)}"
+            if lacks_of
+            else ""
+        )
 
     def optimum(self, unknowns: NDArray[np.float64], value: float, prices: Prices) -> FlowOptimum:
         """Returns the optimum by its parts; nothing is mined if that is worth more."""

@@ -24,8 +24,14 @@ from .rows import paying
 
 # Of more processes than these the mine is paced by each one alone or by all.
 MOST_PACING = 3
-# For so many of the best orders the best flows are sought; with minimums, of which any may fail, for more.
+# For so many of the best orders the best flows are sought; with minimums, which any order may miss, for more.
 TRIED, TRIED_WITH_MINIMUMS = 4, 40
+# By so much of it a minimum may be missed.
+TOLERATED = 1e-8
+
+
+class NoSchedule(PlanError):
+    """No feasible schedule was found, although there may be one."""
 
 
 @dataclass(frozen=True)
@@ -104,19 +110,18 @@ def from_optimum(model: FlowModel, optimum: FlowOptimum, rule: Optional[Flows] =
 
     Raises
     ------
-    PlanError
+    NoSchedule
         If none of them meets the minimums.
     """
     tries = TRIED_WITH_MINIMUMS if model.problem.limits.least else TRIED
     given = None if rule is None else feasible(model, padded(rule.dug, model.years))
     made = [] if given is None else [given]
     for found in orders_of(model, optimum)[:tries]:
-        flows = feasible(model, mined(model, found.order, optimum))
-        made += [] if flows is None else [flows]
+        made += [it for it in (feasible(model, dug) for dug in mined(model, found.order, optimum)) if it is not None]
         if model.problem.limits.least and len(made) >= TRIED:
             break
     if not made:
-        raise PlanError("no schedule that was tried meets the minimums: lower them, or set [schedule] milp")
+        raise NoSchedule("no schedule that was tried meets the minimums: lower them, or set [schedule] milp")
     return ended(without_loss(max(made, key=lambda it: it.value)))
 
 
@@ -133,15 +138,22 @@ def orders_of(model: FlowModel, optimum: FlowOptimum) -> list[Ordered]:
     return sorted(found, key=lambda it: it.course.value, reverse=True)
 
 
-def mined(model: FlowModel, order: NDArray[np.int64], optimum: FlowOptimum) -> NDArray[np.float64]:
-    """Returns the shares of benches by year of an order at its best pace, at the prices of the optimum."""
+def mined(model: FlowModel, order: NDArray[np.int64], optimum: FlowOptimum) -> Iterator[NDArray[np.float64]]:
+    """Yields the shares of benches by year of an order at its best pace, at the prices of the optimum; with minimums, which this pace does not
+    know, also at the pace of the optimum."""
     mining = Problem(model.benches, model.of_mining, model.problem.settings, model.problem.money)
-    pace = Pacing(model, optimum.prices).best(order).tonnes
-    return padded(dig(mining, Sequence(order, pace=pace), model.years), model.years)
+    paces = [Pacing(model, optimum.prices).best(order).tonnes]
+    paces += [model.rock @ optimum.cumulative] if model.problem.limits.least else []
+    for pace in paces:
+        yield padded(dig(mining, Sequence(order, pace=pace), model.years), model.years)
 
 
 def feasible(model: FlowModel, dug: NDArray[np.float64]) -> Optional[Flows]:
-    """Returns the best flows of what is mined; None if they cannot meet the minimums."""
+    """Returns the best flows of what is mined; None if they cannot meet the minimums, or what is mined does not."""
+    least = model.problem.limits.least_of_years(model.years)
+    of_mining = {name: amounts for name, amounts in least.items() if not model.ore.of(name).any()}
+    if any((model.dug(name) @ dug < amounts * (1 - TOLERATED)).any() for name, amounts in of_mining.items()):
+        return None
     try:
         return best(model, dug)
     except PlanError:
