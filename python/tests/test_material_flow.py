@@ -11,6 +11,7 @@ from helpers.random_tests import examples
 from hypothesis import given, strategies as st
 
 from pitplan import PlanError
+from pitplan.economics.value_bins import edges_of
 from pitplan.scheduling.bench_sequencing import Limits
 from pitplan.scheduling.flow import scheduler
 from pitplan.scheduling.flow.bound import upper_bound
@@ -18,7 +19,6 @@ from pitplan.scheduling.flow.cutoffs import cutoffs
 from pitplan.scheduling.flow.flows import best
 from pitplan.scheduling.flow.model import FlowModel
 from pitplan.scheduling.flow.ore import Ore
-from pitplan.scheduling.flow.parcels import edges_of
 from pitplan.scheduling.flow.programme import FlowProgramme
 
 

@@ -6,14 +6,14 @@ import numpy as np
 import pandas as pd
 import pytest
 from conftest import PROJECT, rows
-from helpers.processes import WITH
+from helpers.processes import LEACH_AND_MILL, WITH
 from hypothesis import given, strategies as st
 
 import pitplan
 from pitplan import PlanError, verify, write_schedule
 from pitplan.economics import block_values, process_routing
 from pitplan.economics.process_routing import Way, best_way, steps_of
-from pitplan.pits import shell_tables
+from pitplan.pits import best_worst_case, ore_kinds, shell_tables
 from pitplan.solver import mine_files
 
 
@@ -255,13 +255,51 @@ def test_other_processes_and_blocks_that_are_processed_twice_are_found(plan_fold
 
 
 def test_a_capacity_that_is_passed_over_is_found(plan_folder, monkeypatch):
-    years = pitplan.pits.best_worst_case.capacity_years
+    shipped = best_worst_case.best_shares
     monkeypatch.setattr(
-        pitplan.pits.best_worst_case,
-        "capacity_years",
-        lambda amounts, settings: years(amounts, replace(settings, per_process=())),
+        best_worst_case,
+        "best_shares",
+        lambda feed, gain, takes, capacity: shipped(feed, gain, takes, 10 * capacity),
     )
     assert "years" in wrong(solved(plan_folder))
+
+
+def test_ore_that_goes_elsewhere_than_is_best_is_found(plan_folder, monkeypatch):
+    shipped = best_worst_case.best_shares
+    monkeypatch.setattr(best_worst_case, "best_shares", lambda *ore: 0.9 * shipped(*ore))
+    assert "years" in wrong(solved(plan_folder))
+
+
+def test_a_mine_that_waits_for_each_process_is_found(plan_folder, monkeypatch):
+    """By the years of a small leach, which pays to be passed by."""
+    waits = ore_kinds.OreKinds.waits
+    monkeypatch.setattr(ore_kinds.OreKinds, "waits", lambda self, settings: waits(self, settings)[-1:])
+    path = plan_folder(deposit(), PROJECT, *MORE, ("capacity = 300", "capacity = 2"))
+    pitplan.write_shells(path, writing=pitplan.Writing(verifies=False))
+    assert "years" in wrong(path.parent / "plan")
+
+
+@pytest.mark.parametrize("capacity", ["1", "30", "300"])
+def test_a_leach_beside_the_mill_never_lowers_the_npv(plan_folder, capacity):
+    """A mine may leave a small process idle, and need not wait for it."""
+    path = plan_folder(deposit(), PROJECT, *MORE, ("capacity = 300", f"capacity = {capacity}"))
+    both = pitplan.write_shells(path).set_index("revenue_factor")
+    leach = LEACH_AND_MILL.split("[[processes]]")[1]
+    alone = pitplan.write_shells(plan_folder(deposit(), PROJECT, *MORE, ("[[processes]]" + leach, ""))).set_index(
+        "revenue_factor"
+    )
+    assert both["npv_best"].max() >= alone["npv_best"].max() - 0.01
+    assert both["npv_worst"].max() >= alone["npv_worst"].max() - 0.01
+
+
+def test_a_process_twice_with_half_of_the_capacity_is_one_process(plan_folder):
+    mill = LEACH_AND_MILL.split("[[processes]]")[2].removesuffix("[slopes]\n")
+    half = mill.replace("capacity = 100", "capacity = 50")
+    twice = ("[[processes]]" + mill, "[[processes]]" + half + "[[processes]]" + half.replace('"mill"', '"other"'))
+    once = pitplan.write_shells(plan_folder(deposit(), PROJECT, *MORE)).set_index("revenue_factor")
+    found = pitplan.write_shells(plan_folder(deposit(), PROJECT, *MORE, twice)).set_index("revenue_factor")
+    for name in ("npv_best", "npv_worst", "years"):
+        assert found[name].tolist() == pytest.approx(once[name].tolist())
 
 
 def test_pushbacks_and_schedules_keep_to_the_capacities(plan_folder):

@@ -533,9 +533,8 @@ def test_what_is_left_of_great_amounts_is_as_uncertain_as_they_are(plan_folder, 
 def test_capacity_that_is_caught_up_is_found(plan_folder, monkeypatch):
     """Years as the greater of two cumulative sums: mill time that is lost while stripping comes back."""
 
-    def cumulative(amounts, settings_):
-        ore, rock = np.cumsum(amounts[:, best_worst_case.ORE]), np.cumsum(amounts[:, best_worst_case.ROCK])
-        ends = np.maximum(ore / settings_.processing_capacity, rock / settings_.mining_capacity)
+    def cumulative(amounts, uses):
+        ends = np.cumsum(amounts @ uses, axis=0).max(axis=1)
         return best_worst_case.Course(amounts, np.concatenate([[0.0], ends])[:, None])
 
     monkeypatch.setattr(best_worst_case, "course_of", cumulative)

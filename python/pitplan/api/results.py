@@ -66,7 +66,7 @@ class Shells:
 
     @cached_property
     def years(self) -> pd.DataFrame:
-        """The annual cash flow of each shell, best and worst case; see `pitplan.pits.shell_tables.years`."""
+        """The annual cash flow of each shell in each case; see `pitplan.pits.shell_tables.years`."""
         return shell_tables.years(self.plan, self.solution)
 
     @property
@@ -76,7 +76,7 @@ class Shells:
 
     @property
     def selected(self) -> float:
-        """The revenue factor of the selected shell: the project's own, otherwise that with the best mean of best and worst case."""
+        """The revenue factor of the selected shell: the project's own, otherwise that with the highest NPV of the specified case, or mean of best and worst case."""
         return shell_tables.selected_factor(self.table, self.plan.project.shells)
 
     @property

@@ -274,6 +274,7 @@ def of_shells(schedule: ShellRules) -> Values:
         "processing_capacity": None if schedule.per_process else schedule.processing_capacity,
         "mining_capacity": schedule.mining_capacity,
         "discounting": schedule.discounting,
+        "specified": None if schedule.specified is None else asdict(schedule.specified),
     }
 
 

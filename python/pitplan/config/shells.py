@@ -10,7 +10,7 @@ from pitplan.core.revenue_factors import BASE_PRICE, factor_text
 from .economics import Process
 from .toml_section import Section
 
-MOST_FACTORS = 1_000
+MOST_FACTORS, MOST_LAG = 1_000, 1_000
 
 # The first one is taken where a project names none: as the function NPV of spreadsheets does it.
 # When the cash of a year flows, in words.
@@ -24,6 +24,18 @@ DISCOUNTINGS = tuple(IN_WORDS)
 
 
 @dataclass(frozen=True)
+class SpecifiedCase:
+    """`[shells.specified]`: pushbacks that are mined one after the other, each some benches behind the one before.
+
+    pushbacks   their revenue factors, ascending; the shell itself is the last one
+    bench_lag   by how many benches a pushback is behind the one before
+    """
+
+    pushbacks: tuple[float, ...]
+    bench_lag: int
+
+
+@dataclass(frozen=True)
 class ShellRules:
     """Revenue factors, and the terms of discounting: a yearly rate, yearly capacities in tonnes, and when the cash of a year flows.
 
@@ -31,6 +43,7 @@ class ShellRules:
     selected          the shell that is shown; None: the one with the best mean NPV
     base_price_added  whether 1.0 was added to the project's own factors
     per_process       the yearly capacity of each of several processes; `processing_capacity` is their sum
+    specified         the case of given pushbacks; None: best and worst case only
     """
 
     revenue_factors: tuple[float, ...]
@@ -41,6 +54,12 @@ class ShellRules:
     discounting: str
     base_price_added: bool
     per_process: tuple[float, ...] = ()
+    specified: Optional[SpecifiedCase] = None
+
+    @property
+    def capacities(self) -> tuple[float, ...]:
+        """The yearly capacity of each process."""
+        return self.per_process or (self.processing_capacity,)
 
 
 def read_shells(section: Section, processes: tuple[Process, ...] = ()) -> ShellRules:
@@ -64,6 +83,7 @@ def read_shells(section: Section, processes: tuple[Process, ...] = ()) -> ShellR
         mining_capacity=float(section.number("mining_capacity", least=1)) if section.has("mining_capacity") else None,
         discounting=section.choice("discounting", DISCOUNTINGS, DISCOUNTINGS[0]),
         base_price_added=BASE_PRICE not in given,
+        specified=read_specified(section.section("specified"), factors) if section.has("specified") else None,
     )
     section.finish()
     return rules
@@ -74,3 +94,15 @@ def read_rate(section: Section) -> float:
     if rate > 1:
         raise section.wrong("discount_rate", f"{rate} is above 1: it is a yearly rate, such as 0.08 for 8 % a year")
     return float(rate)
+
+
+def read_specified(section: Section, factors: tuple[float, ...]) -> SpecifiedCase:
+    pushbacks = tuple(sorted({*section.revenue_factors("pushbacks")}))
+    for factor in pushbacks:
+        if factor not in factors:
+            raise section.wrong(
+                "pushbacks", f"{factor_text(factor)} is not among the revenue_factors of [shells]: add it"
+            )
+    rules = SpecifiedCase(pushbacks, section.whole("bench_lag", 0, 0, MOST_LAG))
+    section.finish()
+    return rules

@@ -18,7 +18,7 @@ from pitplan.core.magnitude import scaled
 from pitplan.core.revenue_factors import factor_text
 from pitplan.figures.style import ORE, PLAIN, STYLE, WASTE, finish, list_of
 
-CASES = {"best": "Best case", "worst": "Worst case"}
+CASES = {"best": "Best case", "worst": "Worst case", "specified": "Specified case"}
 MILL, SHOVELS = "#1f3f6e", "#8a7f6a"
 # A capacity that exceeds all bars by more than this factor is in the legend only, so that bars stay legible.
 FAR_ABOVE = 2.0
@@ -29,7 +29,7 @@ MOST_BELOW = 0.8
 
 @dataclass(frozen=True)
 class Scale:
-    """The common scale of both cases: size and sign of the units of tonnes and money, and the limits of the axes in these units."""
+    """The common scale of all cases: size and sign of the units of tonnes and money, and the limits of the axes in these units."""
 
     tonnes: tuple[float, str]
     money: tuple[float, str]
@@ -62,15 +62,22 @@ def scale_of(years: pd.DataFrame, settings: ShellRules) -> Scale:
 
 def write_years(table: pd.DataFrame, project: Project, chosen: float, path: Path) -> None:
     with matplotlib.rc_context(STYLE):
+        panels = len(cases_of(table))
         figure = Figure(figsize=(12, 4.6))
-        plot_years(table, project, chosen, figure.subplots(1, 2, sharex=True))
+        plot_years(table, project, chosen, figure.subplots(1, panels, sharex=True))
         if (table["revenue_factor"] == chosen).any():
             figure.tight_layout(rect=(0, 0, 1, 0.92))
         finish(figure, path)
 
 
+def cases_of(table: pd.DataFrame) -> list[str]:
+    """Returns the cases that a table of years has; best and worst case at least."""
+    present = set(table["case"]) | {"best", "worst"}
+    return [case for case in CASES if case in present]
+
+
 def plot_years(table: pd.DataFrame, project: Project, chosen: float, axes: Any) -> list[Axes]:
-    """Draws the years of one pit, the best case and the worst case. The axes of an empty pit stay empty, under a title that says so.
+    """Draws the years of one pit, a panel per case. The axes of an empty pit stay empty, under a title that says so.
 
     Parameters
     ----------
@@ -79,13 +86,14 @@ def plot_years(table: pd.DataFrame, project: Project, chosen: float, axes: Any) 
     project : Project
     chosen : float
         Revenue factor of the pit.
-    axes : array or list of two Axes
+    axes : array or list of Axes
+        Two, or three if a case is specified.
 
     Returns
     -------
     list of Axes
     """
-    found, years = list_of(axes, 2), table[table["revenue_factor"] == chosen]
+    found, years = list_of(axes, len(cases_of(table))), table[table["revenue_factor"] == chosen]
     if years.empty:
         for ax in found:
             ax.set_axis_off()
@@ -96,19 +104,19 @@ def plot_years(table: pd.DataFrame, project: Project, chosen: float, axes: Any) 
 
 
 def draw(axes: list[Axes], years: pd.DataFrame, project: Project) -> None:
-    """Draws a panel per case, and one legend for both."""
+    """Draws a panel per case, and one legend for all."""
     scale = scale_of(years, project.shells)
     currency = project.economics.currency
     rights = [axis.twinx() for axis in axes]
-    for left, right, (case, title) in zip(axes, rights, CASES.items()):
+    for left, right, case in zip(axes, rights, cases_of(years)):
         shown = years[years["case"] == case]
         draw_tonnes(left, shown, scale, project.shells)
         draw_cash(right, shown, scale)
         size, sign = scale.money
         npv = f"{shown['discounted_cash_flow'].sum() / size:,.1f} {sign} {currency}".replace("  ", " ")
-        left.set_title(f"{title}: NPV {npv}")
+        left.set_title(f"{CASES[case]}: NPV {npv}")
     axes[0].set_ylabel(f"total material, {scale.tonnes[1]}t")
-    rights[1].set_ylabel(f"undiscounted cash flow, {scale.money[1]} {currency}".replace(",  ", ", "))
+    rights[-1].set_ylabel(f"undiscounted cash flow, {scale.money[1]} {currency}".replace(",  ", ", "))
     # Bars first in the legend; matplotlib puts lines first.
     drawn = [axes[0].containers, axes[0].lines, rights[0].lines[:1]]
     handles = [handle for handles in drawn for handle in handles]

@@ -12,7 +12,18 @@ from matplotlib.figure import Figure
 
 from pitplan.core.magnitude import scaled
 from pitplan.core.revenue_factors import factor_text
-from pitplan.figures.style import BEST, BEST_MARK, CHOSEN, ORE, PLAIN, WASTE, WORST, WORST_MARK
+from pitplan.figures.style import (
+    BEST,
+    BEST_MARK,
+    CHOSEN,
+    ORE,
+    PLAIN,
+    SPECIFIED,
+    SPECIFIED_MARK,
+    WASTE,
+    WORST,
+    WORST_MARK,
+)
 
 from .style import STYLE, finish
 
@@ -67,12 +78,14 @@ def draw_tonnes(axis: Axes, table: pd.DataFrame, chosen: float) -> None:
 
 
 def draw_worth(axis: Axes, table: pd.DataFrame, currency: str) -> None:
-    """Draws undiscounted cash flow and both NPVs, with a ring around the maximum of each."""
+    """Draws undiscounted cash flow and the NPV of each case, with a ring around the maximum of each."""
     curves = (
         ("undiscounted_cash_flow", "undiscounted", PLAIN, "--o"),
         ("npv_best", "NPV, best case", BEST, f"-{BEST_MARK}"),
         ("npv_worst", "NPV, worst case", WORST, f"-{WORST_MARK}"),
+        ("npv_specified", "NPV, specified case", SPECIFIED, f"-{SPECIFIED_MARK}"),
     )
+    curves = tuple(curve for curve in curves if curve[0] in table)
     amounts = table[[column for column, _, _, _ in curves]]
     size, sign = scaled(float(amounts.abs().max().max()))
     for column, label, colour, line in curves:

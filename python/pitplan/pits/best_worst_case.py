@@ -1,29 +1,42 @@
 """Pit-by-pit analysis: when a pit is mined and when its cash flows, by the yearly mining and processing capacities.
 
 Mining goes bench by bench. The best case mines shell by shell, by rising factor, and within each shell bench by bench from the top; the
-worst case mines the whole pit bench by bench. The pieces, one after the other, are a shell's part of a bench, or a bench of the pit.
+worst case mines the whole pit bench by bench; the specified case mines given pushbacks, each some benches behind the one before. The pieces,
+one after the other, are a shell's or pushback's part of a bench, or a bench of the pit.
+
 Within a year all capacities apply together: a bench of waste does not wait for the mill while mining capacity is left. A year ends in the
 piece that needs a capacity which is used up; its total material, ore, metal and cash are cut there in proportion. The last year is as long
 as the share of its most used capacity.
+
+Ore goes where it earns most in its year, within the capacities (`destinations`). With several processes the mine may wait for each of them
+or not (`ore_kinds`); each shell has the NPV of what is best for it.
 """
 
 from __future__ import annotations
 
+from collections.abc import Iterator, Sequence
 from dataclasses import dataclass
 from functools import cached_property
+from typing import Optional
 
 import numpy as np
 import pandas as pd
 
 from pitplan.config.economics import MOST_YEARS
 from pitplan.config.project import Project
-from pitplan.config.shells import ShellRules
+from pitplan.config.shells import ShellRules, SpecifiedCase
 from pitplan.economics.period_costs import PLAIN, YearlyMoney
 from pitplan.errors import PlanError
 
+from .destinations import best_shares
+from .ore_kinds import OreKinds
+
 ROCK, ORE, CASH = 0, 1, -1
+BEST, WORST, SPECIFIED = "best", "worst", "specified"
 # Relative tolerance of capacities, since sums of floats differ from them by rounding.
 HAIR = 1e-9
+# NPVs that differ by less than this share, or this amount in the currency, are equal.
+EQUAL, TINY = 1e-9, 1e-3
 # How many years before the end of its year a cash flow is discounted from, if not continuously.
 BEFORE_THE_END = {"end_of_year": 0.0, "mid_year": 0.5}
 
@@ -40,17 +53,40 @@ class Benches:
         Names of the amounts: total_tonnes, feed_tonnes, feed_tonnes_NAME of each of several processes, recovered_NAME of each metal, and the
         cash flow last.
     amounts : array of float, shape (factors, benches, names)
-        Tonnes, tonnes or grams of metal, and money.
+        Tonnes, tonnes or grams of metal, and money, if each block goes where it earns most.
+    kinds : OreKinds, optional
+        The kinds of ore, and the columns of `by_kind`; None if all ore goes to one process as it is mined.
+    by_kind : array of float, shape (factors, benches, kinds.width), optional
+        The amounts by kind of ore.
     """
 
     factors: tuple[float, ...]
     names: tuple[str, ...]
     amounts: np.ndarray
+    kinds: Optional[OreKinds] = None
+    by_kind: Optional[np.ndarray] = None
 
     @property
     def pits(self) -> np.ndarray:
         """Amounts of whole pits by bench, shape (factors, benches, names)."""
         return np.cumsum(self.amounts, axis=0)
+
+    def waits(self, settings: ShellRules) -> list[np.ndarray]:
+        """Returns the years of capacities that a unit of each amount uses, each of shape (columns, capacities): for each set of processes that the
+        mine may wait for."""
+        if self.kinds is not None:
+            return self.kinds.waits(settings)
+        capacities = [(ORE, settings.processing_capacity)]
+        capacities += [] if settings.mining_capacity is None else [(ROCK, settings.mining_capacity)]
+        uses = np.zeros((len(self.names), len(capacities)))
+        for column, (place, capacity) in enumerate(capacities):
+            uses[place, column] = 1 / capacity
+        return [uses]
+
+    @property
+    def columns(self) -> np.ndarray:
+        """What is mined by factor and bench: the amounts by kind if there are kinds."""
+        return self.amounts if self.by_kind is None else self.by_kind
 
 
 @dataclass(frozen=True)
@@ -140,19 +176,9 @@ def mean_discount(start: np.ndarray, end: np.ndarray, rate: float) -> np.ndarray
     return np.exp(-force * start) * mean
 
 
-def capacity_years(amounts: np.ndarray, settings: ShellRules) -> np.ndarray:
-    """Years of each capacity that each piece uses, shape (pieces, capacities): all ore, then each process, then total material."""
-    capacities = [
-        (ORE, settings.processing_capacity),
-        *((ORE + 1 + k, capacity) for k, capacity in enumerate(settings.per_process)),
-    ]
-    capacities += [] if settings.mining_capacity is None else [(ROCK, settings.mining_capacity)]
-    return np.stack([amounts[..., place] / capacity for place, capacity in capacities], axis=-1)
-
-
-def course_of(amounts: np.ndarray, settings: ShellRules) -> Course:
-    """Returns the course of pieces from the start of year 1."""
-    years = capacity_years(amounts, settings)
+def course_of(amounts: np.ndarray, uses: np.ndarray) -> Course:
+    """Returns the course of pieces from the start of year 1; `uses` are the years of each capacity that a unit of each amount uses."""
+    years = amounts @ uses
     return Course(amounts, np.concatenate([np.zeros((1, years.shape[1])), np.cumsum(years, axis=0)]))
 
 
@@ -198,26 +224,94 @@ class Terms:
         of_years = [fixed, spent] if self.money.columns else []
         return Years(years.end, np.column_stack([amounts[:, :CASH], *of_years, cash - fixed - spent, worth]))
 
+    def processed(self, kinds: OreKinds, pits: list[Years]) -> list[Years]:
+        """Returns the years of pits in the columns of `names`, with each year's ore at its best destinations."""
+        rows = np.concatenate([it.amounts for it in pits])
+        year = np.concatenate([np.arange(len(it.amounts)) for it in pits])
+        part = np.concatenate([np.clip(it.end - np.arange(len(it.amounts)), 0.0, 1.0) for it in pits])
+        feed, by_process = kinds.feed(rows), kinds.by_process(rows)
+        premium = self.money.premium(kinds.metals, int(year.max(initial=0)) + 1)[year]
+        gain = by_process[:, 0] + np.einsum("rm,rmkp->rkp", premium, by_process[:, 1:])
+        share = best_shares(feed, gain, kinds.pays, part[:, None] * np.array(self.settings.capacities))
+        fed = np.einsum("rk,rkp->rp", feed, share)
+        flows = np.einsum("rmkp,rkp->rm", by_process, share)
+        columns = [rows[:, 0], fed.sum(axis=1), *(fed.T if self.settings.per_process else ()), *flows[:, 1:].T]
+        found = np.column_stack([*columns, rows[:, 1] + flows[:, 0]])
+        ends = np.cumsum([len(it.amounts) for it in pits])[:-1]
+        return [Years(it.end, amounts) for it, amounts in zip(pits, np.split(found, ends))]
 
-def best_case(benches: Benches, settings: ShellRules, money: YearlyMoney = PLAIN) -> list[Years]:
-    """Returns the years of each shell, mined shell by shell, so that each larger one begins like the smaller ones."""
-    factors, levels, names = benches.amounts.shape
-    course = course_of(benches.amounts.reshape(factors * levels, names), settings)
-    terms = Terms(benches.names, settings, money)
-    return [terms.earned(course.years(levels * (k + 1))) for k in range(factors)]
+
+def cases_of(settings: ShellRules) -> tuple[str, ...]:
+    """The cases of the analysis."""
+    return (BEST, WORST) if settings.specified is None else (BEST, WORST, SPECIFIED)
 
 
-def worst_case(benches: Benches, settings: ShellRules, money: YearlyMoney = PLAIN) -> list[Years]:
-    """Returns the years of each shell, mined bench by bench."""
-    terms = Terms(benches.names, settings, money)
-    return [terms.earned(course_of(pit, settings).years(len(pit))) for pit in benches.pits]
+def sequences(case: str, benches: Benches, settings: ShellRules) -> Iterator[np.ndarray]:
+    """Yields the pieces of each shell, one after the other, for the worst and the specified case: shape (pieces, columns)."""
+    if case == WORST:
+        yield from np.cumsum(benches.columns, axis=0)
+        return
+    assert settings.specified is not None
+    yield from specified_pieces(benches, settings.specified)
+
+
+def specified_pieces(benches: Benches, rules: SpecifiedCase) -> Iterator[np.ndarray]:
+    """Yields the pieces of each shell: benches of its pushbacks, of which each is `bench_lag` benches behind the one before."""
+    pushback = np.searchsorted(np.array(rules.pushbacks), np.array(benches.factors) - HAIR)
+    levels, width = benches.columns.shape[1:]
+    by_pushback = np.zeros((int(pushback.max(initial=0)) + 1, levels, width))
+    number, level = np.indices(by_pushback.shape[:2]).reshape(2, -1)
+    order = np.lexsort((number, level + rules.bench_lag * number))
+    for place, added in zip(pushback, benches.columns):
+        by_pushback[place] += added
+        yield by_pushback.reshape(-1, width)[order]
+
+
+def years_of(case: str, benches: Benches, uses: np.ndarray, settings: ShellRules) -> list[Years]:
+    """Returns the years of each shell in the columns of benches. In the best case each larger shell begins like the smaller ones."""
+    factors, levels, width = benches.columns.shape
+    if case == BEST:
+        course = course_of(benches.columns.reshape(factors * levels, width), uses)
+        return [course.years(levels * (k + 1)) for k in range(factors)]
+    return [course_of(pieces, uses).years(len(pieces)) for pieces in sequences(case, benches, settings)]
+
+
+def of_case(case: str, benches: Benches, settings: ShellRules, money: YearlyMoney = PLAIN) -> list[Years]:
+    """Returns the years of each shell in a case, with the waits that have the highest NPV."""
+    terms, kinds = Terms(benches.names, settings, money), benches.kinds
+    found = []
+    for uses in bearable(benches, settings):
+        pits = years_of(case, benches, uses, settings)
+        found.append([terms.earned(it) for it in (pits if kinds is None else terms.processed(kinds, pits))])
+    return [shortest_best(of_shell) for of_shell in zip(*found)]
+
+
+def shortest_best(found: Sequence[Years]) -> Years:
+    """Returns the years with the highest NPV; of equal ones those with the shortest life."""
+    most = max(years.npv for years in found)
+    return min((it for it in found if it.npv >= most - EQUAL * abs(most) - TINY), key=lambda years: years.end)
+
+
+def bearable(benches: Benches, settings: ShellRules) -> list[np.ndarray]:
+    """Returns the waits with which the largest shell takes at most MOST_YEARS years, or the one with the fewest years."""
+    waits = benches.waits(settings)
+    lives = [shell_life(benches, uses) for uses in waits]
+    found = [uses for uses, life in zip(waits, lives) if life <= MOST_YEARS]
+    return found or [waits[int(np.argmin(lives))]]
+
+
+def shell_life(benches: Benches, uses: np.ndarray) -> float:
+    """Returns the years that the best case of the largest shell takes at least."""
+    factors, levels, width = benches.columns.shape
+    course = course_of(benches.columns.reshape(factors * levels, width), uses)
+    return max(float(course.used[-1].max()), float(len(course.ends)))
 
 
 def table_of(benches: Benches, settings: ShellRules, money: YearlyMoney = PLAIN) -> pd.DataFrame:
     """Returns the table of years, one row per case, revenue factor whose shell has material, and year from 1. Its columns are those of
     `Terms.columns`."""
     some = np.flatnonzero(benches.pits[:, :, ROCK].sum(axis=1) > 0)
-    cases = {"best": best_case(benches, settings, money), "worst": worst_case(benches, settings, money)}
+    cases = {case: of_case(case, benches, settings, money) for case in cases_of(settings)}
     keys = [(case, benches.factors[k]) for case in cases for k in some]
     years = [cases[case][k].amounts for case in cases for k in some]
     counts = np.array([len(amounts) for amounts in years], dtype=np.int64)
@@ -233,9 +327,7 @@ def table_of(benches: Benches, settings: ShellRules, money: YearlyMoney = PLAIN)
 
 def demand_few_years(benches: Benches, project: Project) -> None:
     """Raises PlanError if the best case of the largest shell takes more than MOST_YEARS."""
-    factors, levels, names = benches.amounts.shape
-    course = course_of(benches.amounts.reshape(factors * levels, names), project.shells)
-    years = max(course.used[-1].max(), float(len(course.ends)))
+    years = shell_life(benches, bearable(benches, project.shells)[0])
     if years > MOST_YEARS:
         raise PlanError(
             f"{project.path}: [shells] processing_capacity, mining_capacity: the largest shell would take at least {years:,.0f} years, "

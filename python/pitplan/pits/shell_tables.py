@@ -5,7 +5,7 @@
 
 from __future__ import annotations
 
-from dataclasses import dataclass
+from dataclasses import dataclass, replace
 from typing import Optional
 
 import numpy as np
@@ -19,8 +19,9 @@ from pitplan.errors import PlanError
 from pitplan.plan import MILLION, Plan
 from pitplan.solver.program import Solution
 
-from . import best_worst_case
+from . import best_worst_case, ore_kinds
 from .best_worst_case import Benches
+from .ore_kinds import OreCells
 
 MINERALISED = "mineralised_waste_tonnes"
 
@@ -152,7 +153,7 @@ def shells(plan: Plan, solution: Solution, more: Optional[np.ndarray] = None) ->
         - `processed_at_revenue_factor`: mill feed at the prices of the revenue factor
         - `head_grade_NAME` in the unit of the column, `recovered_NAME` in tonnes or grams
         - `undiscounted_cash_flow` at the base price; `npv_best`, `npv_worst` with period costs and yearly prices
-        - `years` of the best case; `value_at_revenue_factor`, exact (Decimal), as the solver returns it
+        - `npv_specified` if the project specifies a case; `years` of the best case; `value_at_revenue_factor`, exact (Decimal), as the solver returns it
 
     Raises
     ------
@@ -162,20 +163,19 @@ def shells(plan: Plan, solution: Solution, more: Optional[np.ndarray] = None) ->
     cells, settings = cells_of(plan, solution), plan.project.shells
     benches = benches_of(plan, cells, more)
     money = period_costs.of_project(plan.project)
-    best, worst = best_worst_case.best_case(benches, settings, money), best_worst_case.worst_case(
-        benches, settings, money
-    )
     table = amounts(plan, cells)
     table.insert(0, "revenue_factor", settings.revenue_factors)
-    table["npv_best"] = [years.npv for years in best]
-    table["years"] = [years.end for years in best]
-    table["npv_worst"] = [years.npv for years in worst]
+    for case in best_worst_case.cases_of(settings):
+        found = best_worst_case.of_case(case, benches, settings, money)
+        table[f"npv_{case}"] = [years.npv for years in found]
+        if case == best_worst_case.BEST:
+            table["years"] = [years.end for years in found]
     table["value_at_revenue_factor"] = [solution.worth[factor] for factor in settings.revenue_factors]
     return table
 
 
 def years(plan: Plan, solution: Solution, more: Optional[np.ndarray] = None) -> pd.DataFrame:
-    """The annual cash flow of each shell, best and worst case.
+    """The annual cash flow of each shell in each case.
 
     Parameters
     ----------
@@ -185,7 +185,7 @@ def years(plan: Plan, solution: Solution, more: Optional[np.ndarray] = None) -> 
     Returns
     -------
     DataFrame
-        One row per case (`best`, `worst`), revenue factor whose shell is not empty, and `year` from 1: `total_tonnes`, `feed_tonnes`,
+        One row per case (`best`, `worst`, `specified`), revenue factor whose shell is not empty, and `year` from 1: `total_tonnes`, `feed_tonnes`,
         `recovered_NAME` (tonnes or grams), `fixed_cost` and `capex` if the project has any, `cash_flow` after these, and
         `discounted_cash_flow`. The base price separates ore from waste; it is also the price of the cash flow without yearly prices.
 
@@ -212,8 +212,19 @@ def benches_of(plan: Plan, cells: Cells, more: Optional[np.ndarray] = None) -> B
     count = len(factors) * levels
     sums = np.column_stack([np.bincount(piece, flow, minlength=count) for flow in flows.values()])
     benches = Benches(factors, tuple(flows), sums.reshape(len(factors), levels, len(flows)))
+    if has_choice(plan):
+        kinds, of_ore = ore_kinds.by_piece(plan, OreCells(inside[ore], piece[ore]), count)
+        mining = -plan.values.mining[inside] / MILLION - (0.0 if more is None else more[inside])
+        columns = np.column_stack([sums[:, 0], np.bincount(piece, mining, minlength=count), of_ore])
+        benches = replace(benches, kinds=kinds, by_kind=columns.reshape(len(factors), levels, -1))
     best_worst_case.demand_few_years(benches, plan.project)
     return benches
+
+
+def has_choice(plan: Plan) -> bool:
+    """Whether ore may go elsewhere than to its best process: to another one, or to waste in a year of lower prices."""
+    money = period_costs.of_project(plan.project)
+    return len(plan.values.by_process) > 1 or any(min(more) < 0 for more in money.premiums.values())
 
 
 def feeds_of(plan: Plan, cells: Cells) -> dict[str, np.ndarray]:
@@ -275,12 +286,16 @@ def ratio(amount: np.ndarray, whole: np.ndarray) -> np.ndarray:
 
 
 def selected_factor(table: pd.DataFrame, schedule: ShellRules) -> float:
-    """The revenue factor of the shell to show: the project's own, otherwise the best mean NPV of both cases up to the base price."""
+    """The revenue factor of the shell to show: the project's own, otherwise the one up to the base price with the highest `npv_of`."""
     if schedule.selected is not None:
         return schedule.selected
     eligible = table[table["revenue_factor"] <= BASE_PRICE]
-    mean = (eligible["npv_best"] + eligible["npv_worst"]) / 2
-    return float(eligible["revenue_factor"][mean.idxmax()])
+    return float(eligible["revenue_factor"][npv_of(eligible).idxmax()])
+
+
+def npv_of(table: pd.DataFrame) -> pd.Series:
+    """The NPV by which shells are compared: that of the specified case, otherwise the mean of best and worst case."""
+    return table["npv_specified"] if "npv_specified" in table else (table["npv_best"] + table["npv_worst"]) / 2
 
 
 def edge_notes(plan: Plan, solution: Solution) -> list[str]:

@@ -119,7 +119,7 @@ IN_ROCK = (
     *("strip_ratio", "feed_tonnes_PROCESS"),
 )
 MATERIAL = (*IN_ROCK, "head_grade_METAL", "recovered_METAL")
-EARNED = ("undiscounted_cash_flow", "npv_best", "npv_worst")
+EARNED = ("undiscounted_cash_flow", "npv_best", "npv_worst", "npv_specified")
 BOUNDED = ("npv", "upper_bound")
 AMOUNTS = ("years", "blocks", "tonnes", "feed_tonnes", "unmined_tonnes", "recovered_METAL")
 OF_SHELLS = Display(schema.SHELLS, ("revenue_factor", *MATERIAL, *EARNED, "years"), EARNED)

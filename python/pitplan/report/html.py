@@ -20,6 +20,7 @@ from pitplan.core.atomic_files import hash_of, read_json
 from pitplan.core.revenue_factors import BASE_PRICE, factor_text
 from pitplan.errors import PlanError
 from pitplan.results import names
+from pitplan.results.conventions import OF_SHELLS
 from pitplan.results.folder import read_record
 from pitplan.results.names import SENSITIVITY, SENSITIVITY_RECORD
 from pitplan.scheduling import methods
@@ -202,7 +203,7 @@ def of_answer(folder: Path, project: Project, record: dict[str, Any]) -> dict[st
         lambda factor: " ".join(["selected"] * (factor == chosen) + ["given"] * (factor == BASE_PRICE))
     )
     found: dict[str, Any] = {"shells": parts_of(shells, report.OF_SHELLS.of, project, marks)}
-    cases, figures = ["best", "worst"], of_shell(shells, chosen, project)
+    cases, figures = [*OF_SHELLS], of_shell(shells, chosen, project)
     if names.PUSHBACKS in record["files"]:
         found["pushbacks"] = parts_of(read_table(folder, names.PUSHBACKS), report.OF_PUSHBACKS.of, project)
     if names.METHODS in record["files"]:
@@ -263,12 +264,13 @@ def of_shell(shells: Written, chosen: float, project: Project) -> list[Figure]:
     names = {
         "npv_best": "Net present value, best case",
         "npv_worst": "Net present value, worst case",
+        "npv_specified": "Net present value, specified case",
         "undiscounted_cash_flow": "Undiscounted cash flow",
         "tonnes": "Total material",
         "feed_tonnes": "Mill feed",
         "strip_ratio": "Strip ratio, waste to in-situ ore",
     }
-    found = [shells.figure(name, row, columns[column]) for column, name in names.items()]
+    found = [shells.figure(name, row, columns[column]) for column, name in names.items() if column in columns]
     found += [*grades(shells, chosen, project), *recovered(shells, row, columns, project)]
     return [*found, shells.figure("Life, best case", row, ("years", "life, years", 1.0, 1))]
 

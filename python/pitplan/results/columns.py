@@ -79,7 +79,15 @@ PIT = (*TONNAGES, AT_FACTOR, FEED_OF, HEAD_GRADE, RECOVERED)
 BEST = Column("npv_best", MONEY, "NPV of the best case: shell by shell", "NPV best", places=1)
 LIFE = Column("years", YEARS, "life of the best case", "years")
 WORST = Column("npv_worst", MONEY, "NPV of the worst case: bench by bench", "NPV worst", places=1)
-EARNED = (replace(CASH, places=1), BEST, LIFE, WORST, EXACT)
+SPECIFIED = Column(
+    "npv_specified",
+    MONEY,
+    "NPV of the specified case: by the given pushbacks",
+    "NPV specified",
+    "with `[shells.specified]`",
+    places=1,
+)
+EARNED = (replace(CASH, places=1), BEST, LIFE, WORST, SPECIFIED, EXACT)
 SPENT = (
     Column("fixed_cost", MONEY, "period cost of the year", "fixed cost", "with period costs"),
     Column("capex", MONEY, "spent at the start of the year", "capex", "with period costs"),
@@ -117,7 +125,7 @@ YEARLY = Table(
     "years.csv",
     "a row per case, revenue factor and year",
     (
-        Column("case", TEXT, "`best`, `worst`, or the method of a schedule", "case"),
+        Column("case", TEXT, "`best`, `worst`, `specified`, or the method of a schedule", "case"),
         RF,
         YEAR,
         MINED,
@@ -243,11 +251,12 @@ SENSITIVITY = Table(
         RF,
         *PIT,
         CASH,
-        replace(NPV, holds="mean of best and worst case"),
-        *(BEST, LIFE, WORST, EXACT),
+        replace(NPV, holds="of the specified case, otherwise the mean of best and worst case"),
+        *(BEST, LIFE, WORST, SPECIFIED, EXACT),
         Column("kept_undiscounted_cash_flow", MONEY, "of the base case's pit; these are empty if the slopes change"),
         Column("kept_npv_best", MONEY, "of the base case's pit"),
         Column("kept_npv_worst", MONEY, "of the base case's pit"),
+        Column("kept_npv_specified", MONEY, "of the base case's pit", when="with `[shells.specified]`"),
         Column("kept_years", YEARS, "of the base case's pit"),
         Column("skin_value", MONEY, "undiscounted cash flow of the pit skin"),
         DISCOUNTS,

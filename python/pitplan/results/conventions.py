@@ -13,8 +13,8 @@ SHELL, PUSHBACK = "shell", "pushback"
 DISCOUNTED = {"npv_best", "npv", "discounted_cash_flow", "common_npv"}
 # How the columns of their means and quantiles begin.
 SPREAD = ("npv_mean", "npv_quantile", "common_npv_")
-# The cases of years that mine shell by shell or bench by bench.
-OF_SHELLS = ("best", "worst")
+# The cases of pit-by-pit analysis.
+OF_SHELLS = ("best", "worst", "specified")
 
 
 def with_discounting(table: pd.DataFrame, project: Project) -> pd.DataFrame:

@@ -5,6 +5,7 @@ from __future__ import annotations
 RULE, LP, MILP = "rule", "lp", "milp"
 NAMES = {
     "worst": "worst case",
+    "specified": "specified case",
     RULE: "rule",
     LP: "linear programme",
     MILP: "integer programme",

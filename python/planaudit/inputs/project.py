@@ -194,6 +194,14 @@ class Slopes:
 
 
 @dataclass(frozen=True)
+class SpecifiedCase:
+    """`[shells.specified]`: revenue factors of pushbacks, and by how many benches each is behind the one before."""
+
+    pushbacks: tuple[float, ...]
+    bench_lag: int
+
+
+@dataclass(frozen=True)
 class ShellRules:
     """`[shells]`."""
 
@@ -203,6 +211,7 @@ class ShellRules:
     processing_capacity: float
     mining_capacity: Optional[float]
     discounting: str
+    specified: Optional[SpecifiedCase] = None
 
 
 @dataclass(frozen=True)

@@ -37,6 +37,7 @@ from planaudit.inputs.project import (
     ScheduleRules,
     ShellRules,
     Slopes,
+    SpecifiedCase,
     Sum,
     SurveyFile,
     TableColumns,
@@ -283,7 +284,12 @@ def shells_of(data: Data, processes: tuple[Process, ...]) -> ShellRules:
         processing_capacity=of_processes or float(number(data["processing_capacity"])),
         mining_capacity=metres(data, "mining_capacity"),
         discounting=data.get("discounting", "end_of_year"),
+        specified=specified_of(data["specified"]) if "specified" in data else None,
     )
+
+
+def specified_of(data: Data) -> SpecifiedCase:
+    return SpecifiedCase(tuple(sorted({*factors_of(data["pushbacks"])})), int(data.get("bench_lag", 0)))
 
 
 def constraints_of(data: Data, place: Places) -> ConstraintRules:

@@ -61,35 +61,25 @@ def discounts(until: np.ndarray, years: np.ndarray, project: Project) -> np.ndar
     return np.where(is_moment, (1 + rate) ** -until, mean)
 
 
-def uses_of(pieces: Amounts, project: Project) -> list[list[float]]:
-    """Returns the years of each capacity that each piece uses."""
-    schedule = project.shells
-    capacities = {
-        "ore": schedule.processing_capacity,
-        **{f"feed_tonnes_{process.name}": process.capacity for process in project.processes},
-    }
-    capacities |= {} if schedule.mining_capacity is None else {"rock": schedule.mining_capacity}
-    return np.column_stack([pieces[name] / capacity for name, capacity in capacities.items()]).tolist()
+def shares_of(parts: Parts, pieces: int) -> np.ndarray:
+    """Returns the share of each piece that is mined in each year, shape (years, pieces)."""
+    found = np.zeros((int(parts.year.max()), pieces))
+    np.add.at(found, (parts.year - 1, parts.piece), parts.share)
+    return found
 
 
-def years_of(pieces: Amounts, project: Project) -> tuple[Amounts, float]:
-    """Returns the amounts of each year, from the first, and the life in years. These are the amounts of the pieces, fixed_cost and capex if the
-    project has any, the cash flow after these at the prices of the year, and the discounted cash flow.
-    """
-    parts = parts_of(uses_of(pieces, project))
-    years = np.arange(1, int(parts.year.max()) + 1)
-    found = {
-        name: np.bincount(parts.year, amounts[parts.piece] * parts.share, minlength=len(years) + 1)[1:]
-        for name, amounts in pieces.items()
-    }
+def money_of(found: Amounts, life: float, project: Project) -> Amounts:
+    """Returns the amounts of years with fixed_cost and capex if the project has any, the cash flow after these at the prices of the year, and
+    the discounted cash flow. `found` has the cash flow at the base price."""
+    years = np.arange(1, len(found["cash_flow"]) + 1)
     for name in premiums(project, 1):
         gains = np.array([premiums(project, int(year))[name] for year in years])
-        found["cash_flow"] = found["cash_flow"] + found[name] * gains
-    money, until = project.economics, np.clip(parts.life, years - 1.0, years)
+        found = {**found, "cash_flow": found["cash_flow"] + found[name] * gains}
+    money, until = project.economics, np.clip(life, years - 1.0, years)
     fixed = float(money.fixed_cost_per_year) * (until - (years - 1.0))
     spent = np.array([capex(project, int(year)) for year in years])
     gain = found["cash_flow"] - fixed
     of_years = {"fixed_cost": fixed, "capex": spent} if money.fixed_cost_per_year or money.capex else {}
     spent_now = spent * (1 + project.shells.discount_rate) ** -(years - 1.0)
     present = gain * discounts(until, years, project) - spent_now
-    return {**found, **of_years, "cash_flow": gain - spent, "discounted_cash_flow": present}, parts.life
+    return {**found, **of_years, "cash_flow": gain - spent, "discounted_cash_flow": present}

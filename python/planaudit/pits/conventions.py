@@ -47,5 +47,5 @@ def unlike_outline(answer: Answer, name: str, table: Texts) -> list[str]:
     if "outline" not in table:
         return [f"{name}: has no column outline"]
     cases = table.get("case", ["best"] * len(table["outline"]))
-    due = ["shell" if case in ("best", "worst") else "pushback" for case in cases]
+    due = ["shell" if case in ("best", "worst", "specified") else "pushback" for case in cases]
     return [] if table["outline"] == due else [f"{name}: outline is wrong in some row"]

@@ -4,85 +4,15 @@ from __future__ import annotations
 
 import math
 from collections.abc import Iterator
-from dataclasses import dataclass
-from itertools import product
 
 import numpy as np
 import pandas as pd
 
 from planaudit.inputs.answer import Answer
-from planaudit.money.yearly_flows import Amounts, years_of
+from planaudit.money.yearly_flows import Amounts
+from planaudit.pits.cases import BEST, CENT, Benches, Pit, cases_of, pits_of
 from planaudit.revenue_factors import factor_text
 from planaudit.rules import Rule, rule
-
-CENT = 0.01
-CASES = ("best", "worst")
-# The columns of years.csv for the tonnes of benches.
-NAMES = {"rock": "total_tonnes", "ore": "feed_tonnes"}
-# The absolute cash flow of benches, which sets the error of sums.
-GROSS = "gross"
-
-
-@dataclass(frozen=True)
-class Benches:
-    """Each shell's part of each level, by revenue factor and then from the top.
-
-    Attributes
-    ----------
-    factor, level : array, shape (benches,)
-    amounts : dict of str to array, shape (benches,)
-        Tonnes, ore, metals, cash flow, and absolute cash flow.
-    """
-
-    factor: np.ndarray
-    level: np.ndarray
-    amounts: Amounts
-
-    @staticmethod
-    def of(answer: Answer) -> Benches:
-        first, cash = answer.said["revenue_factor"].to_numpy(), answer.earned
-        rows = np.flatnonzero(first > 0)
-        factors, number = np.unique(first[rows], return_inverse=True)
-        place = number * answer.shape[0] + answer.cells[0][rows]
-        there = np.flatnonzero(np.bincount(place, minlength=1))
-        columns = {"rock": answer.tonnes, "ore": np.where(answer.ore, answer.feed, 0.0), "cash_flow": cash}
-        columns |= {GROSS: np.abs(cash), **answer.feeds}
-        columns |= {f"recovered_{name}": np.where(answer.ore, metal, 0.0) for name, metal in answer.quantities.items()}
-        sums = {name: np.bincount(place, column[rows])[there] for name, column in columns.items()}
-        return Benches(factors[there // answer.shape[0]], there % answer.shape[0], sums)
-
-    def pieces(self, case: str, factor: float) -> Amounts:
-        """Returns what is mined one after the other up to a revenue factor: shell by shell in the best case, whole levels in the worst."""
-        count = int(np.searchsorted(self.factor, factor, side="right"))
-        of_shells = {name: amounts[:count] for name, amounts in self.amounts.items()}
-        if case == "best":
-            return of_shells
-        levels, place = np.unique(self.level[:count], return_inverse=True)
-        return {name: np.bincount(place, amounts, minlength=len(levels)) for name, amounts in of_shells.items()}
-
-
-@dataclass(frozen=True)
-class Pit:
-    """The years of a pit: amounts by year, the life in years, and the error of sums. A pit without tonnes has no amounts."""
-
-    years: Amounts
-    life: float
-    slack: float
-
-    @staticmethod
-    def of(pieces: Amounts, answer: Answer) -> Pit:
-        gross = pieces.pop(GROSS)
-        slack = CENT + 1e-12 * float(gross.sum())
-        if not pieces["rock"].sum():
-            return Pit({}, 0.0, slack)
-        years, life = years_of(pieces, answer.project)
-        return Pit({NAMES.get(name, name): amounts for name, amounts in years.items()}, life, slack)
-
-    @property
-    def npv(self) -> float:
-        """The NPV, period costs included."""
-        return float(self.years["discounted_cash_flow"].sum()) if self.years else 0.0
-
 
 # By case and revenue factor.
 Pits = dict[tuple[str, float], Pit]
@@ -90,10 +20,11 @@ Pits = dict[tuple[str, float], Pit]
 
 def verify(answer: Answer) -> Rule:
     """Verifies that no year exceeds a capacity, that each sums the benches mined in it, and that NPVs follow from them."""
-    benches = Benches.of(answer)
+    benches, factors = Benches.of(answer), [float(factor) for factor in answer.shells.index]
     pits = {
-        (case, factor): Pit.of(benches.pieces(case, factor), answer)
-        for case, factor in product(CASES, map(float, answer.shells.index))
+        (case, factor): pit
+        for case in cases_of(answer.project)
+        for factor, pit in zip(factors, pits_of(benches, case, factors))
     }
     npv = verify_npv(answer, pits)
     if answer.years is None:
@@ -119,7 +50,7 @@ def over_capacity(answer: Answer, years: pd.DataFrame) -> list[str]:
 
 
 def unlike_years(years: pd.DataFrame, pits: Pits) -> Iterator[str]:
-    """Yields differences of the years of best and worst case, missing and surplus years included."""
+    """Yields differences of the years of each case, missing and surplus years included."""
     columns: Amounts = {str(name): years[name].to_numpy() for name in years}
     groups = list(zip(columns["case"].tolist(), columns["revenue_factor"].tolist()))
     due = {pit: it for pit, it in pits.items() if it.years}
@@ -152,15 +83,16 @@ def unlike_rows(said: Amounts, expected: Pit) -> Iterator[str]:
 
 
 def verify_npv(answer: Answer, pits: Pits) -> Rule:
-    """Verifies both NPVs and the life of each shell, by following its benches."""
+    """Verifies the NPVs and the life of each shell, by following its benches."""
     differences: list[str] = []
     for factor in answer.shells.index:
-        best, worst = (pits[case, float(factor)] for case in CASES)
-        for name, amount in {"npv_best": best.npv, "npv_worst": worst.npv, "years": best.life}.items():
+        best = pits[BEST, float(factor)]
+        amounts = {f"npv_{case}": pits[case, float(factor)].npv for case in cases_of(answer.project)}
+        for name, amount in {**amounts, "years": best.life}.items():
             said = float(answer.shells[name][factor])
             if not abs(said - amount) <= (1e-5 if name == "years" else best.slack) + 1e-9 * abs(amount):
                 differences.append(f"revenue factor {factor_text(factor)}: {name} {said:.12g} for {amount:.12g}")
-    return rule("years", "both NPVs follow from them", differences)
+    return rule("years", "the NPVs follow from them", differences)
 
 
 def mean(start: float, end: float, rate: float) -> float:

@@ -36,7 +36,7 @@ SHARES = ("-0.2", "-0.1", "0.1", "0.2")
 AXES = ("parameter", "change", "second_parameter", "second_change")
 # The pits of which a case has amounts: its own, that of the base case, and the skin of this.
 CASE, KEPT_PIT, SKIN = "case", "kept", "skin"
-KEPT = ("undiscounted_cash_flow", "npv_best", "npv_worst", "years")
+KEPT = ("undiscounted_cash_flow", "npv_best", "npv_worst", "npv_specified", "years")
 OF_EACH = {
     "walls": "no block of any pit lacks a block of its slope cone, at the slope angles of the case",
     "steepness": "unless the project sets precedence_benches, no slope of a case is more than half a degree steeper than its angle",
@@ -211,9 +211,9 @@ class Told:
         project, row = changed(self.text, case.changes), row.set_index("revenue_factor")
         whole, pits = self.dug(case.entry, project, case.walls), self.priced(case, project)
         found = cases.verify(whole, replace(pits[CASE], shells=row))
-        mean = (row["npv_best"] + row["npv_worst"]) / 2
-        if not np.allclose(mean, row["npv"], rtol=0, atol=2e-3):
-            unlike = f"npv {row['npv'].iloc[0]:.12g} for {mean.iloc[0]:.12g}"
+        expected = row["npv_specified"] if "npv_specified" in row else (row["npv_best"] + row["npv_worst"]) / 2
+        if not np.allclose(expected, row["npv"], rtol=0, atol=2e-3):
+            unlike = f"npv {row['npv'].iloc[0]:.12g} for {expected.iloc[0]:.12g}"
             npv = found["years"]
             found["years"] = rule("years", "", [*npv.differences, unlike], npv.count + 1)
         return found | {"kept": self.kept(pits.get(KEPT_PIT), row), "skin": self.skin(pits.get(SKIN), row)}
@@ -231,7 +231,8 @@ class Told:
 
     def kept(self, pit: Optional[Answer], row: pd.DataFrame) -> Rule:
         """Verifies the base case's pit at the parameters of a case; nothing if the slopes change."""
-        said = row[[f"kept_{name}" for name in KEPT]].set_axis(list(KEPT), axis=1)
+        names = [name for name in KEPT if name in row]
+        said = row[[f"kept_{name}" for name in names]].set_axis(names, axis=1)
         if pit is None:
             is_empty = said.isna().all(axis=None)
             return rule("kept", "", [] if is_empty else ["kept_ amounts are given, although the slopes differ"])

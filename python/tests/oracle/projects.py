@@ -177,4 +177,7 @@ def shells(rng: Random, several: int) -> str:
     lines.append("" if several else f"processing_capacity = {rng.choice([1500, 2600, 9000])}")
     lines.append(pick(rng, "", f"mining_capacity = {rng.choice([3300, 7000])}"))
     lines.append(pick(rng, "", 'discounting = "continuous"', 'discounting = "mid_year"'))
+    pushbacks = [[0.5], [factors[0], 1.0], factors[1:]]
+    lag = pick(rng, "", ", bench_lag = 1", ", bench_lag = 3")
+    lines.append(f"specified = {{ pushbacks = {rng.choice(pushbacks)}{lag} }}" if rng.random() < 0.5 else "")
     return "\n".join(filter(None, lines))

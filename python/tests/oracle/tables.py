@@ -5,9 +5,10 @@ from __future__ import annotations
 from fractions import Fraction
 from typing import Any, Optional
 
+from .destinations import Amounts, Ore
 from .mine import Mine, Place
 from .pits import is_mineralised_waste, is_processed, value_at
-from .years import CASH, FEED, TOTAL, Amounts, amounts_of, capacities, earned, mined, pieces_of
+from .years import CASH, FEED, TOTAL, Year, amounts_of, best_years, earned, npv, pieces_of
 
 Row = dict[str, Optional[float]]
 
@@ -40,15 +41,24 @@ def totals(mine: Mine, places: set[Place], factor: Fraction = Fraction(1)) -> Ro
     return row
 
 
+def cases(mine: Mine, factors: list[Fraction], pits: list[set[Place]], number: int, ore: Ore) -> dict[str, list[Year]]:
+    """The years of the shell of a number, from 1, in each case."""
+    pit, rules = pits[number - 1], mine.project["shells"].get("specified")
+    pieces = {"best": pieces_of(mine, pits[:number], ore), "worst": pieces_of(mine, [pit], ore)}
+    if rules:
+        smaller = [pits[factors.index(it)] for it in map(Fraction, rules["pushbacks"]) if it < factors[number - 1]]
+        pieces["specified"] = pieces_of(mine, [*smaller, pit], ore, rules.get("bench_lag", 0))
+    return {case: best_years(mine, it, ore) for case, it in pieces.items()}
+
+
 def shells(mine: Mine, factors: list[Fraction], pits: list[set[Place]]) -> list[Row]:
     """A row for each shell."""
-    found, limits = [], capacities(mine)
+    found, ore = [], Ore(mine, pits[-1])
     for number, (factor, pit) in enumerate(zip(factors, pits), 1):
-        best = mined(pieces_of(mine, pits[:number]), limits)
-        worst = mined(pieces_of(mine, [pit]), limits)
+        of_cases = cases(mine, factors, pits, number, ore)
         row = {"revenue_factor": float(factor)} | totals(mine, pit, factor)
-        row |= {f"npv_{case}": npv(mine, years) for case, years in (("best", best), ("worst", worst))}
-        row["years"] = float(len(best) - 1 + best[-1].length)
+        row |= {f"npv_{case}": npv(mine, years) for case, years in of_cases.items()}
+        row["years"] = float(len(of_cases["best"]) - 1 + of_cases["best"][-1].length)
         row["value_at_revenue_factor"] = float(sum(value_at(mine, place, factor) for place in pit))
         row["processed_at_revenue_factor"] = float(
             sum(mine.blocks[it].feed for it in pit if is_processed(mine, it, factor))
@@ -57,19 +67,15 @@ def shells(mine: Mine, factors: list[Fraction], pits: list[set[Place]]) -> list[
     return found
 
 
-def npv(mine: Mine, years: Any) -> float:
-    return sum(row["discounted_cash_flow"] for row in earned(mine, years))
-
-
 def years(mine: Mine, factors: list[Fraction], pits: list[set[Place]]) -> dict[tuple[str, float, int], Row]:
     """The rows of years.csv of each shell with material, by case, factor and year."""
-    limits = capacities(mine)
     found: dict[tuple[str, float, int], Row] = {}
+    ore = Ore(mine, pits[-1])
     for number, (factor, pit) in enumerate(zip(factors, pits), 1):
         if not amounts_of(mine, pit).get(TOTAL):
             continue
-        for case, pieces in (("best", pieces_of(mine, pits[:number])), ("worst", pieces_of(mine, [pit]))):
-            for year, row in enumerate(earned(mine, mined(pieces, limits)), 1):
+        for case, of_case in cases(mine, factors, pits, number, ore).items():
+            for year, row in enumerate(earned(mine, of_case), 1):
                 found[case, float(factor), year] = dict(row)
     return found
 

@@ -6,12 +6,12 @@ import math
 from collections.abc import Iterable
 from dataclasses import dataclass, field
 from fractions import Fraction
-from typing import Any
+from typing import Any, Optional
 
+from .destinations import Amounts, Limits, Ore, premiums
 from .mine import Mine, Place
 
-TOTAL, FEED, CASH = "total_tonnes", "feed_tonnes", "cash_flow"
-Amounts = dict[str, Fraction]
+TOTAL, FEED, CASH, MINING = "total_tonnes", "feed_tonnes", "cash_flow", "mining"
 
 
 def amounts_of(mine: Mine, places: Iterable[Place]) -> Amounts:
@@ -27,6 +27,7 @@ def amounts_of(mine: Mine, places: Iterable[Place]) -> Amounts:
         block, is_ore, best = mine.blocks[place], mine.is_ore(place), mine.best_way(place, Fraction(1))
         add(TOTAL, block.tonnes)
         add(CASH, (best.gain(Fraction(1)) if is_ore else Fraction(0)) - mine.mining[place])
+        add(MINING, -mine.mining[place])
         if is_ore:
             add(FEED, block.feed)
             add("in_situ", block.tonnes)
@@ -37,16 +38,13 @@ def amounts_of(mine: Mine, places: Iterable[Place]) -> Amounts:
     return found
 
 
-def capacities(mine: Mine) -> list[tuple[str, Fraction]]:
-    """The yearly capacities, by the amount that each limits."""
+def capacities(mine: Mine, ore: Ore) -> list[Limits]:
+    """The yearly capacities, by the amounts that each limits, for each set of processes that the mine may wait for."""
     shells = mine.project["shells"]
-    found = [(f"process {k}", process["capacity"]) for k, process in enumerate(mine.project.get("processes", []))]
-    found += [
-        (name, shells[key])
-        for name, key in ((FEED, "processing_capacity"), (TOTAL, "mining_capacity"))
-        if key in shells
-    ]
-    return [(name, Fraction(most)) for name, most in found]
+    mining = [((TOTAL,), Fraction(shells["mining_capacity"]))] if "mining_capacity" in shells else []
+    if not ore.has_choice:
+        return [[((FEED,), ore.most[0]), *mining]]
+    return [[*limits, *mining] for limits in ore.waits()]
 
 
 @dataclass
@@ -61,36 +59,58 @@ class Year:
             self.amounts[name] = self.amounts.get(name, Fraction(0)) + amount * share
 
 
-def mined(pieces: Iterable[Amounts], limits: list[tuple[str, Fraction]]) -> list[Year]:
+def mined(pieces: Iterable[Amounts], limits: Limits) -> list[Year]:
     """The years of pieces that are mined one after the other. A year ends in the piece that needs a capacity which is used up."""
     years = [Year()]
-    left = {name: most for name, most in limits}
+    left = [most for _, most in limits]
     for piece in pieces:
         rest = Fraction(1)
+        needs = [sum((piece.get(name, Fraction(0)) for name in names), Fraction(0)) for names, _ in limits]
         while rest:
-            needs = [(name, piece.get(name, Fraction(0))) for name in left]
-            share = min([rest, *(left[name] / need for name, need in needs if need > 0)])
+            share = min([rest, *(free / need for free, need in zip(left, needs) if need > 0)])
             years[-1].add(piece, share)
-            for name, need in needs:
-                left[name] -= need * share
+            left = [free - need * share for free, need in zip(left, needs)]
             rest -= share
             if rest:
                 years.append(Year())
-                left = {name: most for name, most in limits}
-    most = dict(limits)
-    years[-1].length = max(((most[name] - left[name]) / most[name] for name in left), default=Fraction(0))
+                left = [most for _, most in limits]
+    years[-1].length = max(((most - free) / most for (_, most), free in zip(limits, left)), default=Fraction(0))
     return years
 
 
-def pieces_of(mine: Mine, shells: list[set[Place]]) -> list[Amounts]:
-    """What each shell adds to those before, bench by bench from the top."""
+def best_years(mine: Mine, pieces: list[Amounts], ore: Ore) -> list[Year]:
+    """The years of pieces with the wait of highest NPV, of equal ones the shortest, and with the ore at its best destinations."""
     found = []
+    for limits in capacities(mine, ore):
+        years = mined(pieces, limits)
+        if ore.has_choice:
+            years = [shipped(ore, number, year) for number, year in enumerate(years, 1)]
+        found.append((npv(mine, years), len(years) - 1 + years[-1].length, years))
+    most = max(it[0] for it in found)
+    return min((it for it in found if it[0] >= most - 1e-9 * abs(most) - 1e-3), key=lambda it: it[1])[2]
+
+
+def shipped(ore: Ore, number: int, year: Year) -> Year:
+    flows = ore.ship(number, year.amounts, year.length)
+    cash = year.amounts.get(MINING, Fraction(0)) + flows.get("gain", Fraction(0))
+    return Year(year.length, {TOTAL: year.amounts.get(TOTAL, Fraction(0)), **flows, CASH: cash})
+
+
+def npv(mine: Mine, years: list[Year]) -> float:
+    return sum(row["discounted_cash_flow"] for row in earned(mine, years))
+
+
+def pieces_of(mine: Mine, shells: list[set[Place]], ore: Ore, lag: Optional[int] = None) -> list[Amounts]:
+    """What each shell adds to those before, bench by bench from the top; with a lag each so many benches behind the one before."""
+    parts = []
     before: set[Place] = set()
-    for shell in shells:
-        for level in reversed(range(mine.shape[2])):
-            found.append(amounts_of(mine, (it for it in shell - before if it[2] == level)))
+    for number, shell in enumerate(shells):
+        for down, level in enumerate(reversed(range(mine.shape[2]))):
+            there = [it for it in shell - before if it[2] == level]
+            turn = (down + lag * number, number) if lag is not None else (number, down)
+            parts.append((turn, amounts_of(mine, there) | (ore.amounts(there) if ore.has_choice else {})))
         before |= shell
-    return found
+    return [part for _, part in sorted(parts, key=lambda it: it[0])]
 
 
 def discount(rate: float, how: str, start: float, end: float) -> float:
@@ -107,11 +127,9 @@ def discount(rate: float, how: str, start: float, end: float) -> float:
 
 def cash_of(mine: Mine, year: int, amounts: Amounts) -> Fraction:
     """The cash flow of a year, from 1, at its own prices."""
-    money, found = mine.project["economics"], amounts.get(CASH, Fraction(0))
-    for metal in mine.project["metals"]:
-        prices = metal.get("prices") or [metal["price"]]
-        more = mine.price(metal, prices[min(year, len(prices)) - 1]) - mine.price(metal, metal["price"])
-        found += amounts.get(f"recovered_{metal['name']}", 0) * more * (1 - Fraction(money.get("royalty", 0)))
+    found = amounts.get(CASH, Fraction(0))
+    for name, more in premiums(mine, year).items():
+        found += amounts.get(f"recovered_{name}", 0) * more
     return found
 
 

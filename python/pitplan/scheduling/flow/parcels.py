@@ -11,6 +11,7 @@ from numpy.typing import NDArray
 from pitplan.config.feed_grades import FeedGrade
 from pitplan.config.schedule import FEED as OF_FEED, TOTAL, ScheduleRules
 from pitplan.economics import period_costs
+from pitplan.economics.value_bins import BINS, edges_of
 from pitplan.plan import MILLION, Plan
 from pitplan.pushbacks import bench_table
 from pitplan.pushbacks.bench_table import CASH, ROCK, PushbackBenches
@@ -22,8 +23,6 @@ from .model import FlowModel
 from .ore import FEED, Ore
 from .programme import MAX, Prices
 
-# Value bins of each process, unless [schedule] bins sets another number.
-BINS = 8
 # A limit on a grade divides ore into so many parts of even feed, by that grade, so that parcels can be blended.
 GRADE_PARTS = 3
 GRADE = "grade_"
@@ -234,17 +233,6 @@ def grade_parts(blocks: Ore) -> NDArray[np.int64]:
         edges = edges_of(grade, blocks.feed, GRADE_PARTS)
         part = part * (len(edges) + 1) + np.searchsorted(edges, grade)
     return part
-
-
-def edges_of(worth: NDArray[np.float64], tonnes: NDArray[np.float64], count: int) -> NDArray[np.float64]:
-    """Returns the values between `count` bins of nearly even tonnage, or fewer: each the middle between two adjacent values."""
-    found, place = np.unique(worth, return_inverse=True)
-    if len(found) < 2 or count < 2:
-        return np.zeros(0)
-    through = np.cumsum(np.bincount(place, tonnes))
-    shares = through[-1] * np.arange(1, count) / count
-    last = np.unique(np.abs(through[None, :-1] - shares[:, None]).argmin(axis=1))
-    return np.asarray((found[last] + found[last + 1]) / 2)
 
 
 def mined_alone(pushbacks: Pushbacks, assigned: PushbackBenches, rules: ScheduleRules) -> PushbackBenches:

@@ -36,7 +36,7 @@ from .perturb import Change, given, varied
 
 CASES = "cases"
 # Columns of the base case's pit at the parameters of a case, and the value of its skin.
-KEPT = ("undiscounted_cash_flow", "npv_best", "npv_worst", "years")
+KEPT = ("undiscounted_cash_flow", "npv_best", "npv_worst", "npv_specified", "years")
 SKIN_WORTH = "skin_value"
 WHOLE = ("blocks",)
 
@@ -247,7 +247,7 @@ def find(case: Case, asked: Asked) -> Found:
     kept = entry if asked.as_given is None else asked.as_given.entry
     nodes = np.concatenate([kept, np.zeros(len(plan.values.processed), dtype=kept.dtype)])
     earned = of_last(shell_tables.shells(plan, replace(solution, entry=nodes)))
-    row |= {f"kept_{name}": np.nan if case.moves_walls else earned[name] for name in KEPT}
+    row |= {f"kept_{name}": np.nan if case.moves_walls else earned[name] for name in KEPT if name in earned}
     skin = of_pit(plan, rules_of(asked.project).skin) if asked.as_given is None else asked.as_given.skin
     assert skin is not None
     worth = shell_tables.cells_of(plan, solution).worth[skin.cells].sum()
@@ -258,9 +258,8 @@ def find(case: Case, asked: Asked) -> Found:
 
 
 def of_last(table: pd.DataFrame) -> dict[str, Any]:
-    """Returns the row of the largest revenue factor, with the mean of both NPVs."""
-    row = dict(table.iloc[-1])
-    return row | {"npv": (row["npv_best"] + row["npv_worst"]) / 2}
+    """Returns the row of the largest revenue factor, with the NPV by which shells are compared."""
+    return dict(table.iloc[-1]) | {"npv": float(shell_tables.npv_of(table).iloc[-1])}
 
 
 def write(path: Path, found: Found) -> None:
@@ -297,7 +296,8 @@ def read(path: Path, cells: int) -> Found:
 
 def table(found: Sensitivity) -> pd.DataFrame:
     """Returns one row per case: its changes, the columns of the pit, with the prefix kept_ those of the base case's pit, and the value of the
-    skin. `npv` is the mean of best and worst case; docs/FORMATS.md lists the columns."""
+    skin. `npv` is that of the specified case, otherwise the mean of best and worst case; docs/FORMATS.md lists the columns.
+    """
     rows = []
     for case, answer in found.answers.items():
         (name, share), (second, other) = (*case.changes, ("", Decimal(0)), ("", Decimal(0)))[:2]

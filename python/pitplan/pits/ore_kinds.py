@@ -1,0 +1,168 @@
+"""The ore of shells by kind, and the processes that the mine waits for.
+
+Blocks of one kind pay in the same processes, are best in the same one, and have the same value bin. A process takes any share of a kind.
+"""
+
+from __future__ import annotations
+
+from collections.abc import Iterator
+from dataclasses import dataclass
+from itertools import combinations
+
+import numpy as np
+from numpy.typing import NDArray
+
+from pitplan.config.shells import ShellRules
+from pitplan.economics.value_bins import BINS, edges_of
+from pitplan.plan import MILLION, Plan
+
+Floats = NDArray[np.float64]
+Mask = NDArray[np.bool_]
+# Of more processes than these the mine waits for each one alone or for all.
+MOST_WAITING = 3
+# Decimals of net values per tonne, so that blocks of the same value are in one bin.
+DECIMALS = 6
+
+
+@dataclass(frozen=True)
+class OreKinds:
+    """Columns of amounts by kind of ore: total_tonnes and the cash flow of mining, feed by kind, and by kind and process the gain, which is revenue
+    less processing cost, and each recovered metal.
+
+    Attributes
+    ----------
+    metals : tuple of str
+        Names of the amounts of metal, recovered_NAME.
+    pays, best : bool array, shape (kinds, processes)
+        Whether the ore pays in a process, and whether it earns most there; several processes may earn the same.
+    alike : tuple of tuple of int
+        The processes in groups in which each block of ore earns the same.
+    """
+
+    metals: tuple[str, ...]
+    pays: Mask
+    best: Mask
+    alike: tuple[tuple[int, ...], ...]
+
+    @property
+    def kinds(self) -> int:
+        return len(self.pays)
+
+    @property
+    def processes(self) -> int:
+        return self.pays.shape[1]
+
+    @property
+    def width(self) -> int:
+        """The number of columns."""
+        return 2 + self.kinds * (1 + self.processes * (1 + len(self.metals)))
+
+    def feed(self, amounts: Floats) -> Floats:
+        """Returns the feed, shape (.., kinds)."""
+        return amounts[..., 2 : 2 + self.kinds]
+
+    def by_process(self, amounts: Floats) -> Floats:
+        """Returns gain and metals, shape (.., 1 + metals, kinds, processes)."""
+        shape = (*amounts.shape[:-1], 1 + len(self.metals), self.kinds, self.processes)
+        return amounts[..., 2 + self.kinds :].reshape(shape)
+
+    def waits(self, settings: ShellRules) -> list[Floats]:
+        """Returns, for each set of processes that the mine may wait for, the years of each capacity that a unit of each column uses, shape
+        (columns, capacities).
+
+        The mine waits until all ore that is best in one of the processes is processed where it is best, or all that pays in one of them in any
+        of them. Ore that pays in S alone, a set of processes, takes the capacity of S (Hall's theorem).
+        """
+        found = [self.wait(masks, settings) for masks in self.waiting()]
+        return list({(uses.shape, uses.tobytes()): uses for uses in found}.values())
+
+    def waiting(self) -> Iterator[Mask]:
+        """Yields for each set of processes where each kind that the mine waits for is processed, shape (kinds, processes)."""
+        groups = self.alike
+        counts = range(1, len(groups) + 1) if len(groups) <= MOST_WAITING else (len(groups), 1)
+        for some in (some for count in counts for some in combinations(groups, count)):
+            within = np.isin(np.arange(self.processes), [process for group in some for process in group])
+            yield self.pays & within
+            yield self.best & (self.best & within).any(axis=1, keepdims=True)
+
+    def wait(self, masks: Mask, settings: ShellRules) -> Floats:
+        """Returns the uses of the capacities of all sets of processes to which some ore is bound, and of mining."""
+        uses = []
+        for taken in unions(masks):
+            inside = masks.any(axis=1) & ~(masks & ~taken).any(axis=1)
+            column = np.zeros(self.width)
+            column[2 : 2 + self.kinds] = inside / np.array(settings.capacities)[taken].sum()
+            uses.append(column)
+        if settings.mining_capacity is not None:
+            column = np.zeros(self.width)
+            column[0] = 1 / settings.mining_capacity
+            uses.append(column)
+        return np.column_stack(uses)
+
+
+def unions(masks: Mask) -> list[Mask]:
+    """Returns all different unions of rows with a process; all processes if there are none."""
+    found = {tuple(row) for row in masks if row.any()} or {(True,) * masks.shape[1]}
+    rows = sorted(found)
+    for row in rows:
+        found |= {tuple(np.logical_or(row, other)) for other in found}
+    return [np.array(row, dtype=bool) for row in sorted(found, reverse=True)]
+
+
+@dataclass(frozen=True)
+class OreCells:
+    """Cells of ore with the piece that each belongs to; int arrays, shape (cells,)."""
+
+    cells: NDArray[np.int64]
+    piece: NDArray[np.int64]
+
+
+def by_piece(plan: Plan, ore: OreCells, count: int) -> tuple[OreKinds, Floats]:
+    """Returns the kinds of ore, and its columns summed over `count` pieces, shape (pieces, width - 2)."""
+    kinds, kind = kinds_of(plan, ore.cells)
+    place, size = ore.piece * kinds.kinds + kind, count * kinds.kinds
+
+    def summed(values: Floats) -> Floats:
+        return np.bincount(place, values, minlength=size).reshape(count, kinds.kinds).astype(np.float64)
+
+    ways = plan.values.by_process
+    amounts = [
+        gains_of(plan, ore.cells),
+        *(np.stack([way.metal[name][ore.cells] for way in ways]) for name in plan.values.metal),
+    ]
+    of_processes = np.stack([np.stack([summed(row) for row in rows], axis=-1) for rows in amounts], axis=1)
+    return kinds, np.concatenate([summed(plan.values.feed[ore.cells]), of_processes.reshape(count, -1)], axis=1)
+
+
+def kinds_of(plan: Plan, cells: NDArray[np.int64]) -> tuple[OreKinds, NDArray[np.int64]]:
+    """Returns the kinds of cells of ore, and the kind of each.
+
+    Value bins divide the ore that is best in one process into parts of nearly even feed, by net value per tonne.
+    """
+    gain = gains_of(plan, cells)
+    feed = plan.values.feed[cells]
+    per_tonne = np.round(np.divide(gain, feed, out=np.zeros_like(gain), where=feed > 0), DECIMALS)
+    pays, best = gain > 0, (gain == gain.max(axis=0, initial=-np.inf)) & (gain > 0)
+    first = best.argmax(axis=0)
+    value = np.zeros(len(cells), dtype=np.int64)
+    for process in range(len(gain)):
+        some = np.flatnonzero(first == process)
+        value[some] = np.searchsorted(edges_of(per_tonne[process, some], feed[some], BINS), per_tonne[process, some])
+    keys, kind = np.unique(np.concatenate([pays, best, value[None]]).T.astype(np.int64), axis=0, return_inverse=True)
+    masks = keys[:, :-1].astype(bool)
+    metals = tuple(f"recovered_{name}" for name in plan.values.metal)
+    found = OreKinds(metals, masks[:, : len(gain)], masks[:, len(gain) :], alike(gain))
+    return found, kind.ravel().astype(np.int64)
+
+
+def gains_of(plan: Plan, cells: NDArray[np.int64]) -> Floats:
+    """Returns revenue less processing cost of cells in each process, shape (processes, cells), in the currency."""
+    return np.stack([(way.revenue[cells] - way.cost[cells]) / MILLION for way in plan.values.by_process])
+
+
+def alike(gain: Floats) -> tuple[tuple[int, ...], ...]:
+    """Returns the processes in groups with the same gains, by their first."""
+    groups: dict[bytes, list[int]] = {}
+    for process, row in enumerate(gain):
+        groups.setdefault(row.tobytes(), []).append(process)
+    return tuple(tuple(group) for group in groups.values())

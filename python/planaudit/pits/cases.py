@@ -1,0 +1,189 @@
+"""Recomputes the cases of pit-by-pit analysis: the years of each shell, mined shell by shell, bench by bench, or by specified pushbacks."""
+
+from __future__ import annotations
+
+from dataclasses import dataclass
+from functools import cached_property
+
+import numpy as np
+
+from planaudit.inputs.answer import Answer
+from planaudit.inputs.project import MOST_YEARS, Project
+from planaudit.money.period_costs import premiums
+from planaudit.money.yearly_flows import Amounts, Parts, money_of, parts_of, shares_of
+from planaudit.pits.ore_kinds import Kinds, Ore, capacities, has_choice, shipped
+
+CENT = 0.01
+BEST, WORST, SPECIFIED = "best", "worst", "specified"
+# NPVs that differ by less are equal: of equals the shorter life counts.
+EQUAL, TINY = 1e-9, 1e-3
+
+
+def cases_of(project: Project) -> tuple[str, ...]:
+    return (BEST, WORST, *([SPECIFIED] if project.shells.specified else []))
+
+
+@dataclass(frozen=True)
+class Benches:
+    """Each shell's part of each level, by revenue factor and then from the top.
+
+    Attributes
+    ----------
+    answer : Answer
+    factor, level : array, shape (benches,)
+    amounts : dict of str to array, shape (benches,)
+        total_tonnes, feed, metals and cash flow of ore in its best process.
+    gross : array, shape (benches,)
+        Absolute cash flow, which sets the error of sums.
+    mining : array, shape (benches,)
+        Cash flow of mining alone.
+    kinds : Kinds, optional
+        The ore by kind, if it may go elsewhere than to its best process.
+    """
+
+    answer: Answer
+    factor: np.ndarray
+    level: np.ndarray
+    amounts: Amounts
+    gross: np.ndarray
+    mining: np.ndarray
+    kinds: Kinds | None
+
+    @staticmethod
+    def of(answer: Answer) -> Benches:
+        first, cash = answer.said["revenue_factor"].to_numpy(), answer.earned
+        rows = np.flatnonzero(first > 0)
+        factors, number = np.unique(first[rows], return_inverse=True)
+        place = number * answer.shape[0] + answer.cells[0][rows]
+        there, piece = np.unique(place, return_inverse=True)
+        columns = {"total_tonnes": answer.tonnes, "feed_tonnes": np.where(answer.ore, answer.feed, 0.0), **answer.feeds}
+        columns |= {f"recovered_{name}": np.where(answer.ore, metal, 0.0) for name, metal in answer.quantities.items()}
+        gain = np.where(answer.ore, (answer.said["revenue"] - answer.said["processing_cost"]).to_numpy(), 0.0)
+        columns |= {"cash_flow": cash, "gross": np.abs(cash), "mining": cash - gain}
+        sums = {name: np.bincount(piece, column[rows]) for name, column in columns.items()}
+        gross, mining = sums.pop("gross"), sums.pop("mining")
+        kinds = None
+        if has_choice(answer.project):
+            is_ore = answer.ore[rows]
+            kinds = Ore(answer, rows[is_ore]).sums(piece[is_ore], len(there))
+        levels = answer.shape[0]
+        return Benches(answer, factors[there // levels], there % levels, sums, gross, mining, kinds)
+
+    @cached_property
+    def waits(self) -> list[np.ndarray]:
+        """The years of capacities that each bench uses, for each set of processes that the mine may wait for, each of shape (benches,
+        capacities)."""
+        rules = self.answer.project.shells
+        mining = [] if rules.mining_capacity is None else [self.amounts["total_tonnes"] / rules.mining_capacity]
+        if self.kinds is None:
+            return [np.column_stack([self.amounts["feed_tonnes"] / rules.processing_capacity, *mining])]
+        found = [np.column_stack([used, *mining]) for used in self.kinds.waits(capacities(self.answer.project))]
+        lives = [self.life(uses) for uses in found]
+        bearable = [uses for uses, life in zip(found, lives) if life <= MOST_YEARS]
+        return bearable or [found[int(np.argmin(lives))]]
+
+    def life(self, uses: np.ndarray) -> float:
+        """Returns the life of the best case of all benches in years, MOST_YEARS or more if it is longer."""
+        parts = parts_of(uses.tolist()) if len(uses) else None
+        whole = 0.0 if parts is None else np.bincount(parts.piece, parts.share, minlength=len(uses)).min()
+        return 0.0 if parts is None else parts.life if whole > 1 - 1e-6 else MOST_YEARS + 1.0
+
+    def groups(self, case: str, factor: float) -> np.ndarray:
+        """Returns the pieces of a shell in the order of mining: shares of benches, shape (pieces, benches)."""
+        inside = np.flatnonzero(self.factor <= factor)
+        if case == BEST:
+            found = np.zeros((len(inside), len(self.factor)))
+            found[np.arange(len(inside)), inside] = 1.0
+            return found
+        pushback = np.zeros(len(inside), dtype=np.int64)
+        rules = self.answer.project.shells.specified
+        if case == SPECIFIED and rules is not None:
+            pushback = (self.factor[inside][:, None] > np.array(rules.pushbacks) + 1e-9).sum(axis=1)
+        turn = self.level[inside] + (rules.bench_lag if case == SPECIFIED and rules is not None else 0) * pushback
+        _, piece = np.unique(np.column_stack([turn, pushback, self.level[inside]]), axis=0, return_inverse=True)
+        found = np.zeros((int(piece.max(initial=-1)) + 1, len(self.factor)))
+        found[piece.ravel(), inside] = 1.0
+        return found
+
+
+@dataclass(frozen=True)
+class Pit:
+    """The years of a pit: amounts by year, the life in years, and the error of sums. A pit without tonnes has no amounts."""
+
+    years: Amounts
+    life: float
+    slack: float
+
+    @property
+    def npv(self) -> float:
+        """The NPV, period costs included."""
+        return float(self.years["discounted_cash_flow"].sum()) if self.years else 0.0
+
+
+@dataclass(frozen=True)
+class Dug:
+    """What a shell digs in each year: shares of benches, shape (years, benches), and its life in years."""
+
+    shares: np.ndarray
+    life: float
+
+
+def dug_of(pieces: np.ndarray, uses: np.ndarray) -> Dug:
+    """Returns what is dug when pieces, shares of benches, are mined one after the other."""
+    parts: Parts = parts_of((pieces @ uses).tolist())
+    return Dug(shares_of(parts, len(pieces)) @ pieces, parts.life)
+
+
+def pits_of(benches: Benches, case: str, factors: list[float]) -> list[Pit]:
+    """Returns the years of each shell, with the wait that has the highest NPV; of equal ones the shortest life."""
+    pieces = [benches.groups(case, factor) for factor in factors]
+    slack = [CENT + 1e-12 * float(benches.gross[benches.factor <= factor].sum()) for factor in factors]
+    tonnes = [float((it @ benches.amounts["total_tonnes"]).sum()) for it in pieces]
+    found: list[list[Pit]] = [[] for _ in factors]
+    some = [place for place, amount in enumerate(tonnes) if amount]
+    for uses in benches.waits:
+        dug = [dug_of(pieces[place], uses) for place in some]
+        for place, it, years in zip(some, dug, earned(benches, dug)):
+            found[place].append(Pit(years, it.life, slack[place]))
+    return [shortest_best(pits) if pits else Pit({}, 0.0, off) for pits, off in zip(found, slack)]
+
+
+def shortest_best(pits: list[Pit]) -> Pit:
+    most = max(pit.npv for pit in pits)
+    return min((pit for pit in pits if pit.npv >= most - EQUAL * abs(most) - TINY), key=lambda pit: pit.life)
+
+
+def earned(benches: Benches, dug: list[Dug]) -> list[Amounts]:
+    """Returns the amounts and the money of the years of each shell."""
+    project = benches.answer.project
+    if benches.kinds is None:
+        return [
+            money_of({name: it.shares @ amounts for name, amounts in benches.amounts.items()}, it.life, project)
+            for it in dug
+        ]
+    shares = np.concatenate([it.shares for it in dug])
+    number = np.concatenate([np.arange(len(it.shares)) for it in dug])
+    part = np.concatenate([np.clip(it.life - np.arange(len(it.shares)), 0.0, 1.0) for it in dug])
+    amounts = processed(benches, benches.kinds.of(shares), shares, number + 1, part)
+    ends = np.cumsum([len(it.shares) for it in dug])[:-1]
+    split = {name: np.split(values, ends) for name, values in amounts.items()}
+    return [
+        money_of({name: values[place] for name, values in split.items()}, it.life, project)
+        for place, it in enumerate(dug)
+    ]
+
+
+def processed(benches: Benches, ore: Kinds, shares: np.ndarray, year: np.ndarray, part: np.ndarray) -> Amounts:
+    """Returns the amounts of years, at the base price, whose ore goes to its best destinations at the prices of the year."""
+    project = benches.answer.project
+    more = [premiums(project, int(number)) for number in year]
+    metals = [f"recovered_{metal.name}" for metal in project.metals]
+    gains = np.array([[it.get(name, 0.0) for name in metals] for it in more]).reshape(len(year), len(metals))
+    gain = ore.amounts[:, 0] + np.einsum("ym,ymkp->ykp", gains, ore.amounts[:, 1:])
+    flows = shipped(ore, gain, part[:, None] * capacities(project))
+    fed = np.einsum("yk,ykp->yp", ore.feed, flows)
+    sums = np.einsum("ymkp,ykp->ym", ore.amounts, flows)
+    found = {"total_tonnes": shares @ benches.amounts["total_tonnes"], "feed_tonnes": fed.sum(axis=1)}
+    found |= {f"feed_tonnes_{process.name}": fed[:, number] for number, process in enumerate(project.processes)}
+    found |= {name: sums[:, number + 1] for number, name in enumerate(metals)}
+    return {**found, "cash_flow": shares @ benches.mining + sums[:, 0]}

@@ -1,0 +1,177 @@
+"""Where the ore of a year goes if there is a choice: kinds of ore, the sets of processes that the mine waits for, and the best shipment."""
+
+from __future__ import annotations
+
+from collections.abc import Iterator
+from dataclasses import dataclass
+from fractions import Fraction
+from functools import cached_property
+from itertools import combinations
+from typing import Any
+
+import numpy as np
+from scipy.optimize import linprog
+
+from .mine import Mine, Place
+
+Amounts = dict[str, Fraction]
+Limits = list[tuple[tuple[str, ...], Fraction]]
+Kind = tuple[tuple[int, ...], tuple[int, ...], int]
+BASE, BINS, MOST_WAITING = Fraction(1), 8, 3
+
+
+def premiums(mine: Mine, year: int) -> dict[str, Fraction]:
+    """What a unit of each metal gains in a year, from 1, above the base price."""
+    found, royalty = {}, Fraction(mine.project["economics"].get("royalty", 0))
+    for metal in mine.project["metals"]:
+        prices = metal.get("prices") or [metal["price"]]
+        more = mine.price(metal, prices[min(year, len(prices)) - 1]) - mine.price(metal, metal["price"])
+        found[metal["name"]] = more * (1 - royalty)
+    return found
+
+
+@dataclass
+class Ore:
+    """The ore among some places, by kind: the processes in which it pays, those in which it earns most, and its value bin."""
+
+    mine: Mine
+    places: set[Place]
+
+    @property
+    def has_choice(self) -> bool:
+        years = range(1, 1 + max(len(metal.get("prices", [])) for metal in self.mine.project["metals"]))
+        return len(self.mine.processes) > 1 or any(min(premiums(self.mine, year).values()) < 0 for year in years)
+
+    @cached_property
+    def most(self) -> list[Fraction]:
+        shells = self.mine.project["shells"]
+        several = [Fraction(process["capacity"]) for process in self.mine.project.get("processes", [])]
+        return several or [Fraction(shells["processing_capacity"])]
+
+    @cached_property
+    def blocks(self) -> list[Place]:
+        return sorted(it for it in self.places if it in self.mine.blocks and self.mine.is_ore(it))
+
+    def gains(self, place: Place) -> list[Fraction]:
+        return [way.gain(BASE) for way in self.mine.blocks[place].ways]
+
+    def first_best(self, place: Place) -> int:
+        gains = self.gains(place)
+        return gains.index(max(gains))
+
+    def a_tonne(self, place: Place) -> float:
+        feed = self.mine.blocks[place].feed
+        return round(float(max(self.gains(place)) / feed), 6) if feed else 0.0
+
+    @cached_property
+    def edges(self) -> dict[int, list[float]]:
+        """By process the values between bins: of each eighth of the feed the value whose cumulative feed is nearest, and the next one."""
+        found: dict[int, list[float]] = {}
+        for process in range(len(self.most)):
+            some = sorted(
+                (self.a_tonne(it), self.mine.blocks[it].feed) for it in self.blocks if self.first_best(it) == process
+            )
+            values = sorted({value for value, _ in some})
+            until = [sum((feed for value, feed in some if value <= most), Fraction(0)) for most in values]
+            found[process] = []
+            for part in range(1, BINS) if len(values) > 1 else ():
+                off = [abs(feed - until[-1] * Fraction(part, BINS)) for feed in until[:-1]]
+                last = off.index(min(off))
+                found[process].append((values[last] + values[last + 1]) / 2)
+        return found
+
+    def kind(self, place: Place) -> Kind:
+        gains = self.gains(place)
+        pays = tuple(k for k, gain in enumerate(gains) if gain > 0)
+        best = tuple(k for k, gain in enumerate(gains) if gain == max(gains))
+        value = self.a_tonne(place)
+        return pays, best, len({edge for edge in self.edges[self.first_best(place)] if edge < value})
+
+    @cached_property
+    def kinds(self) -> dict[Place, Kind]:
+        return {place: self.kind(place) for place in self.blocks}
+
+    def amounts(self, places: list[Place]) -> Amounts:
+        """The feed of each kind of some places, and its gain and metal in each process."""
+        found: Amounts = {}
+        for place in places:
+            if place not in self.kinds:
+                continue
+            block, kind = self.mine.blocks[place], self.kinds[place]
+            parts = {f"feed {kind}": block.feed}
+            for number, way in enumerate(block.ways):
+                parts[f"gain {kind} {number}"] = way.gain(BASE)
+                parts |= {f"{name} {kind} {number}": metal for name, metal in way.metal.items()}
+            for name, amount in parts.items():
+                found[name] = found.get(name, Fraction(0)) + amount
+        return found
+
+    def waits(self) -> Iterator[Limits]:
+        """The capacities that a year may use up, for each set of processes that the mine may wait for."""
+        groups: list[list[int]] = []
+        for process in range(len(self.most)):
+            alike = [group for group in groups if self.are_alike(group[0], process)]
+            if alike:
+                alike[0].append(process)
+            else:
+                groups.append([process])
+        counts = range(1, len(groups) + 1) if len(groups) <= MOST_WAITING else (1, len(groups))
+        for chosen in (it for count in counts for it in combinations(groups, count)):
+            some = {process for group in chosen for process in group}
+            yield self.limits({kind: some & {*kind[0]} for kind in set(self.kinds.values())})
+            yield self.limits({kind: {*kind[1]} if some & {*kind[1]} else set() for kind in set(self.kinds.values())})
+
+    def are_alike(self, one: int, other: int) -> bool:
+        return all(gains[one] == gains[other] for gains in map(self.gains, self.blocks))
+
+    def limits(self, open_to: dict[Kind, set[int]]) -> Limits:
+        """Ore that only some processes may take is within their joint capacity, for all sets of processes."""
+        found: Limits = []
+        for count in range(1, len(self.most) + 1):
+            for some in combinations(range(len(self.most)), count):
+                names = tuple(f"feed {kind}" for kind, places in open_to.items() if places and places <= {*some})
+                found.append((names, sum((self.most[k] for k in some), Fraction(0))))
+        return found
+
+    def ship(self, year: int, amounts: Amounts, part: Fraction) -> Amounts:
+        """What a year, from 1, feeds, recovers and gains at the base price, where its ore goes best at its own prices."""
+        more, count = premiums(self.mine, year), len(self.most)
+        kinds = [kind for kind in set(self.kinds.values()) if amounts.get(f"feed {kind}")]
+        pairs = [(kind, k) for kind in kinds for k in kind[0]]
+        gain = {
+            pair: amounts[f"gain {pair[0]} {pair[1]}"]
+            + sum((price * amounts[f"{name} {pair[0]} {pair[1]}"] for name, price in more.items()), Fraction(0))
+            for pair in pairs
+        }
+        feed = {pair: amounts[f"feed {pair[0]}"] for pair in pairs}
+        share = shipment(gain, feed, [most * part for most in self.most])
+        found: Amounts = {}
+        for (kind, k), taken in share.items():
+            parts: dict[str, Any] = {
+                "feed_tonnes": f"feed {kind}",
+                f"process {k}": f"feed {kind}",
+                "gain": f"gain {kind} {k}",
+            }
+            parts |= {f"recovered_{name}": f"{name} {kind} {k}" for name in more}
+            for name, of in parts.items():
+                found[name] = found.get(name, Fraction(0)) + amounts[of] * taken
+        return found
+
+
+Pair = tuple[Kind, int]
+
+
+def shipment(gain: dict[Pair, Fraction], feed: dict[Pair, Fraction], most: list[Fraction]) -> dict[Pair, Fraction]:
+    """The best shares of pairs of kind and process: each kind to where it gains most if that is within the capacities, else by a linear programme."""
+    pairs = [pair for pair in gain if gain[pair] > 0 and most[pair[1]] > 0]
+    best = {kind: max((pair for pair in pairs if pair[0] == kind), key=lambda it: gain[it]) for kind, _ in pairs}
+    used = [sum((feed[pair] for pair in best.values() if pair[1] == k), Fraction(0)) for k in range(len(most))]
+    if all(amount <= limit * (1 + Fraction(1, 10**12)) for amount, limit in zip(used, most)):
+        return {pair: Fraction(1) for pair in best.values()}
+    rows = [[float(pair[0] == kind) for pair in pairs] for kind in best]
+    rows += [[float(feed[pair] / most[k]) if pair[1] == k else 0.0 for pair in pairs] for k in range(len(most))]
+    unit = max(map(float, gain.values()))
+    found = linprog(
+        [-float(gain[pair]) / unit for pair in pairs], A_ub=np.array(rows), b_ub=np.ones(len(rows)), method="highs-ds"
+    )
+    return {pair: Fraction(float(np.clip(share, 0, 1))) for pair, share in zip(pairs, found.x)}
