@@ -63,6 +63,7 @@ def written(tmp_path_factory):
     table = rows(11, 9, 4, **varied)
     money = "fixed_cost_per_year = 77\ncapex = [[1, 10]]\n"
     one = PROJECT.replace("mining_cost = 2\n", f"mining_cost = 2\n{money}") + WIDE
+    one = one.replace("processing_capacity = 100\n", "processing_capacity = 100\nspecified = { pushbacks = [0.5] }\n")
     one = one.replace("[table]\n", '[table]\nclass = "cls"\n')
     several = PROJECT.replace("processing_cost = 10\n", "").replace("recovery = 0.5\n", "")
     several = several.replace("processing_capacity = 100\n", "") + PROCESSES

@@ -139,7 +139,7 @@ def two_benches(money):
     )
 
 
-COSTS = YearlyMoney(30, ((1, 5), (2, 8)))
+COSTS = YearlyMoney((30,), ((1, 5), (2, 8)))
 
 
 @pytest.mark.parametrize(
@@ -162,7 +162,7 @@ def test_a_schedule_by_hand(money, by_rules, best):
 
 def test_a_mine_that_costs_more_than_it_earns_is_left():
     """110 in two years, for a capex of 500 and 30 a year."""
-    problem = two_benches(YearlyMoney(30, ((1, 500),)))
+    problem = two_benches(YearlyMoney((30,), ((1, 500),)))
     optimum = optimum_of(problem, 2)
     assert optimum.value == 0 and not optimum.cash.any() and not optimum.cumulative.any()
     assert problem.value(made_of(problem, 2)) == 0
@@ -207,7 +207,7 @@ def test_a_schedule_of_bins_by_hand(money, best):
 )
 def test_no_schedule_is_above_the_bound(pit, limits, fixed, capex, premiums):
     """Nor does the programme earn less than the rule, in as many years."""
-    money = YearlyMoney(fixed, capex, {"recovered_copper": premiums} if premiums else {})
+    money = YearlyMoney((fixed,), capex, {"recovered_copper": premiums} if premiums else {})
     problem = replace(problem_of(random_benches(pit, 0), limits), money=money)
     by_rules = by_rule(problem, 5)[0]
     model = without_flows(problem, 5)
@@ -253,7 +253,7 @@ def test_the_second_look_at_schedules_agrees(plan_folder, way):
 @pytest.mark.parametrize(
     ("name", "without", "rule"),
     [
-        ("fixed_cost", 0.0, "schedule value"),
+        ("fixed_cost", (0.0,), "schedule value"),
         ("capex", (), "schedule value"),
         ("premiums", {}, "material flow"),
     ],

@@ -7,6 +7,7 @@ import numpy as np
 import pandas as pd
 import pytest
 from conftest import PROJECT, rows
+from helpers.processes import deposit
 from helpers.random_tests import examples
 from hypothesis import given, strategies as st
 from scipy.optimize import linprog
@@ -21,7 +22,7 @@ from pitplan.pits.destinations import best_shares
 from pitplan.pits.ore_kinds import OreKinds, unions
 
 NAMES = ("total_tonnes", "feed_tonnes", "feed_tonnes_mill", "feed_tonnes_leach", "recovered_copper", "cash_flow")
-RULES = ShellRules((0.5, 1.0), None, 0.1, 100.0, None, "end_of_year", False, (40.0, 60.0))
+RULES = ShellRules((0.5, 1.0), None, 0.1, 100.0, None, "end_of_year", False, (40.0, 60.0), names=("mill", "leach"))
 
 
 @st.composite
@@ -135,7 +136,7 @@ def test_mining_capacity_holds_whatever_the_mine_waits_for():
 def test_ore_of_one_process_is_bound_by_it_and_ore_of_both_by_their_sum():
     """By Hall's theorem: 30 t of the mill take 3/4 of its year, all 90 t 9/10 of the year of both."""
     benches, settings = one_bench((30, 5, None), (60, 5, 5))
-    used = [sorted((benches.by_kind[0] @ uses)[0].tolist()) for uses in benches.waits(settings)]
+    used = [sorted((benches.by_kind[0] @ wait.uses)[0].tolist()) for wait in benches.waits(settings)]
     assert any(it == pytest.approx([0.75, 0.9]) for it in used if len(it) == 2)
 
 
@@ -219,10 +220,12 @@ def test_what_is_wrong_with_a_specified_case_is_named(plan_folder, text, said):
         pitplan.load(plan_folder(rows(1, 1, 1), PROJECT + f"[shells.specified]\n{text}\n"))
 
 
+DEEP = [("mining_cost = 2\n", "mining_cost = 0.3\n"), ("processing_capacity = 100\n", "processing_capacity = 400\n")]
+
+
 def test_a_specified_case_is_in_tables_figures_and_the_report(plan_folder):
     """The shell is the one with the highest NPV of the specified case; the record keeps the section."""
-    table = rows(5, 5, 3, cu=lambda i, j, k: [0.9, 0.5, 0][k] * (1 < i < 4))
-    path = plan_folder(table, PROJECT + "[shells.specified]\npushbacks = [0.5]\nbench_lag = 1\n")
+    path = plan_folder(deposit(), PROJECT + "[shells.specified]\npushbacks = [0.5]\nbench_lag = 1\n", *DEEP)
     shells = pitplan.write_shells(path, writing=pitplan.Writing(figures=True))
     folder = path.parent / "plan"
     years = pd.read_csv(folder / "tables/years.csv")
@@ -230,7 +233,7 @@ def test_a_specified_case_is_in_tables_figures_and_the_report(plan_folder):
     dug = shells[shells["tonnes"] > 0].set_index("revenue_factor")
     assert sums.tolist() == pytest.approx(dug["npv_specified"].tolist(), abs=0.01) and len(sums) > 1
     assert not [rule for rule in pitplan.verify(folder) if rule.differences]
-    assert "[shells.specified]" in (folder / "project-as-run.toml").read_text()
+    assert "specified = { pushbacks = [0.5], bench_lag = 1 }" in (folder / "project-as-run.toml").read_text()
     assert "Net present value, specified case" in (folder / "report.html").read_text()
     up_to = shells[shells["revenue_factor"] <= 1.0]
     chosen = up_to["revenue_factor"][up_to["npv_specified"].idxmax()]
@@ -238,8 +241,7 @@ def test_a_specified_case_is_in_tables_figures_and_the_report(plan_folder):
 
 
 def test_another_lag_than_the_projects_is_found(plan_folder, monkeypatch):
-    table = rows(5, 5, 3, cu=lambda i, j, k: [0.9, 0.5, 0][k] * (1 < i < 4))
-    path = plan_folder(table, PROJECT + "[shells.specified]\npushbacks = [0.5]\nbench_lag = 2\n")
+    path = plan_folder(deposit(), PROJECT + "[shells.specified]\npushbacks = [0.5]\nbench_lag = 2\n", *DEEP)
     pieces = best_worst_case.specified_pieces
     monkeypatch.setattr(
         best_worst_case, "specified_pieces", lambda benches, rules: pieces(benches, replace(rules, bench_lag=0))

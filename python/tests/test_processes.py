@@ -6,7 +6,7 @@ import numpy as np
 import pandas as pd
 import pytest
 from conftest import PROJECT, rows
-from helpers.processes import LEACH_AND_MILL, WITH
+from helpers.processes import LEACH_AND_MILL, WITH, deposit
 from hypothesis import given, strategies as st
 
 import pitplan
@@ -151,15 +151,6 @@ def test_worth_by_hand_at_each_factor(plan_folder):
         100,
         100,
     ]
-
-
-def deposit():
-    """Rich ore, poor ore and waste of two rocks."""
-    rng = np.random.default_rng(3)
-    table = rows(11, 9, 4, rock=lambda i, j, k: "RS"[(i * j + k) % 2])
-    ore = (table["z"] < 25) & table["x"].between(30, 80) & table["y"].between(30, 60)
-    table["cu"] = np.where(ore, rng.lognormal(-0.3, 1.0, len(table)).round(2), 0)
-    return table
 
 
 MORE = [

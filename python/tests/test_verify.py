@@ -533,9 +533,9 @@ def test_what_is_left_of_great_amounts_is_as_uncertain_as_they_are(plan_folder, 
 def test_capacity_that_is_caught_up_is_found(plan_folder, monkeypatch):
     """Years as the greater of two cumulative sums: mill time that is lost while stripping comes back."""
 
-    def cumulative(amounts, uses):
-        ends = np.cumsum(amounts @ uses, axis=0).max(axis=1)
-        return best_worst_case.Course(amounts, np.concatenate([[0.0], ends])[:, None])
+    def cumulative(amounts, wait):
+        ends = np.cumsum(amounts @ wait.uses, axis=0).max(axis=1)
+        return best_worst_case.Course(amounts, np.concatenate([[0.0], ends])[:, None], np.ones((1, 1)))
 
     monkeypatch.setattr(best_worst_case, "course_of", cumulative)
     assert "years: " in refused(plan_folder)

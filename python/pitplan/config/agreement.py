@@ -8,6 +8,7 @@ from pitplan.errors import PlanError
 
 from .classes import REFUSE
 from .economics import ByDomain
+from .period_agreement import demand_periods
 from .schedule import FEED, TOTAL, ScheduleRules
 from .table import MissingRock
 
@@ -31,6 +32,7 @@ def demand_agreement(project: Project) -> None:
     if len(set(names)) < len(names):
         raise PlanError(f"{path}: two [[metals]] have one name")
     demand_sums_agree(project)
+    demand_periods(project)
     varied = project.sensitivity
     if (
         varied

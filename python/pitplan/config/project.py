@@ -19,6 +19,7 @@ from .feed_grades import FeedGrade
 from .figures import FigureRules, read_figures
 from .haulage import Haulage, read_haulage
 from .overrides import overridden
+from .periods import Calendar, read_periods
 from .pushbacks import PushbackRules, read_pushbacks
 from .python_values import as_toml
 from .scenarios import Scenarios, read_scenarios
@@ -218,7 +219,7 @@ def of_data(data: dict[str, Any], path: Path, source: Optional[str] = None) -> P
         economics=read_economics(top.section("economics"), bool(processes)),
         metals=tuple(read_metal(section, bool(processes)) for section in top.sections("metals")),
         slopes=read_slopes(top.section("slopes")),
-        shells=read_shells(top.section("shells"), processes),
+        shells=replace(read_shells(top.section("shells"), processes), calendar=read_calendar(top)),
         folder=path.parent / output.text("folder", "plan"),
         scenarios=read_scenarios(top.section("scenarios"), path.parent) if top.has("scenarios") else None,
         constraints=read_constraints(top.section("constraints"), path.parent) if top.has("constraints") else None,
@@ -237,6 +238,10 @@ def of_data(data: dict[str, Any], path: Path, source: Optional[str] = None) -> P
     top.finish()
     demand_agreement(project)
     return project
+
+
+def read_calendar(top: Section) -> Calendar:
+    return read_periods(top.sections("periods")) if top.has("periods") else Calendar()
 
 
 def read_title(top: Section, default: str) -> str:

@@ -21,6 +21,7 @@ from .economics import ByDomain, Curve, Economics, Metal, Process
 from .feed_grades import FeedGrade
 from .figures import FigureRules
 from .haulage import KINDS, Haulage
+from .periods import Period
 from .pushbacks import PushbackRules
 from .schedule import ScheduleRules, Sum
 from .sensitivity import SensitivityRules
@@ -47,6 +48,7 @@ def of_project(project: Project, folder: Path) -> str:
         "processes": [of_process(process) for process in project.processes],
         "slopes": of_slopes(project.slopes),
         "shells": of_shells(project.shells),
+        "periods": [of_period(period) for period in project.shells.calendar.periods],
         "haulage": project.haulage and of_haulage(project.haulage),
         "constraints": project.constraints and of_fixed(project.constraints, folder),
         "pushbacks": project.pushbacks and of_pushbacks(project.pushbacks),
@@ -276,6 +278,10 @@ def of_shells(schedule: ShellRules) -> Values:
         "discounting": schedule.discounting,
         "specified": None if schedule.specified is None else asdict(schedule.specified),
     }
+
+
+def of_period(period: Period) -> Values:
+    return {name: value for name, value in asdict(period).items() if value not in (None, {}, 0)}
 
 
 def of_haulage(haulage: Haulage) -> Values:

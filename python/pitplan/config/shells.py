@@ -2,12 +2,14 @@
 
 from __future__ import annotations
 
+import math
 from dataclasses import dataclass
 from typing import Optional
 
 from pitplan.core.revenue_factors import BASE_PRICE, factor_text
 
 from .economics import Process
+from .periods import Calendar
 from .toml_section import Section
 
 MOST_FACTORS, MOST_LAG = 1_000, 1_000
@@ -43,7 +45,9 @@ class ShellRules:
     selected          the shell that is shown; None: the one with the best mean NPV
     base_price_added  whether 1.0 was added to the project's own factors
     per_process       the yearly capacity of each of several processes; `processing_capacity` is their sum
+    names             the names of these processes
     specified         the case of given pushbacks; None: best and worst case only
+    calendar          what differs between years
     """
 
     revenue_factors: tuple[float, ...]
@@ -55,11 +59,31 @@ class ShellRules:
     base_price_added: bool
     per_process: tuple[float, ...] = ()
     specified: Optional[SpecifiedCase] = None
+    calendar: Calendar = Calendar()
+    names: tuple[str, ...] = ()
 
     @property
     def capacities(self) -> tuple[float, ...]:
         """The yearly capacity of each process."""
         return self.per_process or (self.processing_capacity,)
+
+    @property
+    def capacities_by_year(self) -> tuple[tuple[float, ...], ...]:
+        """The capacity of each process in each year; the last continues."""
+        if not self.names:
+            by_year = self.calendar.by_year(lambda it: it.processing_capacity, self.processing_capacity)
+            return tuple((amount,) for amount in by_year)
+        of_processes = [
+            self.calendar.by_name(lambda it: it.capacity, name, most)
+            for name, most in zip(self.names, self.per_process)
+        ]
+        return tuple(zip(*of_processes))
+
+    @property
+    def mining_by_year(self) -> tuple[float, ...]:
+        """The mining capacity of each year, infinite without one; the last continues."""
+        base = math.inf if self.mining_capacity is None else self.mining_capacity
+        return self.calendar.by_year(lambda it: it.mining_capacity, base)
 
 
 def read_shells(section: Section, processes: tuple[Process, ...] = ()) -> ShellRules:
@@ -80,6 +104,7 @@ def read_shells(section: Section, processes: tuple[Process, ...] = ()) -> ShellR
         if processes
         else float(section.number("processing_capacity", least=1)),
         per_process=tuple(process.capacity for process in processes),
+        names=tuple(process.name for process in processes),
         mining_capacity=float(section.number("mining_capacity", least=1)) if section.has("mining_capacity") else None,
         discounting=section.choice("discounting", DISCOUNTINGS, DISCOUNTINGS[0]),
         base_price_added=BASE_PRICE not in given,

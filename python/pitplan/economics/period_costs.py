@@ -15,22 +15,26 @@ class YearlyMoney:
 
     Attributes
     ----------
-    fixed_cost : float
-        Period cost per year in the currency, spent evenly while the mine runs.
+    fixed_cost : tuple of float
+        Period cost of each year, from 1, in the currency, spent evenly while the mine runs; the last one continues.
     capex : tuple of pairs
         Year, from 1, and the amount that is spent at its start if the mine still runs, in the currency.
     premiums : dict of str to tuple
         By amount of metal, what a unit of it earns beyond the base price, less royalty, in each year from 1; the last one continues.
     """
 
-    fixed_cost: float = 0.0
+    fixed_cost: tuple[float, ...] = (0.0,)
     capex: tuple[tuple[int, float], ...] = ()
     premiums: dict[str, tuple[float, ...]] = field(default_factory=dict)
 
     @property
     def columns(self) -> tuple[str, ...]:
         """The columns that a table of years has for these."""
-        return ("fixed_cost", "capex") if self.fixed_cost or self.capex else ()
+        return ("fixed_cost", "capex") if any(self.fixed_cost) or self.capex else ()
+
+    def fixed(self, years: int) -> np.ndarray:
+        """Returns the fixed cost of each whole year."""
+        return np.array(self.fixed_cost)[np.minimum(np.arange(years), len(self.fixed_cost) - 1)]
 
     def premium(self, names: tuple[str, ...], years: int) -> np.ndarray:
         """Returns the premium of a unit of each amount, shape (years, names)."""
@@ -53,24 +57,25 @@ PLAIN = YearlyMoney()
 
 
 def of_project(project: Project) -> YearlyMoney:
-    money = project.economics
-    premiums = {
-        f"recovered_{metal.name}": tuple(
-            float((metal.by_quantity(price) - metal.by_quantity(metal.price)) * (1 - money.royalty))
-            for price in metal.prices
-        )
-        for metal in project.metals
-        if metal.prices
-    }
-    return YearlyMoney(
-        float(money.fixed_cost_per_year), tuple((year, float(amount)) for year, amount in money.capex), premiums
-    )
+    money, calendar = project.economics, project.shells.calendar
+    premiums = {}
+    for metal in project.metals:
+        prices = metal.prices
+        if calendar.has(lambda it: it.prices):
+            prices = calendar.by_name(lambda it: it.prices, metal.name, metal.price)
+        more = [metal.by_quantity(price) - metal.by_quantity(metal.price) for price in prices]
+        if metal.prices or any(more):
+            premiums[f"recovered_{metal.name}"] = tuple(float(it * (1 - money.royalty)) for it in more)
+    capex = calendar.capex or money.capex
+    fixed = calendar.by_year(lambda it: it.fixed_cost_per_year, money.fixed_cost_per_year)
+    return YearlyMoney(tuple(map(float, fixed)), tuple((year, float(amount)) for year, amount in capex), premiums)
 
 
 def notes(project: Project) -> list[str]:
     """Returns a note with the yearly prices, period costs and capex of the project."""
     money = of_project(project)
-    parts = [f"fixed costs of {money.fixed_cost:,.12g} {project.economics.currency} a year"] if money.fixed_cost else []
+    amounts = " to ".join(f"{amount:,.12g}" for amount in sorted({min(money.fixed_cost), max(money.fixed_cost)}))
+    parts = [f"fixed costs of {amounts} {project.economics.currency} a year"] if any(money.fixed_cost) else []
     parts += ["capex"] if money.capex else []
     parts += ["yearly prices"] if money.premiums else []
     if not parts:

@@ -37,19 +37,25 @@ class Scale:
     cash: tuple[float, float]
 
 
-def capacities_of(settings: ShellRules) -> list[tuple[str, float, str]]:
-    """Returns name, tonnes per year and colour of each capacity."""
+def capacities_of(settings: ShellRules) -> list[tuple[str, tuple[float, ...], str]]:
+    """Returns name, tonnes of each year and colour of each capacity; the last year continues."""
     capacity = "processing capacity (all processes)" if settings.per_process else "processing capacity"
-    found = [(capacity, settings.processing_capacity, MILL)]
+    found = [(capacity, tuple(sum(of_year) for of_year in settings.capacities_by_year), MILL)]
     return (
-        found if settings.mining_capacity is None else [*found, ("mining capacity", settings.mining_capacity, SHOVELS)]
+        found if settings.mining_capacity is None else [*found, ("mining capacity", settings.mining_by_year, SHOVELS)]
     )
+
+
+def in_words(by_year: tuple[float, ...], size: float) -> str:
+    """Returns the tonnes of years, or from the least to the most."""
+    ends = sorted({min(by_year) / size, max(by_year) / size})
+    return " to ".join(f"{round(end, 3):,.12g}" for end in ends)
 
 
 def scale_of(years: pd.DataFrame, settings: ShellRules) -> Scale:
     """Returns limits that hold all years, with zero at the same height on both axes."""
     most = max(float(years["total_tonnes"].max()), 1.0)
-    near = [capacity for _, capacity, _ in capacities_of(settings) if capacity <= FAR_ABOVE * most]
+    near = [max(by_year) for _, by_year, _ in capacities_of(settings) if max(by_year) <= FAR_ABOVE * most]
     tonnes = scaled(max(most, *near, 0.0))
     top = MARGIN * max(most, *near, 0.0) / tonnes[0]
     earned, spent = max(float(years["cash_flow"].max()), 0.0), max(-float(years["cash_flow"].min()), 0.0)
@@ -131,9 +137,15 @@ def draw_tonnes(axis: Axes, years: pd.DataFrame, scale: Scale, settings: ShellRu
     ore, waste = years["feed_tonnes"] / size, (years["total_tonnes"] - years["feed_tonnes"]).clip(lower=0) / size
     axis.bar(years["year"], ore, 0.8, color=ORE, label="ore", linewidth=0)
     axis.bar(years["year"], waste, 0.8, bottom=ore, color=WASTE, label="waste", linewidth=0)
-    for name, capacity, colour in capacities_of(settings):
-        label = f"{name}: {round(capacity / size, 3):,.12g} {sign}t a year"
-        axis.axhline(capacity / size, color=colour, linestyle="--", linewidth=1.3, label=label)
+    for name, by_year, colour in capacities_of(settings):
+        line = {"color": colour, "linestyle": "--", "linewidth": 1.3}
+        line["label"] = f"{name}: {in_words(by_year, size)} {sign}t a year"
+        if len(set(by_year)) == 1:
+            axis.axhline(by_year[0] / size, **line)
+        else:
+            count = max(len(by_year), int(years["year"].max()))
+            values = [by_year[min(year, len(by_year) - 1)] / size for year in range(count + 1)]
+            axis.step([0.5 + year for year in range(count + 1)], values, where="post", **line)
     axis.set_ylim(*scale.rock)
     axis.set_yticks([tick for tick in axis.get_yticks() if 0 <= tick <= scale.rock[1]])
     axis.xaxis.set_major_locator(MaxNLocator(integer=True))

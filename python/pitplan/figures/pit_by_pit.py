@@ -79,13 +79,13 @@ def draw_tonnes(axis: Axes, table: pd.DataFrame, chosen: float) -> None:
 
 def draw_worth(axis: Axes, table: pd.DataFrame, currency: str) -> None:
     """Draws undiscounted cash flow and the NPV of each case, with a ring around the maximum of each."""
-    curves = (
+    curves = [
         ("undiscounted_cash_flow", "undiscounted", PLAIN, "--o"),
         ("npv_best", "NPV, best case", BEST, f"-{BEST_MARK}"),
         ("npv_worst", "NPV, worst case", WORST, f"-{WORST_MARK}"),
         ("npv_specified", "NPV, specified case", SPECIFIED, f"-{SPECIFIED_MARK}"),
-    )
-    curves = tuple(curve for curve in curves if curve[0] in table)
+    ]
+    curves = [curve for curve in curves if curve[0] in table]
     amounts = table[[column for column, _, _, _ in curves]]
     size, sign = scaled(float(amounts.abs().max().max()))
     for column, label, colour, line in curves:

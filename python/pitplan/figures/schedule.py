@@ -23,7 +23,7 @@ from pitplan.scheduling.flow.parcels import MILL
 from pitplan.scheduling.methods import LP, MILP, NAMES, RULE
 from pitplan.scheduling.pushback_schedule import YearlySchedule
 
-from .annual import FAR_ABOVE, MARGIN, MILL as MILL_COLOUR, SHOVELS
+from .annual import FAR_ABOVE, MARGIN, MILL as MILL_COLOUR, SHOVELS, in_words
 
 TITLES = {RULE: "Rule", LP: "Linear programme", MILP: "Integer programme"}
 COLOURS = {
@@ -246,7 +246,8 @@ def draw_limits(ax: Axes, schedule: YearlySchedule, count: int, unit: tuple[floa
     for name, label, colour in (("feed_tonnes", mill, MILL_COLOUR), ("total_tonnes", "mining capacity", SHOVELS)):
         if name in limits.most:
             most = limits.of_years(max(count, 1))[:, list(limits.most).index(name)] / size
-            label = f"{label}: {round(limits.most[name] / size, 3):,.12g} {sign}t a year"
+            by_year = limits.most_by_year.get(name, (limits.most[name],))
+            label = f"{label}: {in_words(by_year, size)} {sign}t a year"
             ax.plot(
                 edges,
                 np.append(most, most[-1]),

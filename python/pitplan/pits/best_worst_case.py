@@ -29,7 +29,7 @@ from pitplan.economics.period_costs import PLAIN, YearlyMoney
 from pitplan.errors import PlanError
 
 from .destinations import best_shares
-from .ore_kinds import OreKinds
+from .ore_kinds import OreKinds, Wait, with_mining
 
 ROCK, ORE, CASH = 0, 1, -1
 BEST, WORST, SPECIFIED = "best", "worst", "specified"
@@ -71,17 +71,14 @@ class Benches:
         """Amounts of whole pits by bench, shape (factors, benches, names)."""
         return np.cumsum(self.amounts, axis=0)
 
-    def waits(self, settings: ShellRules) -> list[np.ndarray]:
-        """Returns the years of capacities that a unit of each amount uses, each of shape (columns, capacities): for each set of processes that the
-        mine may wait for."""
+    def waits(self, settings: ShellRules) -> list[Wait]:
+        """Returns the capacities that a year may use up, for each set of processes that the mine may wait for."""
         if self.kinds is not None:
             return self.kinds.waits(settings)
-        capacities = [(ORE, settings.processing_capacity)]
-        capacities += [] if settings.mining_capacity is None else [(ROCK, settings.mining_capacity)]
-        uses = np.zeros((len(self.names), len(capacities)))
-        for column, (place, capacity) in enumerate(capacities):
-            uses[place, column] = 1 / capacity
-        return [uses]
+        uses = np.zeros((len(self.names), 1))
+        uses[ORE] = 1 / settings.processing_capacity
+        shares = np.array(settings.capacities_by_year).sum(axis=1, keepdims=True) / settings.processing_capacity
+        return [with_mining(uses, shares, settings)]
 
     @property
     def columns(self) -> np.ndarray:
@@ -119,10 +116,13 @@ class Course:
     amounts : array of float, shape (pieces, names)
     used : array of float, shape (pieces + 1, capacities)
         Years of each capacity that are used before each piece, and after the last.
+    shares : array of float, shape (years, capacities)
+        What each year has of each capacity; the last year continues.
     """
 
     amounts: np.ndarray
     used: np.ndarray
+    shares: np.ndarray
 
     @cached_property
     def sums(self) -> np.ndarray:
@@ -135,15 +135,19 @@ class Course:
         found: list[float] = []
         place, last = 0.0, float(len(self.amounts))
         while place < last and len(found) <= MOST_YEARS:
-            place = self.after_a_year(place)
+            place = self.after_a_year(place, len(found))
             if place < last:
                 found.append(place)
         return np.array(found)
 
-    def after_a_year(self, place: float) -> float:
-        """The place one year after a place: where a piece first needs a capacity that is used up."""
+    def of_year(self, year: int) -> np.ndarray:
+        """What a year, from 0, has of each capacity."""
+        return np.asarray(self.shares[min(year, len(self.shares) - 1)])
+
+    def after_a_year(self, place: float, year: int) -> float:
+        """The place at the end of a year, from 0, that starts at a place: where a piece first needs a capacity that is used up."""
         until = float(len(self.amounts))
-        for used, target in zip(self.used.T, at(self.used, np.array([place]))[0] + 1):
+        for used, target in zip(self.used.T, at(self.used, np.array([place]))[0] + self.of_year(year)):
             piece = int(np.searchsorted(used, target + HAIR, side="right")) - 1
             if piece < len(self.amounts):
                 share = (target - used[piece]) / (used[piece + 1] - used[piece])
@@ -154,7 +158,8 @@ class Course:
         """Returns the years of the first `count` pieces, at least one."""
         full = self.ends[: int(np.searchsorted(self.ends, count))]
         before = at(self.used, full[-1:])[0] if len(full) else np.zeros(self.used.shape[1])
-        part = float((self.used[count] - before).max())
+        free = self.of_year(len(full))
+        part = float(np.divide(self.used[count] - before, free, out=np.zeros_like(free), where=free > 0).max())
         if part <= HAIR and len(full):
             full, part = full[:-1], 1.0
         flowed = at(self.sums, np.concatenate([[0.0], full, [float(count)]]))
@@ -176,10 +181,10 @@ def mean_discount(start: np.ndarray, end: np.ndarray, rate: float) -> np.ndarray
     return np.exp(-force * start) * mean
 
 
-def course_of(amounts: np.ndarray, uses: np.ndarray) -> Course:
-    """Returns the course of pieces from the start of year 1; `uses` are the years of each capacity that a unit of each amount uses."""
-    years = amounts @ uses
-    return Course(amounts, np.concatenate([np.zeros((1, years.shape[1])), np.cumsum(years, axis=0)]))
+def course_of(amounts: np.ndarray, wait: Wait) -> Course:
+    """Returns the course of pieces from the start of year 1."""
+    years = amounts @ wait.uses
+    return Course(amounts, np.concatenate([np.zeros((1, years.shape[1])), np.cumsum(years, axis=0)]), wait.shares)
 
 
 def year_discounts(settings: ShellRules, count: int) -> np.ndarray:
@@ -216,7 +221,7 @@ class Terms:
         cash = amounts[:, CASH] + (amounts * self.money.premium(self.names, len(amounts))).sum(axis=1)
         starts = np.arange(float(len(amounts)))
         ends = np.clip(years.end, starts, starts + 1)
-        fixed = self.money.fixed_cost * (ends - starts)
+        fixed = self.money.fixed(len(amounts)) * (ends - starts)
         spent = self.money.spent(len(amounts)) * (amounts[:, ROCK].sum() > 0)
         worth = (cash - fixed) * discounts_between(starts, ends, self.settings) - spent * (
             1 + self.settings.discount_rate
@@ -232,7 +237,9 @@ class Terms:
         feed, by_process = kinds.feed(rows), kinds.by_process(rows)
         premium = self.money.premium(kinds.metals, int(year.max(initial=0)) + 1)[year]
         gain = by_process[:, 0] + np.einsum("rm,rmkp->rkp", premium, by_process[:, 1:])
-        share = best_shares(feed, gain, kinds.pays, part[:, None] * np.array(self.settings.capacities))
+        by_year = np.array(self.settings.capacities_by_year)
+        capacity = part[:, None] * by_year[np.minimum(year, len(by_year) - 1)]
+        share = best_shares(feed, gain, kinds.pays, capacity)
         fed = np.einsum("rk,rkp->rp", feed, share)
         flows = np.einsum("rmkp,rkp->rm", by_process, share)
         columns = [rows[:, 0], fed.sum(axis=1), *(fed.T if self.settings.per_process else ()), *flows[:, 1:].T]
@@ -267,21 +274,21 @@ def specified_pieces(benches: Benches, rules: SpecifiedCase) -> Iterator[np.ndar
         yield by_pushback.reshape(-1, width)[order]
 
 
-def years_of(case: str, benches: Benches, uses: np.ndarray, settings: ShellRules) -> list[Years]:
+def years_of(case: str, benches: Benches, wait: Wait, settings: ShellRules) -> list[Years]:
     """Returns the years of each shell in the columns of benches. In the best case each larger shell begins like the smaller ones."""
     factors, levels, width = benches.columns.shape
     if case == BEST:
-        course = course_of(benches.columns.reshape(factors * levels, width), uses)
+        course = course_of(benches.columns.reshape(factors * levels, width), wait)
         return [course.years(levels * (k + 1)) for k in range(factors)]
-    return [course_of(pieces, uses).years(len(pieces)) for pieces in sequences(case, benches, settings)]
+    return [course_of(pieces, wait).years(len(pieces)) for pieces in sequences(case, benches, settings)]
 
 
 def of_case(case: str, benches: Benches, settings: ShellRules, money: YearlyMoney = PLAIN) -> list[Years]:
     """Returns the years of each shell in a case, with the waits that have the highest NPV."""
     terms, kinds = Terms(benches.names, settings, money), benches.kinds
     found = []
-    for uses in bearable(benches, settings):
-        pits = years_of(case, benches, uses, settings)
+    for wait in bearable(benches, settings):
+        pits = years_of(case, benches, wait, settings)
         found.append([terms.earned(it) for it in (pits if kinds is None else terms.processed(kinds, pits))])
     return [shortest_best(of_shell) for of_shell in zip(*found)]
 
@@ -292,19 +299,20 @@ def shortest_best(found: Sequence[Years]) -> Years:
     return min((it for it in found if it.npv >= most - EQUAL * abs(most) - TINY), key=lambda years: years.end)
 
 
-def bearable(benches: Benches, settings: ShellRules) -> list[np.ndarray]:
+def bearable(benches: Benches, settings: ShellRules) -> list[Wait]:
     """Returns the waits with which the largest shell takes at most MOST_YEARS years, or the one with the fewest years."""
     waits = benches.waits(settings)
-    lives = [shell_life(benches, uses) for uses in waits]
-    found = [uses for uses, life in zip(waits, lives) if life <= MOST_YEARS]
+    lives = [shell_life(benches, wait) for wait in waits]
+    found = [wait for wait, life in zip(waits, lives) if life <= MOST_YEARS]
     return found or [waits[int(np.argmin(lives))]]
 
 
-def shell_life(benches: Benches, uses: np.ndarray) -> float:
+def shell_life(benches: Benches, wait: Wait) -> float:
     """Returns the years that the best case of the largest shell takes at least."""
     factors, levels, width = benches.columns.shape
-    course = course_of(benches.columns.reshape(factors * levels, width), uses)
-    return max(float(course.used[-1].max()), float(len(course.ends)))
+    course = course_of(benches.columns.reshape(factors * levels, width), wait)
+    years = float(len(course.ends))
+    return years if years <= MOST_YEARS else max(float(course.used[-1].max()), years)
 
 
 def table_of(benches: Benches, settings: ShellRules, money: YearlyMoney = PLAIN) -> pd.DataFrame:

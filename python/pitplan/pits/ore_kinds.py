@@ -25,6 +25,22 @@ DECIMALS = 6
 
 
 @dataclass(frozen=True)
+class Wait:
+    """The capacities that a year may use up.
+
+    Attributes
+    ----------
+    uses : array, shape (columns, capacities)
+        Years of each capacity, as in `[shells]`, that a unit of each column uses.
+    shares : array, shape (years, capacities)
+        What each year has of each capacity, 1 being that of `[shells]`; the last year continues.
+    """
+
+    uses: Floats
+    shares: Floats
+
+
+@dataclass(frozen=True)
 class OreKinds:
     """Columns of amounts by kind of ore: total_tonnes and the cash flow of mining, feed by kind, and by kind and process the gain, which is revenue
     less processing cost, and each recovered metal.
@@ -66,15 +82,14 @@ class OreKinds:
         shape = (*amounts.shape[:-1], 1 + len(self.metals), self.kinds, self.processes)
         return amounts[..., 2 + self.kinds :].reshape(shape)
 
-    def waits(self, settings: ShellRules) -> list[Floats]:
-        """Returns, for each set of processes that the mine may wait for, the years of each capacity that a unit of each column uses, shape
-        (columns, capacities).
+    def waits(self, settings: ShellRules) -> list[Wait]:
+        """Returns, for each set of processes that the mine may wait for, what a unit of each column uses of the capacities.
 
         The mine waits until all ore that is best in one of the processes is processed where it is best, or all that pays in one of them in any
         of them. Ore that pays in S alone, a set of processes, takes the capacity of S (Hall's theorem).
         """
         found = [self.wait(masks, settings) for masks in self.waiting()]
-        return list({(uses.shape, uses.tobytes()): uses for uses in found}.values())
+        return list({(it.uses.shape, it.uses.tobytes()): it for it in found}.values())
 
     def waiting(self) -> Iterator[Mask]:
         """Yields for each set of processes where each kind that the mine waits for is processed, shape (kinds, processes)."""
@@ -85,19 +100,29 @@ class OreKinds:
             yield self.pays & within
             yield self.best & (self.best & within).any(axis=1, keepdims=True)
 
-    def wait(self, masks: Mask, settings: ShellRules) -> Floats:
+    def wait(self, masks: Mask, settings: ShellRules) -> Wait:
         """Returns the uses of the capacities of all sets of processes to which some ore is bound, and of mining."""
-        uses = []
+        uses, by_year = [], np.array(settings.capacities_by_year)
+        shares = []
         for taken in unions(masks):
             inside = masks.any(axis=1) & ~(masks & ~taken).any(axis=1)
-            column = np.zeros(self.width)
-            column[2 : 2 + self.kinds] = inside / np.array(settings.capacities)[taken].sum()
+            column, capacity = np.zeros(self.width), np.array(settings.capacities)[taken].sum()
+            column[2 : 2 + self.kinds] = inside / capacity
             uses.append(column)
-        if settings.mining_capacity is not None:
-            column = np.zeros(self.width)
-            column[0] = 1 / settings.mining_capacity
-            uses.append(column)
-        return np.column_stack(uses)
+            shares.append(by_year[:, taken].sum(axis=1) / capacity)
+        return with_mining(np.column_stack(uses), np.column_stack(shares), settings)
+
+
+def with_mining(uses: Floats, shares: Floats, settings: ShellRules) -> Wait:
+    """Returns the uses of capacities with that of mining, by total tonnes in the first column."""
+    if settings.mining_capacity is None:
+        return Wait(uses, shares)
+    column = np.zeros(len(uses))
+    column[0] = 1 / settings.mining_capacity
+    of_mining = np.array(settings.mining_by_year) / settings.mining_capacity
+    years = np.arange(max(len(shares), len(of_mining)))
+    rows = [part[np.minimum(years, len(part) - 1)] for part in (shares, of_mining)]
+    return Wait(np.column_stack([uses, column]), np.column_stack(rows))
 
 
 def unions(masks: Mask) -> list[Mask]:

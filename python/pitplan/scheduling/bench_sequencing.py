@@ -27,24 +27,38 @@ class Limits:
     most          by name the most of an amount; of ore once the mill runs in full
     ramp_up       shares of the tonnes of mill and processes in the first years; the last one stays
     vertical_advance_rate  the most benches by which a pushback sinks; infinite where there is no limit
-    least         by name the least of an amount, likewise, where blocks are scheduled one by one
+    least         by name the least of an amount, likewise
+    most_by_year, least_by_year  by name the limits of years that differ, from year 1; the last one continues
     """
 
     most: dict[str, float]
     ramp_up: tuple[float, ...] = (1.0,)
     vertical_advance_rate: float = np.inf
     least: dict[str, float] = field(default_factory=dict)
+    most_by_year: dict[str, tuple[float, ...]] = field(default_factory=dict)
+    least_by_year: dict[str, tuple[float, ...]] = field(default_factory=dict)
 
     def of_year(self, number: int) -> np.ndarray:
         """The limited amounts of a year, numbered from 1."""
-        return np.array([amount * self.share(name, number) for name, amount in self.most.items()], dtype=float)
+        return np.array([self.most_of(name, number) for name in self.most], dtype=float)
 
     def least_of_years(self, count: int) -> dict[str, np.ndarray]:
         """By name the least amounts of years, from the first."""
-        return {
-            name: np.array([amount * self.share(name, year) for year in range(1, count + 1)])
-            for name, amount in self.least.items()
-        }
+        return {name: np.array([self.least_of(name, year) for year in range(1, count + 1)]) for name in self.least}
+
+    def most_of(self, name: str, number: int) -> float:
+        """The most of an amount in a year, numbered from 1."""
+        by_year = self.most_by_year.get(name)
+        return by_year[min(number, len(by_year)) - 1] if by_year else self.most[name] * self.share(name, number)
+
+    def least_of(self, name: str, number: int) -> float:
+        """The least of an amount in a year, numbered from 1."""
+        by_year = self.least_by_year.get(name)
+        return by_year[min(number, len(by_year)) - 1] if by_year else self.least[name] * self.share(name, number)
+
+    def greatest(self, name: str) -> float:
+        """The most of an amount in any year."""
+        return max([*self.most_by_year.get(name, ()), *([] if name in self.most_by_year else [self.most[name]])])
 
     def share(self, name: str, number: int) -> float:
         """The share of an amount's limit that a year has."""
@@ -66,7 +80,22 @@ def limits_of(project: Project, rules: ScheduleRules) -> Limits:
     most |= {} if rock is None else {ROCK: rock}
     most |= {f"{ORE}_{process.name}": process.capacity for process in project.processes}
     most |= {f"recovered_{name}": amount for name, amount in rules.max_metal_per_year.items()}
-    return Limits(most, rules.ramp_up, np.inf if rules.vertical_advance_rate is None else rules.vertical_advance_rate)
+    rate = np.inf if rules.vertical_advance_rate is None else rules.vertical_advance_rate
+    return Limits(most, rules.ramp_up, rate, most_by_year=capacities_by_year(project, most))
+
+
+def capacities_by_year(project: Project, most: dict[str, float]) -> dict[str, tuple[float, ...]]:
+    """The capacities that `[[periods]]` sets, by the names of limits."""
+    calendar, found = project.shells.calendar, {}
+    if calendar.has(lambda it: it.mining_capacity is not None):
+        found[ROCK] = calendar.by_year(lambda it: it.mining_capacity, most[ROCK])
+    if calendar.has(lambda it: it.processing_capacity is not None):
+        found[ORE] = calendar.by_year(lambda it: it.processing_capacity, most[ORE])
+    if calendar.has(lambda it: it.capacity):
+        by_process = project.shells.capacities_by_year
+        found[ORE] = tuple(sum(of_year) for of_year in by_process)
+        found |= {f"{ORE}_{name}": amounts for name, amounts in zip(project.shells.names, zip(*by_process))}
+    return found
 
 
 @dataclass(frozen=True)
@@ -102,7 +131,7 @@ class Problem:
     def costs_of_years(self, years: int) -> np.ndarray:
         """The same of so many years in which the mine runs."""
         starts = (1 + self.settings.discount_rate) ** -np.arange(float(years))
-        return self.money.fixed_cost * year_discounts(self.settings, years) + self.money.spent(years) * starts
+        return self.money.fixed(years) * year_discounts(self.settings, years) + self.money.spent(years) * starts
 
 
 def running(flows: np.ndarray) -> np.ndarray:

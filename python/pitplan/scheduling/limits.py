@@ -20,6 +20,10 @@ def all_limits_of(project: Project, rules: ScheduleRules) -> Limits:
     names |= {metal.name: f"recovered_{metal.name}" for metal in project.metals}
     names |= {it.name: f"{ORE}_{it.name}" for it in project.processes}
     most = limits.most | {f"{SUM}{it.name}": it.max for it in rules.limits if it.max is not None}
+    calendar, of_years = project.shells.calendar, {}
+    for name in dict.fromkeys(name for period in calendar.periods for name in period.minimum):
+        of_years[names[name]] = calendar.by_name(lambda it: it.minimum, name, rules.minimum.get(name, 0.0))
     least = {names[name]: amount for name, amount in rules.minimum.items()}
     least |= {f"{SUM}{it.name}": it.min for it in rules.limits if it.min}
-    return replace(limits, most=most, least={name: amount for name, amount in least.items() if amount > 0})
+    least = {name: amount for name, amount in least.items() if amount > 0 or name in of_years}
+    return replace(limits, most=most, least=dict.fromkeys(of_years, 0.0) | least, least_by_year=of_years)

@@ -138,7 +138,7 @@ class YearlySchedule:
         count = self.flows[method].years
         found = {name: amounts.sum(axis=0) for name, amounts in flows.items()}
         runs, money = running(self.flows[method].moved), self.problem.money
-        costs = {"fixed_cost": money.fixed_cost * runs, "capex": money.spent(count) * runs} if money.columns else {}
+        costs = {"fixed_cost": money.fixed(count) * runs, "capex": money.spent(count) * runs} if money.columns else {}
         cash = found.pop(CASH)
         present = cash * self.discounts(count) - self.problem.costs_of_years(count) * runs
         return pd.DataFrame(found | costs | {CASH: cash - sum(costs.values()), "discounted_cash_flow": present})

@@ -194,6 +194,35 @@ class Slopes:
 
 
 @dataclass(frozen=True)
+class Period:
+    """An entry of `[[periods]]`; None or a missing name where it says nothing."""
+
+    years: int
+    mining_capacity: Optional[float]
+    processing_capacity: Optional[float]
+    capacity: dict[str, float]
+    minimum: dict[str, float]
+    prices: dict[str, Decimal]
+    fixed_cost_per_year: Optional[Decimal]
+    capex: Decimal
+
+
+@dataclass(frozen=True)
+class Calendar:
+    """`[[periods]]`, one after the other; the last one continues."""
+
+    periods: tuple[Period, ...] = ()
+
+    def period(self, year: int) -> Optional[Period]:
+        """Returns the period of a year, from 1; None without any."""
+        for period in self.periods:
+            year -= period.years
+            if year <= 0:
+                return period
+        return self.periods[-1] if self.periods else None
+
+
+@dataclass(frozen=True)
 class SpecifiedCase:
     """`[shells.specified]`: revenue factors of pushbacks, and by how many benches each is behind the one before."""
 
@@ -212,6 +241,15 @@ class ShellRules:
     mining_capacity: Optional[float]
     discounting: str
     specified: Optional[SpecifiedCase] = None
+    calendar: Calendar = Calendar()
+
+    @property
+    def periods(self) -> tuple[Period, ...]:
+        return self.calendar.periods
+
+    def period(self, year: int) -> Optional[Period]:
+        """Returns the period of a year, from 1; None without any."""
+        return self.calendar.period(year)
 
 
 @dataclass(frozen=True)

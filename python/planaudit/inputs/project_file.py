@@ -5,6 +5,7 @@ from __future__ import annotations
 import codecs
 from collections.abc import Callable, Iterator, Mapping
 from contextlib import contextmanager
+from dataclasses import replace
 from decimal import Decimal
 from pathlib import Path
 from typing import Any, Optional, Union
@@ -18,6 +19,7 @@ from planaudit.inputs.project import (
     ByCode,
     ByDomain,
     ByRock,
+    Calendar,
     ClassRules,
     ConstraintRules,
     Curve,
@@ -27,6 +29,7 @@ from planaudit.inputs.project import (
     Haulage,
     Metal,
     MissingRock,
+    Period,
     Process,
     Project,
     PushbackRules,
@@ -88,7 +91,9 @@ def of_data(data: Data, place: Places, source: str = "project") -> Project:
             economics=economics_of(data["economics"]),
             metals=tuple(metal_of(it) for it in data["metals"]),
             slopes=slopes_of(data["slopes"]),
-            shells=shells_of(data["shells"], processes),
+            shells=replace(
+                shells_of(data["shells"], processes), calendar=Calendar(periods_of(data.get("periods", [])))
+            ),
             processes=processes,
             scenarios=scenarios_of(data["scenarios"], place) if "scenarios" in data else None,
             constraints=constraints_of(data["constraints"], place) if "constraints" in data else None,
@@ -285,6 +290,25 @@ def shells_of(data: Data, processes: tuple[Process, ...]) -> ShellRules:
         mining_capacity=metres(data, "mining_capacity"),
         discounting=data.get("discounting", "end_of_year"),
         specified=specified_of(data["specified"]) if "specified" in data else None,
+    )
+
+
+def periods_of(entries: list[Data]) -> tuple[Period, ...]:
+    def amounts(data: Data, key: str) -> dict[str, Decimal]:
+        return {name: number(value) for name, value in data.get(key, {}).items()}
+
+    return tuple(
+        Period(
+            years=int(data.get("years", 1)),
+            mining_capacity=metres(data, "mining_capacity"),
+            processing_capacity=metres(data, "processing_capacity"),
+            capacity={name: float(value) for name, value in amounts(data, "capacity").items()},
+            minimum={name: float(value) for name, value in amounts(data, "minimum").items()},
+            prices=amounts(data, "prices"),
+            fixed_cost_per_year=number(data["fixed_cost_per_year"]) if "fixed_cost_per_year" in data else None,
+            capex=number(data.get("capex", Decimal(0))),
+        )
+        for data in entries
     )
 
 

@@ -13,14 +13,22 @@ HAIR = 1e-9
 
 def premiums(project: Project, year: int) -> dict[str, float]:
     """Returns for each amount of metal the gain per unit in a year, from 1, over the base price."""
-    return {
-        f"recovered_{metal.name}": float(
-            (converted(metal, metal.prices[min(year, len(metal.prices)) - 1]) - converted(metal, metal.price))
-            * (1 - project.economics.royalty)
-        )
-        for metal in project.metals
-        if metal.prices
-    }
+    found, period = {}, project.shells.period(year)
+    has_prices = any(it.prices for it in project.shells.periods)
+    for metal in project.metals:
+        price = metal.prices[min(year, len(metal.prices)) - 1] if metal.prices else metal.price
+        if period is not None and has_prices:
+            price = period.prices.get(metal.name, metal.price)
+        if metal.prices or has_prices:
+            more = converted(metal, price) - converted(metal, metal.price)
+            found[f"recovered_{metal.name}"] = float(more * (1 - project.economics.royalty))
+    return found
+
+
+def years_of_prices(project: Project) -> int:
+    """Returns the number of years until prices stay as they are."""
+    listed = max((len(metal.prices) for metal in project.metals), default=0)
+    return max(1, listed, sum(period.years for period in project.shells.periods))
 
 
 def more_by_prices(project: Project, rows: pd.DataFrame) -> np.ndarray:
@@ -35,14 +43,28 @@ def more_by_prices(project: Project, rows: pd.DataFrame) -> np.ndarray:
 
 def most_premium(project: Project) -> float:
     """Returns the sum over metals of the largest absolute gain per unit in any year."""
-    years = range(1, 1 + max((len(metal.prices) for metal in project.metals), default=0))
-    return (
-        sum(max(abs(premiums(project, year)[name]) for year in years) for name in premiums(project, 1))
-        if years
-        else 0.0
-    )
+    years = range(1, 1 + years_of_prices(project))
+    return sum(max(abs(premiums(project, year)[name]) for year in years) for name in premiums(project, 1))
+
+
+def fixed_cost(project: Project, year: int) -> float:
+    """Returns the fixed cost of a whole year."""
+    period = project.shells.period(year)
+    own = None if period is None else period.fixed_cost_per_year
+    return float(project.economics.fixed_cost_per_year if own is None else own)
+
+
+def has_costs(project: Project) -> bool:
+    """Whether years cost anything."""
+    periods = project.shells.periods
+    fixed = any(fixed_cost(project, year) for year in range(1, 1 + years_of_prices(project)))
+    return fixed or bool(project.economics.capex) or any(period.capex for period in periods)
 
 
 def capex(project: Project, year: int) -> float:
     """Returns the capex at the start of a year."""
-    return sum(float(amount) for at, amount in project.economics.capex if at == year)
+    found, first = sum(float(amount) for at, amount in project.economics.capex if at == year), 1
+    for period in project.shells.periods:
+        found += float(period.capex) if first == year else 0.0
+        first += period.years
+    return found

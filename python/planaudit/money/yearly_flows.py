@@ -7,7 +7,7 @@ from dataclasses import dataclass
 import numpy as np
 
 from planaudit.inputs.project import MOST_YEARS, Project
-from planaudit.money.period_costs import HAIR, capex, premiums
+from planaudit.money.period_costs import HAIR, capex, fixed_cost, has_costs, premiums
 
 # Amounts by name.
 Amounts = dict[str, np.ndarray]
@@ -31,10 +31,18 @@ class Parts:
     life: float
 
 
-def parts_of(uses: list[list[float]]) -> Parts:
-    """Returns the parts of pieces. `uses` has, for each piece, the years of each capacity that it uses."""
+def parts_of(uses: list[list[float]], shares: list[list[float]]) -> Parts:
+    """Returns the parts of pieces.
+
+    Parameters
+    ----------
+    uses : list
+        For each piece the years of each capacity that it uses.
+    shares : list
+        What each year has of each capacity; the last one continues.
+    """
     found: list[tuple[int, int, float]] = []
-    room, year = [1.0] * len(uses[0]), 1
+    room, year = shares[0], 1
     for piece, use in enumerate(uses):
         left = 1.0
         while left > 0 and year <= MOST_YEARS:
@@ -45,9 +53,11 @@ def parts_of(uses: list[list[float]]) -> Parts:
             room = [free - fits * used for free, used in zip(room, use)]
             left -= fits
             if left > 0:
-                room, year = [1.0] * len(room), year + 1
-    pieces, years, shares = (np.array(column) for column in zip(*found))
-    return Parts(pieces, years, shares, year - 1 + max(1 - free for free in room))
+                room, year = shares[min(year, len(shares) - 1)], year + 1
+    pieces, years, parts = (np.array(column) for column in zip(*found))
+    whole = shares[min(year, len(shares)) - 1]
+    used = max([(most - free) / most for most, free in zip(whole, room) if most > 0], default=0.0)
+    return Parts(pieces, years, parts, year - 1 + used)
 
 
 def discounts(until: np.ndarray, years: np.ndarray, project: Project) -> np.ndarray:
@@ -75,11 +85,11 @@ def money_of(found: Amounts, life: float, project: Project) -> Amounts:
     for name in premiums(project, 1):
         gains = np.array([premiums(project, int(year))[name] for year in years])
         found = {**found, "cash_flow": found["cash_flow"] + found[name] * gains}
-    money, until = project.economics, np.clip(life, years - 1.0, years)
-    fixed = float(money.fixed_cost_per_year) * (until - (years - 1.0))
+    until = np.clip(life, years - 1.0, years)
+    fixed = np.array([fixed_cost(project, int(year)) for year in years]) * (until - (years - 1.0))
     spent = np.array([capex(project, int(year)) for year in years])
     gain = found["cash_flow"] - fixed
-    of_years = {"fixed_cost": fixed, "capex": spent} if money.fixed_cost_per_year or money.capex else {}
+    of_years = {"fixed_cost": fixed, "capex": spent} if has_costs(project) else {}
     spent_now = spent * (1 + project.shells.discount_rate) ** -(years - 1.0)
     present = gain * discounts(until, years, project) - spent_now
     return {**found, **of_years, "cash_flow": gain - spent, "discounted_cash_flow": present}

@@ -10,8 +10,9 @@ import numpy as np
 from planaudit.inputs.answer import Answer
 from planaudit.inputs.project import MOST_YEARS, Project
 from planaudit.money.period_costs import premiums
-from planaudit.money.yearly_flows import Amounts, Parts, money_of, parts_of, shares_of
-from planaudit.pits.ore_kinds import Kinds, Ore, capacities, has_choice, shipped
+from planaudit.money.yearly_flows import Amounts, money_of, parts_of, shares_of
+from planaudit.pits.capacities import Capacity, Wait, capacities, capacities_by_year, mining_by_year
+from planaudit.pits.ore_kinds import Kinds, Ore, has_choice, shipped
 
 CENT = 0.01
 BEST, WORST, SPECIFIED = "best", "worst", "specified"
@@ -70,23 +71,27 @@ class Benches:
         return Benches(answer, factors[there // levels], there % levels, sums, gross, mining, kinds)
 
     @cached_property
-    def waits(self) -> list[np.ndarray]:
-        """The years of capacities that each bench uses, for each set of processes that the mine may wait for, each of shape (benches,
-        capacities)."""
-        rules = self.answer.project.shells
-        mining = [] if rules.mining_capacity is None else [self.amounts["total_tonnes"] / rules.mining_capacity]
+    def waits(self) -> list[Wait]:
+        """The capacities that a year may use up, for each set of processes that the mine may wait for."""
+        project = self.answer.project
+        rock, most = self.amounts["total_tonnes"], project.shells.mining_capacity
+        mining = [] if most is None else [Capacity(rock / most, mining_by_year(project) / most)]
+        by_year, base = capacities_by_year(project), capacities(project)
         if self.kinds is None:
-            return [np.column_stack([self.amounts["feed_tonnes"] / rules.processing_capacity, *mining])]
-        found = [np.column_stack([used, *mining]) for used in self.kinds.waits(capacities(self.answer.project))]
-        lives = [self.life(uses) for uses in found]
-        bearable = [uses for uses, life in zip(found, lives) if life <= MOST_YEARS]
+            of_mill = Capacity(self.amounts["feed_tonnes"] / base.sum(), by_year.sum(axis=1) / base.sum())
+            return [Wait.of([of_mill, *mining])]
+        found = [Wait.of([*some, *mining]) for some in self.kinds.waits(base, by_year)]
+        lives = [self.life(wait) for wait in found]
+        bearable = [wait for wait, life in zip(found, lives) if life <= MOST_YEARS]
         return bearable or [found[int(np.argmin(lives))]]
 
-    def life(self, uses: np.ndarray) -> float:
-        """Returns the life of the best case of all benches in years, MOST_YEARS or more if it is longer."""
-        parts = parts_of(uses.tolist()) if len(uses) else None
-        whole = 0.0 if parts is None else np.bincount(parts.piece, parts.share, minlength=len(uses)).min()
-        return 0.0 if parts is None else parts.life if whole > 1 - 1e-6 else MOST_YEARS + 1.0
+    def life(self, wait: Wait) -> float:
+        """Returns the life of the best case of all benches in years, more than MOST_YEARS if it is longer."""
+        if not len(wait.uses):
+            return 0.0
+        parts = parts_of(wait.uses.tolist(), wait.shares.tolist())
+        whole = np.bincount(parts.piece, parts.share, minlength=len(wait.uses)).min()
+        return parts.life if whole > 1 - 1e-6 else MOST_YEARS + float(wait.uses.sum(axis=0).max())
 
     def groups(self, case: str, factor: float) -> np.ndarray:
         """Returns the pieces of a shell in the order of mining: shares of benches, shape (pieces, benches)."""
@@ -128,9 +133,9 @@ class Dug:
     life: float
 
 
-def dug_of(pieces: np.ndarray, uses: np.ndarray) -> Dug:
+def dug_of(pieces: np.ndarray, wait: Wait) -> Dug:
     """Returns what is dug when pieces, shares of benches, are mined one after the other."""
-    parts: Parts = parts_of((pieces @ uses).tolist())
+    parts = parts_of((pieces @ wait.uses).tolist(), wait.shares.tolist())
     return Dug(shares_of(parts, len(pieces)) @ pieces, parts.life)
 
 
@@ -141,8 +146,8 @@ def pits_of(benches: Benches, case: str, factors: list[float]) -> list[Pit]:
     tonnes = [float((it @ benches.amounts["total_tonnes"]).sum()) for it in pieces]
     found: list[list[Pit]] = [[] for _ in factors]
     some = [place for place, amount in enumerate(tonnes) if amount]
-    for uses in benches.waits:
-        dug = [dug_of(pieces[place], uses) for place in some]
+    for wait in benches.waits:
+        dug = [dug_of(pieces[place], wait) for place in some]
         for place, it, years in zip(some, dug, earned(benches, dug)):
             found[place].append(Pit(years, it.life, slack[place]))
     return [shortest_best(pits) if pits else Pit({}, 0.0, off) for pits, off in zip(found, slack)]
@@ -156,7 +161,7 @@ def shortest_best(pits: list[Pit]) -> Pit:
 def earned(benches: Benches, dug: list[Dug]) -> list[Amounts]:
     """Returns the amounts and the money of the years of each shell."""
     project = benches.answer.project
-    if benches.kinds is None:
+    if benches.kinds is None or not dug:
         return [
             money_of({name: it.shares @ amounts for name, amounts in benches.amounts.items()}, it.life, project)
             for it in dug
@@ -180,7 +185,8 @@ def processed(benches: Benches, ore: Kinds, shares: np.ndarray, year: np.ndarray
     metals = [f"recovered_{metal.name}" for metal in project.metals]
     gains = np.array([[it.get(name, 0.0) for name in metals] for it in more]).reshape(len(year), len(metals))
     gain = ore.amounts[:, 0] + np.einsum("ym,ymkp->ykp", gains, ore.amounts[:, 1:])
-    flows = shipped(ore, gain, part[:, None] * capacities(project))
+    by_year = capacities_by_year(project)
+    flows = shipped(ore, gain, part[:, None] * by_year[np.minimum(year, len(by_year)) - 1])
     fed = np.einsum("yk,ykp->yp", ore.feed, flows)
     sums = np.einsum("ymkp,ykp->ym", ore.amounts, flows)
     found = {"total_tonnes": shares @ benches.amounts["total_tonnes"], "feed_tonnes": fed.sum(axis=1)}

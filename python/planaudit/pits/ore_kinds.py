@@ -17,7 +17,8 @@ from scipy.sparse import coo_matrix, vstack
 from planaudit.inputs.answer import Answer
 from planaudit.inputs.project import GRADE_UNITS, Project
 from planaudit.money.feed import recovered
-from planaudit.money.period_costs import premiums
+from planaudit.money.period_costs import premiums, years_of_prices
+from planaudit.pits.capacities import Capacity
 
 # Value bins of each process; net values per tonne are rounded to so many decimals; and amounts of money are whole millionths.
 BINS, DECIMALS, MILLIONTHS = 8, 6, 1e6
@@ -29,12 +30,8 @@ MOST_WAITING = 3
 
 def has_choice(project: Project) -> bool:
     """Whether ore may go elsewhere than to its best process at the base price."""
-    years = range(1, 1 + max((len(metal.prices) for metal in project.metals), default=0))
+    years = range(1, 1 + years_of_prices(project))
     return len(project.by_process) > 1 or any(more < 0 for year in years for more in premiums(project, year).values())
-
-
-def capacities(project: Project) -> np.ndarray:
-    return np.array([process.capacity for process in project.processes] or [project.shells.processing_capacity])
 
 
 @dataclass(frozen=True)
@@ -157,12 +154,20 @@ class Kinds:
         amounts = np.tensordot(shares, self.amounts, axes=1)
         return Kinds(self.pays, self.best, self.same, shares @ self.feed, amounts)
 
-    def waits(self, most: np.ndarray) -> list[np.ndarray]:
-        """Returns for each set of processes that the mine may wait for the years of capacities that each piece uses, (pieces, capacities)."""
+    def waits(self, most: np.ndarray, by_year: np.ndarray) -> list[list[Capacity]]:
+        """Returns for each set of processes that the mine may wait for the joint capacities that pieces use.
+
+        Parameters
+        ----------
+        most : array, shape (processes,)
+            Yearly capacities.
+        by_year : array, shape (years, processes)
+            Those of each year.
+        """
         found = []
         for some in self.sets():
             own = [self.pays & some, self.best & (self.best & some).any(axis=1)[:, None]]
-            found += [self.used(open_to, most) for open_to in own]
+            found += [self.used(open_to, most, by_year) for open_to in own]
         return found
 
     def sets(self) -> list[np.ndarray]:
@@ -171,16 +176,18 @@ class Kinds:
         counts = range(1, len(groups) + 1) if len(groups) <= MOST_WAITING else (1, len(groups))
         return [groups[list(some)].any(axis=0) for count in counts for some in combinations(range(len(groups)), count)]
 
-    def used(self, open_to: np.ndarray, most: np.ndarray) -> np.ndarray:
-        """Returns the years of the joint capacity of each set of processes that ore open to no other process uses."""
-        columns, processes = [], range(len(most))
+    def used(self, open_to: np.ndarray, most: np.ndarray, by_year: np.ndarray) -> list[Capacity]:
+        """Returns the use of the joint capacity of each set of processes by ore that is open to no other process."""
+        found, processes = [], range(len(most))
         waited = open_to.any(axis=1)
         for count in range(1, len(most) + 1):
-            for some in combinations(processes, count):
-                others = [it for it in processes if it not in some]
+            for chosen in combinations(processes, count):
+                some = np.array(chosen)
+                others = [it for it in processes if it not in chosen]
                 bound = waited & ~open_to[:, others].any(axis=1)
-                columns.append(self.feed[:, bound].sum(axis=1) / most[list(some)].sum())
-        return np.column_stack(columns)
+                joint = most[some].sum()
+                found.append(Capacity(self.feed[:, bound].sum(axis=1) / joint, by_year[:, some].sum(axis=1) / joint))
+        return found
 
 
 def shipped(ore: Kinds, gain: np.ndarray, most: np.ndarray) -> np.ndarray:

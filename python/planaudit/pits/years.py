@@ -10,6 +10,7 @@ import pandas as pd
 
 from planaudit.inputs.answer import Answer
 from planaudit.money.yearly_flows import Amounts
+from planaudit.pits.capacities import capacities_by_year, mining_by_year
 from planaudit.pits.cases import BEST, CENT, Benches, Pit, cases_of, pits_of
 from planaudit.revenue_factors import factor_text
 from planaudit.rules import Rule, rule
@@ -38,14 +39,16 @@ def verify(answer: Answer) -> Rule:
 
 
 def over_capacity(answer: Answer, years: pd.DataFrame) -> list[str]:
-    schedule, found = answer.project.shells, []
-    limits = {"feed_tonnes": schedule.processing_capacity, "total_tonnes": schedule.mining_capacity or math.inf}
-    limits |= {f"feed_tonnes_{process.name}": process.capacity for process in answer.project.processes}
-    for name, most in limits.items():
+    project, found = answer.project, []
+    of_processes = capacities_by_year(project)
+    limits = {"feed_tonnes": of_processes.sum(axis=1), "total_tonnes": mining_by_year(project)}
+    limits |= {f"feed_tonnes_{process.name}": of_processes[:, k] for k, process in enumerate(project.processes)}
+    for name, by_year in limits.items():
+        most = by_year[np.minimum(years["year"].to_numpy(dtype=np.int64), len(by_year)) - 1]
         for row in np.flatnonzero(years[name].to_numpy() > most * (1 + 1e-9) + CENT):
             it = years.iloc[row]
             where = f"{it['case']} case of revenue factor {factor_text(it['revenue_factor'])}, year {it['year']}"
-            found.append(f"{where}: {name} {it[name]:.10g} above {most:.10g}")
+            found.append(f"{where}: {name} {it[name]:.10g} above {most[row]:.10g}")
     return found
 
 

@@ -3,7 +3,7 @@
 from __future__ import annotations
 
 from planaudit.inputs.answer import Answer
-from planaudit.money.period_costs import capex
+from planaudit.money.period_costs import capex, fixed_cost
 from planaudit.pits import years
 
 
@@ -17,5 +17,5 @@ def discount(answer: Answer, year: int) -> float:
 
 def present_costs(answer: Answer, year: int) -> float:
     """Returns fixed cost and capex of a whole year, discounted."""
-    of_year = float(answer.project.economics.fixed_cost_per_year) * discount(answer, year)
+    of_year = fixed_cost(answer.project, year) * discount(answer, year)
     return of_year + capex(answer.project, year) * (1 + answer.project.shells.discount_rate) ** -(year - 1)

@@ -19,7 +19,7 @@ from scipy.sparse import coo_matrix
 
 from planaudit.inputs.answer import Answer
 from planaudit.inputs.tables import TABLES
-from planaudit.money.period_costs import capex, premiums
+from planaudit.money.period_costs import capex, fixed_cost, premiums
 from planaudit.rules import Rule, rule
 from planaudit.schedules.discounts import discount
 from planaudit.schedules.lots import BlockAmounts
@@ -212,7 +212,7 @@ class Bound:
     def of_running(self) -> float:
         """What running as many years as is best earns: the prices of limits that show it, less what the years cost."""
         project, rate = self.answer.project, self.answer.project.shells.discount_rate
-        fixed = float(project.economics.fixed_cost_per_year) * self.discounts
+        fixed = np.array([fixed_cost(project, year) for year in range(1, self.years + 1)]) * self.discounts
         spent = np.array([capex(project, year) * (1 + rate) ** -(year - 1) for year in range(1, self.years + 1)])
         earned = -fixed - spent
         for (name, side), prices in self.by_price.items():

@@ -13,7 +13,7 @@ import numpy as np
 import pandas as pd
 
 from planaudit.inputs.answer import Answer
-from planaudit.money.period_costs import capex
+from planaudit.money.period_costs import capex, fixed_cost
 from planaudit.revenue_factors import factor_texts
 from planaudit.rules import TOLD, Rule, rule
 from planaudit.schedules import material_flow, methods as ways_table, pushback_bounds
@@ -21,6 +21,7 @@ from planaudit.schedules.discounts import discount, present_costs
 from planaudit.schedules.limits import least_of
 from planaudit.schedules.lots import grade_name
 from planaudit.schedules.material_flow import MaterialFlow
+from planaudit.schedules.periods import maxima_of_periods, minima_of_periods
 
 FILE = "schedule.json"
 CENT, SLIGHT = 0.01, 1e-6
@@ -111,9 +112,13 @@ def by_year(answer: Answer, years: int) -> dict[str, tuple[np.ndarray, np.ndarra
     def of_years(name: str, amount: float) -> np.ndarray:
         return amount * (ramp if name.startswith("feed_tonnes") else np.ones(years))
 
-    found = {name: (nothing, of_years(name, most)) for name, most in maxima_of(answer).items()}
-    for name, least in least_of(answer):
-        found[name] = of_years(name, least), found.get(name, (nothing, np.full(years, np.inf)))[1]
+    own = maxima_of_periods(answer.project, years)
+    found = {name: (nothing, own.get(name, of_years(name, most))) for name, most in maxima_of(answer).items()}
+    minima = {name: of_years(name, least) for name, least in least_of(answer)} | minima_of_periods(
+        answer.project, years
+    )
+    for name, least_of_years in minima.items():
+        found[name] = least_of_years, found.get(name, (nothing, np.full(years, np.inf)))[1]
     return found
 
 
@@ -207,7 +212,8 @@ def unlike_limits(way: Way, told: dict[str, Any]) -> Iterator[str]:
     """Yields differences of limits and years in schedule.json from the project."""
     rules = way.project_rules
     due: dict[str, Any] = {"limits": maxima_of(way.answer)}
-    due |= {"least": dict(least_of(way.answer))} if dict(least_of(way.answer)) else {}
+    least = dict.fromkeys(minima_of_periods(way.answer.project, 1), 0.0) | dict(least_of(way.answer))
+    due |= {"least": least} if least else {}
     due |= {
         "ramp_up": list(rules.ramp_up) if rules else [1.0],
         "lag": rules.bench_lag if rules else 0,
@@ -249,9 +255,10 @@ def verify_limits(ways: list[Way], told: dict[str, Any], flow: MaterialFlow) -> 
 
 
 def used_of(way: Way, flow: MaterialFlow, name: str) -> tuple[pd.Series, pd.Series]:
-    """Returns a limited amount by year, and its tolerance."""
+    """Returns by year a limited amount, what a pushback advances, or as `feed K` the feed of a process; and its tolerance."""
+    nothing = pd.Series(dtype=float)
     if name in way.rows:
-        return way.rows.groupby("year")[name].sum(), pd.Series(dtype=float)
+        return way.rows.groupby("year")[name].sum(), nothing
     return flow.used(name, way.name, way.rows.set_index(["year", "pushback", "level"])["share"])
 
 
@@ -320,7 +327,7 @@ def unlike_years(way: Way, factor: float) -> list[str]:
 def of_years(way: Way, name: str) -> np.ndarray:
     """Returns an amount of years.csv from year 1: the sum of the schedule's rows, with period costs."""
     project, years = way.answer.project, range(1, way.last + 1)
-    fixed = np.full(way.last, float(project.economics.fixed_cost_per_year))
+    fixed = np.array([fixed_cost(project, year) for year in years], dtype=float)
     spent = np.array([capex(project, year) for year in years], dtype=float)
     if name in ("fixed_cost", "capex"):
         return fixed if name == "fixed_cost" else spent

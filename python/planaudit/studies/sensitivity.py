@@ -342,6 +342,26 @@ def in_section(section: str, *keys: str, of_process: str = "") -> Any:
     return change
 
 
+def in_periods(change: Any, *keys: str) -> Any:
+    """Also changes keys of each period; of a key by metal that of the metal."""
+
+    def both(data: Data, by: Decimal, metal: str) -> None:
+        change(data, by, metal)
+        for period in data.get("periods", []):
+            for key in [key for key in keys if key in period]:
+                value = period[key]
+                is_by_metal = isinstance(value, dict) and metal
+                period[key] = (
+                    {**value, metal: value[metal] * by}
+                    if is_by_metal and metal in value
+                    else value
+                    if is_by_metal
+                    else times(value, by)
+                )
+
+    return both
+
+
 def in_metals(*keys: str, most: Decimal = Decimal("Infinity")) -> Any:
     def change(data: Data, by: Decimal, metal: str) -> None:
         for one in data["metals"]:
@@ -370,12 +390,17 @@ def in_walls(data: Data, by: Decimal, metal: str) -> None:
 
 
 NUMBERS: dict[str, Any] = {
-    "price": in_metals("price", "prices"),
+    "price": in_periods(in_metals("price", "prices"), "prices"),
     "mining_cost": in_section("economics", "mining_cost", "mining_cost_per_bench", "mining_cost_by_elevation"),
     "processing_cost": in_section("economics", "processing_cost", of_process="cost"),
     "selling_cost": in_metals("selling_cost"),
     "recovery": in_recoveries,
     "slopes": in_walls,
-    "capacity": in_section("shells", "processing_capacity", "mining_capacity", of_process="capacity"),
+    "capacity": in_periods(
+        in_section("shells", "processing_capacity", "mining_capacity", of_process="capacity"),
+        "mining_capacity",
+        "processing_capacity",
+        "capacity",
+    ),
     "haulage": in_section("haulage", "cost"),
 }

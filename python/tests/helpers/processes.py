@@ -1,5 +1,7 @@
-"""A project with two processes."""
+"""A project with two processes, and a deposit of two rocks."""
 
+import numpy as np
+from conftest import rows
 
 LEACH_AND_MILL = """
 [[processes]]
@@ -20,3 +22,12 @@ WITH = [
     ("processing_capacity = 100\n", ""),
     ("[slopes]\n", LEACH_AND_MILL),
 ]
+
+
+def deposit():
+    """Rich ore, poor ore and waste of two rocks."""
+    rng = np.random.default_rng(3)
+    table = rows(11, 9, 4, rock=lambda i, j, k: "RS"[(i * j + k) % 2])
+    ore = (table["z"] < 25) & table["x"].between(30, 80) & table["y"].between(30, 60)
+    table["cu"] = np.where(ore, rng.lognormal(-0.3, 1.0, len(table)).round(2), 0)
+    return table

@@ -2,7 +2,7 @@
 
 from __future__ import annotations
 
-from collections.abc import Iterator
+from collections.abc import Callable, Iterator
 from dataclasses import dataclass
 from fractions import Fraction
 from functools import cached_property
@@ -13,9 +13,11 @@ import numpy as np
 from scipy.optimize import linprog
 
 from .mine import Mine, Place
+from .periods import most_of, price_of, years_listed
 
 Amounts = dict[str, Fraction]
-Limits = list[tuple[tuple[str, ...], Fraction]]
+# Names of amounts, and what a year, from 1, may hold of their sum.
+Limits = list[tuple[tuple[str, ...], Callable[[int], Fraction]]]
 Kind = tuple[tuple[int, ...], tuple[int, ...], int]
 BASE, BINS, MOST_WAITING = Fraction(1), 8, 3
 
@@ -24,8 +26,7 @@ def premiums(mine: Mine, year: int) -> dict[str, Fraction]:
     """What a unit of each metal gains in a year, from 1, above the base price."""
     found, royalty = {}, Fraction(mine.project["economics"].get("royalty", 0))
     for metal in mine.project["metals"]:
-        prices = metal.get("prices") or [metal["price"]]
-        more = mine.price(metal, prices[min(year, len(prices)) - 1]) - mine.price(metal, metal["price"])
+        more = mine.price(metal, price_of(mine, metal, year)) - mine.price(metal, metal["price"])
         found[metal["name"]] = more * (1 - royalty)
     return found
 
@@ -39,14 +40,16 @@ class Ore:
 
     @property
     def has_choice(self) -> bool:
-        years = range(1, 1 + max(len(metal.get("prices", [])) for metal in self.mine.project["metals"]))
+        years = range(1, 1 + years_listed(self.mine))
         return len(self.mine.processes) > 1 or any(min(premiums(self.mine, year).values()) < 0 for year in years)
 
-    @cached_property
-    def most(self) -> list[Fraction]:
-        shells = self.mine.project["shells"]
-        several = [Fraction(process["capacity"]) for process in self.mine.project.get("processes", [])]
-        return several or [Fraction(shells["processing_capacity"])]
+    @property
+    def count(self) -> int:
+        return len(self.mine.processes)
+
+    def joint(self, some: tuple[int, ...]) -> Callable[[int], Fraction]:
+        """The capacity of some processes together, by year."""
+        return lambda year: sum((most_of(self.mine, year)[k] for k in some), Fraction(0))
 
     @cached_property
     def blocks(self) -> list[Place]:
@@ -67,7 +70,7 @@ class Ore:
     def edges(self) -> dict[int, list[float]]:
         """By process the values between bins: of each eighth of the feed the value whose cumulative feed is nearest, and the next one."""
         found: dict[int, list[float]] = {}
-        for process in range(len(self.most)):
+        for process in range(self.count):
             some = sorted(
                 (self.a_tonne(it), self.mine.blocks[it].feed) for it in self.blocks if self.first_best(it) == process
             )
@@ -109,7 +112,7 @@ class Ore:
     def waits(self) -> Iterator[Limits]:
         """The capacities that a year may use up, for each set of processes that the mine may wait for."""
         groups: list[list[int]] = []
-        for process in range(len(self.most)):
+        for process in range(self.count):
             alike = [group for group in groups if self.are_alike(group[0], process)]
             if alike:
                 alike[0].append(process)
@@ -127,15 +130,15 @@ class Ore:
     def limits(self, open_to: dict[Kind, set[int]]) -> Limits:
         """Ore that only some processes may take is within their joint capacity, for all sets of processes."""
         found: Limits = []
-        for count in range(1, len(self.most) + 1):
-            for some in combinations(range(len(self.most)), count):
+        for count in range(1, self.count + 1):
+            for some in combinations(range(self.count), count):
                 names = tuple(f"feed {kind}" for kind, places in open_to.items() if places and places <= {*some})
-                found.append((names, sum((self.most[k] for k in some), Fraction(0))))
+                found.append((names, self.joint(some)))
         return found
 
     def ship(self, year: int, amounts: Amounts, part: Fraction) -> Amounts:
         """What a year, from 1, feeds, recovers and gains at the base price, where its ore goes best at its own prices."""
-        more, count = premiums(self.mine, year), len(self.most)
+        more = premiums(self.mine, year)
         kinds = [kind for kind in set(self.kinds.values()) if amounts.get(f"feed {kind}")]
         pairs = [(kind, k) for kind in kinds for k in kind[0]]
         gain = {
@@ -144,7 +147,7 @@ class Ore:
             for pair in pairs
         }
         feed = {pair: amounts[f"feed {pair[0]}"] for pair in pairs}
-        share = shipment(gain, feed, [most * part for most in self.most])
+        share = shipment(gain, feed, [most * part for most in most_of(self.mine, year)])
         found: Amounts = {}
         for (kind, k), taken in share.items():
             parts: dict[str, Any] = {

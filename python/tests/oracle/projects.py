@@ -34,6 +34,7 @@ def draw(seed: int) -> Drawn:
         shells(rng, several),
         '[constraints]\nmust_mine = "must"\nexclude = "never"' if rng.random() < 0.5 else "",
     ]
+    sections += periods(rng, several, "\n".join(sections)) if rng.random() < 0.4 else []
     return Drawn("\n\n".join(filter(None, sections)) + "\n", files)
 
 
@@ -181,3 +182,21 @@ def shells(rng: Random, several: int) -> str:
     lag = pick(rng, "", ", bench_lag = 1", ", bench_lag = 3")
     lines.append(f"specified = {{ pushbacks = {rng.choice(pushbacks)}{lag} }}" if rng.random() < 0.5 else "")
     return "\n".join(filter(None, lines))
+
+
+def periods(rng: Random, several: int, text: str) -> list[str]:
+    """One to three periods with other capacities, prices and costs than the rest of the project, where it does not set these by year."""
+    found = []
+    count = rng.randint(1, 3)
+    for number in range(count):
+        lines = ["[[periods]]", pick(rng, "", "years = 2")]
+        closed = number + 1 < count and rng.random() < 0.3
+        most = 0 if closed else rng.choice([1700, 4000])
+        lines.append(pick(rng, "", f"capacity = {{ leach = {most} }}" if several else f"processing_capacity = {most}"))
+        lines.append(pick(rng, "", "mining_capacity = 5200" if "mining_capacity" in text else ""))
+        prices = {"copper": 'price_per = "lb"' in text and 3.9 or 'price_per = "kg"' in text and 8.6 or 7300}
+        lines.append("" if "\nprices" in text else pick(rng, "", f"prices = {{ copper = {prices['copper']} }}"))
+        lines.append(pick(rng, "", "fixed_cost_per_year = 450"))
+        lines.append("" if "\ncapex" in text else pick(rng, "", "capex = 1234.5"))
+        found.append("\n".join(filter(None, lines)))
+    return found

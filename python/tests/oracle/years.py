@@ -10,6 +10,7 @@ from typing import Any, Optional
 
 from .destinations import Amounts, Limits, Ore, premiums
 from .mine import Mine, Place
+from .periods import capex_of, fixed_of, mining_of
 
 TOTAL, FEED, CASH, MINING = "total_tonnes", "feed_tonnes", "cash_flow", "mining"
 
@@ -40,10 +41,11 @@ def amounts_of(mine: Mine, places: Iterable[Place]) -> Amounts:
 
 def capacities(mine: Mine, ore: Ore) -> list[Limits]:
     """The yearly capacities, by the amounts that each limits, for each set of processes that the mine may wait for."""
-    shells = mine.project["shells"]
-    mining = [((TOTAL,), Fraction(shells["mining_capacity"]))] if "mining_capacity" in shells else []
+    mining: Limits = []
+    if mining_of(mine, 1) is not None:
+        mining = [((TOTAL,), lambda year: mining_of(mine, year) or Fraction(0))]
     if not ore.has_choice:
-        return [[((FEED,), ore.most[0]), *mining]]
+        return [[((FEED,), ore.joint((0,))), *mining]]
     return [[*limits, *mining] for limits in ore.waits()]
 
 
@@ -62,7 +64,7 @@ class Year:
 def mined(pieces: Iterable[Amounts], limits: Limits) -> list[Year]:
     """The years of pieces that are mined one after the other. A year ends in the piece that needs a capacity which is used up."""
     years = [Year()]
-    left = [most for _, most in limits]
+    whole = left = [most(1) for _, most in limits]
     for piece in pieces:
         rest = Fraction(1)
         needs = [sum((piece.get(name, Fraction(0)) for name in names), Fraction(0)) for names, _ in limits]
@@ -73,8 +75,8 @@ def mined(pieces: Iterable[Amounts], limits: Limits) -> list[Year]:
             rest -= share
             if rest:
                 years.append(Year())
-                left = [most for _, most in limits]
-    years[-1].length = max(((most - free) / most for (_, most), free in zip(limits, left)), default=Fraction(0))
+                whole = left = [most(len(years)) for _, most in limits]
+    years[-1].length = max(((most - free) / most for most, free in zip(whole, left) if most), default=Fraction(0))
     return years
 
 
@@ -135,16 +137,13 @@ def cash_of(mine: Mine, year: int, amounts: Amounts) -> Fraction:
 
 def earned(mine: Mine, years: list[Year]) -> list[dict[str, float]]:
     """The written amounts of each year, with period costs and the discounted cash flow."""
-    money, shells = mine.project["economics"], mine.project["shells"]
+    shells = mine.project["shells"]
     rate, how = float(shells["discount_rate"]), shells.get("discounting", "end_of_year")
-    capex: dict[int, Fraction] = {}
-    for at, amount in money.get("capex", []):
-        capex[int(at)] = capex.get(int(at), Fraction(0)) + Fraction(amount)
     some = any(year.amounts.get(TOTAL) for year in years)
     found = []
     for number, year in enumerate(years, 1):
-        fixed = Fraction(money.get("fixed_cost_per_year", 0)) * year.length
-        spent = capex.get(number, Fraction(0)) if some else Fraction(0)
+        fixed = fixed_of(mine, number) * year.length
+        spent = capex_of(mine, number) if some else Fraction(0)
         cash = cash_of(mine, number, year.amounts) - fixed
         worth = float(cash) * discount(rate, how, number - 1, number - 1 + float(year.length))
         row: dict[str, Any] = {name: float(year.amounts.get(name, 0)) for name in (TOTAL, FEED)}

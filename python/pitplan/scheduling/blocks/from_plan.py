@@ -149,6 +149,7 @@ def demand_of_blocks(project: Project, rules: ScheduleRules) -> None:
             project.feed_grades
         ),
         "[economics] fixed_cost_per_year, capex: period costs are not part of a schedule by block": costs_years,
+        "[[periods]]: apply to shells and schedules of pushbacks": bool(project.shells.calendar),
         "[pushbacks] mining_cost_added: applies to pushbacks": bool(
             project.pushbacks and project.pushbacks.mining_cost_added
         ),

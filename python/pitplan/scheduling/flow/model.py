@@ -2,7 +2,7 @@
 
 from __future__ import annotations
 
-from dataclasses import dataclass
+from dataclasses import dataclass, replace
 from functools import cached_property
 from typing import Optional
 
@@ -115,7 +115,7 @@ class FlowModel:
         """The limits of mining alone: those to which processing adds nothing, and the vertical advance rate."""
         limits = self.problem.limits
         most = {name: amount for name, amount in limits.most.items() if not self.ore.of(name).any()}
-        return Limits(most, limits.ramp_up, limits.vertical_advance_rate)
+        return replace(limits, most=most, least={})
 
     @property
     def mining_cash(self) -> NDArray[np.float64]:

@@ -185,7 +185,7 @@ class Moves:
         first, last = np.triu_indices(len(self.points))
         fits = np.ones(len(first), dtype=bool)
         for name in limits.most:
-            most = limits.most[name]
+            most = limits.greatest(name)
             fits &= self.between(self.model.dug(name), first, last) <= most * (1 + LOOSE)
         if np.isfinite(limits.vertical_advance_rate):
             for pushback in np.unique(self.model.benches.pushback):

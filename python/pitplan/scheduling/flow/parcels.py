@@ -130,7 +130,8 @@ def ore_cells(pushbacks: Pushbacks, rules: ScheduleRules) -> NDArray[np.int64]:
     plan = pushbacks.plan
     inside = np.flatnonzero((pushbacks.pushback > 0) & (plan.values.tonnes > 0))
     inside = inside[np.any([way.revenue[inside] > 0 for way in plan.values.by_process], axis=0)]
-    if rules.asks_least or plan.project.feed_grades:
+    asks_least = rules.asks_least or plan.project.shells.calendar.has(lambda it: it.minimum)
+    if asks_least or plan.project.feed_grades:
         return inside
     money = period_costs.of_project(plan.project)
     years = 1 + max((len(more) for more in money.premiums.values()), default=0)

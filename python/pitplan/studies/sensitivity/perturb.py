@@ -7,6 +7,7 @@ from decimal import Decimal
 from typing import Callable, Union
 
 from pitplan.config.economics import ByRock, Curve, Metal, Process, Recovery
+from pitplan.config.periods import Calendar, Period
 from pitplan.config.project import Project
 from pitplan.errors import PlanError
 
@@ -54,10 +55,22 @@ def with_processes(project: Project, change: Callable[[Process], Process]) -> Pr
     return replace(project, processes=tuple(change(process) for process in project.processes))
 
 
+def with_periods(project: Project, change: Callable[[Period], Period]) -> Project:
+    """Returns the project with each of its periods changed."""
+    calendar = Calendar(tuple(change(period) for period in project.shells.calendar.periods))
+    return replace(project, shells=replace(project.shells, calendar=calendar))
+
+
 def price(project: Project, by: Decimal, metal: str) -> Project:
-    """Changes the price of a metal, yearly prices included."""
-    return with_metals(
+    """Changes the price of a metal, those of years and periods included."""
+    project = with_metals(
         project, metal, lambda it: replace(it, price=it.price * by, prices=tuple(price * by for price in it.prices))
+    )
+    return with_periods(
+        project,
+        lambda it: replace(
+            it, prices={name: amount * by if metal in ("", name) else amount for name, amount in it.prices.items()}
+        ),
     )
 
 
@@ -110,14 +123,22 @@ def slopes(project: Project, by: Decimal, metal: str) -> Project:
 
 
 def capacity(project: Project, by: Decimal, metal: str) -> Project:
-    """Changes mining capacity and the processing capacity of all processes."""
+    """Changes mining capacity and the processing capacity of all processes, those of periods included."""
     shells, more = project.shells, float(by)
     rock = None if shells.mining_capacity is None else shells.mining_capacity * more
     of_processes = tuple(tonnes * more for tonnes in shells.per_process)
     shells = replace(
         shells, processing_capacity=shells.processing_capacity * more, mining_capacity=rock, per_process=of_processes
     )
-    return with_processes(replace(project, shells=shells), lambda it: replace(it, capacity=it.capacity * more))
+    project = with_processes(replace(project, shells=shells), lambda it: replace(it, capacity=it.capacity * more))
+    return with_periods(project, lambda it: of_period(it, more))
+
+
+def of_period(period: Period, more: float) -> Period:
+    """Returns a period with other capacities."""
+    single = {name: getattr(period, name) for name in ("mining_capacity", "processing_capacity")}
+    changed = {name: None if tonnes is None else tonnes * more for name, tonnes in single.items()}
+    return replace(period, **changed, capacity={name: tonnes * more for name, tonnes in period.capacity.items()})
 
 
 def haulage(project: Project, by: Decimal, metal: str) -> Project:

@@ -140,6 +140,7 @@ def demand_of_scenarios(project: Project) -> None:
         "[[schedule.limits]]: apply to columns of the table, and scenarios have their own grades": bool(rules.limits),
         of_metals: any(metal.prices for metal in project.metals),
         "[[processes]]: a schedule over scenarios has one mill": bool(project.processes),
+        "[[periods]]: apply to shells and schedules of pushbacks": bool(project.shells.calendar),
     }
     for why, is_asked in asked.items():
         if is_asked:

@@ -1,0 +1,87 @@
+"""Checks of `[[periods]]` against the other sections of a project."""
+
+from __future__ import annotations
+
+from collections.abc import Iterator
+from typing import TYPE_CHECKING, Optional
+
+from pitplan.errors import PlanError
+
+from .periods import Period
+from .schedule import FEED, TOTAL
+
+if TYPE_CHECKING:
+    from .project import Project
+
+
+def demand_periods(project: Project) -> None:
+    """Raises PlanError if a period names what there is not, or sets what another section sets by year."""
+    for number, period in enumerate(project.shells.calendar.periods, 1):
+        for key, why in wrong_with(period, project):
+            raise PlanError(f"{project.path}: [[periods]] {number} {key}: {why}")
+        for key, name, expected in unknown(period, project):
+            raise PlanError(
+                f"{project.path}: [[periods]] {number} {key}: found {name}, expected one of {', '.join(expected)}"
+            )
+    for number, period in enumerate(project.shells.calendar.periods, 1):
+        demand_minimums(project, number, period)
+
+
+def wrong_with(period: Period, project: Project) -> Iterator[tuple[str, str]]:
+    """Yields keys that do not go with the project, and why."""
+    rules, named = project.schedule, bool(project.processes)
+    if period.capacity and not named:
+        yield "capacity", "is of [[processes]], and the project names none: set processing_capacity"
+    if period.processing_capacity is not None and named:
+        yield "processing_capacity", "is of one process: set the capacity of each, such as capacity = { mill = 12e6 }"
+    if period.mining_capacity is not None and project.shells.mining_capacity is None:
+        yield "mining_capacity", "[shells] mining_capacity is missing, which other years have: set it"
+    if rules and rules.ramp_up != (1.0,) and (period.capacity or period.processing_capacity is not None):
+        yield "capacity" if period.capacity else "processing_capacity", "[schedule] ramp_up scales capacities by year too: remove one of them"
+    for metal in project.metals:
+        if metal.prices and period.prices:
+            yield "prices", f"[[metals]] {metal.name} prices are by year too: remove one of them"
+    if period.capex and project.economics.capex:
+        yield "capex", "[economics] capex is by year too: remove one of them"
+    if period.minimum and (rules is None or rules.years is None):
+        yield "minimum", "[schedule] years is missing: the minimum applies to each of these years"
+
+
+def unknown(period: Period, project: Project) -> Iterator[tuple[str, str, list[str]]]:
+    """Yields names of processes and metals that the project does not have, with the key and the names that it has."""
+    metals, processes = [metal.name for metal in project.metals], [process.name for process in project.processes]
+    named: dict[str, tuple[list[str], list[str]]] = {
+        "capacity": ([*period.capacity], processes),
+        "prices": ([*period.prices], metals),
+        "minimum": ([*period.minimum], [FEED, TOTAL, *metals, *processes]),
+    }
+    for key, (values, expected) in named.items():
+        yield from ((key, name, expected) for name in values if name not in expected)
+
+
+def demand_minimums(project: Project, number: int, period: Period) -> None:
+    """Raises PlanError if a period has a minimum above its maximum."""
+    rules, shells = project.schedule, project.shells
+    if rules is None:
+        return
+    feed = (
+        period.processing_capacity
+        if period.processing_capacity is not None
+        else rules.processing_capacity or shells.processing_capacity
+    )
+    total = (
+        period.mining_capacity
+        if period.mining_capacity is not None
+        else rules.mining_capacity or shells.mining_capacity
+    )
+    most: dict[str, Optional[float]] = {
+        process.name: period.capacity.get(process.name, process.capacity) for process in project.processes
+    }
+    most |= {FEED: sum(it for it in most.values() if it is not None) if most else feed, TOTAL: total}
+    least = {**{name: amount for name, amount in rules.minimum.items() if name in most}, **period.minimum}
+    for name, amount in least.items():
+        limit = most.get(name, rules.max_metal_per_year.get(name))
+        if limit is not None and amount > limit:
+            raise PlanError(
+                f"{project.path}: [[periods]] {number} minimum {name}: {amount:.10g} is above the maximum of the period, {limit:.10g}: lower it"
+            )

@@ -1,0 +1,57 @@
+"""The limits that `[[periods]]` sets for years of a schedule."""
+
+from __future__ import annotations
+
+from typing import Optional
+
+import numpy as np
+
+from planaudit.inputs.project import Period, Project
+
+
+def period_of(project: Project, year: int) -> Period:
+    found: Optional[Period] = project.shells.period(year)
+    assert found is not None
+    return found
+
+
+def maxima_of_periods(project: Project, years: int) -> dict[str, np.ndarray]:
+    """Returns the maximum in each year of each amount whose capacity some period sets."""
+    rules, shells, periods = project.schedule, project.shells, project.shells.periods
+    numbers, found = range(1, years + 1), {}
+    if any(period.mining_capacity is not None for period in periods):
+        base = (rules and rules.mining_capacity) or shells.mining_capacity
+        found["total_tonnes"] = given([period_of(project, year).mining_capacity for year in numbers], base)
+    if any(period.processing_capacity is not None for period in periods):
+        base = (rules and rules.processing_capacity) or shells.processing_capacity
+        found["feed_tonnes"] = given([period_of(project, year).processing_capacity for year in numbers], base)
+    if any(period.capacity for period in periods):
+        of_processes = {
+            f"feed_tonnes_{it.name}": given(
+                [period_of(project, year).capacity.get(it.name) for year in numbers], it.capacity
+            )
+            for it in project.processes
+        }
+        found |= of_processes | {"feed_tonnes": np.sum(list(of_processes.values()), axis=0)}
+    return found
+
+
+def minima_of_periods(project: Project, years: int) -> dict[str, np.ndarray]:
+    """Returns the minimum in each year of each amount that has one in some period."""
+    base = project.schedule.minimum if project.schedule else {}
+    found = {}
+    for name in dict.fromkeys(name for period in project.shells.periods for name in period.minimum):
+        by_year = [period_of(project, year).minimum.get(name) for year in range(1, years + 1)]
+        found[amount_of(project, name)] = given(by_year, base.get(name, 0.0))
+    return found
+
+
+def amount_of(project: Project, name: str) -> str:
+    """Returns the amount that a name of a minimum stands for."""
+    if name in {process.name for process in project.processes}:
+        return f"feed_tonnes_{name}"
+    return {"feed": "feed_tonnes", "total": "total_tonnes"}.get(name, f"recovered_{name}")
+
+
+def given(values: list[Optional[float]], otherwise: Optional[float]) -> np.ndarray:
+    return np.array([otherwise if value is None else value for value in values], dtype=float)

@@ -1,0 +1,268 @@
+"""Periods: capacities, minimums, prices, fixed costs and capital of years, worked by hand and recomputed by the audit."""
+
+from dataclasses import replace
+from decimal import Decimal
+
+import pandas as pd
+import pytest
+import tomllib
+from conftest import PROJECT, rows
+from helpers.processes import WITH, deposit
+
+import pitplan
+from pitplan import PlanError
+from pitplan.config.periods import Calendar, Period
+from pitplan.scheduling.bench_sequencing import Limits
+from pitplan.studies.sensitivity.perturb import varied
+
+
+def column():
+    """400 t of ore with 0.8 t of copper per 100 t, each level of 100 t worth 1000 once it is mined: 2 x 1600 - 1000 - 200 .. by hand."""
+    return rows(1, 1, 4, cu=lambda i, j, k: 0.8)
+
+
+def solved(path):
+    shells = pitplan.write_shells(path).set_index("revenue_factor").loc[1.0]
+    years = pd.read_csv(path.parent / "plan" / "tables/years.csv")
+    is_shown = (years["case"] == "best") & (years["revenue_factor"] == 1.0)
+    return shells, years[is_shown].set_index("year")
+
+
+def periods(*texts):
+    return PROJECT + "".join(f"[[periods]]\n{text}\n" for text in texts)
+
+
+def test_capacities_of_years_by_hand(plan_folder):
+    """Each 100 t earn 3200 - 1000 - 200 = 2000: 50 t in the first year, 150 in the second, then 200 t as long as there is ore."""
+    text = periods("processing_capacity = 50", "processing_capacity = 150", "processing_capacity = 200")
+    shell, years = solved(plan_folder(column(), text))
+    assert years["feed_tonnes"].tolist() == [50, 150, 200] and shell["years"] == 3
+    assert shell["npv_best"] == pytest.approx(1000 / 1.1 + 3000 / 1.21 + 4000 / 1.331, abs=1e-3)
+
+
+def test_years_of_a_period_and_the_last_one_continues(plan_folder):
+    text = periods("years = 2\nprocessing_capacity = 50", "processing_capacity = 100")
+    _, years = solved(plan_folder(column(), text))
+    assert years["feed_tonnes"].tolist() == [50, 50, 100, 100, 100]
+
+
+def test_no_ore_is_processed_before_the_mill_is_there(plan_folder):
+    """Waste of 300 t over 100 t of ore. The mill opens in year 3: the waste is mined at 100 t a year, and the third level in year 3 too."""
+    table = rows(1, 1, 4, cu=lambda i, j, k: 0.8 * (k == 0) * 3)
+    text = periods("years = 2\nprocessing_capacity = 0", "processing_capacity = 100")
+    path = plan_folder(
+        table,
+        text,
+        ("processing_capacity = 100\n[[periods]]", "processing_capacity = 100\nmining_capacity = 150\n[[periods]]"),
+    )
+    _, years = solved(path)
+    assert years["total_tonnes"].tolist() == [150, 150, 100] and years["feed_tonnes"].tolist() == [0, 0, 100]
+
+
+def test_mining_capacity_of_years_by_hand(plan_folder):
+    text = periods("mining_capacity = 25", "mining_capacity = 75").replace(
+        "processing_capacity = 100\n", "processing_capacity = 100\nmining_capacity = 100\n", 1
+    )
+    _, years = solved(plan_folder(column(), text))
+    assert years["total_tonnes"].tolist() == [25, 75, 75, 75, 75, 75]
+
+
+def test_money_of_years_by_hand(plan_folder):
+    """100 t a year at prices of 8000, 9000 and again 8000; fixed costs of 100 and then 200; 500 at the start of the second period."""
+    text = periods(
+        "fixed_cost_per_year = 100",
+        "prices = { copper = 9000 }\nfixed_cost_per_year = 200\ncapex = 500",
+        "fixed_cost_per_year = 200",
+    )
+    shell, years = solved(plan_folder(column(), text))
+    assert years["fixed_cost"].tolist() == [100, 200, 200, 200] and years["capex"].tolist() == [0, 500, 0, 0]
+    assert years["cash_flow"].tolist() == [1900, 2400 - 200 - 500, 1800, 1800]
+    present = 1900 / 1.1 + 2200 / 1.21 - 500 / 1.1 + 1800 / 1.331 + 1800 / 1.4641
+    assert shell["npv_best"] == pytest.approx(present, abs=1e-3)
+
+
+def test_capacities_of_processes_of_years(plan_folder):
+    """Each process keeps to its capacity of the year, and the mine never feeds more than both."""
+    text = PROJECT + "[[periods]]\ncapacity = { mill = 20 }\n[[periods]]\ncapacity = { leach = 50, mill = 200 }\n"
+    changes = [*WITH, ("mining_cost = 2\n", "mining_cost = 0.3\n")]
+    path = plan_folder(deposit(), text, *changes)
+    pitplan.write_shells(path)
+    years = pd.read_csv(path.parent / "plan" / "tables/years.csv")
+    first = years["year"] == 1
+    assert years["feed_tonnes_mill"][first].max() == pytest.approx(20)
+    assert years["feed_tonnes_leach"][~first].max() <= 50 + 1e-6 and years["feed_tonnes_leach"][first].max() > 50
+    assert years["feed_tonnes_mill"][~first].max() > 20
+
+
+SCHEDULE = "[pushbacks]\ncount = 2\n[schedule]\nyears = 9\nmining_capacity = 9000\n"
+
+
+@pytest.fixture
+def scheduled(plan_folder):
+    def write(*texts, more=""):
+        plain = PROJECT.replace("mining_cost = 2\n", "mining_cost = 0.3\n")
+        plain = plain.replace("capacity = 100\n", "capacity = 400\nmining_capacity = 2000\n")
+        path = plan_folder(deposit(), plain + SCHEDULE + more + "".join(f"[[periods]]\n{it}\n" for it in texts))
+        pitplan.write_schedule(path, folder=path.parent / "plan")
+        return path.parent / "plan"
+
+    return write
+
+
+def test_a_schedule_keeps_the_limits_of_years_and_pays_their_costs(scheduled):
+    folder = scheduled(
+        "processing_capacity = 100\nmining_capacity = 8000\nfixed_cost_per_year = 50",
+        "processing_capacity = 300\nprices = { copper = 8800 }\ncapex = 40",
+        "minimum = { feed = 150 }",
+        "processing_capacity = 400",
+    )
+    years = pd.read_csv(folder / "tables/years.csv")
+    found = years[years["case"] == "lp"].set_index("year")
+    assert 0 < found["feed_tonnes"].loc[1] <= 100 + 1e-6 and found["total_tonnes"].loc[1] <= 8000 + 1e-6
+    assert 100 < found["feed_tonnes"].loc[2] <= 300 + 1e-6 and found["total_tonnes"].max() <= 9000 + 1e-6
+    assert found["feed_tonnes"].loc[3] >= 150 - 1e-4
+    assert found["fixed_cost"].tolist()[:2] == [50.0, 0.0] and found["capex"].tolist()[:3] == [0, 40, 0]
+    assert not [rule for rule in pitplan.verify(folder) if rule.differences]
+
+
+def test_periods_that_are_as_the_other_sections_change_nothing(scheduled):
+    plain = pd.read_csv(scheduled() / "tables/methods.csv")
+    same = pd.read_csv(
+        scheduled("years = 3\nprocessing_capacity = 400\nmining_capacity = 9000\nprices = { copper = 8000 }")
+        / "tables/methods.csv"
+    )
+    assert same["npv"].tolist() == pytest.approx(plain["npv"].tolist())
+    assert same["upper_bound"].tolist() == pytest.approx(plain["upper_bound"].tolist())
+
+
+def test_a_ramp_up_and_periods_are_two_notations_of_one_mine(scheduled):
+    ramp = pd.read_csv(scheduled(more="ramp_up = [0.25, 1.0]\n") / "tables/methods.csv")
+    same = pd.read_csv(scheduled("processing_capacity = 100", "processing_capacity = 400") / "tables/methods.csv")
+    assert same["npv"].tolist() == pytest.approx(ramp["npv"].tolist())
+    assert same["upper_bound"].tolist() == pytest.approx(ramp["upper_bound"].tolist())
+
+
+def test_more_capacity_in_a_year_never_lowers_the_bound(scheduled):
+    bounds = []
+    for tonnes in (100, 200, 400):
+        methods = pd.read_csv(
+            scheduled("years = 2", f"processing_capacity = {tonnes}", "years = 1") / "tables/methods.csv"
+        )
+        bounds.append(methods["upper_bound"].iloc[0])
+    assert bounds == sorted(bounds)
+
+
+@pytest.mark.parametrize("rule", ["limits", "prices"])
+def test_periods_that_are_passed_over_are_found(scheduled, rule):
+    folder = scheduled("processing_capacity = 100", "processing_capacity = 300\nprices = { copper = 8800 }")
+    text = (folder / "project-as-run.toml").read_text()
+    old, new = {"limits": ("processing_capacity = 300", "processing_capacity = 200"), "prices": ("8800", "8900")}[rule]
+    assert old in text
+    (folder / "project-as-run.toml").write_text(text.replace(old, new))
+    wrong = {it.name for it in pitplan.verify(folder) if it.differences}
+    assert {"limits": "schedule limits", "prices": "material flow"}[rule] in wrong
+
+
+def test_limits_of_years_by_hand():
+    limits = Limits(
+        {"feed_tonnes": 100, "total_tonnes": 300},
+        (0.5, 1.0),
+        most_by_year={"feed_tonnes": (10, 20)},
+        least={"feed_tonnes": 0.0},
+        least_by_year={"feed_tonnes": (0, 5)},
+    )
+    assert limits.of_years(3).tolist() == [[10, 300], [20, 300], [20, 300]]
+    assert limits.least_of_years(3)["feed_tonnes"].tolist() == [0, 5, 5]
+    assert (limits.greatest("feed_tonnes"), limits.greatest("total_tonnes")) == (20, 300)
+    assert replace(limits, most_by_year={}).of_years(2)[:, 0].tolist() == [50, 100]
+
+
+def test_values_of_years_by_hand():
+    calendar = Calendar((Period(2, capex=5), Period(3, mining_capacity=7.0, capex=6)))
+    assert calendar.by_year(lambda it: it.mining_capacity, 1.0) == (1.0, 1.0, 7.0, 7.0, 7.0)
+    assert calendar.capex == ((1, 5), (3, 6)) and Calendar().by_year(lambda it: it.mining_capacity, 1.0) == (1.0,)
+
+
+def test_a_sensitivity_changes_prices_and_capacities_of_periods(plan_folder):
+    text = periods("processing_capacity = 50\nmining_capacity = 60\nprices = { copper = 9000 }").replace(
+        "processing_capacity = 100\n", "processing_capacity = 100\nmining_capacity = 100\n", 1
+    )
+    project = pitplan.load(plan_folder(column(), text))
+    (dearer,) = varied(project, (("price copper", project.metals[0].price * 0 + 1),)).shells.calendar.periods
+    (larger,) = varied(project, (("capacity", project.metals[0].price * 0 + 1),)).shells.calendar.periods
+    assert dearer.prices["copper"] == 18000 and (larger.processing_capacity, larger.mining_capacity) == (100, 120)
+
+
+def test_a_sensitivity_of_a_project_with_periods_is_verified(plan_folder):
+    text = periods("processing_capacity = 50\nprices = { copper = 9000 }", "processing_capacity = 150")
+    path = plan_folder(column(), text + '[sensitivity]\nparameters = ["price", "capacity"]\nchanges = [-0.1, 0.1]\n')
+    pitplan.write_sensitivity(path)
+    assert not [rule for rule in pitplan.verify(path.parent / "plan" / "sensitivity") if rule.differences]
+
+
+def test_the_record_reads_back(plan_folder):
+    text = periods(
+        "years = 2\nprocessing_capacity = 50\nprices = { copper = 9000.5 }\ncapex = 7\nfixed_cost_per_year = 3",
+        "processing_capacity = 150",
+    )
+    project = pitplan.load(plan_folder(column(), text))
+    data = tomllib.loads(project.to_toml(), parse_float=Decimal)
+    again = pitplan.Project.from_dict(data, project.path.parent)
+    assert again.shells.calendar == project.shells.calendar and len(again.shells.calendar.of_years) == 3
+
+
+@pytest.mark.parametrize(
+    ("texts", "said"),
+    [
+        (["processing_capacity = -1"], r"\[periods 1\] processing_capacity: -1 is below 0"),
+        (["processing_capacity = 0"], r"\[periods 1\] processing_capacity: found 0 in the last period"),
+        (["years = 0"], r"\[periods 1\] years: must be a whole number from 1 to 1,000"),
+        (["years = 600", "years = 600"], r"\[periods 2\] years: found 1,200 in all periods, expected 1,000 at most"),
+        (["mining_capacty = 3"], r"\[periods 1\] mining_capacty: unknown key: did you mean mining_capacity\?"),
+        (["mining_capacity = 3"], r"\[\[periods\]\] 1 mining_capacity: \[shells\] mining_capacity is missing"),
+        (
+            ["capacity = { mill = 3 }"],
+            r"\[\[periods\]\] 1 capacity: is of \[\[processes\]\], and the project names none",
+        ),
+        (["prices = { gold = 3 }"], r"\[\[periods\]\] 1 prices: found gold, expected one of copper"),
+        (["minimum = { feed = 3 }"], r"\[\[periods\]\] 1 minimum: \[schedule\] years is missing"),
+    ],
+)
+def test_what_is_wrong_is_named(plan_folder, texts, said):
+    with pytest.raises(PlanError, match=said):
+        pitplan.load(plan_folder(column(), periods(*texts)))
+
+
+@pytest.mark.parametrize(
+    ("section", "text", "said"),
+    [
+        (
+            "ramp_up = [0.5, 1.0]",
+            "processing_capacity = 3",
+            "ramp_up scales capacities by year too: remove one of them",
+        ),
+        (
+            "years = 3",
+            "minimum = { feed = 500 }",
+            "minimum feed: 500 is above the maximum of the period, 100: lower it",
+        ),
+        (
+            "years = 3\nminimum = { feed = 80 }",
+            "processing_capacity = 60",
+            "minimum feed: 80 is above the maximum of the period, 60",
+        ),
+        ("years = 3", "minimum = { ore = 5 }", "minimum: found ore, expected one of feed, total, copper"),
+    ],
+)
+def test_what_does_not_go_with_a_schedule_is_named(plan_folder, section, text, said):
+    project = PROJECT + f"[pushbacks]\ncount = 2\n[schedule]\n{section}\n[[periods]]\n{text}\n"
+    with pytest.raises(PlanError, match=said):
+        pitplan.load(plan_folder(column(), project))
+
+
+def test_a_schedule_by_block_refuses_periods_before_it_solves(plan_folder):
+    path = plan_folder(column(), periods("processing_capacity = 50", "processing_capacity = 60"))
+    with pytest.raises(
+        PlanError, match=r"\[\[periods\]\]: apply to shells and schedules of pushbacks: leave it out with --by block"
+    ):
+        pitplan.write_block_schedule(path)
