@@ -115,7 +115,7 @@ def tables_of(answered: Answered) -> list[str]:
     found += [names.BLOCK_SCHEDULE, names.BOUND] if answered.blocks else []
     found += [names.METHODS] if answered.schedule or answered.blocks else []
     if answered.schedule:
-        found += [names.MATERIAL_FLOWS, names.FEED, *([names.BOUND] if answered.schedule.optimum else [])]
+        found += [names.MATERIAL_FLOWS, names.FEED, names.LIMITS, *([names.BOUND] if answered.schedule.optimum else [])]
         found += [names.STOCKPILES] if answered.schedule.is_stocked else []
     return found
 
@@ -175,8 +175,9 @@ def write_tables(answered: Answered, stage: Path) -> tuple[pd.DataFrame, pd.Data
 
 
 def write_schedule_tables(schedule: YearlySchedule, plan: Plan, stage: Path) -> None:
-    """Writes schedule.csv, methods.csv, schedule.json, bound.csv and the tables of material flow."""
+    """Writes schedule.csv, methods.csv, schedule.json, limits.csv, bound.csv and the tables of material flow."""
     from pitplan.scheduling import pushback_schedule
+    from pitplan.scheduling.flow.limit_table import limit_table
     from pitplan.scheduling.flow.tables import bound_table
 
     write_csv(shown(pushback_schedule.table(schedule)), stage / names.SCHEDULE, plan.project)
@@ -184,5 +185,6 @@ def write_schedule_tables(schedule: YearlySchedule, plan: Plan, stage: Path) -> 
     write_json(stage / names.SCHEDULE_RECORD, pushback_schedule.record(schedule))
     for name, table in flow_tables(schedule).items():
         shown(table).to_csv(stage / layout.TABLES / f"{name}.csv", index=False)
+    shown(limit_table(schedule)).to_csv(stage / names.LIMITS, index=False)
     if schedule.optimum is not None:
         bound_table(schedule).to_csv(stage / names.BOUND, index=False)

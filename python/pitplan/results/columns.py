@@ -224,6 +224,25 @@ STOCKPILES = Table(
         Column("closing_tonnes", TONNES, "at the end of the year", "closing"),
     ),
 )
+LIMITED = Unit("that of the amount", 6, 2)
+LIMITS = Table(
+    "limits.csv",
+    "of a schedule of pushbacks: a row per method, year and limit",
+    (
+        *(METHOD, YEAR),
+        Column("limit", TEXT, "the amount, as in `bound.csv`", "limit"),
+        Column("used", LIMITED, "of the amount; of a limit on a head grade the grade", "used"),
+        Column("minimum", LIMITED, "of the year; empty without one", "minimum"),
+        Column("maximum", LIMITED, "of the year; empty without one", "maximum"),
+        Column("utilisation", SHARE, "share of the maximum that is used; empty for head grades", "utilisation"),
+        Column(
+            "shadow_price",
+            Unit("currency per unit", 6, 2),
+            "money of the year that a unit more of the limit would earn in the linear programme; below 0 for a minimum",
+            "shadow price",
+        ),
+    ),
+)
 METHODS = Table("methods.csv", "a row per method", (METHOD, NPV, BOUND, GAP, *SCHEDULED, DISCOUNTS))
 MULTIPLIERS = Table(
     "bound.csv",
@@ -355,7 +374,7 @@ BLOCK_TABLE = Table(
     digits=0,
 )
 TABLES: tuple[Table, ...] = (BLOCK_TABLE, SHELLS, YEARLY, PITS, PUSHBACKS, SCHEDULE, METHODS, SENSITIVITY)
-TABLES += (MATERIAL_FLOWS, FEEDS, STOCKPILES)
+TABLES += (MATERIAL_FLOWS, FEEDS, STOCKPILES, LIMITS)
 TABLES += (MULTIPLIERS, PROBABILITY, SCENARIOS, QUANTILES, COMMON, COMMON_YEARS, SCHEDULES, BLOCK_QUANTILES)
 
 

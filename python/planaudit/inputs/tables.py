@@ -15,7 +15,7 @@ from planaudit.revenue_factors import factor_texts, in_thousandths
 # computed, or columns of other cases.
 MAY_LACK = (
     *("strip_ratio", "head_grade_", "cutoff", "min_width", "upper_bound", "optimality_gap"),
-    *("sum_", "kept_", "skin_value"),
+    *("sum_", "kept_", "skin_value", "used", "minimum", "maximum", "utilisation", "shadow_price"),
 )
 # Exact numbers stay texts.
 EXACT = "value_at_revenue_factor"

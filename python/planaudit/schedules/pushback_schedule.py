@@ -2,6 +2,7 @@
 
 from __future__ import annotations
 
+import functools
 import json
 import math
 from collections.abc import Iterator
@@ -16,7 +17,7 @@ from planaudit.inputs.answer import Answer
 from planaudit.money.period_costs import capex, fixed_cost
 from planaudit.revenue_factors import factor_texts
 from planaudit.rules import TOLD, Rule, rule
-from planaudit.schedules import material_flow, methods as ways_table, pushback_bounds
+from planaudit.schedules import limit_table, material_flow, methods as ways_table, pushback_bounds
 from planaudit.schedules.discounts import discount, present_costs
 from planaudit.schedules.limits import least_of
 from planaudit.schedules.lots import grade_name
@@ -250,8 +251,21 @@ def verify_limits(ways: list[Way], told: dict[str, Any], flow: MaterialFlow) -> 
         ]
         if way.last > told["years"]:
             differences.append(f"{way.name}: material is mined in year {way.last}")
+    differences += unlike_limit_table(ways, told, flow)
     holds = "no year exceeds a limit of feed, total material, metal, sums, head grades or vertical advance, or misses a minimum"
     return rule("schedule limits", holds, differences[:TOLD], len(differences))
+
+
+def unlike_limit_table(ways: list[Way], told: dict[str, Any], flow: MaterialFlow) -> Iterator[str]:
+    """Yields differences of limits.csv."""
+    if not ways:
+        return
+    rows, prices = limit_table.read(ways[0].answer)
+    for way in ways:
+        limits = by_year(way.answer, max(way.last, 1))
+        mine = rows[rows["method"] == way.name]
+        used = functools.partial(used_rounded, way, flow)
+        yield from limit_table.LimitTable(way.answer, limits, prices).unlike(way.name, mine, used, way.last)
 
 
 def used_of(way: Way, flow: MaterialFlow, name: str) -> tuple[pd.Series, pd.Series]:
@@ -259,7 +273,19 @@ def used_of(way: Way, flow: MaterialFlow, name: str) -> tuple[pd.Series, pd.Seri
     nothing = pd.Series(dtype=float)
     if name in way.rows:
         return way.rows.groupby("year")[name].sum(), nothing
+    if name.startswith(limit_table.ADVANCE):
+        mine = way.rows[way.rows["pushback"] == int(name.removeprefix(limit_table.ADVANCE))]
+        return mine.groupby("year")["share"].sum(), nothing
+    if name.startswith("feed "):
+        mine = flow.rows[(flow.rows["method"] == way.name) & (flow.process == int(name.removeprefix("feed ")))]
+        return mine.groupby("year")["feed_tonnes"].sum(), nothing
     return flow.used(name, way.name, way.rows.set_index(["year", "pushback", "level"])["share"])
+
+
+def used_rounded(way: Way, flow: MaterialFlow, name: str) -> tuple[pd.Series, pd.Series]:
+    """Returns the same with the tolerance of amounts whose rows are rounded."""
+    used, slack = used_of(way, flow, name)
+    return used, AMOUNT * way.rows.groupby("year").size() if name in way.rows else slack
 
 
 def verify_value(ways: list[Way], told: dict[str, Any], sums: pd.DataFrame) -> Rule:

@@ -75,6 +75,10 @@ class Flows:
         """Returns what flows of a limited amount in each year, shape (years,)."""
         return np.asarray(self.model.dug(name) @ self.dug + np.einsum("kp,kpt->t", self.model.ore.of(name), self.fed))
 
+    def used_in(self, name: str, process: int) -> NDArray[np.float64]:
+        """Returns what a process takes of an amount in each year, shape (years,)."""
+        return np.asarray(np.einsum("p,pt->t", self.model.ore.of(name)[process], self.fed[process]))
+
     @property
     def earned(self) -> NDArray[np.float64]:
         """What each bench earns, discounted, without period costs, shape (benches,)."""
