@@ -248,3 +248,12 @@ def test_another_lag_than_the_projects_is_found(plan_folder, monkeypatch):
     )
     pitplan.write_shells(path, writing=pitplan.Writing(verifies=False))
     assert "years" in {rule.name for rule in pitplan.verify(path.parent / "plan") if rule.differences}
+
+
+def test_a_schedule_is_drawn_beside_a_specified_case(plan_folder):
+    more = "[shells.specified]\npushbacks = [0.5]\n[pushbacks]\ncount = 2\n"
+    path = plan_folder(deposit(), PROJECT + more, *DEEP)
+    pitplan.write_schedule(path, writing=pitplan.Writing(figures=True))
+    folder = path.parent / "plan" / "schedule"
+    assert (folder / "figures/schedule_value.png").stat().st_size > 1000
+    assert set(pd.read_csv(folder / "tables/years.csv")["case"]) == {"best", "worst", "specified", "rule", "lp"}

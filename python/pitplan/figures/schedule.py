@@ -17,7 +17,20 @@ from matplotlib.ticker import MaxNLocator
 from pitplan.blockmodel.grid import metres
 from pitplan.config.economics import Metal
 from pitplan.core.magnitude import scaled
-from pitplan.figures.style import BEST, BEST_MARK, ORE, PLAIN, STYLE, WASTE, WORST, WORST_MARK, finish, list_of
+from pitplan.figures.style import (
+    BEST,
+    BEST_MARK,
+    ORE,
+    PLAIN,
+    SPECIFIED,
+    SPECIFIED_MARK,
+    STYLE,
+    WASTE,
+    WORST,
+    WORST_MARK,
+    finish,
+    list_of,
+)
 from pitplan.scheduling.flow import tables
 from pitplan.scheduling.flow.parcels import MILL
 from pitplan.scheduling.methods import LP, MILP, NAMES, RULE
@@ -28,6 +41,7 @@ from .annual import FAR_ABOVE, MARGIN, MILL as MILL_COLOUR, SHOVELS, in_words
 TITLES = {RULE: "Rule", LP: "Linear programme", MILP: "Integer programme"}
 COLOURS = {
     "worst": WORST,
+    "specified": SPECIFIED,
     RULE: "#d08a1d",
     LP: ORE,
     MILP: "#7b4fa3",
@@ -39,6 +53,7 @@ MARKED = {"marker": "o", "markersize": 3, "linewidth": 1.4}
 # The line of the rule is broad, so that it stays visible below another.
 LINES = {
     "worst": MARKED | {"marker": WORST_MARK, "markersize": 4},
+    "specified": MARKED | {"marker": SPECIFIED_MARK, "markersize": 3, "linewidth": 1.0},
     RULE: {"linewidth": 5, "alpha": 0.5},
     LP: MARKED,
     MILP: MARKED | {"marker": "s"},

@@ -18,7 +18,7 @@ from pitplan.blockmodel.grid import Grid
 from pitplan.errors import PlanError
 
 ORE, WASTE, GROUND = "#3b6ea5", "#cfc9bd", "#ece8df"
-BEST, WORST, SPECIFIED, PLAIN, CHOSEN = "#1b7f4b", "#c0392b", "#d08a1d", "#444444", "#ffe9a6"
+BEST, WORST, SPECIFIED, PLAIN, CHOSEN = "#1b7f4b", "#c0392b", "#8e5ea2", "#444444", "#ffe9a6"
 # Red and green are alike to many: the best case points upward.
 BEST_MARK, WORST_MARK, SPECIFIED_MARK = "^", "v", "s"
 # Rows go from the bottom of the figure up, and cells are not interpolated.
