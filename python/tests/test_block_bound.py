@@ -130,6 +130,31 @@ def test_years_whose_pits_do_not_nest_are_solved_together():
     assert priced(without_first(problem), np.array([[100.0, 0.0, 0.0]])).parts == 3
 
 
+def test_years_that_the_library_does_not_take_together_have_a_greater_bound(monkeypatch):
+    """The same, where it takes a year's two blocks alone: in the first year both earn what they save of the price of the second, though they
+    are not mined by then."""
+    problem = problem_of([[5.0, 4.0, 3.0], [-9.0, 4.0, 1.0]], [], ([1, 1], [1, 1, 1]))
+    prices = np.array([[0.0, 100.0, 0.0]])
+    exact = priced(without_first(problem), prices).bound
+    monkeypatch.setattr(node_module, "MOST_NODES", 3)
+    found = priced(without_first(problem), prices)
+    assert found.parts == 3 and found.bound == pytest.approx((5 + 96) + (-9 + 96) + (3 + 1) + 100)
+    assert exact == pytest.approx(106) and found.in_closure.tolist() == [True, True, False, False, True, True]
+
+
+def test_a_closure_sends_each_block_where_it_is_worth_most():
+    """Block 0 earns most in the second of three destinations, in the first year. Block 1 earns 1 in the second year wherever it goes: in the
+    last destination that is a node less. At a price of 2 of the second destination block 0 earns 3 in each, too."""
+    values = np.array([[[3.0, 2.0], [5.0, 4.0], [3.0, 2.0]], [[-9.0, 1.0], [-9.0, 1.0], [-9.0, 1.0]]])
+    problem = problem_of(values, [], ([[0, 1, 0], [0, 1, 0]], [1, 1]))
+    nodes = without_first(problem)
+    found = nodes.gathered(priced(nodes, np.zeros((1, 2))).in_closure)
+    assert found.astype(int).tolist() == [[[0, 1], [1, 1], [1, 1]], [[0, 0], [0, 0], [0, 1]]]
+    dear = priced(nodes, np.full((1, 2), 2.0))
+    assert nodes.gathered(dear.in_closure)[0, :, 0].tolist() == [False, False, True]
+    assert dear.bound == pytest.approx(3 + 1 + 2 * 2)
+
+
 @given(st.lists(signed, min_size=1), awkward)
 def test_whole_values_are_rounded_up_by_less_than_two_units(values, error):
     numbers = np.array(values)
@@ -235,12 +260,19 @@ def test_what_has_no_bound_is_refused(change, said):
         demand_sound(BlockProblem(**whole))
 
 
-def test_more_nodes_or_pairs_than_the_library_takes_are_refused(monkeypatch):
-    problem = problem_of(np.ones((3, 5)), [(1, 0)])
-    assert len(without_first(problem)) == 15 and len(without_first(problem).of_years(0, 5).needed) == 17
-    monkeypatch.setattr(node_module, "MOST_NODES", 14)
-    with pytest.raises(PlanError, match="15 nodes, one for each block, year and destination"):
-        without_first(problem).of_years(0, 5)
-    monkeypatch.setattr(node_module, "MOST_NODES", 2)
-    with pytest.raises(PlanError, match="3 nodes"):
+def test_more_blocks_or_pairs_than_the_library_takes_are_refused(monkeypatch):
+    """By blocks, whatever the years and destinations are."""
+    problem = problem_of(np.ones((3, 4, 5)), [(1, 0)])
+    monkeypatch.setattr(node_module, "MOST_NODES", 3)
+    assert len(without_first(problem)) == 60
+    monkeypatch.setattr(node_module, "MOST_PAIRS", 0)
+    with pytest.raises(PlanError, match="3 blocks and 1 precedences, expected at most 3 and 0"):
         without_first(problem)
+
+
+def test_years_together_count_a_node_for_each_block_and_year():
+    """Block 1 needs block 0, and in the second year both need themselves in the third."""
+    nodes = without_first(problem_of(np.ones((3, 4, 5)), [(1, 0)]))
+    assert nodes.size_of(0, 5) == (15, 17) and nodes.size_of(2, 3) == (3, 1)
+    needs = nodes.of_years(1, 3)
+    assert needs.starts.tolist() == [0, 1, 3, 4, 4, 5, 5] and needs.needed.tolist() == [3, 0, 4, 5, 3]

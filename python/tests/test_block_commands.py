@@ -145,6 +145,14 @@ def test_what_is_refused(plan_folder, words, said):
     assert said in str(error.value) and "project.toml" in str(error.value)
 
 
+def test_too_many_blocks_are_refused_before_anything_is_solved(plan_folder, monkeypatch):
+    monkeypatch.setattr("pitplan.scheduling.blocks.nodes.MOST_NODES", 5)
+    for solver in ("pitplan.commands.schedule.problem.solve", "pitplan.scheduling.blocks.from_plan.pitshell.solve"):
+        monkeypatch.setattr(solver, lambda *given: pytest.fail("solved"))
+    with pytest.raises(PlanError, match=r"project.toml: a schedule by block would have 6 blocks and 3 precedences"):
+        scheduled(plan_folder, text=with_processes())
+
+
 @pytest.mark.parametrize("words", ["fixed_cost_per_year = 5", "capex = [[1, 5]]"])
 def test_what_years_cost_is_refused(plan_folder, words):
     with pytest.raises(PlanError, match="fixed_cost_per_year, capex: period costs"):

@@ -160,5 +160,5 @@ class Plan(preparing.Plan):
         from pitplan.scheduling.blocks import tables
 
         plan = self.with_project(self.project.changed("schedule", keys)) if keys else self
-        shells = plan.shells()
-        return BlockSchedule(shells, tables.make(plan, self.progress))
+        planned = tables.collected(plan, self.progress)
+        return BlockSchedule(plan.shells(), tables.scheduled(planned, self.progress))

@@ -89,12 +89,16 @@ def write_block_schedule(project: Source, folder: Optional[Place] = None, writin
     load_library("a schedule by block")
     # Its modules import the library themselves.
     from pitplan.scheduling.blocks import tables
+    from pitplan.scheduling.blocks.from_plan import demand_of_blocks
 
     project = read(project)
+    demand_of_blocks(project)
     target = project.folder / "block_schedule" if folder is None else Path(folder)
     with begun(project, target, writing) as run:
+        # First, since it refuses what is too large.
+        planned = tables.collected(run.mine.plan, writing.progress)
         solution = problem.solve(run.mine.plan, run.mine, writing.progress)
-        made = tables.make(run.mine.plan, writing.progress)
+        made = tables.scheduled(planned, writing.progress)
         run.record["notes"] += made.notes
         write_answer(Answered(run.mine.plan, solution, blocks=made), run)
     return made.table

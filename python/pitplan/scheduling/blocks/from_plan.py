@@ -21,6 +21,7 @@ from pitplan.slopes import closure
 from pitplan.slopes.arcs import ABSENT, slices
 
 from .integer_values import upward
+from .nodes import demand_room
 from .problem import BlockProblem, Due, Limit, Needs
 from .ranks import greatest_needed, ranks_of
 
@@ -54,10 +55,11 @@ class PlannedBlocks:
 def of_plan(plan: Plan) -> PlannedBlocks:
     """The blocks of a plan. Raises PlanError where the project asks for what is not done by block, or for too many years."""
     project, rules = plan.project, plan.project.schedule or ScheduleRules()
-    demand_of_blocks(project, rules)
+    demand_of_blocks(project)
     flows, limits, money = flows_of(plan), all_limits_of(project, rules), of_project(project)
     best = cash_of(flows, money, 1 + max((len(more) for more in money.premiums.values()), default=0)).max(axis=(1, 2))
     cells, needs = diggable(plan, (best > 0) | owing(plan, flows, limits))
+    demand_room(len(cells), len(needs.needed), f"{project.path}: ")
     pays, forced = pays_of(plan)[cells], np.isin(cells, plan.fixed.forced)
     flows = {name: amounts[cells] for name, amounts in flows.items()}
     pit = pit_of(best[cells], needs, forced)
@@ -136,9 +138,10 @@ def pays_of(plan: Plan) -> NDArray[np.bool_]:
     )
 
 
-def demand_of_blocks(project: Project, rules: ScheduleRules) -> None:
+def demand_of_blocks(project: Project) -> None:
     """Raises PlanError, with the key, where the project asks for what is not done by block."""
-    path, costs_years = project.path, bool(project.economics.fixed_cost_per_year or project.economics.capex)
+    path, rules = project.path, project.schedule or ScheduleRules()
+    costs_years = bool(project.economics.fixed_cost_per_year or project.economics.capex)
     asked = {
         "[schedule] bench_lag: applies to pushbacks": rules.bench_lag > 0,
         "[schedule] vertical_advance_rate: applies to the benches of a pushback": rules.vertical_advance_rate

@@ -6,8 +6,12 @@ least, of which it takes no less; so each price times what it takes is at most t
 the prices, and whatever floats they are it holds: what a block earns at them is rounded upward, by more than the floats may have lost.
 Where blocks earn nothing but prices, a bound below 0 shows that no schedule keeps what is due: it would earn 0.
 
-Each year is solved for itself first. Where the pit of each year lies within that of the next, all of them are the closure; where it does
-not, these years are solved together.
+Each year is solved for itself first. If the pit of each year lies within that of the next, all of them are the closure; if it does
+not, these years are solved together, unless they are more than the library takes: the precedences between years that are then left out
+only raise the bound.
+
+In each year a block counts with the destination where it is worth most at the prices, which is all that a closure needs to know of them:
+it has one node a block and year, however many destinations there are.
 """
 
 from __future__ import annotations
@@ -36,64 +40,78 @@ class Priced:
 
 @dataclass(frozen=True)
 class Part:
-    """The closure of the years from `first` up to `last`, without that, solved for itself: a truth for each node, and its worth in the
-    unit."""
+    """The closure of the years from `first` up to `last`, without that, solved for itself: by year whether each block that can be mined by
+    then is in it, and its worth in the unit."""
 
     first: int
     last: int
-    in_closure: NDArray[np.bool_]
+    mined: list[NDArray[np.bool_]]
     worth: int
+
+
+@dataclass(frozen=True)
+class Earned:
+    """What blocks are worth in each year at some prices, rounded upward, and the destination where they are; both by block and year."""
+
+    worths: Whole
+    best: NDArray[np.int16]
 
 
 def priced(nodes: Nodes, prices: NDArray[np.float64]) -> Priced:
     """The closure at prices by limit and year, and behind them by due, the same in all years: shape (limits and dues, years). A price is 0
-    or less where the most is infinite, and of dues.
-
-    Raises PlanError where years that are solved together have more nodes than the library takes.
-    """
-    whole = earned_at(nodes, prices)
-    steps = whole.amounts.transpose(0, 2, 1)
-    gain = by_end(steps.reshape(len(steps), -1)).reshape(steps.shape).transpose(0, 2, 1)
-    values = nodes.spread(gain)
-    parts = [solved(nodes, values, year, year + 1) for year in range(nodes.problem.years)]
+    or less where the most is infinite, and of dues."""
+    earned = earned_at(nodes, prices)
+    gain = by_end(earned.worths.amounts)
+    parts = [solved(nodes, gain, year, year + 1) for year in range(nodes.problem.years)]
     while (joined := joined_years(nodes, parts)) != [(part.first, part.last) for part in parts]:
         known = {(part.first, part.last): part for part in parts}
-        parts = [known.get(years) or solved(nodes, values, *years) for years in joined]
-    bound = sum(part.worth for part in parts) * Fraction(whole.unit) + sold(nodes, prices)
-    return Priced(np.concatenate([part.in_closure for part in parts]), least_float(bound), len(parts))
+        parts = [known.get(years) or solved(nodes, gain, *years) for years in joined]
+    bound = sum(part.worth for part in parts) * Fraction(earned.worths.unit) + sold(nodes, prices)
+    mined = [by_then for part in parts for by_then in part.mined]
+    return Priced(nodes.expanded(mined, earned.best), least_float(bound), len(parts))
 
 
-def solved(nodes: Nodes, values: NDArray[np.int64], first: int, last: int) -> Part:
-    needs = nodes.of_years(first, last)
-    part = values[nodes.before[first] : nodes.before[last]]
-    pit = pitshell.solve(part, (needs.starts, needs.needed), millionths=True)
-    return Part(first, last, pit.in_pit, worth_of(pit))
+def solved(nodes: Nodes, gain: NDArray[np.int64], first: int, last: int) -> Part:
+    """Solves the closure of some years; `gain` is by block and year."""
+    needs, counts = nodes.of_years(first, last), nodes.counts[first:last]
+    values = np.concatenate([gain[:count, year] for year, count in enumerate(counts, first)])
+    pit = pitshell.solve(values, (needs.starts, needs.needed), millionths=True)
+    return Part(first, last, np.split(pit.in_pit, np.cumsum(counts)[:-1]), worth_of(pit))
 
 
 def joined_years(nodes: Nodes, parts: list[Part]) -> list[tuple[int, int]]:
-    """The years of parts, those put together of which one has a block by its last year that the next has not by its first."""
-    destinations = nodes.problem.destinations
+    """The years of parts; those are put together, if the library takes them so, of which one has a block by its last year that the next has
+    not by its first."""
     found = [(parts[0].first, parts[0].last)]
     for part, following in zip(parts, parts[1:]):
-        count = nodes.counts[part.last - 1]
-        by_then = part.in_closure[len(part.in_closure) - count * destinations :][destinations - 1 :: destinations]
-        is_nested = following.in_closure[: count * destinations : destinations][by_then].all()
-        found = (
-            [*found, (following.first, following.last)] if is_nested else [*found[:-1], (found[-1][0], following.last)]
-        )
+        by_then = part.mined[-1]
+        is_nested = following.mined[0][: len(by_then)][by_then].all()
+        if is_nested or not nodes.fits(found[-1][0], following.last):
+            found.append((following.first, following.last))
+        else:
+            found[-1] = (found[-1][0], following.last)
     return found
 
 
-def earned_at(nodes: Nodes, prices: NDArray[np.float64]) -> Whole:
-    """What each block earns by destination and year less the prices of what it takes, rounded upward."""
+def earned_at(nodes: Nodes, prices: NDArray[np.float64]) -> Earned:
+    """What each block earns in each year, less the prices of what it takes, in the destination where that is most."""
     problem = nodes.problem
-    values, size = problem.values.copy(), np.abs(problem.values)
-    for amounts, by_year in zip(problem.sums, prices):
-        cost = amounts[:, :, None] * by_year
-        values -= cost
-        size += np.abs(cost)
+    most, error = np.full((problem.blocks, problem.years), -np.inf), np.zeros((problem.blocks, problem.years))
+    best = np.zeros(most.shape, dtype=np.int16)
+    for destination in range(problem.destinations):
+        earned = problem.values[:, destination].copy()
+        size = np.abs(earned)
+        for amounts, by_year in zip(problem.sums, prices):
+            if by_year.any() and amounts[:, destination].any():
+                cost = amounts[:, destination, None] * by_year
+                earned -= cost
+                size += np.abs(cost)
+        # Of destinations that earn the same the last one, which takes the fewest nodes.
+        best[earned >= most] = destination
+        np.maximum(most, earned, out=most)
+        np.maximum(error, size, out=error)
     # One rounding a product and one a sum, of terms that are no greater than all together; and as many again to be safe.
-    return upward(values, size * (ROUNDING * 2 * (2 * len(prices) + 2)))
+    return Earned(upward(most, error * (ROUNDING * 2 * (2 * len(prices) + 2))), best)
 
 
 def sold(nodes: Nodes, prices: NDArray[np.float64]) -> Fraction:

@@ -89,10 +89,11 @@ class Master:
         """The optimum of these groups; or the least that lacks of what is due, whatever it earns. Raises PlanError where HiGHS finds
         none."""
         # What leads in a circle is dug to one share.
-        _, component = connected_components(pairs_of(groups, self.nodes), connection="strong")
+        pairs = pairs_of(groups, self.nodes)
+        count, component = connected_components(pairs, connection="strong")
         joined = groups.of_groups(component)
         gain = np.bincount(joined.label, self.gain, minlength=joined.count) * (not seeks_dues)
-        order = order_rows(least_pairs(pairs_of(joined, self.nodes)))
+        order = order_rows(least_pairs(joined_pairs(pairs, component, count)))
         most = np.array([place.amount for place in self.places], dtype=float)
         sign = np.array([place.sign for place in self.places], dtype=float)
         unit, scale = float(np.abs(gain).max(initial=0.0)) or 1.0, np.where(most > 0, most, 1.0)
@@ -146,8 +147,20 @@ def pairs_of(groups: Groups, nodes: Nodes) -> csr_matrix:
     """Which groups need which others, as places of a matrix: some node of one needs some node of the other."""
     differ = ((user[user != needed], needed[user != needed]) for user, needed in pairs_by_year(groups, nodes))
     places = (user.astype(np.int64) * groups.count + needed for user, needed in differ)
-    rows, columns = np.divmod(distinct(places, groups.count * groups.count), max(groups.count, 1))
-    return csr_matrix((np.ones(len(rows), dtype=np.float32), (rows, columns)), shape=(groups.count, groups.count))
+    return matrix_of(places, groups.count)
+
+
+def joined_pairs(pairs: csr_matrix, component: NDArray[np.int32], count: int) -> csr_matrix:
+    """The pairs of groups that are put together, by the number of each among these."""
+    found = pairs.tocoo()
+    user, needed = component[found.row].astype(np.int64), component[found.col]
+    return matrix_of([(user * count + needed)[user != needed]], count)
+
+
+def matrix_of(places: Iterable[NDArray[np.int64]], count: int) -> csr_matrix:
+    """A square matrix with ones at some places, row by row."""
+    rows, columns = np.divmod(distinct(places, count * count), max(count, 1))
+    return csr_matrix((np.ones(len(rows), dtype=np.float32), (rows, columns)), shape=(count, count))
 
 
 def distinct(places: Iterable[NDArray[np.int64]], most: int) -> NDArray[np.int64]:
@@ -161,13 +174,14 @@ def distinct(places: Iterable[NDArray[np.int64]], most: int) -> NDArray[np.int64
 
 
 def pairs_by_year(groups: Groups, nodes: Nodes) -> Iterator[tuple[NDArray, NDArray]]:
-    """The groups of the two nodes of each pair: of each year, and of each year and the next."""
+    """The groups of the two nodes of each pair: of destinations of a block, of blocks in a year, and of a year and the next."""
     labels = list(nodes.by_year(groups.label))
     for year, label in enumerate(labels):
-        needs = nodes.first_of_year(year)
-        yield np.repeat(label.ravel(), np.diff(needs.starts.astype(np.int64))), label.ravel()[needs.needed]
+        needs, last = nodes.of_year(year), np.ascontiguousarray(label[:, -1])
+        yield label[:, :-1].ravel(), label[:, 1:].ravel()
+        yield np.repeat(last, np.diff(needs.starts.astype(np.int64))), last[needs.needed]
         if year + 1 < len(labels):
-            yield label[:, -1], labels[year + 1][: len(label), 0]
+            yield last, labels[year + 1][: len(label), 0]
 
 
 def least_pairs(pairs: csr_matrix) -> csr_matrix:

@@ -18,7 +18,7 @@ from .bienstock_zuckerberg import Relaxation, Round, relaxed
 from .destinations import with_best_shares
 from .greedy import Filling, preferences
 from .local_search import moved
-from .nodes import Nodes, nodes_of
+from .nodes import Nodes, demand_room, nodes_of
 from .presolve import earliest_years, worth_digging
 from .problem import BlockProblem, demand_sound
 from .ranks import Ranks, ranks_of
@@ -84,7 +84,7 @@ class Reduced:
 
 
 def reduced(problem: BlockProblem) -> Reduced:
-    """Raises PlanError where more is left than the library takes."""
+    """Leaves out what no schedule needs. The library takes the problem."""
     kept = worth_digging(problem)
     while True:
         part = problem.of_blocks(kept)
@@ -109,6 +109,7 @@ def solve(problem: BlockProblem, effort: Optional[Effort] = None, progress: Prog
     does, and KeyboardInterrupt where it is interrupted before there is a bound.
     """
     demand_sound(problem)
+    demand_room(problem.blocks, len(problem.needs.needed))
     began = time.monotonic()
     with progress.step(f"removing blocks that no schedule needs, of {problem.blocks:,} blocks"):
         part = reduced(problem)

@@ -152,13 +152,24 @@ class ScheduledBlocks:
         return said
 
 
-def make(plan: Plan, progress: Progress = silent) -> ScheduledBlocks:
-    """The schedule of a plan's blocks. `[schedule] milp` says how far integer programmes make it better.
+def collected(plan: Plan, progress: Progress = silent) -> PlannedBlocks:
+    """The blocks of a plan as a problem.
 
-    Raises PlanError where the project asks for what is not done by block or the blocks are too many, and KeyboardInterrupt where it is
-    interrupted before there is a bound.
+    Raises PlanError if the project asks for what is not done by block, or the blocks are too many.
     """
-    rules = plan.project.schedule or ScheduleRules()
     with progress.step("collecting the blocks that can be mined"):
-        planned = of_plan(plan)
+        return of_plan(plan)
+
+
+def scheduled(planned: PlannedBlocks, progress: Progress = silent) -> ScheduledBlocks:
+    """The schedule of these blocks. `[schedule] milp` says how far integer programmes make it better.
+
+    Raises PlanError if no schedule meets the minimums, and KeyboardInterrupt if it is interrupted before there is a bound.
+    """
+    rules = planned.plan.project.schedule or ScheduleRules()
     return ScheduledBlocks(planned, solve(planned.problem, rules.milp, progress))
+
+
+def make(plan: Plan, progress: Progress = silent) -> ScheduledBlocks:
+    """The schedule of a plan's blocks; raises what `collected` and `scheduled` raise."""
+    return scheduled(collected(plan, progress), progress)

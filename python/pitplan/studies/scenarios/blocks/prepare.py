@@ -31,7 +31,7 @@ ONE = "common schedule"
 
 def demand_apt(project: Project) -> None:
     """Raises PlanError if the project sets an option that scenarios --by block do not support."""
-    demand_of_blocks(project, project.schedule or ScheduleRules())
+    demand_of_blocks(project)
     demand_of_scenarios(project)
     if project.solver == PROGRAM:
         raise PlanError(
