@@ -126,6 +126,17 @@ def test_a_block_goes_to_the_process_that_has_room(plan_folder):
     ]
 
 
+def test_rock_without_metal_is_waste(plan_folder):
+    """Half of the ore is milled and half is leached, which has room for 150 t more."""
+    _, folder = scheduled(
+        plan_folder, "[schedule]\nyears = 1\n", with_processes().replace("capacity = 100\n", "capacity = 150\n")
+    )
+    columns = ["feed_tonnes", "feed_tonnes_leach", "feed_tonnes_mill"]
+    assert years_of(folder)[columns].to_numpy().tolist() == [[300, 150, 150]]
+    blocks = pd.read_csv(folder / "tables/blocks.csv")
+    assert not blocks.loc[blocks["cu"] == 0, ["share_leach", "share_mill"]].any(axis=None) and wrong(folder) == set()
+
+
 @pytest.mark.parametrize(
     ("words", "said"),
     [

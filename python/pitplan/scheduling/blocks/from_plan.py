@@ -24,6 +24,7 @@ from .integer_values import upward
 from .nodes import demand_room
 from .problem import BlockProblem, Due, Limit, Needs
 from .ranks import greatest_needed, ranks_of
+from .schedule import BlockSchedule
 
 # A schedule may take this part of the years more that its limits ask for.
 MORE_YEARS = 0.2
@@ -42,6 +43,7 @@ class PlannedBlocks:
     destinations  where a block may go: waste, and each process by its name
     limits        of a year, by the names of amounts
     flows         what each block holds of each name where it goes to a destination, and last cash at the price as given
+    pays          whether each block yields anything in each destination, shape (blocks, destinations)
     """
 
     plan: Plan
@@ -50,6 +52,13 @@ class PlannedBlocks:
     limits: Limits
     flows: Flows
     problem: BlockProblem
+    pays: NDArray[np.bool_]
+
+    def with_barren_waste(self, schedule: BlockSchedule) -> BlockSchedule:
+        """The schedule with blocks as waste that would go to a process where they yield nothing. They cost as much there, and add to no minimum."""
+        share = np.where(self.pays, schedule.share, 0.0)
+        share[:, 0] = schedule.share.sum(axis=1) - share[:, 1:].sum(axis=1)
+        return BlockSchedule(schedule.year, share)
 
 
 def of_plan(plan: Plan) -> PlannedBlocks:
@@ -78,7 +87,7 @@ def of_plan(plan: Plan) -> PlannedBlocks:
         limits=(*above, *below),
         dues=dues_of(forced, pays.shape[1]),
     )
-    return PlannedBlocks(plan, cells, destinations_of(project), limits, flows, problem)
+    return PlannedBlocks(plan, cells, destinations_of(project), limits, flows, problem, pays)
 
 
 def diggable(plan: Plan, wanted: NDArray[np.bool_]) -> tuple[NDArray[np.int64], Needs]:

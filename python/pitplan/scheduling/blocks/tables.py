@@ -2,7 +2,7 @@
 
 from __future__ import annotations
 
-from dataclasses import dataclass
+from dataclasses import dataclass, replace
 from functools import cached_property
 from typing import Any
 
@@ -167,7 +167,8 @@ def scheduled(planned: PlannedBlocks, progress: Progress = silent) -> ScheduledB
     Raises PlanError if no schedule meets the minimums, and KeyboardInterrupt if it is interrupted before there is a bound.
     """
     rules = planned.plan.project.schedule or ScheduleRules()
-    return ScheduledBlocks(planned, solve(planned.problem, rules.milp, progress))
+    found = solve(planned.problem, rules.milp, progress)
+    return ScheduledBlocks(planned, replace(found, schedule=planned.with_barren_waste(found.schedule)))
 
 
 def make(plan: Plan, progress: Progress = silent) -> ScheduledBlocks:
