@@ -8,16 +8,15 @@ import pytest
 from helpers.block_problems import (
     EXACT,
     cone_of,
+    linear_optimum,
     needs_of,
     pairs_of,
     problem_of,
-    programme,
     random_problem,
     without_first,
 )
 from helpers.random_tests import seeds
 from hypothesis import given, strategies as st
-from scipy.optimize import linprog
 
 from pitplan import PlanError
 from pitplan.config.schedule import Effort
@@ -30,13 +29,6 @@ from pitplan.scheduling.blocks.problem import BlockProblem, Limit, demand_sound
 from pitplan.scheduling.blocks.ranks import ranks_of
 from pitplan.scheduling.blocks.restricted_lp import Master
 from pitplan.scheduling.blocks.scheduler import reduced
-
-
-def linear_optimum(problem, first=None):
-    gain, rows, most, upper = programme(problem, first)
-    found = linprog(-gain, A_ub=rows, b_ub=most, bounds=np.column_stack([np.zeros(len(gain)), upper]), method="highs")
-    assert found.status == 0, found.message
-    return -found.fun
 
 
 def first_years(problem):

@@ -9,7 +9,7 @@ import sys
 import pandas as pd
 import pytest
 from conftest import PROJECT, ROOT, rows
-from helpers.block_commands import YEARLY, rewrite, scheduled, with_processes, wrong, years_of
+from helpers.block_commands import YEARLY, named_mill, rewrite, scheduled, with_processes, wrong, years_of
 from helpers.pushbacks import pillars
 from matplotlib.figure import Figure
 
@@ -418,13 +418,7 @@ def test_both_notations_of_one_mine_have_the_same_value_and_bound(plan_folder):
     table = pillars(as_ppm=lambda i, j, k: [10, 90, 20][i])
     sums = '[[schedule.limits]]\ncolumn = "as_ppm"\nper_tonne = true\nof = "feed"\nmax = 4000\n[schedule]\nyears = 3\n'
     plain, folder = scheduled(plan_folder, sums, table=table)
-    named = (
-        YEARLY.replace("processing_cost = 10\n", "")
-        .replace("recovery = 0.5\n", "")
-        .replace("processing_capacity = 100\n", "")
-    )
-    named += '[[processes]]\nname = "mill"\ncost = 10\ncapacity = 100\nrecovery = { copper = 0.5 }\n'
-    other, _ = scheduled(plan_folder, sums, text=named, table=table)
+    other, _ = scheduled(plan_folder, sums, text=named_mill(), table=table)
     assert plain["npv"] == pytest.approx(other["npv"]) and plain["upper_bound"] == pytest.approx(other["upper_bound"])
     # The ore of the second pillar holds 9,000 in 100 t: 4,000 of it go to the mill, and 1,400 + 1,000 for 0.444 of its ore do not pay.
     blocks = pd.read_csv(folder / "tables/blocks.csv").set_index("name")

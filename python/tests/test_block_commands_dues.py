@@ -5,16 +5,11 @@ import json
 import pandas as pd
 import pytest
 from conftest import PROJECT, rows
-from helpers.block_commands import YEARLY, rewrite, scheduled, with_processes, wrong, years_of
+from helpers.block_commands import WIDE, YEARLY, rewrite, scheduled, with_processes, wrong, years_of
 from helpers.pushbacks import pillars
 
 import pitplan
 from pitplan import PlanError, load, verify
-
-# Mill and shovels take all three pillars in a year.
-WIDE = YEARLY.replace("processing_capacity = 100", "processing_capacity = 300").replace(
-    "mining_capacity = 200", "mining_capacity = 600"
-)
 
 
 def years(folder):

@@ -138,6 +138,9 @@ YEARLY = Table(
             "a sum that is limited",
             when="by block, with `[[schedule.limits]]`",
         ),
+        Column(
+            "head_grade_COLUMN", GRADE, "of the feed; empty without feed", when="by block, with limits on head grades"
+        ),
         *SPENT,
         *FLOWS,
         OUTLINES,

@@ -17,7 +17,7 @@ from planaudit.inputs.answer import Answer
 from planaudit.inputs.matching import YEAR
 from planaudit.money.period_costs import premiums
 from planaudit.rules import TOLD, Rule, rule
-from planaudit.schedules import bounds, methods as ways_table
+from planaudit.schedules import block_grades, bounds, methods as ways_table
 from planaudit.schedules.discounts import discount
 from planaudit.schedules.limits import amounts_of, least_of, limits_of, shares_of
 from planaudit.schedules.pushback_schedule import CENT
@@ -124,8 +124,8 @@ def verify_limits(answer: Answer, told: dict[str, Any], sums: pd.DataFrame) -> R
             differences.append(f"year {year}: {name} {amount:.10g} below {owed:.10g}")
     return rule(
         "block limits",
-        "no year exceeds a limit of feed, total material, metal or a sum, nor falls below a minimum",
-        differences,
+        "no year exceeds a limit of feed, total material, metal, a sum or a head grade, nor falls below a minimum",
+        [*differences, *block_grades.differences(answer, told)],
     )
 
 

@@ -19,6 +19,7 @@ from planaudit.inputs.answer import Answer
 from planaudit.inputs.tables import TABLES
 from planaudit.money.period_costs import premiums
 from planaudit.rules import Rule, rule
+from planaudit.schedules import block_grades
 from planaudit.schedules.closure import Closure, maximum_closure
 from planaudit.schedules.discounts import discount
 from planaudit.schedules.limits import amounts_of, least_of, limits_of, shares_of
@@ -88,6 +89,7 @@ class Bound:
         for name, least in least_of(self.answer):
             ramp = ramps["feed_tonnes"] if name.startswith("feed_tonnes") else (1.0,)
             found |= {(name, MIN, year): least * at(ramp, year) for year in self.every_year}
+        found |= {(name, MAX, year): 0.0 for name in block_grades.limits_of(self.answer) for year in self.every_year}
         if self.must.any():
             found[MUST_MINE, MIN, 0] = float(np.count_nonzero(self.must))
         return found
@@ -112,7 +114,12 @@ class Bound:
         there = [(it.limit, it.side, it.year) for it in rows]
         if sorted(there) != sorted(self.limits):
             yield f"{FILE} has {len(there)} rows for the {len(self.limits)} limits and years of the project, or others"
-        wrong = [it for it in rows if not np.isfinite(it.price) or it.side == MIN and it.price > 0]
+        of_grades = block_grades.limits_of(self.answer)
+        wrong = [
+            it
+            for it in rows
+            if not np.isfinite(it.price) or (it.price > 0 if it.side == MIN else it.limit in of_grades and it.price < 0)
+        ]
         yield from (f"{FILE}: {it.limit} {it.side}, year {it.year}: price {it.price}" for it in wrong)
 
     @cached_property
@@ -134,6 +141,7 @@ class Bound:
         answer, said, names = self.answer, self.answer.said, [name for name, _ in shares_of(self.answer)]
         shares = [(name, np.full(len(said), float(name == process))) for name in names]
         amounts, cash, pays = amounts_of(answer, shares), -said["mining_cost"].to_numpy(), np.zeros(len(said), bool)
+        amounts = amounts.assign(**dict(it for grade in block_grades.graded(answer, shares) for it in grade.excess()))
         if process is not None:
             revenue, cost = answer.amounts_of_ways[names.index(process)]
             cash, pays = cash + (said[revenue] - said[cost]).to_numpy(), (said[revenue] > 0).to_numpy()

@@ -13,6 +13,20 @@ YEARLY = UPRIGHT.replace(
     "processing_capacity = 100", 'processing_capacity = 100\nmining_capacity = 200\ndiscounting = "end_of_year"'
 )
 
+# Mill and shovels take all three pillars in a year.
+WIDE = YEARLY.replace("processing_capacity = 100", "processing_capacity = 300").replace(
+    "mining_capacity = 200", "mining_capacity = 600"
+)
+
+
+def named_mill():
+    """The same mine as YEARLY with its mill as a process, at the end of the text."""
+    text = YEARLY
+    for words in ("processing_cost = 10\n", "recovery = 0.5\n", "processing_capacity = 100\n"):
+        assert text.count(words) == 1
+        text = text.replace(words, "")
+    return text + '[[processes]]\nname = "mill"\ncost = 10\ncapacity = 100\nrecovery = { copper = 0.5 }\n'
+
 
 def scheduled(plan_folder, words="", text=YEARLY, table=None):
     project = load(plan_folder(pillars() if table is None else table, text + words))

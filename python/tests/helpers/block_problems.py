@@ -4,7 +4,7 @@ from itertools import product
 
 import numpy as np
 import pytest
-from scipy.optimize import Bounds, LinearConstraint, milp
+from scipy.optimize import Bounds, LinearConstraint, linprog, milp
 
 from pitplan.config.schedule import Effort
 from pitplan.scheduling.blocks.nodes import nodes_of
@@ -83,6 +83,34 @@ def programme(problem, first=None):
     if first is not None:
         upper[np.broadcast_to(np.arange(years) < first[:, None, None], shape)] = 0.0
     return problem.values.ravel(), np.array(rows), np.array(most), upper.ravel()
+
+
+def linear_optimum(problem, first=None):
+    """The optimum of the whole linear programme."""
+    gain, rows, most, upper = programme(problem, first)
+    found = linprog(-gain, A_ub=rows, b_ub=most, bounds=np.column_stack([np.zeros(len(gain)), upper]), method="highs")
+    assert found.status == 0, found.message
+    return -found.fun
+
+
+def complete_optimum(problem):
+    """The most that a schedule earns whose blocks are each mined in one year, and go to destinations in shares."""
+    gain, rows, most, upper = programme(problem)
+    blocks, destinations, years = problem.values.shape
+    # Behind the shares stands whether a block is mined in a year: as much as its shares of the year.
+    mined = np.kron(np.eye(blocks), np.kron(np.ones(destinations), np.eye(years)))
+    wide = np.pad(rows, ((0, 0), (0, blocks * years)))
+    found = milp(
+        np.concatenate([-gain, np.zeros(blocks * years)]),
+        integrality=np.repeat([0, 1], [len(gain), blocks * years]),
+        bounds=Bounds(0, np.concatenate([upper, np.ones(blocks * years)])),
+        constraints=[
+            LinearConstraint(wide, -np.inf, most),
+            LinearConstraint(np.hstack([mined, -np.eye(blocks * years)]), 0, 0),
+        ],
+    )
+    assert found.status == 0, found.message
+    return -found.fun
 
 
 def integer_optimum(problem):

@@ -12,14 +12,17 @@ from .schedule import BlockSchedule
 
 
 def with_best_shares(problem: BlockProblem, schedule: BlockSchedule) -> BlockSchedule:
-    """The schedule that digs the same blocks in the same years and earns most by where they go."""
+    """The schedule that digs the same blocks in the same years and earns most by where they go; the same schedule if none is found that is
+    better, or keeps signed limits that it misses."""
     share = schedule.share.copy()
     for year in range(problem.years if problem.destinations > 1 else 0):
         blocks = np.flatnonzero(schedule.year == year)
         if len(blocks):
             share[blocks] = best_shares(problem, blocks, year, share[blocks])
     best = BlockSchedule(schedule.year, share)
-    return best if best.is_better(schedule, problem) and best.is_allowed(problem) else schedule
+    if not best.is_allowed(problem):
+        return schedule
+    return best if best.is_better(schedule, problem) or not schedule.is_allowed(problem) else schedule
 
 
 def best_shares(
@@ -31,7 +34,7 @@ def best_shares(
     owed = [(limit.amounts[blocks], limit.floor[year]) for limit in problem.limits if limit.floor[year] > 0]
     owed += [(due.amounts[blocks], np.inf) for due in problem.dues]
     limits += [(amounts, min(least, float((amounts * share).sum())), -1) for amounts, least in owed]
-    scale = np.array([amount or 1.0 for _, amount, _ in limits])
+    scale = np.array([amount or float(np.abs(amounts).max()) or 1.0 for amounts, amount, _ in limits])
     rows = (
         np.array([sign * amounts.ravel() for amounts, _, sign in limits]).reshape(len(limits), share.size)
         / scale[:, None]

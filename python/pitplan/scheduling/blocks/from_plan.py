@@ -20,6 +20,7 @@ from pitplan.scheduling.limits import SUM, all_limits_of
 from pitplan.slopes import closure
 from pitplan.slopes.arcs import ABSENT, slices
 
+from .head_grades import HeadGrade, head_grades
 from .integer_values import upward
 from .nodes import demand_room
 from .problem import BlockProblem, Due, Limit, Needs
@@ -44,6 +45,7 @@ class PlannedBlocks:
     limits        of a year, by the names of amounts
     flows         what each block holds of each name where it goes to a destination, and last cash at the price as given
     pays          whether each block yields anything in each destination, shape (blocks, destinations)
+    grades        head grades that are limited
     """
 
     plan: Plan
@@ -53,6 +55,7 @@ class PlannedBlocks:
     flows: Flows
     problem: BlockProblem
     pays: NDArray[np.bool_]
+    grades: tuple[HeadGrade, ...] = ()
 
     def with_barren_waste(self, schedule: BlockSchedule) -> BlockSchedule:
         """The schedule with blocks as waste that would go to a process where they yield nothing. They cost as much there, and add to no minimum."""
@@ -65,9 +68,9 @@ def of_plan(plan: Plan) -> PlannedBlocks:
     """The blocks of a plan. Raises PlanError where the project asks for what is not done by block, or for too many years."""
     project, rules = plan.project, plan.project.schedule or ScheduleRules()
     demand_of_blocks(project)
-    flows, limits, money = flows_of(plan), all_limits_of(project, rules), of_project(project)
+    flows, limits, money, grades = flows_of(plan), all_limits_of(project, rules), of_project(project), head_grades(plan)
     best = cash_of(flows, money, 1 + max((len(more) for more in money.premiums.values()), default=0)).max(axis=(1, 2))
-    cells, needs = diggable(plan, (best > 0) | owing(plan, flows, limits))
+    cells, needs = diggable(plan, (best > 0) | owing(plan, flows, limits, grades))
     demand_room(len(cells), len(needs.needed), f"{project.path}: ")
     pays, forced = pays_of(plan)[cells], np.isin(cells, plan.fixed.forced)
     flows = {name: amounts[cells] for name, amounts in flows.items()}
@@ -84,10 +87,10 @@ def of_plan(plan: Plan) -> PlannedBlocks:
     problem = BlockProblem(
         values=cash_of(flows, money, years) * year_discounts(project.shells, years),
         needs=needs,
-        limits=(*above, *below),
+        limits=(*above, *below, *(it for grade in grades for it in grade.limits_of(cells, pays.shape[1], years))),
         dues=dues_of(forced, pays.shape[1]),
     )
-    return PlannedBlocks(plan, cells, destinations_of(project), limits, flows, problem, pays)
+    return PlannedBlocks(plan, cells, destinations_of(project), limits, flows, problem, pays, tuple(grades))
 
 
 def diggable(plan: Plan, wanted: NDArray[np.bool_]) -> tuple[NDArray[np.int64], Needs]:
@@ -129,13 +132,16 @@ def cells_of(plan: Plan, wanted: NDArray[np.bool_]) -> NDArray[np.int64]:
     return np.flatnonzero(closure.used_blocks(plan.grid, plan.walls, wanted))
 
 
-def owing(plan: Plan, flows: Flows, limits: Limits) -> NDArray[np.bool_]:
-    """The cells that add to an amount that has a least. Raises PlanError where of a model that is too large some were left out."""
+def owing(plan: Plan, flows: Flows, limits: Limits, grades: list[HeadGrade]) -> NDArray[np.bool_]:
+    """The cells that a limit may require: those that add to an amount that has a least, and those that bring a head grade nearer to its limit.
+    Raises PlanError where of a model that is too large some were left out."""
     found = np.zeros(plan.grid.count, dtype=bool)
     for name in limits.least:
         found |= (flows[name] > 0).any(axis=1)
-    if limits.least and plan.left_out:
-        why = "blocks that no shell can reach were removed, and a minimum may require them: set [table] reblock"
+    for grade in grades:
+        found |= np.any([grade.excess(name) < 0 for name in grade.limits], axis=0)
+    if (limits.least or grades) and plan.left_out:
+        why = "blocks that no shell can reach were removed, and a minimum or a head grade may require them: set [table] reblock"
         raise PlanError(f"{plan.source}: {plan.left_out:,} {why}")
     return found
 
@@ -157,9 +163,6 @@ def demand_of_blocks(project: Project) -> None:
         is not None,
         "[schedule] bins: apply to benches; a block is sent to one destination": rules.bins is not None,
         "[schedule] stockpile: applies to pushbacks": rules.reclaim_cost is not None,
-        "[processes.feed] and [schedule.feed]: head grades are limited in schedules of pushbacks": bool(
-            project.feed_grades
-        ),
         "[economics] fixed_cost_per_year, capex: period costs are not part of a schedule by block": costs_years,
         "[[periods]]: apply to shells and schedules of pushbacks": bool(project.shells.calendar),
         "[pushbacks] mining_cost_added: applies to pushbacks": bool(

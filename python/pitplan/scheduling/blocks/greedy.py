@@ -28,6 +28,7 @@ class Room:
         self.left = [(limit.most * (1 + HAIR)).tolist() for limit in problem.limits]
         self.amounts = [limit.amounts.tolist() for limit in problem.limits]
         self.dues = [due.amounts.tolist() for due in problem.dues]
+        self.signed = [k for k, limit in enumerate(problem.limits) if limit.signed]
         # Of sums that have a least, by their numbers, what each year holds above it: below 0 where it lacks.
         self.above = {
             k: (-limit.floor * (1 - HAIR)).tolist() for k, limit in enumerate(problem.limits) if (limit.floor > 0).any()
@@ -47,8 +48,10 @@ class Room:
             above[year] += sign * self.amounts[number][block][destination]
 
     def may_leave(self, block: int, now: tuple[int, int], then: tuple[int, int]) -> bool:
-        """Whether a block that is taken out of its year and destination leaves them no shorter of a least than it was, when it is taken in
-        another year and destination."""
+        """Whether a block that is taken out of its year and destination leaves them no shorter of a least than it was, and within signed limits,
+        when it is taken in another year and destination."""
+        if now[0] != then[0] and any(self.left[number][now[0]] < 0 for number in self.signed):
+            return False
         for number, above in self.above.items():
             amount, other = self.amounts[number][block][now[1]], self.amounts[number][block][then[1]]
             stays = other if now[0] == then[0] else 0.0
@@ -125,9 +128,18 @@ def schedule_of(problem: BlockProblem, year: NDArray[np.int64], destination: NDA
 
 def paying(problem: BlockProblem, schedule: BlockSchedule) -> BlockSchedule:
     """The schedule without what earns less, at its time, than it costs: the best of its parts that hold with each block all that it
-    needs."""
+    needs. Blocks that take from signed limits stay if these are not kept without them."""
+    pruned = without_losses(problem, schedule, np.zeros(problem.blocks, dtype=bool))
+    signed = [(limit.amounts * schedule.share).sum(axis=1) < 0 for limit in problem.limits if limit.signed]
+    if not signed or pruned.is_allowed(problem):
+        return pruned
+    return without_losses(problem, schedule, np.any(signed, axis=0))
+
+
+def without_losses(problem: BlockProblem, schedule: BlockSchedule, stays: NDArray[np.bool_]) -> BlockSchedule:
+    """The best of the parts of a schedule that hold with each block all that it needs, and the blocks that stay."""
     is_dug = schedule.year < problem.years
-    fixed = np.where(is_dug, pitshell.FREE, pitshell.BARRED).astype(np.uint8)
+    fixed = np.where(stays, pitshell.FORCED, np.where(is_dug, pitshell.FREE, pitshell.BARRED)).astype(np.uint8)
     whole = upward(schedule.worths(problem)).amounts
     kept = pitshell.solve(whole, (problem.needs.starts, problem.needs.needed), fixed, millionths=True).in_pit
     return BlockSchedule(np.where(kept, schedule.year, problem.years), np.where(kept[:, None], schedule.share, 0.0))

@@ -59,7 +59,7 @@ class Earned:
 
 def priced(nodes: Nodes, prices: NDArray[np.float64]) -> Priced:
     """The closure at prices by limit and year, and behind them by due, the same in all years: shape (limits and dues, years). A price is 0
-    or less where the most is infinite, and of dues."""
+    or less where the most is infinite, and of dues, and 0 or more of signed limits."""
     earned = earned_at(nodes, prices)
     gain = by_end(earned.worths.amounts)
     parts = [solved(nodes, gain, year, year + 1) for year in range(nodes.problem.years)]

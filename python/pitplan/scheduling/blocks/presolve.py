@@ -21,8 +21,9 @@ def worth_digging(problem: BlockProblem) -> NDArray[np.bool_]:
     """The blocks that a schedule of greatest worth needs to dig: a truth for each, shape (blocks,).
 
     They are a closed set U such that in no year a closed set gains by what it has besides U, where a block gains what it earns in the year
-    less what it earns in the next one. What adds to a sum that has a least is in U, with all that it needs. So a schedule without its
-    blocks outside U still keeps every limit: from above since amounts are 0 or more, and from below since those blocks add nothing. And it
+    less what it earns in the next one. What adds to a sum that has a least, or takes from a signed one, is in U, with all that it needs. So a
+    schedule without its blocks outside U still keeps every limit: from above since they take from no sum, and from below since they add
+    nothing. And it
     earns no less: what these earn is the sum over years of what they gain with all of them that are dug by then. Where a block earns one
     value times a discount that falls with the years, and nothing is due, U is the ultimate pit.
 
@@ -43,12 +44,12 @@ def worth_digging(problem: BlockProblem) -> NDArray[np.bool_]:
 
 def earliest_years(problem: BlockProblem, ranks: Ranks) -> NDArray[np.int64]:
     """The first year, from 0, by whose end a block can be dug with all that it needs, as the limits up to then allow; as many as there are
-    years where there is none. Shape (blocks,)."""
-    first = np.zeros(problem.blocks, dtype=np.int64)
-    if not problem.limits:
+    years where there is none. Shape (blocks,). Signed limits show no such year, since other blocks may make room."""
+    first, limits = np.zeros(problem.blocks, dtype=np.int64), [limit for limit in problem.limits if not limit.signed]
+    if not limits:
         return first
-    sums = cone_sums(problem.needs, ranks, np.stack([limit.amounts.min(axis=1) for limit in problem.limits], axis=1))
-    for limit, sum_of in zip(problem.limits, sums.T):
+    sums = cone_sums(problem.needs, ranks, np.stack([limit.amounts.min(axis=1) for limit in limits], axis=1))
+    for limit, sum_of in zip(limits, sums.T):
         most = np.cumsum(limit.most) * (1 + HAIR)
         first = np.maximum(first, np.searchsorted(most, sum_of, side="left"))
     return first

@@ -21,19 +21,23 @@ class Limit:
     """The most of a sum that a year may hold, and the least that it must.
 
     name     as it is told
-    amounts  what each block adds to the sum in each destination, 0 or more: shape (blocks, destinations)
+    amounts  what each block adds to the sum in each destination, 0 or more unless the limit is signed: shape (blocks, destinations)
     most     by year, infinite where there is no limit: shape (years,)
-    least    by year; None: 0 in all
+    least    by year; None: 0 in all, or none at all of a signed limit
+    signed   whether blocks may also take from the sum, as in that of content less a head grade times feed
     """
 
     name: str
     amounts: NDArray[np.float64]
     most: NDArray[np.float64]
     least: Optional[NDArray[np.float64]] = None
+    signed: bool = False
 
     @property
     def floor(self) -> NDArray[np.float64]:
-        """The least by year, 0 where nothing is due."""
+        """The least by year: 0 where nothing is due, since no block takes from the sum; of a signed limit there is none."""
+        if self.signed:
+            return np.full_like(self.most, -np.inf)
         return np.zeros_like(self.most) if self.least is None else self.least
 
 
@@ -106,8 +110,11 @@ class BlockProblem:
 
     @property
     def owing(self) -> NDArray[np.bool_]:
-        """The blocks that add to a sum that has a least: a truth for each, shape (blocks,)."""
+        """The blocks that a limit may require whatever they earn: those that add to a sum that has a least, and those that take from a signed
+        one. A truth for each, shape (blocks,)."""
         found = np.zeros(self.blocks, dtype=bool)
+        for limit in self.limits:
+            found |= limit.signed & (limit.amounts < 0).any(axis=1)
         owed = [it.amounts for it in self.limits if (it.floor > 0).any()] + [
             due.amounts for due in self.dues if due.least > 0
         ]
@@ -141,8 +148,8 @@ class BlockProblem:
 
 
 def demand_sound(problem: BlockProblem) -> None:
-    """Raises PlanError where an amount is negative or no number, a limit is negative, a least above the most, or shapes differ: then no bound
-    would hold."""
+    """Raises PlanError where an amount is no number, or negative in a limit that is not signed, a limit is negative, a least above the most, or
+    shapes differ: then no bound would hold."""
     shape = problem.values.shape
     if len(shape) != 3 or 0 in shape[1:] or not np.isfinite(problem.values).all():
         raise PlanError(
@@ -151,11 +158,13 @@ def demand_sound(problem: BlockProblem) -> None:
     for limit in problem.limits:
         if limit.amounts.shape != shape[:2] or limit.most.shape != shape[2:]:
             raise PlanError(f"{limit.name}: expected amounts by block and destination, and the limit by year")
-        if not np.isfinite(limit.amounts).all() or (limit.amounts < 0).any():
+        if not np.isfinite(limit.amounts).all() or (limit.amounts < 0).any() and not limit.signed:
             raise PlanError(f"{limit.name}: an amount is negative or not a number")
+        if limit.signed and limit.least is not None:
+            raise PlanError(f"{limit.name}: found a minimum, expected a maximum alone, since amounts may be negative")
         if np.isnan(limit.most).any() or (limit.most < 0).any():
             raise PlanError(f"{limit.name}: the maximum of a year is negative or not a number")
-        floor = limit.floor
+        floor = np.zeros_like(limit.most) if limit.signed else limit.floor
         if floor.shape != limit.most.shape or not np.isfinite(floor).all() or (floor < 0).any():
             raise PlanError(f"{limit.name}: the minimum of a year is negative or not a number")
         if (floor > limit.most).any():

@@ -96,8 +96,9 @@ class Master:
         order = order_rows(least_pairs(joined_pairs(pairs, component, count)))
         most = np.array([place.amount for place in self.places], dtype=float)
         sign = np.array([place.sign for place in self.places], dtype=float)
-        unit, scale = float(np.abs(gain).max(initial=0.0)) or 1.0, np.where(most > 0, most, 1.0)
-        rows = vstack([csr_matrix(self.limits(joined) * (sign / scale)[:, None]), order], format="csr")
+        unit, used = float(np.abs(gain).max(initial=0.0)) or 1.0, self.limits(joined)
+        scale = scale_of(most, used)
+        rows = vstack([csr_matrix(used * (sign / scale)[:, None]), order], format="csr")
         # What lacks, as shares of what is due.
         owed = np.flatnonzero(sign < 0) if seeks_dues else np.zeros(0, dtype=np.int64)
         lacking = coo_matrix((-np.ones(len(owed)), (owed, np.arange(len(owed)))), shape=(rows.shape[0], len(owed)))
@@ -141,6 +142,12 @@ class Master:
             if year + 1 < len(found):
                 found[year + 1] -= np.bincount(label[:, -1], amounts[: len(label), 0], minlength=groups.count)
         return found
+
+
+def scale_of(most: NDArray[np.float64], used: NDArray[np.float64]) -> NDArray[np.float64]:
+    """A unit for each limit: its amount, or, if that is 0, the greatest amount of a group."""
+    largest = np.abs(used).max(axis=1, initial=0.0)
+    return np.where(most > 0, most, np.where(largest > 0, largest, 1.0))
 
 
 def pairs_of(groups: Groups, nodes: Nodes) -> csr_matrix:

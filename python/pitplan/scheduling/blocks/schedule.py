@@ -39,6 +39,17 @@ class BlockSchedule:
         by_year = [np.bincount(self.year, amounts, minlength=problem.years + 1)[: problem.years] for amounts in taken]
         return np.array(by_year).reshape(len(problem.limits), problem.years)
 
+    def slack(self, problem: BlockProblem) -> NDArray[np.float64]:
+        """By how much each limit may be missed in each year, as sums of floats do: shape (limits, years)."""
+        found = np.full((len(problem.limits), problem.years), HAIR)
+        for number, limit in enumerate(problem.limits):
+            if not limit.signed:
+                found[number] += HAIR * limit.most
+                continue
+            size = (np.abs(limit.amounts) * self.share).sum(axis=1)
+            found[number] += HAIR * np.bincount(self.year, size, minlength=problem.years + 1)[: problem.years]
+        return found
+
     def lacking(self, problem: BlockProblem) -> float:
         """What lacks of what years must hold at least, as shares of it added up; 0 where nothing does but for a hair."""
         floors = np.array([limit.floor for limit in problem.limits]).reshape(len(problem.limits), problem.years)
@@ -70,7 +81,7 @@ class BlockSchedule:
             whole.all()
             and (self.share >= 0).all()
             and ordered.all()
-            and (self.sums(problem) <= most * (1 + HAIR) + HAIR).all()
+            and (self.sums(problem) <= most + self.slack(problem)).all()
         )
 
 

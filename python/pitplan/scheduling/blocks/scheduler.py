@@ -15,6 +15,7 @@ from pitplan.core.progress import Progress, silent
 from pitplan.errors import PlanError
 
 from .bienstock_zuckerberg import Relaxation, Round, relaxed
+from .blending import blended
 from .destinations import with_best_shares
 from .greedy import Filling, preferences
 from .local_search import moved
@@ -182,6 +183,16 @@ class Search:
                     self.offer_filled(number, filling.without_loss(sequence))
                 if self.problem.owes:
                     self.offer_filled(0, self.fillings[0].fill(sequence))
+        if any(limit.signed for limit in self.problem.limits):
+            with self.progress.step("blending the blocks of each year"):
+                self.blend()
+
+    def blend(self) -> None:
+        """Takes the best of the schedules that are filled without signed limits and then keep them by where blocks go."""
+        cumulative, prices = self.relaxation.cumulative, self.relaxation.prices
+        for filling in self.fillings:
+            for schedule in blended(filling, sequences(self.problem, self.part.ranks, cumulative), prices):
+                self.offer(schedule)
 
     def offer_filled(self, number: int, schedule: BlockSchedule) -> None:
         """Takes a schedule that is better, also than those that were filled in the same way."""

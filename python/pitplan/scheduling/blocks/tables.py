@@ -65,15 +65,16 @@ class ScheduledBlocks:
         problem, schedule, project = self.planned.problem, self.found.schedule, self.planned.plan.project
         cash = cash_of(self.planned.flows, of_project(project), problem.years)
         dug = np.arange(problem.blocks), slice(None), np.minimum(schedule.year, problem.years - 1)
-        sums = {
-            name: np.bincount(schedule.year, (amounts * schedule.share).sum(axis=1), minlength=problem.years + 1)[
-                : self.count
-            ]
-            for name, amounts in (self.planned.flows | {CASH: cash[dug]}).items()
-        }
-        discounted = sums[CASH] * year_discounts(project.shells, problem.years)[: self.count]
-        head = {"case": CASE, "revenue_factor": BASE_PRICE, "year": np.arange(1, self.count + 1)}
-        return pd.DataFrame(head | sums | {"discounted_cash_flow": discounted})
+        flows, count = self.planned.flows | {CASH: cash[dug]}, self.count
+        table = pd.DataFrame({"case": CASE, "revenue_factor": BASE_PRICE, "year": np.arange(1, count + 1)})
+        for name, amounts in flows.items():
+            of_blocks = (amounts * schedule.share).sum(axis=1)
+            table[name] = np.bincount(schedule.year, of_blocks, minlength=problem.years + 1)[:count]
+        earned = table.pop(CASH)
+        for grade in self.planned.grades:
+            table[grade.name] = grade.of_years(self.planned.cells, schedule, problem.years)[:count]
+        discounts = year_discounts(project.shells, problem.years)[:count]
+        return table.assign(**{CASH: earned, "discounted_cash_flow": earned * discounts})
 
     @property
     def table(self) -> pd.DataFrame:
@@ -114,6 +115,11 @@ class ScheduledBlocks:
         return pd.DataFrame(rows, columns=["limit", "side", "year", "price"])
 
     @property
+    def feed_limits(self) -> dict[str, float]:
+        """The limited head grades by name, such as grade_mill_as_ppm_max."""
+        return {name: grade for it in self.planned.grades for name, (_, grade) in it.limits.items()}
+
+    @property
     def record(self) -> dict[str, Any]:
         """What block_schedule.json says: value and bound, the gap between these as a share of the bound, the years that there were, the
         limits, how the bound was found, and the solver."""
@@ -126,6 +132,7 @@ class ScheduledBlocks:
             "years": self.planned.problem.years,
             "limits": limits.most,
             **({"least": limits.least} if limits.least else {}),
+            **({"feed": self.feed_limits} if self.planned.grades else {}),
             "ramp_up": list(limits.ramp_up),
             "blocks": found.blocks,
             "nodes": found.nodes,

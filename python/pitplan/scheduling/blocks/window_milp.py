@@ -134,11 +134,7 @@ class Window:
             self.first, self.last
         )
         limits = [
-            Limit(
-                limit.name,
-                limit.amounts[self.blocks],
-                *(np.maximum(it[years] - sums, 0.0) for it in (limit.most, limit.floor)),
-            )
+            self.left(limit, limit.most[years] - sums, limit.floor[years] - sums)
             for limit, sums in zip(self.problem.limits, taken)
         ]
         owed = [(due, due.least - float((due.amounts * others).sum())) for due in self.problem.dues]
@@ -146,11 +142,18 @@ class Window:
         needs = self.problem.needs.within(self.number >= 0)
         return BlockProblem(self.problem.values[self.blocks, :, years], needs, tuple(limits), dues)
 
+    def left(self, limit: Limit, most: NDArray[np.float64], least: NDArray[np.float64]) -> Limit:
+        """A limit of the free blocks, with what the others leave of its most and its least. Of a signed one these may be below 0."""
+        amounts = limit.amounts[self.blocks]
+        if limit.signed:
+            return Limit(limit.name, amounts, most, signed=True)
+        return Limit(limit.name, amounts, np.maximum(most, 0.0), np.maximum(least, 0.0))
+
     def limits(self) -> tuple[csr_matrix, NDArray[np.float64]]:
         """A row for each limit and year that has one, as shares of the greatest amount of a block."""
         truths, rows, left = csr_matrix((self.years, self.place.size)), [csr_matrix((0, self.width))], [np.zeros(0)]
         for limit in self.part.limits:
-            some, unit = np.isfinite(limit.most), float(limit.amounts.max(initial=0.0)) or 1.0
+            some, unit = np.isfinite(limit.most), float(np.abs(limit.amounts).max(initial=0.0)) or 1.0
             shares = limit.amounts[:, None, :] * np.eye(self.years)[:, None, :, None]
             shares = shares.reshape(self.years, -1) / unit
             rows.append(hstack([truths, csr_matrix(shares)], format="csr")[some])

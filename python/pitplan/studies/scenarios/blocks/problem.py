@@ -138,6 +138,9 @@ def demand_of_scenarios(project: Project) -> None:
         "[schedule] milp: its time limit would make results depend on the machine": rules.milp is not None,
         "[schedule] minimum: a common schedule cannot meet it in each scenario": bool(rules.minimum),
         "[[schedule.limits]]: apply to columns of the table, and scenarios have their own grades": bool(rules.limits),
+        "[processes.feed] and [schedule.feed]: apply to columns of the table, and scenarios have their own grades": bool(
+            project.feed_grades
+        ),
         of_metals: any(metal.prices for metal in project.metals),
         "[[processes]]: a schedule over scenarios has one mill": bool(project.processes),
         "[[periods]]: apply to shells and schedules of pushbacks": bool(project.shells.calendar),

@@ -1,0 +1,81 @@
+"""Limits on head grades in schedules by block: the content of a process's feed less the grade times its tonnes is at most 0 in each year.
+
+A block that recovers no metal in a process never lowers or raises the head grade there for the sake of a limit: it counts only if that
+makes the limit tighter.
+"""
+
+from __future__ import annotations
+
+from dataclasses import dataclass
+
+import numpy as np
+from numpy.typing import NDArray
+
+from pitplan.plan import Plan
+from pitplan.scheduling.flow.parcels import GRADE, column_of, feed_grades, grade_name
+
+from .problem import Limit
+from .schedule import BlockSchedule
+
+
+@dataclass(frozen=True)
+class HeadGrade:
+    """A grade of the feed of a process that has limits.
+
+    Attributes
+    ----------
+    name : str
+        Its column in years.csv, such as head_grade_mill_as_ppm.
+    destination : int
+        The number of the process among the destinations, of which waste is 0.
+    limits : dict
+        The limits by name, such as grade_mill_as_ppm_max, with 1 for a maximum and -1 for a minimum, and the grade.
+    content, feed : array, shape (cells,)
+        What each cell adds to the content and to the tonnes of the feed.
+    pays : bool array, shape (cells,)
+        Whether it recovers metal in the process.
+    """
+
+    name: str
+    destination: int
+    limits: dict[str, tuple[float, float]]
+    content: NDArray[np.float64]
+    feed: NDArray[np.float64]
+    pays: NDArray[np.bool_]
+
+    def excess(self, name: str) -> NDArray[np.float64]:
+        """Returns what each cell in the process adds to the content above a maximum, or below a minimum."""
+        sign, grade = self.limits[name]
+        found = sign * (self.content - grade * self.feed)
+        return np.where(self.pays, found, np.maximum(found, 0.0))
+
+    def limits_of(self, cells: NDArray[np.int64], destinations: int, years: int) -> list[Limit]:
+        """Returns the limits of cells that are scheduled."""
+        found = []
+        for name in self.limits:
+            amounts = np.zeros((len(cells), destinations))
+            amounts[:, self.destination] = self.excess(name)[cells]
+            found.append(Limit(name, amounts, np.zeros(years), signed=True))
+        return found
+
+    def of_years(self, cells: NDArray[np.int64], schedule: BlockSchedule, years: int) -> NDArray[np.float64]:
+        """Returns the head grade of each year; nan without feed."""
+        share = schedule.share[:, self.destination]
+        content, feed = (
+            np.bincount(schedule.year, amounts[cells] * share, minlength=years + 1)[:years]
+            for amounts in (self.content, self.feed)
+        )
+        return np.where(feed > 0, content / np.where(feed > 0, feed, 1.0), np.nan)
+
+
+def head_grades(plan: Plan) -> list[HeadGrade]:
+    """Returns the head grades that `[processes.feed]` and `[schedule.feed]` limit."""
+    values, cells, found = plan.values, np.arange(plan.grid.count), []
+    for number, limit in feed_grades(plan):
+        sides = {"max": (1.0, limit.max), "min": (-1.0, limit.min)}
+        limits = {grade_name(limit, side): (sign, grade) for side, (sign, grade) in sides.items() if grade is not None}
+        name = "head_" + GRADE + "_".join([*([limit.process] if limit.process else []), limit.column])
+        content = column_of(plan, limit.column, cells) * values.undiluted
+        pays = values.by_process[number].revenue > 0
+        found.append(HeadGrade(name, 1 + number, limits, content, values.feed, pays))
+    return found

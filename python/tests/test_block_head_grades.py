@@ -1,0 +1,115 @@
+"""`pitplan schedule --by block` with `[schedule.feed]` and `[processes.feed]`: by hand, and the verification."""
+
+import json
+
+import pandas as pd
+import pytest
+from conftest import rows
+from helpers.block_commands import WIDE, named_mill, rewrite, scheduled, with_processes, wrong, years_of
+from helpers.pushbacks import pillars
+
+# The ore of three pillars of 1, 0.7 and 0.5 % copper, of 100 t each.
+DIRTY = {"as_ppm": lambda i, j, k: 0 if k else (200, 100, 50)[i]}
+FEED = "[schedule]\nyears = 3\n[schedule.feed]\nas_ppm = { max = 110 }\n"
+
+
+def ores(copper, arsenic):
+    """The pillars with other grades of their ore."""
+    table = pillars(as_ppm=lambda i, j, k: 0 if k else arsenic[i])
+    return table.assign(cu=rows(3, 1, 2, cu=lambda i, j, k: 0 if k else copper[i])["cu"])
+
+
+def shares(folder, name="mill"):
+    """The share of each pillar's ore that goes to a process."""
+    blocks = pd.read_csv(folder / "tables/blocks.csv").set_index("name")
+    return blocks[f"share_{name}"][["b0-0-0", "b1-0-0", "b2-0-0"]].tolist()
+
+
+def test_a_maximum_by_hand(plan_folder):
+    """90 ppm too much in the first ore, 10 and 60 too little in the others: 7/9 of the first go with them, and the rest is waste. Milled, a
+    tonne of it is worth 30. The bound has 7/9 of its pillar mined."""
+    row, folder = scheduled(plan_folder, FEED, WIDE, pillars(**DIRTY))
+    value = (2600 + 1400 + 600 - 2 / 9 * 3000) / 1.1
+    assert row["npv"] == pytest.approx(value) and wrong(folder) == set()
+    assert row["upper_bound"] == pytest.approx((7 / 9 * 2600 + 1400 + 600) / 1.1)
+    assert shares(folder) == pytest.approx([7 / 9, 1, 1]) and years_of(folder)["head_grade_as_ppm"].tolist() == [110]
+    assert json.loads((folder / "block_schedule.json").read_text())["feed"] == {"grade_as_ppm_max": 110}
+
+
+def test_a_minimum_by_hand(plan_folder):
+    """0.8 % copper: the first ore has 0.2 % more, the second 0.1 % less. What is left lets a third of the last one be milled, which does not
+    pay for its mining."""
+    row, folder = scheduled(plan_folder, "[schedule.feed]\ncu = { min = 0.8 }\n", WIDE)
+    assert row["npv"] == pytest.approx(4000 / 1.1) and row["upper_bound"] >= row["npv"] and wrong(folder) == set()
+    assert shares(folder) == [1, 1, 0] and years_of(folder)["head_grade_cu"].tolist() == [0.85]
+
+
+def test_clean_ore_that_does_not_pay_is_fed_for_the_grade(plan_folder):
+    """The last ore holds 0.2 % copper: milled it loses 200, and mined 400 more. With it 1/2 of the first ore is milled, not 1/9: 7/18 of 3000 are
+    more. The bound has half of its pillar mined."""
+    table = ores([1, 0.7, 0.2], [200, 100, 75])
+    row, folder = scheduled(plan_folder, FEED, WIDE, table)
+    assert shares(folder) == pytest.approx([1 / 2, 1, 1]) and wrong(folder) == set()
+    assert row["npv"] == pytest.approx((1500 - 400 + 1400 - 200 - 400) / 1.1)
+    assert row["upper_bound"] == pytest.approx((2600 / 2 + 1400 - 200 - 400) / 1.1)
+
+
+def test_barren_rock_is_not_fed_for_the_grade(plan_folder):
+    """It recovers no copper, so it is never milled, however clean it is."""
+    table = ores([1, 0, 0], [200, 0, 0])
+    row, folder = scheduled(plan_folder, FEED, WIDE, table)
+    assert (
+        row["npv"] == row["years"] == 0 and row["upper_bound"] == pytest.approx(0, abs=1e-6) and wrong(folder) == set()
+    )
+
+
+def test_dirty_ore_goes_to_the_process_without_a_limit(plan_folder):
+    """A block earns 3000, 1800 and 1000 more in the mill than by leach, all together 6140 there; mining costs 1200."""
+    text = with_processes().replace("capacity = 100\n", "capacity = 300\n")
+    assert text.count('name = "mill"\n') == 1
+    text = text.replace('name = "mill"\n', 'name = "mill"\nfeed = { as_ppm = { max = 110 } }\n')
+    row, folder = scheduled(plan_folder, "[schedule]\nyears = 2\n", text, pillars(**DIRTY))
+    assert row["npv"] == pytest.approx((6140 + 7 / 9 * 3000 + 2800 - 1200) / 1.1) and wrong(folder) == set()
+    assert shares(folder) == pytest.approx([7 / 9, 1, 1]) and shares(folder, "leach") == pytest.approx([2 / 9, 0, 0])
+    assert years_of(folder)["head_grade_mill_as_ppm"].tolist() == [110]
+
+
+def test_both_notations_of_one_mine_have_the_same_value_and_bound(plan_folder):
+    plain, _ = scheduled(plan_folder, FEED, table=pillars(**DIRTY))
+    words = "feed = { as_ppm = { max = 110 } }\n[schedule]\nyears = 3\n"
+    named, folder = scheduled(plan_folder, words, named_mill(), pillars(**DIRTY))
+    assert plain["npv"] == pytest.approx(named["npv"]) and plain["upper_bound"] == pytest.approx(named["upper_bound"])
+    # A year mills one ore: the first one never does.
+    assert shares(folder) == [0, 1, 1] and wrong(folder) == set()
+
+
+@pytest.fixture
+def mixed(plan_folder):
+    return scheduled(plan_folder, FEED, WIDE, pillars(**DIRTY))[1]
+
+
+def test_a_head_grade_above_its_limit_is_found(mixed):
+    rewrite(mixed / "tables/blocks.csv", lambda table: table.__setitem__("share_mill", (table["cu"] > 0) * 1.0))
+    assert "block limits" in wrong(mixed)
+
+
+def test_a_head_grade_that_is_not_that_of_the_blocks_is_found(mixed):
+    rewrite(mixed / "tables/years.csv", lambda table: table.__setitem__("head_grade_as_ppm", 109.9))
+    assert wrong(mixed) == {"block limits"}
+
+
+def test_another_recorded_limit_is_found(mixed):
+    told = json.loads((mixed / "block_schedule.json").read_text())
+    (mixed / "block_schedule.json").write_text(json.dumps(told | {"feed": {"grade_as_ppm_max": 120}}))
+    assert wrong(mixed) == {"block limits"}
+
+
+@pytest.mark.parametrize("change", [lambda price: price * 0.5, lambda price: price + 0.1, lambda price: -price])
+def test_other_multipliers_of_a_head_grade_are_found(mixed, change):
+    """Those of the first year, in which all is mined."""
+    table = pd.read_csv(mixed / "tables/bound.csv", float_precision="round_trip")
+    mine = (table["limit"] == "grade_as_ppm_max") & (table["year"] == 1)
+    assert mine.sum() == 1 and (table["price"][mine] > 0).all()
+    table.loc[mine, "price"] = change(table["price"][mine])
+    table.to_csv(mixed / "tables/bound.csv", index=False)
+    assert wrong(mixed) == {"upper bound"}
