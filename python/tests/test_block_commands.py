@@ -10,11 +10,11 @@ import pandas as pd
 import pytest
 from conftest import PROJECT, ROOT, rows
 from helpers.block_commands import YEARLY, named_mill, rewrite, scheduled, with_processes, wrong, years_of
-from helpers.pushbacks import pillars
+from helpers.pushbacks import PUSHBACKS, pillars
 from matplotlib.figure import Figure
 
 import pitplan
-from pitplan import Plan, PlanError, load, verify
+from pitplan import Plan, PlanError, ResultWarning, load, verify
 from pitplan.cli import main
 from pitplan.figures import block_schedule
 from pitplan.results.folder import read_record
@@ -140,13 +140,7 @@ def test_rock_without_metal_is_waste(plan_folder):
 @pytest.mark.parametrize(
     ("words", "said"),
     [
-        ("[schedule]\nbench_lag = 1", "[schedule] bench_lag: applies to pushbacks"),
-        (
-            "[schedule]\nvertical_advance_rate = 2",
-            "[schedule] vertical_advance_rate: applies to the benches of a pushback",
-        ),
-        ("[schedule]\nbins = 2", "[schedule] bins: apply to benches"),
-        ("[schedule]\nbins = 2\nstockpile = { reclaim_cost = 1 }", "[schedule] bins: apply to benches"),
+        ("[schedule]\nstockpile = { reclaim_cost = 1 }", "[schedule] stockpile: found one, expected none by block"),
         ("[schedule]\nprocessing_capacity = 1", "holds 100 of feed_tonnes, and a year takes at most 1"),
     ],
 )
@@ -154,6 +148,29 @@ def test_what_is_refused(plan_folder, words, said):
     with pytest.raises(PlanError) as error:
         scheduled(plan_folder, words + "\n")
     assert said in str(error.value) and "project.toml" in str(error.value)
+
+
+def test_a_stockpile_is_refused_before_the_table_is_read(plan_folder):
+    path = plan_folder(pillars(), YEARLY + "[schedule]\nstockpile = { reclaim_cost = 1 }\n")
+    (path.parent / "blocks.csv").unlink()
+    with pytest.raises(PlanError, match=r"\[schedule\] stockpile: found one"):
+        pitplan.write_block_schedule(path)
+
+
+def test_one_project_has_both_kinds_of_schedule(plan_folder):
+    """Keys of pushbacks alone change nothing by block, and are named."""
+    keys = {"bench_lag": 1, "vertical_advance_rate": 2, "bins": 2}
+    words = "[schedule]\nyears = 4\n" + "".join(f"{key} = {value}\n" for key, value in keys.items())
+    path = plan_folder(pillars(), PUSHBACKS + words)
+    pitplan.write_schedule(path)
+    named = ", ".join(rf"\[schedule\] {key}" for key in keys)
+    with pytest.warns(ResultWarning, match=f"a schedule by block does not apply {named}: only pushbacks have these"):
+        row = pitplan.write_block_schedule(path).iloc[0]
+    folder = path.parent / "plan" / "block_schedule"
+    plain, other = scheduled(plan_folder, "[schedule]\nyears = 4\n")
+    assert row["npv"] == plain["npv"] and row["upper_bound"] == plain["upper_bound"] and wrong(folder) == set()
+    names = "tables/methods.csv"
+    assert (folder / names).read_text() == (other / names).read_text()
 
 
 def test_too_many_blocks_are_refused_before_anything_is_solved(plan_folder, monkeypatch):

@@ -325,9 +325,9 @@ def test_factors_are_no_part_of_a_schedule(plan_folder):
     [
         ("milp = { seconds = 5 }", "[schedule] milp: its time limit would make results depend on the machine"),
         ("bench_lag = 1", "[schedule] bench_lag: applies to pushbacks"),
-        ("vertical_advance_rate = 2", "[schedule] vertical_advance_rate: applies to the benches of a pushback"),
-        ("bins = 2", "[schedule] bins: apply to benches"),
-        ("bins = 2\nstockpile = { reclaim_cost = 1 }", "[schedule] bins: apply to benches"),
+        ("vertical_advance_rate = 2", "[schedule] vertical_advance_rate: applies to pushbacks"),
+        ("bins = 2", "[schedule] bins: applies to pushbacks"),
+        ("bins = 2\nstockpile = { reclaim_cost = 1 }", "[schedule] stockpile: found one, expected none by block"),
         ("minimum = { feed = 10 }", "[schedule] minimum: a common schedule cannot meet it in each scenario"),
         ('[[schedule.limits]]\ncolumn = "tonnes"\nmax = 5', "[[schedule.limits]]: apply to columns of the table"),
     ],

@@ -7,7 +7,7 @@ from conftest import PROJECT
 from helpers.pushbacks import RICH, UPRIGHT, floor, pillars, square, with_pushbacks
 
 import pitplan
-from pitplan import PlanError, verify
+from pitplan import PlanError, ResultWarning, verify
 from pitplan.pushbacks import nested
 from pitplan.results.folder import read_record
 
@@ -133,7 +133,9 @@ def test_what_is_refused(plan_folder, words, said):
 
 def test_blocks_one_by_one_have_no_pushbacks(plan_folder):
     path = plan_folder(pillars(), with_pushbacks(ADDED))
-    with pytest.raises(PlanError, match=r"\[pushbacks\] mining_cost_added: applies to pushbacks: leave it out"):
+    with pytest.warns(
+        ResultWarning, match=r"the NPV of this schedule by block leaves out the cost of \[pushbacks\] mining_cost_added"
+    ):
         pitplan.write_block_schedule(path)
 
 

@@ -89,7 +89,7 @@ def write_block_schedule(project: Source, folder: Optional[Place] = None, writin
     load_library("a schedule by block")
     # Its modules import the library themselves.
     from pitplan.scheduling.blocks import tables
-    from pitplan.scheduling.blocks.from_plan import demand_of_blocks
+    from pitplan.scheduling.blocks.keys import demand_of_blocks
 
     project = read(project)
     demand_of_blocks(project)

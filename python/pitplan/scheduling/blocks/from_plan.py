@@ -22,6 +22,7 @@ from pitplan.slopes.arcs import ABSENT, slices
 
 from .head_grades import HeadGrade, head_grades
 from .integer_values import upward
+from .keys import demand_of_blocks
 from .nodes import demand_room
 from .problem import BlockProblem, Due, Limit, Needs
 from .ranks import greatest_needed, ranks_of
@@ -151,27 +152,6 @@ def pays_of(plan: Plan) -> NDArray[np.bool_]:
     return np.stack(
         [np.zeros(plan.grid.count, dtype=bool), *(way.revenue > 0 for way in plan.values.by_process)], axis=1
     )
-
-
-def demand_of_blocks(project: Project) -> None:
-    """Raises PlanError, with the key, where the project asks for what is not done by block."""
-    path, rules = project.path, project.schedule or ScheduleRules()
-    costs_years = bool(project.economics.fixed_cost_per_year or project.economics.capex)
-    asked = {
-        "[schedule] bench_lag: applies to pushbacks": rules.bench_lag > 0,
-        "[schedule] vertical_advance_rate: applies to the benches of a pushback": rules.vertical_advance_rate
-        is not None,
-        "[schedule] bins: apply to benches; a block is sent to one destination": rules.bins is not None,
-        "[schedule] stockpile: applies to pushbacks": rules.reclaim_cost is not None,
-        "[economics] fixed_cost_per_year, capex: period costs are not part of a schedule by block": costs_years,
-        "[[periods]]: apply to shells and schedules of pushbacks": bool(project.shells.calendar),
-        "[pushbacks] mining_cost_added: applies to pushbacks": bool(
-            project.pushbacks and project.pushbacks.mining_cost_added
-        ),
-    }
-    for why, is_asked in asked.items():
-        if is_asked:
-            raise PlanError(f"{path}: {why}: leave it out with --by block")
 
 
 def destinations_of(project: Project) -> tuple[str, ...]:

@@ -20,6 +20,7 @@ from pitplan.plan import Plan
 from pitplan.pushbacks.bench_table import CASH, ORE, ROCK
 
 from .from_plan import PlannedBlocks, cash_of, of_plan
+from .keys import unapplied
 from .scheduler import Scheduled, gap_of, solve
 
 # What years.csv calls the case, and how the names of blocks.csv's columns of shares begin.
@@ -154,6 +155,7 @@ class ScheduledBlocks:
         ]
         if not self.count:
             said.append("nothing is mined: at these prices and costs no block pays for itself and its predecessors")
+        said += unapplied(self.planned.plan.project)
         if found.interrupted:
             said.append("WARNING: the run was interrupted; this is the best schedule so far, and the upper bound holds")
         return said

@@ -17,7 +17,8 @@ from pitplan.core.progress import Progress
 from pitplan.core.revenue_factors import BASE_PRICE
 from pitplan.errors import PlanError
 from pitplan.pushbacks.bench_table import CASH
-from pitplan.scheduling.blocks.from_plan import demand_of_blocks, diggable, pit_of
+from pitplan.scheduling.blocks.from_plan import diggable, pit_of
+from pitplan.scheduling.blocks.keys import demand_of_blocks, of_pushbacks
 from pitplan.solver.choice import PROGRAM
 from pitplan.studies.scenarios import prepare, store
 from pitplan.studies.scenarios.prepare import Laid
@@ -33,6 +34,8 @@ def demand_apt(project: Project) -> None:
     """Raises PlanError if the project sets an option that scenarios --by block do not support."""
     demand_of_blocks(project)
     demand_of_scenarios(project)
+    for key in of_pushbacks(project):
+        raise PlanError(f"{project.path}: {key}: applies to pushbacks: remove it for scenarios --by block")
     if project.solver == PROGRAM:
         raise PlanError(
             "--solver program: finds pits alone, and schedules by block are made with the library: leave it out"
