@@ -181,12 +181,6 @@ def test_too_many_blocks_are_refused_before_anything_is_solved(plan_folder, monk
         scheduled(plan_folder, text=with_processes())
 
 
-@pytest.mark.parametrize("words", ["fixed_cost_per_year = 5", "capex = [[1, 5]]"])
-def test_what_years_cost_is_refused(plan_folder, words):
-    with pytest.raises(PlanError, match="fixed_cost_per_year, capex: period costs"):
-        scheduled(plan_folder, text=YEARLY.replace("mining_cost = 2\n", f"mining_cost = 2\n{words}\n"))
-
-
 def test_the_command_line_tells_value_bound_and_gap(plan_folder, capsys):
     path = plan_folder(pillars(), YEARLY)
     assert main(["schedule", str(path), "--by", "block"]) == 0

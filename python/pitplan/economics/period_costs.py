@@ -44,6 +44,11 @@ class YearlyMoney:
             found[:, names.index(name)] = np.array(premiums)[year]
         return found
 
+    def costs(self, years: int) -> dict[str, np.ndarray]:
+        """Returns the columns that a table of so many years has for these."""
+        found = {"fixed_cost": np.full(years, self.fixed_cost), "capex": self.spent(years)}
+        return {name: found[name] for name in self.columns}
+
     def spent(self, years: int) -> np.ndarray:
         """Returns the capex of each year."""
         found = np.zeros(years)

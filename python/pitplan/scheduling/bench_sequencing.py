@@ -130,8 +130,13 @@ class Problem:
 
     def costs_of_years(self, years: int) -> np.ndarray:
         """The same of so many years in which the mine runs."""
-        starts = (1 + self.settings.discount_rate) ** -np.arange(float(years))
-        return self.money.fixed(years) * year_discounts(self.settings, years) + self.money.spent(years) * starts
+        return costs_of_years(self.money, self.settings, years)
+
+
+def costs_of_years(money: YearlyMoney, settings: ShellRules, years: int) -> np.ndarray:
+    """Fixed costs and capex of years in which the mine runs, discounted."""
+    starts = (1 + settings.discount_rate) ** -np.arange(float(years))
+    return money.fixed(years) * year_discounts(settings, years) + money.spent(years) * starts
 
 
 def running(flows: np.ndarray) -> np.ndarray:

@@ -15,10 +15,10 @@ from planaudit.blocks import constraints as fixed
 from planaudit.ground import slopes as walls
 from planaudit.inputs.answer import Answer
 from planaudit.inputs.matching import YEAR
-from planaudit.money.period_costs import premiums
+from planaudit.money.period_costs import capex, premiums
 from planaudit.rules import TOLD, Rule, rule
 from planaudit.schedules import block_grades, bounds, methods as ways_table
-from planaudit.schedules.discounts import discount
+from planaudit.schedules.discounts import discount, present_costs
 from planaudit.schedules.limits import amounts_of, least_of, limits_of, shares_of
 from planaudit.schedules.pushback_schedule import CENT
 
@@ -129,6 +129,22 @@ def verify_limits(answer: Answer, told: dict[str, Any], sums: pd.DataFrame) -> R
     )
 
 
+def with_costs(answer: Answer, sums: pd.DataFrame) -> pd.DataFrame:
+    """Returns the sums of years with the discounted cash flow, and with period costs if there are any, which both cash flows pay."""
+    economics, years = answer.project.economics, sums.index.tolist()
+    present = sums["cash_flow"] * [discount(answer, year) for year in years] - [
+        present_costs(answer, year) for year in years
+    ]
+    sums = sums.assign(discounted_cash_flow=present)
+    if not economics.fixed_cost_per_year and not economics.capex:
+        return sums
+    costs = {
+        "fixed_cost": np.full(len(years), float(economics.fixed_cost_per_year)),
+        "capex": np.array([capex(answer.project, year) for year in years], dtype=float),
+    }
+    return sums.assign(**costs, cash_flow=sums["cash_flow"] - costs["fixed_cost"] - costs["capex"])
+
+
 def verify_value(answer: Answer, told: dict[str, Any], sums: pd.DataFrame) -> Rule:
     """Verifies that years.csv has the sums of blocks and discounted cash flow, and that the NPV is their sum and at most the bound."""
     assert answer.years is not None
@@ -137,8 +153,7 @@ def verify_value(answer: Answer, told: dict[str, Any], sums: pd.DataFrame) -> Ru
     differences = (
         [] if said.index.tolist() == list(range(1, last + 1)) else [f"years {said.index.tolist()} for 1 to {last}"]
     )
-    sums = sums.reindex(range(1, last + 1), fill_value=0.0)
-    sums["discounted_cash_flow"] = sums["cash_flow"] * [discount(answer, year) for year in sums.index]
+    sums = with_costs(answer, sums.reindex(range(1, last + 1), fill_value=0.0))
     for name in sums.columns:
         off = (said[name].reindex(sums.index) - sums[name]).abs() > CENT + 1e-9 * sums[name].abs()
         pairs = [(year, said[name].get(year, math.nan), sums[name][year]) for year in sums.index[off]]

@@ -21,7 +21,7 @@ from planaudit.money.period_costs import premiums
 from planaudit.rules import Rule, rule
 from planaudit.schedules import block_grades
 from planaudit.schedules.closure import Closure, maximum_closure
-from planaudit.schedules.discounts import discount
+from planaudit.schedules.discounts import discount, present_costs
 from planaudit.schedules.limits import amounts_of, least_of, limits_of, shares_of
 from planaudit.schedules.precedences import Precedences, precedences_of
 from planaudit.schedules.pushback_schedule import CENT
@@ -124,9 +124,16 @@ class Bound:
 
     @cached_property
     def of_limits(self) -> float:
-        """The prices times the limits. A maximum at a price below 0 counts as 0: its minimum."""
-        rows = self.prices.itertuples(index=False)
-        return sum(it.price * self.limits[it.limit, it.side, it.year] for it in rows if it.side == MIN or it.price > 0)
+        """The prices times the limits, less the costs of years. A maximum at a price below 0 counts as 0: its minimum. Maxima and costs count
+        as many years as is best, from the first: what is mined in none of the later years uses nothing there."""
+        running, minimums = -np.array([present_costs(self.answer, year) for year in self.every_year]), 0.0
+        for it in self.prices.itertuples(index=False):
+            amount = it.price * self.limits[it.limit, it.side, it.year]
+            if it.side == MIN:
+                minimums += amount
+            elif it.price > 0:
+                running[it.year - 1] += amount
+        return minimums + float(running.cumsum().max())
 
     @cached_property
     def earned(self) -> np.ndarray:
@@ -189,7 +196,10 @@ class Bound:
             number = next((k for k in range(len(parts) - 1) if not self.is_nested(parts[k], parts[k + 1])), None)
             if number is None:
                 found = [part for _, _, part in parts]
-                return self.of_limits + sum(it.value for it in found), sum(it.slack for it in found)
+                value = self.of_limits + sum(it.value for it in found)
+                # To mine nothing earns nothing, unless a minimum forbids it.
+                is_free = all(side == MAX for _, side, _ in self.limits)
+                return max(value, 0.0) if is_free else value, sum(it.slack for it in found)
             years = parts[number][0], parts[number + 1][1]
             parts[number : number + 2] = [(*years, self.closure(*years))]
 

@@ -134,7 +134,7 @@ def keeping_dues(nodes: Nodes, groups: Groups) -> Groups:
     By the same rounds, where blocks earn nothing and what lacks of a due costs its share: then the prices of a round at which the closure's
     bound is below 0 show that nothing keeps all dues. Raises PlanError then.
     """
-    nothing = replace(nodes, problem=replace(nodes.problem, values=np.zeros_like(nodes.problem.values)))
+    nothing = replace(nodes, problem=replace(nodes.problem, values=np.zeros_like(nodes.problem.values), costs=None))
     master = Master(nothing)
     while True:
         found = master.solve(groups, seeks_dues=True)

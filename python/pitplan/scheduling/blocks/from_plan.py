@@ -15,7 +15,7 @@ from pitplan.errors import PlanError
 from pitplan.pits.best_worst_case import year_discounts
 from pitplan.plan import MILLION, Plan
 from pitplan.pushbacks.bench_table import CASH, ORE, ROCK
-from pitplan.scheduling.bench_sequencing import Limits
+from pitplan.scheduling.bench_sequencing import Limits, costs_of_years
 from pitplan.scheduling.limits import SUM, all_limits_of
 from pitplan.slopes import closure
 from pitplan.slopes.arcs import ABSENT, slices
@@ -90,6 +90,7 @@ def of_plan(plan: Plan) -> PlannedBlocks:
         needs=needs,
         limits=(*above, *below, *(it for grade in grades for it in grade.limits_of(cells, pays.shape[1], years))),
         dues=dues_of(forced, pays.shape[1]),
+        costs=costs_of_years(money, project.shells, years) if money.columns else None,
     )
     return PlannedBlocks(plan, cells, destinations_of(project), limits, flows, problem, pays, tuple(grades))
 

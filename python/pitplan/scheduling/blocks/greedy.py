@@ -111,7 +111,7 @@ class Filling:
         best = nothing(self.problem)
         schedule = self.fill(sequence)
         while True:
-            pruned = paying(self.problem, schedule)
+            pruned = paying(self.problem, schedule).shortened(self.problem)
             value = pruned.value(self.problem)
             if value <= best.value(self.problem) * (1 + SLIGHT):
                 return best

@@ -11,17 +11,9 @@ ADDED_COST = "[pushbacks] mining_cost_added"
 
 def demand_of_blocks(project: Project) -> None:
     """Raises PlanError, with the key, if the project asks for what a schedule by block does not have, and without which its value is another."""
-    rules, money = project.schedule or ScheduleRules(), project.economics
-    asked = {
-        "[schedule] stockpile: found one, expected none by block: ore goes to a process in the year in which it is mined": rules.reclaim_cost
-        is not None,
-        "[economics] fixed_cost_per_year, capex: period costs are not part of a schedule by block": bool(
-            money.fixed_cost_per_year or money.capex
-        ),
-    }
-    for why, is_asked in asked.items():
-        if is_asked:
-            raise PlanError(f"{project.path}: {why}: remove it, or schedule pushbacks")
+    if project.schedule is not None and project.schedule.reclaim_cost is not None:
+        why = "found one, expected none by block: ore goes to a process in the year in which it is mined"
+        raise PlanError(f"{project.path}: [schedule] stockpile: {why}: remove it, or schedule pushbacks")
 
 
 def of_pushbacks(project: Project) -> list[str]:

@@ -18,6 +18,7 @@ from __future__ import annotations
 
 from dataclasses import dataclass
 from fractions import Fraction
+from itertools import accumulate
 
 import numpy as np
 from numpy.typing import NDArray
@@ -67,6 +68,9 @@ def priced(nodes: Nodes, prices: NDArray[np.float64]) -> Priced:
         known = {(part.first, part.last): part for part in parts}
         parts = [known.get(years) or solved(nodes, gain, *years) for years in joined]
     bound = sum(part.worth for part in parts) * Fraction(earned.worths.unit) + sold(nodes, prices)
+    if not nodes.problem.owes:
+        # To mine nothing costs nothing.
+        bound = max(bound, Fraction(0))
     mined = [by_then for part in parts for by_then in part.mined]
     return Priced(nodes.expanded(mined, earned.best), least_float(bound), len(parts))
 
@@ -115,16 +119,21 @@ def earned_at(nodes: Nodes, prices: NDArray[np.float64]) -> Earned:
 
 
 def sold(nodes: Nodes, prices: NDArray[np.float64]) -> Fraction:
-    """The prices times the limits, those below 0 times the least, exactly."""
+    """The prices times the limits, those below 0 times the least, exactly; less the costs of running. The mine runs, from the first year, as
+    many years as are best, and of what runs no longer no most is paid for."""
     problem = nodes.problem
-    of_limits = (
-        Fraction(float(price)) * Fraction(float(most if price > 0 else least))
+    of_minimums = (
+        Fraction(float(price)) * Fraction(float(least))
         for limit, by_year in zip(problem.limits, prices)
-        for price, most, least in zip(by_year, limit.most, limit.floor)
-        if price
+        for price, least in zip(by_year, limit.floor)
+        if price < 0
     )
+    running = [-Fraction(float(cost)) for cost in problem.running_costs]
+    for limit, by_year in zip(problem.limits, prices):
+        for year in np.flatnonzero(by_year > 0).tolist():
+            running[year] += Fraction(float(by_year[year])) * Fraction(float(limit.most[year]))
     of_dues = (
         Fraction(float(by_year[0])) * Fraction(due.least)
         for due, by_year in zip(problem.dues, prices[len(problem.limits) :])
     )
-    return sum(of_limits, Fraction(0)) + sum(of_dues, Fraction(0))
+    return sum(of_minimums, Fraction(0)) + max(accumulate(running)) + sum(of_dues, Fraction(0))

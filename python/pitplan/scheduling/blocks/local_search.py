@@ -24,6 +24,7 @@ class Moving:
     destination: list[int]
     room: Room
     users: list[list[int]]
+    last: int
     worth: list[list[list[float]]] = field(repr=False)
 
     @staticmethod
@@ -31,7 +32,10 @@ class Moving:
         problem = filling.problem
         users: list[list[int]] = [[] for _ in range(problem.blocks)]
         destination = schedule.share.argmax(axis=1).tolist()
-        moving = Moving(filling, schedule.year.tolist(), destination, Room(problem), users, problem.values.tolist())
+        # A later year than the last would cost as such.
+        last = (problem.years if problem.costs is None else schedule.life(problem)) - 1
+        values = problem.values.tolist()
+        moving = Moving(filling, schedule.year.tolist(), destination, Room(problem), users, last, values)
         for block in np.flatnonzero(schedule.year < problem.years).tolist():
             moving.room.take(block, moving.destination[block], moving.year[block])
             for needed in filling.needed[block]:
@@ -40,9 +44,9 @@ class Moving:
 
     def move(self, block: int) -> bool:
         """Moves a block to the year and destination where it earns most, of those that have room; gives whether it has moved."""
-        years, now = self.filling.problem.years, (self.year[block], self.destination[block])
+        now = self.year[block], self.destination[block]
         first = max((self.year[other] for other in self.filling.needed[block]), default=0)
-        last = min((self.year[other] for other in self.users[block]), default=years - 1)
+        last = min((self.year[other] for other in self.users[block]), default=self.last)
         worth = self.worth[block]
         self.room.take(block, now[1], now[0], -1)
         best = now

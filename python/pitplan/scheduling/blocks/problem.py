@@ -91,12 +91,19 @@ class BlockProblem:
     needs   what must be dug in the same year or before
     limits  what a year may hold
     dues    what all years must hold together
+    costs   what each year up to the last in which a block is mined costs, discounted, in money, 0 or more: shape (years,); None: nothing
     """
 
     values: NDArray[np.float64]
     needs: Needs
     limits: tuple[Limit, ...]
     dues: tuple[Due, ...] = ()
+    costs: Optional[NDArray[np.float64]] = None
+
+    @property
+    def running_costs(self) -> NDArray[np.float64]:
+        """What each year costs while the mine runs."""
+        return np.zeros(self.years) if self.costs is None else self.costs
 
     @property
     def sums(self) -> list[NDArray[np.float64]]:
@@ -138,13 +145,13 @@ class BlockProblem:
         """The same problem with its blocks in an order."""
         limits = tuple(replace(it, amounts=it.amounts[order]) for it in self.limits)
         dues = tuple(replace(it, amounts=it.amounts[order]) for it in self.dues)
-        return BlockProblem(self.values[order], self.needs.in_order(order), limits, dues)
+        return BlockProblem(self.values[order], self.needs.in_order(order), limits, dues, self.costs)
 
     def of_blocks(self, kept: NDArray[np.bool_]) -> BlockProblem:
         """The problem of these blocks alone, which need none of the others."""
         limits = tuple(replace(it, amounts=it.amounts[kept]) for it in self.limits)
         dues = tuple(replace(it, amounts=it.amounts[kept]) for it in self.dues)
-        return BlockProblem(self.values[kept], self.needs.within(kept), limits, dues)
+        return BlockProblem(self.values[kept], self.needs.within(kept), limits, dues, self.costs)
 
 
 def demand_sound(problem: BlockProblem) -> None:
@@ -155,6 +162,9 @@ def demand_sound(problem: BlockProblem) -> None:
         raise PlanError(
             "expected finite values by block, destination and year, with at least one destination and one year"
         )
+    costs = problem.running_costs
+    if costs.shape != shape[2:] or not np.isfinite(costs).all() or (costs < 0).any():
+        raise PlanError("expected the costs of running by year, 0 or more")
     for limit in problem.limits:
         if limit.amounts.shape != shape[:2] or limit.most.shape != shape[2:]:
             raise PlanError(f"{limit.name}: expected amounts by block and destination, and the limit by year")

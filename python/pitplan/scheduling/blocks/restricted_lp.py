@@ -12,7 +12,7 @@ from typing import Optional
 import numpy as np
 from numpy.typing import NDArray
 from scipy.optimize import linprog
-from scipy.sparse import coo_matrix, csr_matrix, hstack, vstack
+from scipy.sparse import block_diag, coo_matrix, csr_matrix, eye, hstack, vstack
 from scipy.sparse.csgraph import connected_components
 
 from pitplan.errors import PlanError
@@ -48,6 +48,37 @@ class Place:
     year: Optional[int]
     amount: float
     sign: int
+
+
+@dataclass(frozen=True)
+class Added:
+    """Unknowns from 0 to 1 besides the shares of groups.
+
+    costs     what each costs, in money
+    least     the least of each
+    limits    what each adds to the rows of limits, in their units: shape (places, unknowns)
+    rows      rows of these unknowns alone, at most 0
+    replaces  whether the unknowns stand for the amount of a limit, so that its row is at most 0: shape (places,)
+    """
+
+    costs: NDArray[np.float64]
+    least: NDArray[np.float64]
+    limits: csr_matrix
+    rows: csr_matrix
+    replaces: NDArray[np.bool_]
+
+
+def nothing_added(places: int) -> Added:
+    none = np.zeros(0)
+    return Added(none, none, csr_matrix((places, 0)), csr_matrix((0, 0)), np.zeros(places, dtype=bool))
+
+
+def lacking(sign: NDArray[np.float64]) -> Added:
+    """What lacks of each minimum, as a share of it, which costs that share."""
+    owed = np.flatnonzero(sign < 0)
+    limits = csr_matrix((-np.ones(len(owed)), (owed, np.arange(len(owed)))), shape=(len(sign), len(owed)))
+    ones = np.ones(len(owed))
+    return Added(ones, 0.0 * ones, limits, csr_matrix((0, len(owed))), np.zeros(len(sign), dtype=bool))
 
 
 @dataclass(frozen=True)
@@ -98,21 +129,43 @@ class Master:
         sign = np.array([place.sign for place in self.places], dtype=float)
         unit, used = float(np.abs(gain).max(initial=0.0)) or 1.0, self.limits(joined)
         scale = scale_of(most, used)
-        rows = vstack([csr_matrix(used * (sign / scale)[:, None]), order], format="csr")
-        # What lacks, as shares of what is due.
-        owed = np.flatnonzero(sign < 0) if seeks_dues else np.zeros(0, dtype=np.int64)
-        lacking = coo_matrix((-np.ones(len(owed)), (owed, np.arange(len(owed)))), shape=(rows.shape[0], len(owed)))
+        more = lacking(sign) if seeks_dues else self.running()
+        limits = hstack([csr_matrix(used * (sign / scale)[:, None]), more.limits])
+        rows = vstack([limits, block_diag([order, more.rows])], format="csr")
         found = linprog(
-            np.concatenate([-gain / unit, np.ones(len(owed))]),
-            A_ub=hstack([rows, lacking], format="csr"),
-            b_ub=np.concatenate([sign * most / scale, np.zeros(order.shape[0])]),
-            bounds=(0, 1),
+            np.concatenate([-gain, more.costs]) / unit,
+            A_ub=rows,
+            b_ub=np.concatenate(
+                [np.where(more.replaces, 0.0, sign * most / scale), np.zeros(rows.shape[0] - len(sign))]
+            ),
+            bounds=np.column_stack([np.append(np.zeros(joined.count), more.least), np.ones(rows.shape[1])]),
             method="highs-ds",
         )
         if found.status != 0:
             raise PlanError(f"HiGHS found no optimum of the relaxation: {found.message}")
         prices = self.prices(sign * np.maximum(-found.ineqlin.marginals[: len(scale)], 0.0) * unit / scale)
-        return Restricted(np.clip(found.x[: joined.count], 0.0, 1.0)[component], -float(found.fun) * unit, prices)
+        value = -float(found.fun) * unit
+        if not self.nodes.problem.owes:
+            # To mine nothing costs nothing.
+            value = max(value, 0.0)
+        return Restricted(np.clip(found.x[: joined.count], 0.0, 1.0)[component], value, prices)
+
+    def running(self) -> Added:
+        """Whether the mine runs in each year, if that costs anything: as far as it uses any limit, and as it runs in the next year. The first
+        year costs its whole in any case."""
+        problem, count = self.nodes.problem, len(self.places)
+        if problem.costs is None:
+            return nothing_added(count)
+        shows = np.array([place.year if self.shows_running(place) else -1 for place in self.places], dtype=np.int64)
+        some, years = np.flatnonzero(shows >= 0), problem.years
+        limits = csr_matrix((-np.ones(len(some)), (some, shows[some])), shape=(count, years))
+        later = csr_matrix(eye(years - 1, years, k=1) - eye(years - 1, years))
+        return Added(problem.costs, (np.arange(years) == 0).astype(float), limits, later, shows >= 0)
+
+    def shows_running(self, place: Place) -> bool:
+        """Whether a place is the most of a year above 0, which only a year that runs uses."""
+        limits = self.nodes.problem.limits
+        return place.sign > 0 and place.amount > 0 and not limits[place.number].signed
 
     def prices(self, of_places: NDArray[np.float64]) -> NDArray[np.float64]:
         """By limit and year, and by due; of a limit with both a most and a least what is left of their two prices."""

@@ -25,8 +25,22 @@ class BlockSchedule:
     share: NDArray[np.float64]
 
     def value(self, problem: BlockProblem) -> float:
-        """What it earns, discounted, in money."""
-        return float(self.worths(problem).sum())
+        """What it earns, discounted, in money, less what the years cost up to the last in which a block is mined."""
+        return float(self.worths(problem).sum() - problem.running_costs[: self.life(problem)].sum())
+
+    def life(self, problem: BlockProblem) -> int:
+        """The number of years up to the last in which a block is mined."""
+        return int(self.year[self.year < problem.years].max(initial=-1)) + 1
+
+    def shortened(self, problem: BlockProblem) -> BlockSchedule:
+        """The schedule without the blocks of its last years if it earns more without these years: it ends with the best year, or mines nothing.
+        With a minimum it stays as it is."""
+        if problem.costs is None or problem.owes:
+            return self
+        earned = np.bincount(self.year, self.worths(problem), minlength=problem.years + 1)[: problem.years]
+        by_end = np.concatenate([[0.0], np.cumsum(earned - problem.running_costs)])[: self.life(problem) + 1]
+        stays = self.year < int(by_end.argmax())
+        return BlockSchedule(np.where(stays, self.year, problem.years), np.where(stays[:, None], self.share, 0.0))
 
     def worths(self, problem: BlockProblem) -> NDArray[np.float64]:
         """What each block earns, discounted, in money; one that is not dug nothing."""

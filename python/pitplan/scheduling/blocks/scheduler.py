@@ -170,9 +170,10 @@ class Search:
         return [soon, *([replace(soon, waits=True)] if self.problem.destinations > 1 else [])]
 
     def offer(self, schedule: BlockSchedule) -> None:
-        """Takes a schedule that is better."""
-        if schedule.is_better(self.best, self.problem):
-            self.best = schedule
+        """Takes a schedule that is better, without last years that cost more than they earn."""
+        shorter = schedule.shortened(self.problem)
+        if shorter.is_better(self.best, self.problem):
+            self.best = shorter
 
     def fill(self) -> None:
         """Fills years in the orders that the relaxation gives, and keeps the best of each way to fill them."""

@@ -75,7 +75,9 @@ class ScheduledBlocks:
         for grade in self.planned.grades:
             table[grade.name] = grade.of_years(self.planned.cells, schedule, problem.years)[:count]
         discounts = year_discounts(project.shells, problem.years)[:count]
-        return table.assign(**{CASH: earned, "discounted_cash_flow": earned * discounts})
+        present = earned * discounts - problem.running_costs[:count]
+        spent = of_project(project).costs(count)
+        return table.assign(**spent, **{CASH: earned - sum(spent.values()), "discounted_cash_flow": present})
 
     @property
     def table(self) -> pd.DataFrame:

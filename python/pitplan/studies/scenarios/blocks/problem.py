@@ -132,7 +132,7 @@ def problem_of(diggable: Diggable, weights: Weights, project: Project) -> BlockP
 
 def demand_of_scenarios(project: Project) -> None:
     """Raises PlanError with the key if the project sets an option that scenarios --by block do not support."""
-    rules = project.schedule or ScheduleRules()
+    rules, money = project.schedule or ScheduleRules(), project.economics
     of_metals = "[[metals]] prices: a scenario has one price for all years"
     asked = {
         "[schedule] milp: its time limit would make results depend on the machine": rules.milp is not None,
@@ -140,6 +140,9 @@ def demand_of_scenarios(project: Project) -> None:
         "[[schedule.limits]]: apply to columns of the table, and scenarios have their own grades": bool(rules.limits),
         "[processes.feed] and [schedule.feed]: apply to columns of the table, and scenarios have their own grades": bool(
             project.feed_grades
+        ),
+        "[economics] fixed_cost_per_year, capex: period costs are not part of a schedule over scenarios": bool(
+            money.fixed_cost_per_year or money.capex
         ),
         of_metals: any(metal.prices for metal in project.metals),
         "[[processes]]: a schedule over scenarios has one mill": bool(project.processes),
