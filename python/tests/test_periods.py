@@ -7,7 +7,9 @@ import pandas as pd
 import pytest
 import tomllib
 from conftest import PROJECT, rows
+from helpers import block_commands as blocks
 from helpers.processes import WITH, deposit
+from helpers.pushbacks import pillars
 
 import pitplan
 from pitplan import PlanError
@@ -202,7 +204,7 @@ def test_a_sensitivity_of_a_project_with_periods_is_verified(plan_folder):
 
 def test_the_record_reads_back(plan_folder):
     text = periods(
-        "years = 2\nprocessing_capacity = 50\nprices = { copper = 9000.5 }\ncapex = 7\nfixed_cost_per_year = 3",
+        "years = 2\nprocessing_capacity = 0\nprices = { copper = 9000.5 }\ncapex = 7\nfixed_cost_per_year = 0",
         "processing_capacity = 150",
     )
     project = pitplan.load(plan_folder(column(), text))
@@ -260,9 +262,46 @@ def test_what_does_not_go_with_a_schedule_is_named(plan_folder, section, text, s
         pitplan.load(plan_folder(column(), project))
 
 
-def test_a_schedule_by_block_refuses_periods_before_it_solves(plan_folder):
-    path = plan_folder(column(), periods("processing_capacity = 50", "processing_capacity = 60"))
-    with pytest.raises(
-        PlanError, match=r"\[\[periods\]\]: apply to shells and schedules of pushbacks: leave it out with --by block"
-    ):
-        pitplan.write_block_schedule(path)
+def of_blocks(folder):
+    years = pd.read_csv(folder / "tables/years.csv")
+    return years[years["case"] == "block"].set_index("year")
+
+
+def test_a_schedule_by_block_by_hand(plan_folder):
+    """Three pillars of 200 t, half of each ore: one a year by the other sections, none in the first period, two in the year after it."""
+    words = "[[periods]]\nprocessing_capacity = 0\nmining_capacity = 0\nfixed_cost_per_year = 5\n[[periods]]\nprocessing_capacity = 200\nmining_capacity = 400\n"
+    words += "[[periods]]\nprices = { copper = 8010 }\ncapex = 7\n"
+    row, folder = blocks.scheduled(plan_folder, words)
+    years = of_blocks(folder)
+    assert years["feed_tonnes"].tolist() == [0, 200, 100] and years["total_tonnes"].tolist() == [0, 400, 200]
+    assert years["fixed_cost"].tolist() == [5, 0, 0] and years["capex"].tolist() == [0, 0, 7]
+    plain, _ = blocks.scheduled(plan_folder)
+    assert row["npv"] < plain["npv"] and row["npv"] <= row["upper_bound"] + 1e-6
+    assert blocks.wrong(folder) == set()
+
+
+def test_minimums_of_periods_by_block(plan_folder):
+    """Without a minimum all three pillars are mined in the first year."""
+    words = "[schedule]\nyears = 3\n[[periods]]\n[[periods]]\nminimum = { feed = 100 }\n[[periods]]\n"
+    row, folder = blocks.scheduled(plan_folder, words, text=blocks.WIDE)
+    years = of_blocks(folder)
+    assert years["feed_tonnes"].tolist() == [200, 100] and row["npv"] <= row["upper_bound"] + 1e-6
+    assert blocks.wrong(folder) == set()
+    text = (folder / "project-as-run.toml").read_text()
+    (folder / "project-as-run.toml").write_text(text.replace("feed = 100", "feed = 101"))
+    assert "block limits" in blocks.wrong(folder)
+
+
+def test_limits_of_periods_that_a_schedule_by_block_exceeds_are_found(plan_folder):
+    _, folder = blocks.scheduled(plan_folder, "[[periods]]\nprocessing_capacity = 200\nmining_capacity = 400\n")
+    text = (folder / "project-as-run.toml").read_text()
+    (folder / "project-as-run.toml").write_text(text.replace("mining_capacity = 400", "mining_capacity = 399"))
+    assert {"block limits", "block bound"} & blocks.wrong(folder)
+
+
+def test_scenarios_by_block_refuse_periods(plan_folder):
+    """A schedule over scenarios reads no periods: it says so before it reads grades."""
+    words = '[scenarios]\ncolumns = { copper = "cu*" }\n[[periods]]\nmining_capacity = 300\n'
+    path = plan_folder(pillars(), blocks.YEARLY + words)
+    with pytest.raises(PlanError, match=r"\[\[periods\]\]: apply to shells and schedules of one model"):
+        pitplan.write_scenarios(path, request=pitplan.Request(by="block"))

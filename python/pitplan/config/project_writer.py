@@ -281,7 +281,10 @@ def of_shells(schedule: ShellRules) -> Values:
 
 
 def of_period(period: Period) -> Values:
-    return {name: value for name, value in asdict(period).items() if value not in (None, {}, 0)}
+    """A capacity of 0 is one: the process or the mine is not there yet."""
+    return {
+        name: None if value == {} or name == "capex" and not value else value for name, value in asdict(period).items()
+    }
 
 
 def of_haulage(haulage: Haulage) -> Values:

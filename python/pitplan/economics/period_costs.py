@@ -46,7 +46,7 @@ class YearlyMoney:
 
     def costs(self, years: int) -> dict[str, np.ndarray]:
         """Returns the columns that a table of so many years has for these."""
-        found = {"fixed_cost": np.full(years, self.fixed_cost), "capex": self.spent(years)}
+        found = {"fixed_cost": self.fixed(years), "capex": self.spent(years)}
         return {name: found[name] for name in self.columns}
 
     def spent(self, years: int) -> np.ndarray:

@@ -58,7 +58,9 @@ def plot_pit_by_pit(table: pd.DataFrame, currency: str, chosen: float, ax: Axes)
     draw_worth(right, table, currency)
     shown = [axis.get_legend_handles_labels() for axis in (ax, right)]
     handles, names = ([*shown[0][k], *shown[1][k]] for k in (0, 1))
-    ax.legend(handles, names, ncol=6 if len(names) <= 6 else 4, loc="lower center", bbox_to_anchor=(0.5, 1.0), frameon=False)
+    ax.legend(
+        handles, names, ncol=6 if len(names) <= 6 else 4, loc="lower center", bbox_to_anchor=(0.5, 1.0), frameon=False
+    )
     return ax
 
 

@@ -15,11 +15,11 @@ from planaudit.blocks import constraints as fixed
 from planaudit.ground import slopes as walls
 from planaudit.inputs.answer import Answer
 from planaudit.inputs.matching import YEAR
-from planaudit.money.period_costs import capex, premiums
+from planaudit.money.period_costs import capex, fixed_cost, has_costs, premiums
 from planaudit.rules import TOLD, Rule, rule
 from planaudit.schedules import block_grades, bounds, methods as ways_table
 from planaudit.schedules.discounts import discount, present_costs
-from planaudit.schedules.limits import amounts_of, least_of, limits_of, shares_of
+from planaudit.schedules.limits import amounts_of, limits_of, minima_of, shares_of
 from planaudit.schedules.pushback_schedule import CENT
 
 FILE, CASE = "block_schedule.json", "block"
@@ -114,12 +114,11 @@ def verify_limits(answer: Answer, told: dict[str, Any], sums: pd.DataFrame) -> R
     differences += [
         f"{FILE}: {name} {told[name]} for {amount}" for name, amount in expected.items() if told[name] != amount
     ]
-    due = dict(least_of(answer))
+    due = {name: base for name, base, _ in minima_of(answer)}
     if told.get("least", {}) != due:
         differences.append(f"minimums are recorded as {told.get('least', {})} for {due}")
-    for (name, least), year in product(due.items(), range(1, told["years"] + 1)):
-        of_mill = rules.ramp_up if rules and name.startswith("feed_tonnes") else (1.0,)
-        amount, owed = float(sums[name].get(year, 0.0)), least * of_mill[min(year, len(of_mill)) - 1]
+    for (name, _, by_year), year in product(minima_of(answer), range(1, told["years"] + 1)):
+        amount, owed = float(sums[name].get(year, 0.0)), by_year[min(year, len(by_year)) - 1]
         if amount < owed * (1 - 1e-8) - CENT:
             differences.append(f"year {year}: {name} {amount:.10g} below {owed:.10g}")
     return rule(
@@ -131,15 +130,15 @@ def verify_limits(answer: Answer, told: dict[str, Any], sums: pd.DataFrame) -> R
 
 def with_costs(answer: Answer, sums: pd.DataFrame) -> pd.DataFrame:
     """Returns the sums of years with the discounted cash flow, and with period costs if there are any, which both cash flows pay."""
-    economics, years = answer.project.economics, sums.index.tolist()
+    years = sums.index.tolist()
     present = sums["cash_flow"] * [discount(answer, year) for year in years] - [
         present_costs(answer, year) for year in years
     ]
     sums = sums.assign(discounted_cash_flow=present)
-    if not economics.fixed_cost_per_year and not economics.capex:
+    if not has_costs(answer.project):
         return sums
     costs = {
-        "fixed_cost": np.full(len(years), float(economics.fixed_cost_per_year)),
+        "fixed_cost": np.array([fixed_cost(answer.project, year) for year in years], dtype=float),
         "capex": np.array([capex(answer.project, year) for year in years], dtype=float),
     }
     return sums.assign(**costs, cash_flow=sums["cash_flow"] - costs["fixed_cost"] - costs["capex"])

@@ -22,7 +22,7 @@ from planaudit.rules import Rule, rule
 from planaudit.schedules import block_grades
 from planaudit.schedules.closure import Closure, maximum_closure
 from planaudit.schedules.discounts import discount, present_costs
-from planaudit.schedules.limits import amounts_of, least_of, limits_of, shares_of
+from planaudit.schedules.limits import amounts_of, limits_of, minima_of, shares_of
 from planaudit.schedules.precedences import Precedences, precedences_of
 from planaudit.schedules.pushback_schedule import CENT
 
@@ -83,12 +83,10 @@ class Bound:
     def limits(self) -> dict[tuple[str, str, int], float]:
         """The limits of the project by name, side and year."""
         found: dict[tuple[str, str, int], float] = {}
-        ramps = {name: ramp for name, ramp, _ in limits_of(self.answer)}
         for name, ramp, most in limits_of(self.answer):
             found |= {(name, MAX, year): most * at(ramp, year) for year in self.every_year}
-        for name, least in least_of(self.answer):
-            ramp = ramps["feed_tonnes"] if name.startswith("feed_tonnes") else (1.0,)
-            found |= {(name, MIN, year): least * at(ramp, year) for year in self.every_year}
+        for name, _, by_year in minima_of(self.answer):
+            found |= {(name, MIN, year): at(by_year, year) for year in self.every_year}
         found |= {(name, MAX, year): 0.0 for name in block_grades.limits_of(self.answer) for year in self.every_year}
         if self.must.any():
             found[MUST_MINE, MIN, 0] = float(np.count_nonzero(self.must))

@@ -9,8 +9,9 @@ import pandas as pd
 
 from planaudit.inputs.answer import Answer
 from planaudit.inputs.matching import SHARE
-from planaudit.inputs.project import GRADE_UNITS, Sum
+from planaudit.inputs.project import GRADE_UNITS, Project, Sum
 from planaudit.money.feed import recovered
+from planaudit.schedules.periods import maxima_of_periods, minima_of_periods
 
 # The share of each block that goes to a process, by process.
 Shares = list[tuple[str, np.ndarray]]
@@ -55,7 +56,19 @@ def quantity(answer: Answer, number: int, shares: Shares) -> np.ndarray:
 
 
 def limits_of(answer: Answer) -> Iterator[tuple[str, tuple[float, ...], float]]:
-    """Yields the name of an amount, its ramp-up, and its limit."""
+    """Yields the name of an amount, its limit, and the share of it that each year has; the last share continues."""
+    project = answer.project
+    by_year = maxima_of_periods(project, years_listed(project)) if project.shells.periods else {}
+    for name, ramp, most in capacities_of(answer):
+        yield name, tuple(by_year[name] / most) if name in by_year else ramp, most
+
+
+def years_listed(project: Project) -> int:
+    return sum(period.years for period in project.shells.periods)
+
+
+def capacities_of(answer: Answer) -> Iterator[tuple[str, tuple[float, ...], float]]:
+    """Yields the name of an amount, its ramp-up, and its limit, without periods."""
     rules, shells = answer.project.schedule, answer.project.shells
     of_mill = rules.ramp_up if rules else (1.0,)
     yield "feed_tonnes", of_mill, (rules and rules.processing_capacity) or shells.processing_capacity
@@ -69,6 +82,18 @@ def limits_of(answer: Answer) -> Iterator[tuple[str, tuple[float, ...], float]]:
     for it in sums_asked(answer):
         if it.max is not None:
             yield f"sum_{it.name}", (1.0,), it.max
+
+
+def minima_of(answer: Answer) -> list[tuple[str, float, tuple[float, ...]]]:
+    """Returns the name of an amount with a minimum, this without periods, and that of each year; the last one continues."""
+    project, rules = answer.project, answer.project.schedule
+    own = minima_of_periods(project, years_listed(project)) if project.shells.periods else {}
+    base = dict.fromkeys(own, 0.0) | dict(least_of(answer))
+    found = []
+    for name, least in base.items():
+        ramp = rules.ramp_up if rules and name.startswith("feed_tonnes") else (1.0,)
+        found.append((name, least, tuple(own[name]) if name in own else tuple(least * share for share in ramp)))
+    return found
 
 
 def least_of(answer: Answer) -> Iterator[tuple[str, float]]:
