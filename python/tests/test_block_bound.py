@@ -20,10 +20,11 @@ from hypothesis import given, strategies as st
 
 from pitplan import PlanError
 from pitplan.config.schedule import Effort
-from pitplan.scheduling.blocks import nodes as node_module, restricted_lp as master
+from pitplan.scheduling.blocks import bienstock_zuckerberg, nodes as node_module, partition, restricted_lp as master
 from pitplan.scheduling.blocks.bienstock_zuckerberg import relaxed
 from pitplan.scheduling.blocks.integer_values import upward
 from pitplan.scheduling.blocks.lagrangian import priced
+from pitplan.scheduling.blocks.partition import Groups, History
 from pitplan.scheduling.blocks.presolve import earliest_years, worth_digging
 from pitplan.scheduling.blocks.problem import BlockProblem, Limit, demand_sound
 from pitplan.scheduling.blocks.ranks import ranks_of
@@ -193,6 +194,39 @@ def test_pairs_of_many_groups_are_the_same(monkeypatch):
         bounds.append([round(relaxed(without_first(random_problem(seed)), EXACT).bound, 9) for seed in range(20)])
     assert bounds[0] == bounds[1]
     assert master.distinct([np.array([5, 3, 5]), np.array([3, 1])], 2**30).tolist() == [1, 3, 5]
+
+
+@pytest.mark.parametrize("rounds", [1, 3])
+def test_groups_that_rounds_do_not_tell_apart_are_put_together(monkeypatch, rounds):
+    """In problems of any size: the bound is the same, over fewer groups."""
+    problems = [random_problem(seed, most=30) for seed in range(12)]
+    most = [relaxed(without_first(problem), EXACT).rounds[-1].groups for problem in problems]
+    monkeypatch.setattr(bienstock_zuckerberg, "FEW_GROUPS", 0)
+    monkeypatch.setattr(partition, "ROUNDS_KEPT", rounds)
+    fewer = 0
+    for problem, groups in zip(problems, most):
+        found, optimum = relaxed(without_first(problem), EXACT), linear_optimum(problem)
+        assert found.bound == pytest.approx(optimum, abs=1e-6 * max(1.0, abs(optimum)))
+        fewer += found.rounds[-1].groups < groups
+    assert fewer > 3
+
+
+def test_groups_are_put_together_by_what_the_last_rounds_found(monkeypatch):
+    """Of three groups the first is divided. The second and the third have had the same share in both rounds, and been on the same side of the
+    closure; the parts of the first differ in the last round."""
+    monkeypatch.setattr(partition, "ROUNDS_KEPT", 2)
+    groups = Groups(np.array([0, 0, 1, 2], dtype=np.int32), 3)
+    history = History(np.array([[1.0, 1.0], [0.5, 0.0], [0.5, 0.0]]))
+    divided = groups.divided(np.array([True, False, False, False]))
+    parents = groups.parents(divided)
+    assert sorted(parents.tolist()) == [0, 0, 1, 2] and not history.is_full
+    inside = np.zeros(4, dtype=bool)
+    inside[divided.label[0]] = True
+    after = history.after(parents, np.array([1.0, 0.5, 0.5 + 1e-12]), inside)
+    assert after.is_full and after.found.shape == (4, 4)
+    coarse, kept = after.coarsened(divided)
+    assert coarse.count == 3 and len(set(coarse.label[:3])) == 3 and coarse.label[2] == coarse.label[3]
+    assert kept.found[coarse.label[2]].tolist() == [0.5, 0.0, 0.5, 0.0]
 
 
 def test_an_interruption_leaves_the_bound_of_the_rounds_so_far():

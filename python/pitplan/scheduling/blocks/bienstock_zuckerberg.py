@@ -1,8 +1,9 @@
 """The bound of all schedules by block: the linear relaxation, solved by rounds of a small programme and a closure.
 
-Each round solves the relaxation over groups of nodes (`master`), takes the prices of its limits, and solves the closure at these
-(`closure`). The closure's bound holds whatever the prices are, so a run may end at any round with the least bound so far. Where the
-closure divides no group, or its bound is met, the relaxation is solved.
+Each round solves the relaxation over groups of nodes (`restricted_lp`), takes the prices of its limits, and solves the closure at these
+(`lagrangian`), which divides groups. Groups that the last rounds do not tell apart are put together (`partition`). The closure's bound holds
+whatever the prices are, so a run may end at any round with the least bound so far. If the closure divides no group, or its bound is met, the
+relaxation is solved.
 """
 
 from __future__ import annotations
@@ -10,6 +11,7 @@ from __future__ import annotations
 import time
 from collections.abc import Callable, Iterator
 from dataclasses import dataclass, field, replace
+from typing import Optional
 
 import numpy as np
 from numpy.typing import NDArray
@@ -21,11 +23,13 @@ from pitplan.errors import PlanError
 from .integer_values import upward
 from .lagrangian import priced
 from .nodes import Nodes
-from .partition import Groups, renumbered
+from .partition import Groups, History, renumbered
 from .restricted_lp import Master, Restricted
 
 # Pits by whose rims nodes are in groups at first: those of so many factors.
 FIRST_PITS = 40
+# With more groups than so many those that are alike are put together, after a gain of more than such a share.
+FEW_GROUPS, SLIGHT_GAIN = 2_000, 1e-9
 # So small a share that lacks of what is due is the solver's tolerance, and so small a price.
 LACKING, SLIGHT = 1e-7, 1e-15
 
@@ -56,6 +60,7 @@ class Relaxation:
     prices       of a unit of each limit in each year, in money, and of each due, in the last round: shape (limits and dues, years)
     multipliers  those at which the closure gave the bound
     rounds       what each round found
+    groups       the last groups
     interrupted  whether it was ended by an interruption
     """
 
@@ -64,17 +69,24 @@ class Relaxation:
     prices: NDArray[np.float64]
     multipliers: NDArray[np.float64]
     rounds: tuple[Round, ...]
+    groups: Groups
     interrupted: bool = False
 
 
-def relaxed(nodes: Nodes, effort: Effort, tell: Callable[[Round], None] = lambda found: None) -> Relaxation:
+def relaxed(
+    nodes: Nodes,
+    effort: Effort,
+    tell: Callable[[Round], None] = lambda found: None,
+    groups: Optional[Groups] = None,
+) -> Relaxation:
     """Solves the relaxation until its value is within the effort's gap, a share of the bound, or its seconds are over; `tell` is called
-    with each round. An interruption (Ctrl-C), or a programme that HiGHS cannot solve, ends it with what it has, once there is a round.
+    with each round. An interruption (Ctrl-C), or a programme that HiGHS cannot solve, ends it with what it has, once there is a round. The
+    first groups are those given, or by nested pits.
 
     Raises PlanError where no schedule keeps what is due, HiGHS finds no optimum of the first round or the nodes are too many, and
     KeyboardInterrupt within the first round.
     """
-    groups = first_groups(nodes)
+    groups = first_groups(nodes) if groups is None else groups
     if nodes.problem.owes:
         groups = keeping_dues(nodes, groups)
     solver = Solver(nodes, Master(nodes), groups, time.monotonic())
@@ -106,7 +118,7 @@ class Solver:
 
     def __iter__(self) -> Iterator[Round]:
         """Each round, until a closure divides no group."""
-        count = 0
+        history, count, value = History(np.zeros((self.groups.count, 0))), 0, -np.inf
         while self.groups.count > count:
             restricted = self.master.solve(self.groups)
             closure = priced(self.nodes, restricted.prices)
@@ -114,18 +126,29 @@ class Solver:
             if closure.bound < self.bound:
                 self.bound, self.multipliers = closure.bound, restricted.prices
             count = self.groups.count
-            self.groups = self.groups.divided(closure.in_closure)
+            divided = self.groups.divided(closure.in_closure)
             self.rounds.append(
                 Round(len(self.rounds) + 1, self.bound, restricted.value, count, time.monotonic() - self.began)
             )
             yield self.rounds[-1]
+            inside = np.zeros(divided.count, dtype=bool)
+            inside[divided.label] = closure.in_closure
+            history = history.after(self.groups.parents(divided), restricted.share, inside)
+            is_gain = restricted.value > value + SLIGHT_GAIN * abs(value)
+            if divided.count > max(count, FEW_GROUPS) and is_gain and history.is_full:
+                # The relaxation over these is worth no less, so the rounds end.
+                divided, history = history.coarsened(divided)
+                count = 0
+            self.groups, value = divided, restricted.value
 
     def relaxation(self, interrupted: bool) -> Relaxation:
         """As far as it is solved, by one round at least."""
         assert self.restricted is not None and self.label is not None
         cumulative = self.nodes.gathered(self.restricted.share[self.label])[:, -1]
         prices = self.restricted.prices
-        return Relaxation(self.bound, cumulative, prices, self.multipliers, tuple(self.rounds), interrupted)
+        return Relaxation(
+            self.bound, cumulative, prices, self.multipliers, tuple(self.rounds), self.groups, interrupted
+        )
 
 
 def keeping_dues(nodes: Nodes, groups: Groups) -> Groups:
