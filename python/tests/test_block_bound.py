@@ -28,8 +28,8 @@ from pitplan.scheduling.blocks.partition import Groups, History
 from pitplan.scheduling.blocks.presolve import earliest_years, worth_digging
 from pitplan.scheduling.blocks.problem import BlockProblem, Limit, demand_sound
 from pitplan.scheduling.blocks.ranks import ranks_of
+from pitplan.scheduling.blocks.reduction import reduced
 from pitplan.scheduling.blocks.restricted_lp import Master
-from pitplan.scheduling.blocks.scheduler import reduced
 
 
 def first_years(problem):

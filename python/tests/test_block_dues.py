@@ -16,7 +16,7 @@ from pitplan.scheduling.blocks.bienstock_zuckerberg import relaxed
 from pitplan.scheduling.blocks.lagrangian import priced
 from pitplan.scheduling.blocks.presolve import worth_digging
 from pitplan.scheduling.blocks.problem import Due, demand_sound as demand_problem
-from pitplan.scheduling.blocks.scheduler import reduced
+from pitplan.scheduling.blocks.reduction import reduced
 
 
 def with_dues(problem, seed):

@@ -17,12 +17,15 @@ from helpers.random_tests import seeds
 
 from pitplan import PlanError
 from pitplan.config.schedule import Effort
+from pitplan.core.progress import silent
 from pitplan.scheduling.blocks import solve
 from pitplan.scheduling.blocks.bienstock_zuckerberg import relaxed
 from pitplan.scheduling.blocks.greedy import paying, schedule_of
 from pitplan.scheduling.blocks.lagrangian import priced
-from pitplan.scheduling.blocks.presolve import worth_digging
+from pitplan.scheduling.blocks.presolve import earliest_years, worth_digging
 from pitplan.scheduling.blocks.problem import Limit, demand_sound as demand_problem
+from pitplan.scheduling.blocks.ranks import ranks_of
+from pitplan.scheduling.blocks.reduction import first_required, reduced, relaxed_as_required
 from pitplan.scheduling.blocks.schedule import BlockSchedule
 
 
@@ -134,6 +137,41 @@ def test_what_is_left_out_takes_no_clean_ore_that_a_grade_requires():
     assert schedule.is_allowed(problem) and paying(problem, schedule).year.tolist() == [0, 0]
     loose = blend(200)
     assert paying(loose, schedule).year.tolist() == [0, 1]
+
+
+@pytest.mark.parametrize("batch", seeds(1, 20))
+def test_blocks_that_a_grade_requires_are_added(batch):
+    """Few blocks pay, and the bound is that of all of them."""
+    added = 0
+    for seed in range(8400 + 15 * batch, 8415 + 15 * batch):
+        problem = random_graded(seed, 40)
+        problem = replace(
+            problem, values=problem.values - np.where(np.arange(problem.blocks) % 3, 60.0, 0.0)[:, None, None]
+        )
+        first = earliest_years(problem, ranks_of(problem.needs))
+        optimum, begun = linear_optimum(problem, first), reduced(problem, first_required(problem))
+        if not begun.problem.blocks:
+            assert optimum == pytest.approx(0, abs=1e-6)
+            continue
+        part, found = relaxed_as_required(problem, begun, EXACT, silent, lambda round: None)
+        slack = 1e-6 * max(1.0, abs(optimum))
+        assert optimum - slack <= found.bound <= optimum + slack, seed
+        added += part.problem.blocks > begun.problem.blocks
+    assert added > 1
+
+
+def test_an_interrupted_relaxation_has_a_bound_for_all_blocks():
+    """Interrupted in the first round, before the clean block is added."""
+    problem = blend(150)
+
+    def interrupt(found):
+        raise KeyboardInterrupt
+
+    begun = reduced(problem, first_required(problem))
+    part, found = relaxed_as_required(problem, begun, EXACT, silent, interrupt)
+    assert begun.kept.tolist() == part.kept.tolist() == [0] and found.interrupted
+    assert found.bound >= solve(problem, Effort(0.0, 60.0)).value == pytest.approx(45)
+    assert priced(begun.nodes, found.multipliers).bound < 45
 
 
 def test_a_year_above_a_grade_is_not_allowed():

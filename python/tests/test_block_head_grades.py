@@ -1,12 +1,15 @@
 """`pitplan schedule --by block` with `[schedule.feed]` and `[processes.feed]`: by hand, and the verification."""
 
 import json
+import shutil
 
 import pandas as pd
 import pytest
 from conftest import rows
 from helpers.block_commands import WIDE, named_mill, rewrite, scheduled, with_processes, wrong, years_of
 from helpers.pushbacks import pillars
+
+import pitplan
 
 # The ore of three pillars of 1, 0.7 and 0.5 % copper, of 100 t each.
 DIRTY = {"as_ppm": lambda i, j, k: 0 if k else (200, 100, 50)[i]}
@@ -83,9 +86,18 @@ def test_both_notations_of_one_mine_have_the_same_value_and_bound(plan_folder):
     assert shares(folder) == [0, 1, 1] and wrong(folder) == set()
 
 
+@pytest.fixture(scope="module")
+def written(tmp_path_factory):
+    place = tmp_path_factory.mktemp("mixed")
+    pillars(**DIRTY).to_csv(place / "blocks.csv", index=False)
+    (place / "project.toml").write_text(WIDE + FEED)
+    pitplan.write_block_schedule(place / "project.toml")
+    return place
+
+
 @pytest.fixture
-def mixed(plan_folder):
-    return scheduled(plan_folder, FEED, WIDE, pillars(**DIRTY))[1]
+def mixed(written, tmp_path):
+    return shutil.copytree(written, tmp_path / "mine") / "plan" / "block_schedule"
 
 
 def test_a_head_grade_above_its_limit_is_found(mixed):

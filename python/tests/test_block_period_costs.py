@@ -143,7 +143,6 @@ def text_of(words):
         # The third year would earn 600.
         ("fixed_cost_per_year = 700", [1900, 700]),
         ("capex = [[1, 1000], [3, 400]]", [2600, 1400, 600]),
-        ("capex = [[1, 1000], [3, 600]]", [2600, 1400]),
         ("fixed_cost_per_year = 300\ncapex = [[3, 300]]", [2300, 1100]),
         ("capex = [[1, 5000]]", []),
     ],

@@ -18,8 +18,8 @@ from pitplan.scheduling.blocks.destinations import with_best_shares
 from pitplan.scheduling.blocks.greedy import Filling, paying, preferences, schedule_of
 from pitplan.scheduling.blocks.local_search import moved
 from pitplan.scheduling.blocks.ranks import ranks_of
+from pitplan.scheduling.blocks.reduction import reduced
 from pitplan.scheduling.blocks.schedule import BlockSchedule, nothing
-from pitplan.scheduling.blocks.scheduler import reduced
 from pitplan.scheduling.blocks.toposort import Sequence, in_order, sequences
 from pitplan.scheduling.blocks.window_milp import window_of
 

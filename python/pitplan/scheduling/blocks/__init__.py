@@ -5,10 +5,11 @@
     scheduled.value              what that earns, discounted
     scheduled.bound              what no schedule exceeds
 
-A `BlockProblem` says what each block earns by year, what it needs, and the most that a year may hold. What no schedule needs to dig, and
-years before which a block cannot be reached, are left out (`reduction`). The bound is that of the linear relaxation, solved by rounds of a
-small programme (`master`) and a closure of nodes (`nodes`, `closure`) that the proved library of pits solves (`relaxation`). Schedules are
-made in the order in which the relaxation digs (`toposort`, `filling`, `moving`), and made better by integer programmes (`windows`).
+A `BlockProblem` says what each block earns by year, what it needs, and the limits of a year. Blocks that no schedule needs are left out
+(`presolve`, `reduction`). The bound is that of the linear relaxation, solved by rounds (`bienstock_zuckerberg`) of a small programme over
+groups of nodes (`nodes`, `partition`, `restricted_lp`) and a closure that the proved library of pits solves (`lagrangian`). Schedules are made
+in the order in which the relaxation mines (`toposort`, `greedy`), improved by moving blocks and choosing where they go (`local_search`,
+`destinations`, `blending`), and by integer programmes (`window_milp`).
 """
 
 from .problem import BlockProblem, Limit, Needs

@@ -3,6 +3,7 @@
 from __future__ import annotations
 
 from itertools import cycle
+from typing import Optional
 
 import numpy as np
 from numpy.typing import NDArray
@@ -17,20 +18,22 @@ from .ranks import Ranks, cone_sums
 HAIR = 1e-9
 
 
-def worth_digging(problem: BlockProblem) -> NDArray[np.bool_]:
-    """The blocks that a schedule of greatest worth needs to dig: a truth for each, shape (blocks,).
+def worth_digging(problem: BlockProblem, required: Optional[NDArray[np.bool_]] = None) -> NDArray[np.bool_]:
+    """The blocks that a schedule of greatest worth needs to dig: a truth for each, shape (blocks,). Those that are `required` are among them, by
+    default all that take from a signed limit.
 
     They are a closed set U such that in no year a closed set gains by what it has besides U, where a block gains what it earns in the year
-    less what it earns in the next one. What adds to a sum that has a least, or takes from a signed one, is in U, with all that it needs. So a
-    schedule without its blocks outside U still keeps every limit: from above since they take from no sum, and from below since they add
-    nothing. And it
+    less what it earns in the next one. What adds to a sum that has a least, or is required, is in U, with all that it needs. So a schedule
+    without its blocks outside U still keeps every limit: from above since they take from no sum, if all that do are required, and from below
+    since they add nothing. And it
     earns no less: what these earn is the sum over years of what they gain with all of them that are dug by then. Where a block earns one
     value times a discount that falls with the years, and nothing is due, U is the ultimate pit.
 
     Raises pitshell.Refusal where the needs are none.
     """
     gains = by_end(upward(problem.values.max(axis=1)).amounts)
-    needs, kept = (problem.needs.starts, problem.needs.needed), problem.owing
+    needs = problem.needs.starts, problem.needs.needed
+    kept = problem.owing | (problem.easing if required is None else required)
     years_without = 0
     for year in cycle(range(problem.years)):
         gain = np.ascontiguousarray(gains[:, year])

@@ -117,16 +117,21 @@ class BlockProblem:
 
     @property
     def owing(self) -> NDArray[np.bool_]:
-        """The blocks that a limit may require whatever they earn: those that add to a sum that has a least, and those that take from a signed
-        one. A truth for each, shape (blocks,)."""
+        """The blocks that add to a sum that has a least: a truth for each, shape (blocks,)."""
         found = np.zeros(self.blocks, dtype=bool)
-        for limit in self.limits:
-            found |= limit.signed & (limit.amounts < 0).any(axis=1)
         owed = [it.amounts for it in self.limits if (it.floor > 0).any()] + [
             due.amounts for due in self.dues if due.least > 0
         ]
         for amounts in owed:
             found |= (amounts > 0).any(axis=1)
+        return found
+
+    @property
+    def easing(self) -> NDArray[np.bool_]:
+        """The blocks that take from the sum of a signed limit, and so make room for others: a truth for each, shape (blocks,)."""
+        found = np.zeros(self.blocks, dtype=bool)
+        for limit in self.limits:
+            found |= limit.signed & (limit.amounts < 0).any(axis=1)
         return found
 
     @property

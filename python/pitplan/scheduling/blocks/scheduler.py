@@ -14,15 +14,14 @@ from pitplan.config.schedule import Effort
 from pitplan.core.progress import Progress, silent
 from pitplan.errors import PlanError
 
-from .bienstock_zuckerberg import Relaxation, Round, relaxed
+from .bienstock_zuckerberg import Relaxation, Round
 from .blending import blended
 from .destinations import with_best_shares
 from .greedy import Filling, preferences
 from .local_search import moved
-from .nodes import Nodes, demand_room, nodes_of
-from .presolve import earliest_years, worth_digging
+from .nodes import demand_room
 from .problem import BlockProblem, demand_sound
-from .ranks import Ranks, ranks_of
+from .reduction import Reduced, first_required, reduced, relaxed_as_required
 from .schedule import HAIR, BlockSchedule, nothing
 from .toposort import sequences
 from .window_milp import Window, sizes_of, window_of
@@ -66,40 +65,6 @@ class Scheduled:
         return gap_of(self.value, self.bound)
 
 
-@dataclass(frozen=True)
-class Reduced:
-    """A problem without blocks that no schedule of greatest worth needs, or that no schedule can dig in time.
-
-    kept   the numbers in the whole problem of the blocks that are left
-    nodes  of these
-    ranks  of these
-    """
-
-    kept: NDArray[np.int64]
-    nodes: Nodes
-    ranks: Ranks
-
-    @property
-    def problem(self) -> BlockProblem:
-        return self.nodes.problem
-
-
-def reduced(problem: BlockProblem) -> Reduced:
-    """Leaves out what no schedule needs. The library takes the problem."""
-    kept = worth_digging(problem)
-    while True:
-        part = problem.of_blocks(kept)
-        ranks = ranks_of(part.needs)
-        first = earliest_years(part, ranks)
-        if (first < part.years).all():
-            order = np.argsort(first, kind="stable")
-            part = part.in_order(order)
-            return Reduced(np.flatnonzero(kept)[order], nodes_of(part, first[order]), ranks_of(part.needs))
-        kept[kept] = first < part.years
-        # What was worth digging for the others alone is so no more.
-        kept[kept] = worth_digging(problem.of_blocks(kept))
-
-
 def solve(problem: BlockProblem, effort: Optional[Effort] = None, progress: Progress = silent) -> Scheduled:
     """The bound of all schedules and the best schedule that was found.
 
@@ -113,7 +78,7 @@ def solve(problem: BlockProblem, effort: Optional[Effort] = None, progress: Prog
     demand_room(problem.blocks, len(problem.needs.needed))
     began = time.monotonic()
     with progress.step(f"removing blocks that no schedule needs, of {problem.blocks:,} blocks"):
-        part = reduced(problem)
+        part = reduced(problem, first_required(problem))
     if not part.problem.blocks:
         if problem.owes:
             raise PlanError(
@@ -121,9 +86,8 @@ def solve(problem: BlockProblem, effort: Optional[Effort] = None, progress: Prog
             )
         return Scheduled(nothing(problem), 0.0, 0.0, 0, 0)
     progress.say(f"computing the upper bound: {part.problem.blocks:,} blocks, {len(part.nodes):,} nodes")
-    relaxation = relaxed(
-        part.nodes, Effort(RELAXED, effort.seconds if effort else None), lambda found: progress.say(told(found))
-    )
+    until = Effort(RELAXED, effort.seconds if effort else None)
+    part, relaxation = relaxed_as_required(problem, part, until, progress, lambda found: progress.say(told(found)))
     search = Search(part, relaxation, progress)
     try:
         if not relaxation.interrupted:
