@@ -100,3 +100,16 @@ def test_a_missing_row_is_found(scheduled):
     path = folder / "tables/limits.csv"
     pd.read_csv(path).iloc[1:].to_csv(path, index=False)
     assert "schedule limits" in {rule.name for rule in pitplan.verify(folder) if rule.differences}
+
+
+def test_a_share_of_a_material_in_the_feed_is_a_head_grade_of_a_calculated_column(scheduled):
+    """At most 40 % of the feed is of rock S. The mill takes 50 t of R and as much of S as two thirds of that."""
+    table = rows(2, 1, 1, cu=lambda i, j, k: 0.8, rock=lambda i, j, k: "RS"[i])
+    table["tonnes"] = 50
+    more = "[schedule.feed]\nis_s = { max = 0.4 }\n"
+    calculated = ('rock_type = "rock"\n', 'rock_type = "rock"\ncalculate = { is_s = "if(rock == \'S\', 1, 0)" }\n')
+    folder = scheduled(table, more, calculated, ("years = 4", "years = 1"))
+    found = limits_of(folder).loc["lp"]
+    assert found.loc["grade_is_s_max"]["used"].tolist() == pytest.approx([0.4])
+    assert found.loc["feed_tonnes"]["used"].tolist() == pytest.approx([50 + 50 * 2 / 3])
+    assert not [rule for rule in pitplan.verify(folder) if rule.differences]
