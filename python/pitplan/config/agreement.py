@@ -6,8 +6,9 @@ from typing import TYPE_CHECKING, Any
 
 from pitplan.errors import PlanError
 
+from .acceptance import CLASS, DOMAIN, ROCK_TYPE
 from .classes import REFUSE
-from .economics import ByDomain
+from .economics import ByDomain, Process
 from .period_agreement import demand_periods
 from .schedule import FEED, TOTAL, ScheduleRules
 from .table import MissingRock
@@ -161,6 +162,20 @@ def demand_sums_of_parts(project: Project, rules: ScheduleRules) -> None:
             raise PlanError(f"{project.path}: [schedule.limits] {it.name}: {why}")
 
 
+def demand_accepted(project: Project, process: Process) -> None:
+    """Refuses codes of columns that the project does not name, and grades of columns that are not read."""
+    where, table = f"{project.path}: [[processes]] {process.name} accepts", project.table
+    columns = {ROCK_TYPE: table.rock_type, DOMAIN: table.domain, CLASS: table.resource_class}
+    for key, codes in process.accepts.codes.items():
+        if codes and columns[key] is None:
+            raise PlanError(f"{where}: has {key}, and [table] {key} names no column: name it")
+    known = [*(metal.column for metal in project.metals), *project.limited_columns]
+    for grade in process.accepts.grades:
+        if grade.column not in known:
+            expected = ", ".join(dict.fromkeys([*columns, *known]))
+            raise PlanError(f"{where}: found {grade.column}, expected one of {expected}")
+
+
 def demand_processes_agree(project: Project) -> None:
     """Refuses processes of one name or of metals that there are not, and what does not go with several."""
     path, names = project.path, [process.name for process in project.processes]
@@ -168,6 +183,7 @@ def demand_processes_agree(project: Project) -> None:
     if len(set(names)) < len(names):
         raise PlanError(f"{path}: two [[processes]] have one name")
     for process in project.processes:
+        demand_accepted(project, process)
         for name in process.recovery:
             if name not in metals:
                 raise PlanError(

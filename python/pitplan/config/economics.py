@@ -7,6 +7,7 @@ from dataclasses import dataclass
 from decimal import ROUND_HALF_EVEN, Decimal
 from typing import Any, Optional, Union
 
+from .acceptance import Accepts, read_accepts
 from .feed_grades import FeedGrade, read_feed
 from .toml_section import Section
 
@@ -99,13 +100,14 @@ class Metal:
 @dataclass(frozen=True)
 class Process:
     """One of several ways to treat ore: what it costs a tonne, the recovery of each metal that it recovers, the tonnes that it takes in a year,
-    and the limits on its head grades."""
+    the limits on its head grades, and the blocks that it accepts."""
 
     name: str
     cost: ByRock
     recovery: dict[str, Union[Recovery, dict[str, Recovery]]]
     capacity: float
     feed: tuple[FeedGrade, ...] = ()
+    accepts: Accepts = Accepts()
 
 
 @dataclass(frozen=True)
@@ -254,6 +256,7 @@ def read_process(section: Section) -> Process:
         recovery={metal: read_recovery(by_metal, metal) for metal in by_metal.data},
         capacity=float(section.number("capacity", least=1)),
         feed=read_feed(section.section("feed"), name) if section.has("feed") else (),
+        accepts=read_accepts(section.section("accepts")) if section.has("accepts") else Accepts(),
     )
     section.finish()
     return process

@@ -16,6 +16,7 @@ from pitplan.config.table_rules import NullRule, RowRules, Share
 from pitplan.core.atomic_files import hash_of
 from pitplan.core.revenue_factors import BASE_PRICE
 
+from .acceptance import Accepts
 from .constraints import BLOCKS, ConstraintRules
 from .economics import ByDomain, Curve, Economics, Metal, Process
 from .feed_grades import FeedGrade
@@ -239,7 +240,12 @@ def of_metal(metal: Metal, has_processes: bool) -> Values:
 def of_process(process: Process) -> Values:
     recovery = {metal: of_recovery(value) for metal, value in process.recovery.items()}
     values = {"name": process.name, "cost": process.cost, "recovery": recovery, "capacity": process.capacity}
-    return {**values, "feed": of_feed(process.feed)}
+    return {**values, "feed": of_feed(process.feed), "accepts": of_accepts(process.accepts)}
+
+
+def of_accepts(accepts: Accepts) -> Any:
+    codes = {key: list(codes) for key, codes in accepts.codes.items() if codes}
+    return codes | {it.column: {"min": it.min, "max": it.max} for it in accepts.grades} or None
 
 
 def of_feed(limits: tuple[FeedGrade, ...]) -> Any:

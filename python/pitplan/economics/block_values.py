@@ -28,6 +28,7 @@ from pitplan.core.decimals import Exact, Rounding, at_factor, product, total
 from pitplan.core.revenue_factors import BASE_PRICE
 from pitplan.errors import PlanError
 
+from .acceptance import accepted_by
 from .haulage import Hauled
 from .process_routing import Steps, Way, best_way, most_steps, steps_of, worth
 from .value_notes import notes_of
@@ -173,7 +174,9 @@ def values_of(frame: pd.DataFrame, grid: Grid, project: Project, source: str = "
     feed = rows.feed()
     weighed = [replace(rows, project=way).weighed(feed) for way in project.by_process]
     names = [process.name for process in project.processes] or [""]
-    ways, mineralised = split_by_class(tuple(it.way(name, grid) for it, name in zip(weighed, names)), rows)
+    ways, mineralised = split_by_class(
+        accepted(tuple(it.way(name, grid) for it, name in zip(weighed, names)), rows), rows
+    )
     best = best_way(ways, BASE_PRICE)
     mining, rounding = rows.millionths(rows.mining(), "mining cost")
     hauled, of_haulage = rows.hauled(feed)
@@ -195,6 +198,12 @@ def values_of(frame: pd.DataFrame, grid: Grid, project: Project, source: str = "
     return values
 
 
+def accepted(ways: tuple[Way, ...], rows: Rows) -> tuple[Way, ...]:
+    """Returns the amounts of processes without those of blocks that they do not accept."""
+    masks = [rows.grid.spread(accepted_by(it, rows.frame, rows.project)) for it in rows.project.processes]
+    return tuple(way.within(mask) for way, mask in zip(ways, masks)) if masks else ways
+
+
 def split_by_class(ways: tuple[Way, ...], rows: Rows) -> tuple[tuple[Way, ...], tuple[Way, ...]]:
     """Returns the amounts of blocks that may be ore, and those of blocks whose resource class is treated as waste; none of these without classes."""
     is_waste = resource_classes.waste_of(rows.frame, rows.project)
@@ -211,9 +220,10 @@ def greatest_gains(frame: pd.DataFrame, grid: Grid, project: Project, source: st
     factor = max(project.shells.revenue_factors[-1], BASE_PRICE)
     rows = Rows(frame, grid, project, source, Exact.of_floats(frame[project.table.tonnes].to_numpy()))
     feed, found = rows.feed(), np.zeros(len(frame), dtype=bool)
-    for way in project.by_process:
+    masks = [accepted_by(it, frame, project) for it in project.processes] or [np.ones(len(frame), dtype=bool)]
+    for way, mask in zip(project.by_process, masks):
         weighed = replace(rows, project=way).weighed(feed)
-        found |= np.array(at_factor(factor, weighed.revenue, weighed.cost) > 0, dtype=bool)
+        found |= mask & np.array(at_factor(factor, weighed.revenue, weighed.cost) > 0, dtype=bool)
     is_waste = resource_classes.waste_of(frame, project)
     return found if is_waste is None else found & ~is_waste
 

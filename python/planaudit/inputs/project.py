@@ -154,6 +154,25 @@ class FeedGrade:
 
 
 @dataclass(frozen=True)
+class GradeRange:
+    """In-situ grades that a process accepts, both limits included."""
+
+    column: str
+    min: Optional[float]
+    max: Optional[float]
+
+
+@dataclass(frozen=True)
+class Accepts:
+    """`[processes.accepts]`: codes, any if there are none, and grades."""
+
+    rock_type: tuple[str, ...] = ()
+    domain: tuple[str, ...] = ()
+    resource_class: tuple[str, ...] = ()
+    grades: tuple[GradeRange, ...] = ()
+
+
+@dataclass(frozen=True)
 class Process:
     """An entry of `[[processes]]`."""
 
@@ -162,6 +181,7 @@ class Process:
     recovery: dict[str, Union[Recovery, dict[str, Recovery]]]
     capacity: float
     feed: tuple[FeedGrade, ...] = ()
+    accepts: Accepts = Accepts()
 
 
 @dataclass(frozen=True)
@@ -363,6 +383,8 @@ class Project:
     schedule: Optional[ScheduleRules] = None
     haulage: Optional[Haulage] = None
     classes: ClassRules = ClassRules()
+    # What the process accepts, in a project with one process of several.
+    accepts: Accepts = Accepts()
 
     @property
     def by_process(self) -> tuple[Project, ...]:
@@ -373,7 +395,7 @@ class Project:
         """Returns the project with one process."""
         metals = tuple(replace(it, recovery=process.recovery.get(it.name, Decimal(0))) for it in self.metals)
         economics = replace(self.economics, processing_cost=process.cost)
-        return replace(self, economics=economics, metals=metals, processes=())
+        return replace(self, economics=economics, metals=metals, processes=(), accepts=process.accepts)
 
     @property
     def feed_grades(self) -> tuple[FeedGrade, ...]:

@@ -14,6 +14,7 @@ import tomllib
 
 from planaudit.errors import AuditError
 from planaudit.inputs.project import (
+    Accepts,
     Area,
     Bench,
     ByCode,
@@ -25,6 +26,7 @@ from planaudit.inputs.project import (
     Curve,
     Economics,
     FeedGrade,
+    GradeRange,
     GridRules,
     Haulage,
     Metal,
@@ -255,7 +257,14 @@ def metal_of(data: Data) -> Metal:
 def process_of(data: Data) -> Process:
     recoveries = {metal: recovery_of(value) for metal, value in data["recovery"].items()}
     feed = feed_of(data.get("feed", {}), data["name"])
-    return Process(data["name"], by_rock(data["cost"]), recoveries, float(number(data["capacity"])), feed)
+    accepts = accepts_of(data.get("accepts", {}))
+    return Process(data["name"], by_rock(data["cost"]), recoveries, float(number(data["capacity"])), feed, accepts)
+
+
+def accepts_of(data: Data) -> Accepts:
+    codes = {key: texts(data[key]) for key in ("rock_type", "domain", "class") if key in data}
+    ranges = [GradeRange(key, metres(it, "min"), metres(it, "max")) for key, it in data.items() if key not in codes]
+    return Accepts(codes.get("rock_type", ()), codes.get("domain", ()), codes.get("class", ()), tuple(ranges))
 
 
 def feed_of(data: Data, process: str) -> tuple[FeedGrade, ...]:

@@ -11,7 +11,7 @@ from typing import Optional
 
 import numpy as np
 
-from planaudit.inputs import classes
+from planaudit.inputs import acceptance, classes
 from planaudit.inputs.answer import Answer
 from planaudit.inputs.block_table import columns_of
 from planaudit.inputs.matching import PROCESS
@@ -210,7 +210,7 @@ class Exactly:
         ]
         codes = list(zip(*named))
         costs = {code: Costs.of(project, *code) for code in set(codes)}
-        is_waste = classes.treated_as("waste", answer.rows, project)
+        is_waste = classes.treated_as("waste", answer.rows, project) | acceptance.refused(answer.rows, project)
         grades = [np.where(is_waste, 0.0, answer.rows[metal.column]).tolist() for metal in project.metals]
         depths = [more_for_depth(answer, z) for z in answer.elevations]
         rules = project.haulage

@@ -10,7 +10,7 @@ import tomllib
 from pitplan.blockmodel import reader
 from pitplan.survey import readers
 from planaudit.inputs import block_table, drawings, project_file, surveys
-from planaudit.inputs.project import SurveyFile, Wall
+from planaudit.inputs.project import Project, SurveyFile, Wall
 from planaudit.inputs.row_rules import RowRules
 
 
@@ -22,7 +22,9 @@ def differences(audit, planner, where="project"):
     if isinstance(audit, RowRules):
         planner = as_audited(planner)
     if is_dataclass(audit):
-        for field in fields(audit):
+        # What the only process accepts is read with the process.
+        of_process = {"accepts"} if isinstance(audit, Project) else set()
+        for field in [it for it in fields(audit) if it.name not in of_process]:
             yield from differences(getattr(audit, field.name), getattr(planner, field.name), f"{where}.{field.name}")
     elif isinstance(audit, (tuple, list)) and isinstance(planner, (tuple, list)) and len(audit) == len(planner):
         for number, (one, other) in enumerate(zip(audit, planner)):

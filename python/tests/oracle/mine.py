@@ -108,6 +108,17 @@ class Mine:
             return bool(rules[row[column]] == "waste")
         return row[column].lower() in ("inferred", "potential", "")
 
+    def accepts(self, process: dict[str, Any], row: dict[str, str]) -> bool:
+        """Whether a process accepts a block, by its codes and its grades in the ground."""
+        table = self.project["table"]
+        for key, rule in process.get("accepts", {}).items():
+            if isinstance(rule, dict):
+                if not rule.get("min", 0) <= Decimal(row[key]) <= rule.get("max", Decimal("Infinity")):
+                    return False
+            elif row[table[key]] not in [str(code) for code in (rule if isinstance(rule, list) else [rule])]:
+                return False
+        return True
+
     def factor(self, key: str, row: dict[str, str]) -> Fraction:
         """The factor of a block's mining or processing cost; 1 where its field is empty, as of a block without tonnes, or no column is named."""
         column = self.project["economics"].get(key)
@@ -144,8 +155,11 @@ class Mine:
         undiluted = tonnes * self.by_code(money.get("mining_recovery", 1), row)
         dilution = 1 + self.by_code(money.get("dilution", 0), row)
         grades = {metal["name"]: Fraction(row[metal["column"]]) for metal in self.project["metals"]}
-        as_ore = tuple(self.way(process, row, undiluted, dilution) for process in self.processes)
         nothing = Way(Fraction(0), Fraction(0), dict.fromkeys(grades, Fraction(0)))
+        as_ore = tuple(
+            self.way(process, row, undiluted, dilution) if self.accepts(process, row) else nothing
+            for process in self.processes
+        )
         ways = (nothing,) * len(as_ore) if self.is_waste(row) else as_ore
         fixed = self.project.get("constraints", {})
         # What has no tonnes is air, which is neither.

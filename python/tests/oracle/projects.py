@@ -151,7 +151,8 @@ def process(rng: Random, number: int) -> str:
     gold = f", gold = {recovery(rng)}" if number else ""
     cost = pick(rng, str(2 + 5 * number), f"{{ R = {2 + 5 * number}, S = {2.5 + 5 * number} }}")
     name, copper = ("leach", "mill", "fine")[number], pick(rng, "0.5", recovery(rng))
-    return f'[[processes]]\nname = "{name}"\ncost = {cost}\ncapacity = {2500 * (number + 1)}\nrecovery = {{ copper = {copper}{gold} }}'
+    taken = pick(rng, "", "", "", '\naccepts = { rock_type = "R" }', "\naccepts = { cu = { min = 0.3, max = 2.5 } }")
+    return f'[[processes]]\nname = "{name}"\ncost = {cost}\ncapacity = {2500 * (number + 1)}\nrecovery = {{ copper = {copper}{gold} }}{taken}'
 
 
 def slopes(rng: Random) -> str:
