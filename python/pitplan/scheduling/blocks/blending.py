@@ -1,7 +1,8 @@
 """Schedules that keep signed limits, such as those on head grades, by where the blocks of a year go.
 
-Filling years block by block keeps a head grade after each block, so that rich or dirty ore waits for what it is blended with. Here years are
-filled without signed limits, at their prices, and a linear programme by year then chooses where the blocks go.
+Filling years block by block keeps a head grade after each block, so that rich or dirty ore waits for what it is blended with. Here signed
+limits have their prices instead: years are filled, and blocks moved, by what they earn less these. A linear programme by year then chooses
+where the blocks go, so that the limits are kept.
 """
 
 from __future__ import annotations
@@ -13,8 +14,10 @@ import numpy as np
 from numpy.typing import NDArray
 
 from .destinations import with_best_shares
-from .greedy import Filling, paying
+from .greedy import Filling, paying, preferences
+from .local_search import moved
 from .problem import BlockProblem
+from .ranks import Ranks
 from .schedule import BlockSchedule
 from .toposort import Sequence
 
@@ -22,25 +25,27 @@ from .toposort import Sequence
 MOST_BLENDED = 6
 
 
-def blended(filling: Filling, sequences: Iterable[Sequence], prices: NDArray[np.float64]) -> Iterator[BlockSchedule]:
+def blended(
+    problem: BlockProblem, ranks: Ranks, sequences: Iterable[Sequence], prices: NDArray[np.float64]
+) -> Iterator[BlockSchedule]:
     """Yields schedules that keep all limits.
 
-    filling    how years are filled
-    sequences  the orders in which they are
+    sequences  the orders in which years are filled; a block waits for a year in which its best destination has room
     prices     of a unit of each limit in each year: shape (limits, years)
     """
-    problem = filling.problem
-    free = replace(problem, limits=tuple(limit for limit in problem.limits if not limit.signed))
-    unblended = replace(filling, problem=free)
-    filled = [unblended.fill(sequence) for sequence in sequences]
-    for schedule in sorted(filled, key=lambda it: -value_at(problem, it, prices))[:MOST_BLENDED]:
-        found = with_best_shares(problem, schedule)
+    free = at_prices(problem, prices)
+    filling = Filling(free, preferences(problem, prices), waits=problem.destinations > 1)
+    filled = [filling.without_loss(sequence) for sequence in sequences]
+    for schedule in sorted(filled, key=lambda it: -it.value(free))[:MOST_BLENDED]:
+        found = with_best_shares(problem, moved(filling, ranks, schedule))
         if found.is_allowed(problem):
             yield paying(problem, found)
 
 
-def value_at(problem: BlockProblem, schedule: BlockSchedule, prices: NDArray[np.float64]) -> float:
-    """Returns the value of a schedule less the prices of what it takes of signed limits."""
-    sums = schedule.sums(problem)
-    priced = [by_year @ of_years for limit, by_year, of_years in zip(problem.limits, prices, sums) if limit.signed]
-    return schedule.value(problem) - float(sum(priced))
+def at_prices(problem: BlockProblem, prices: NDArray[np.float64]) -> BlockProblem:
+    """Returns the problem whose blocks pay the prices of signed limits in place of keeping them."""
+    values = problem.values.copy()
+    for limit, by_year in zip(problem.limits, prices):
+        if limit.signed:
+            values -= limit.amounts[:, :, None] * by_year
+    return replace(problem, values=values, limits=tuple(limit for limit in problem.limits if not limit.signed))

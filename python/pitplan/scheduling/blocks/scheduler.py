@@ -153,11 +153,11 @@ class Search:
                 self.blend()
 
     def blend(self) -> None:
-        """Takes the best of the schedules that are filled without signed limits and then keep them by where blocks go."""
-        cumulative, prices = self.relaxation.cumulative, self.relaxation.prices
-        for filling in self.fillings:
-            for schedule in blended(filling, sequences(self.problem, self.part.ranks, cumulative), prices):
-                self.offer(schedule)
+        """Takes the best of the schedules that are made at the prices of signed limits and then keep them by where blocks go."""
+        ranks, relaxation = self.part.ranks, self.relaxation
+        found = sequences(self.problem, ranks, relaxation.cumulative)
+        for schedule in blended(self.problem, ranks, found, relaxation.prices):
+            self.offer(schedule)
 
     def offer_filled(self, number: int, schedule: BlockSchedule) -> None:
         """Takes a schedule that is better, also than those that were filled in the same way."""
