@@ -174,6 +174,15 @@ def test_an_interrupted_relaxation_has_a_bound_for_all_blocks():
     assert priced(begun.nodes, found.multipliers).bound < 45
 
 
+def test_clean_ore_stays_in_years_that_require_it_alone():
+    """Two clean blocks that do not pay: one with the dirty block, and one in the next year."""
+    values = np.array([DIRTY, CLEAN, CLEAN])[:, :, None] * np.ones(2)
+    excess = np.array([[0.0, 500.0], [0.0, -500.0], [0.0, -500.0]])
+    problem = replace(problem_of(values, []), limits=(Limit("grade", excess, np.zeros(2), signed=True),))
+    schedule = schedule_of(problem, np.array([0, 0, 1]), np.array([1, 1, 1]))
+    assert paying(problem, schedule).year.tolist() == [0, 0, 2]
+
+
 def test_a_year_above_a_grade_is_not_allowed():
     problem = blend(150, years=2)
     both, apart = (BlockSchedule(np.array(years), np.array([[0.0, 1.0]] * 2)) for years in ([0, 0], [0, 1]))

@@ -128,12 +128,18 @@ def schedule_of(problem: BlockProblem, year: NDArray[np.int64], destination: NDA
 
 def paying(problem: BlockProblem, schedule: BlockSchedule) -> BlockSchedule:
     """The schedule without what earns less, at its time, than it costs: the best of its parts that hold with each block all that it
-    needs. Blocks that take from signed limits stay if these are not kept without them."""
-    pruned = without_losses(problem, schedule, np.zeros(problem.blocks, dtype=bool))
+    needs. Blocks that take from signed limits stay in the years that do not keep these without them."""
+    stays = np.zeros(problem.blocks, dtype=bool)
     signed = [(limit.amounts * schedule.share).sum(axis=1) < 0 for limit in problem.limits if limit.signed]
-    if not signed or pruned.is_allowed(problem):
-        return pruned
-    return without_losses(problem, schedule, np.any(signed, axis=0))
+    while True:
+        pruned = without_losses(problem, schedule, stays)
+        if not signed or pruned.is_allowed(problem):
+            return pruned
+        exceeded = np.append(pruned.exceeded(problem), False)
+        more = np.any(signed, axis=0) & exceeded[schedule.year] & ~stays
+        if not more.any():
+            return schedule
+        stays |= more
 
 
 def without_losses(problem: BlockProblem, schedule: BlockSchedule, stays: NDArray[np.bool_]) -> BlockSchedule:

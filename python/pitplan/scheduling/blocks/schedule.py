@@ -64,6 +64,11 @@ class BlockSchedule:
             found[number] += HAIR * np.bincount(self.year, size, minlength=problem.years + 1)[: problem.years]
         return found
 
+    def exceeded(self, problem: BlockProblem) -> NDArray[np.bool_]:
+        """Whether each year is above a limit by more than a hair."""
+        most = np.array([limit.most for limit in problem.limits]).reshape(len(problem.limits), problem.years)
+        return np.asarray((self.sums(problem) > most + self.slack(problem)).any(axis=0))
+
     def lacking(self, problem: BlockProblem) -> float:
         """What lacks of what years must hold at least, as shares of it added up; 0 where nothing does but for a hair."""
         floors = np.array([limit.floor for limit in problem.limits]).reshape(len(problem.limits), problem.years)
@@ -89,14 +94,8 @@ class BlockSchedule:
         hair."""
         is_dug = self.year < problem.years
         whole = np.abs(self.share.sum(axis=1) - is_dug) <= HAIR
-        most = np.array([limit.most for limit in problem.limits]).reshape(len(problem.limits), problem.years)
         ordered = self.year[problem.needs.users] >= self.year[problem.needs.needed]
-        return bool(
-            whole.all()
-            and (self.share >= 0).all()
-            and ordered.all()
-            and (self.sums(problem) <= most + self.slack(problem)).all()
-        )
+        return bool(whole.all() and (self.share >= 0).all() and ordered.all() and not self.exceeded(problem).any())
 
 
 def nothing(problem: BlockProblem) -> BlockSchedule:
