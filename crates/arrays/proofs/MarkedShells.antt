@@ -15,7 +15,7 @@ use Rattle.pit_model.specs.Shells.{AreFactors, AreShells, IsShell, factor_of}
 use Rattle.pit_model.proofs.Members.{members_each, members_place}
 use Rattle.pit_model.proofs.SamePairs.{fixed_pit_knows_no_order, turned}
 use Rattle.pit_model.proofs.Shells.{shells_nest}
-use Rattle.shells.specs.Prices.{Prices, deposit_of}
+use Rattle.nesting.specs.Prices.{Prices, deposit_of}
 use Rattle.arrays.specs.Firsts.{AreFirsts, Holds}
 use Rattle.arrays.specs.Nested.{IsMarkedShell, MarkShells}
 use Rattle.csr.specs.Rows.{IsCsr}

@@ -7,7 +7,7 @@ use Rattle.faults.specs.declared.refusal.Refusal.{Refusal}
 use Rattle.faults.specs.declared.refusal.Refusal.TheVariants.{NoMemory, OverLimit, IdOutOfPlace, PredecessorOutOfRange, NeedsItself, PredecessorTwice, Cycle, CountsDiffer, WrongHeader, FixedClash, NegativeColumn}
 use Rattle.pit_model.specs.Graph.{AreSamePairs}
 use Rattle.pit_model.specs.Cycle.{IsCycleList}
-use Rattle.shells.specs.FactorList.{IsFirstItemFault}
+use Rattle.nesting.specs.FactorList.{IsFirstItemFault}
 use Rattle.arrays.specs.Halves.{RefusesHalves}
 use Rattle.arrays.specs.Fixing.{AreForBlocks, RefusesFixing}
 use Rattle.csr.specs.Rows.{IsCsr}

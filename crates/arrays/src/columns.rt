@@ -7,7 +7,7 @@ ghost use Rattle.arrays.specs.Refused.{RefusesAmount, RefusesAmounts};
 use crate::array_error::ArrayError;
 use crate::mine::widened;
 use faults::Refusal;
-use shells::Columns;
+use nesting::Columns;
 use std::alloc::Global;
 
 /// The most that a revenue or a cost may be, in millionths.

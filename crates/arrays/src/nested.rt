@@ -10,8 +10,8 @@ use crate::firsts::write_firsts;
 use crate::graph::graph_of;
 use csr::CsrView;
 use faults::Refusal;
+use nesting::{Factors, shells_sequential};
 use pit_model::Shell;
-use shells::{Factors, shells_sequential};
 use std::alloc::{AllocError, Global};
 
 /// The revenue and the cost of each block in millionths, and which blocks each needs.

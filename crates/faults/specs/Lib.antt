@@ -1,2 +1,3 @@
 pub mod Refused
 pub mod Words
+pub mod FirstFault

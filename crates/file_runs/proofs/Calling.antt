@@ -3,7 +3,7 @@ use Rattle.std.specs.Prelude.{ℕ, List, IfOk, IfErr, Result, Ok, Err}
 use Rattle.faults.specs.declared.fault.Fault.{Fault}
 use Rattle.minelib_reader.specs.Device.{Progress}
 use Rattle.pit_model.specs.Replay.{IsComplete}
-use Rattle.shells.specs.Grown.{EachEndsWithin}
+use Rattle.shells.specs.ByMode.{EachEndsWithin}
 use Rattle.solver.specs.Modes.{EndsWithin}
 use Rattle.runs.specs.Certified.{IsCertified}
 use Rattle.runs.specs.Check.{IsChecked, RefusesCheck}

@@ -6,8 +6,9 @@ use Rattle.faults.specs.declared.source.Source.TheVariants as sources
 use Rattle.minelib_reader.specs.Answer.{FailsAt}
 use Rattle.minelib_reader.specs.Device.{Progress}
 use Rattle.minelib_reader.specs.declared.input.FileReader.{FileReader}
-use Rattle.shells.specs.FactorList.{item_numbers, IsFirstItemFault, SpellsFactors}
-use Rattle.shells.specs.Grown.{EachEndsWithin}
+use Rattle.nesting.specs.FactorList.{IsFirstItemFault}
+use Rattle.shells.specs.FactorText.{item_numbers, SpellsFactors}
+use Rattle.shells.specs.ByMode.{EachEndsWithin}
 use Rattle.runs.specs.ShellsRun.{HoldsOfDeposit, IsShellsDone, RefusesShellsRun}
 use Rattle.runs.specs.Solve.{Reading}
 use Rattle.runs.specs.declared.status.Status.{Status}

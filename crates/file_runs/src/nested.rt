@@ -11,7 +11,7 @@ use crate::place::Readable;
 use faults::Fault;
 use minelib_reader::{FileReader, OutBytes};
 use runs::{Status, run_shells};
-use shells::Factors;
+use shells::{Factors, FromText};
 use std::alloc::AllocGlobal;
 use std::sync::Wait;
 use std::thread::Threads;

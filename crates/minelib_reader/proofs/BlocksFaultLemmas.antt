@@ -6,7 +6,7 @@ use Rattle.faults.specs.declared.fault.Fault.{Fault}
 use Rattle.faults.specs.declared.refusal.Refusal.TheVariants.{OverLimit, WrongFieldCount}
 use Rattle.minelib_reader.specs.Checks.{◌>>=◌, ok_if}
 use Rattle.std.specs.Result.{result_err}
-use Rattle.minelib_reader.specs.FirstFault.{IsFirstFault}
+use Rattle.faults.specs.FirstFault.{IsFirstFault}
 use Rattle.minelib_reader.specs.Text.{Row}
 use Rattle.minelib_reader.specs.Table.{Place, Table, table}
 use Rattle.minelib_reader.specs.Blocks.{most_columns, in_blocks, width_line, block_line, blocks_from, as_table, table_of_rows}

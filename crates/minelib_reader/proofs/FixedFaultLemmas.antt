@@ -6,7 +6,7 @@ use Rattle.std.specs.List.{slice_get}
 use Rattle.faults.specs.declared.fault.Fault.{Fault}
 use Rattle.pit_model.specs.Fixed.{FixedLists}
 use Rattle.minelib_reader.specs.Checks.{◌>>=◌}
-use Rattle.minelib_reader.specs.FirstFault.{IsFirstFault}
+use Rattle.faults.specs.FirstFault.{IsFirstFault}
 use Rattle.minelib_reader.specs.Text.{Row}
 use Rattle.minelib_reader.specs.PrecFault.{number_or_zero, second_number}
 use Rattle.minelib_reader.specs.Fixed.{fixed_line, fixed_from, with_block}

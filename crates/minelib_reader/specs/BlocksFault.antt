@@ -4,7 +4,7 @@ use Rattle.std.specs.List.{slice_get}
 use Rattle.faults.specs.declared.fault.Fault.{Fault}
 use Rattle.minelib_reader.specs.Checks.{◌>>=◌}
 use Rattle.std.specs.Result.{result_err}
-use Rattle.minelib_reader.specs.FirstFault.{IsFirstFault}
+use Rattle.faults.specs.FirstFault.{IsFirstFault}
 use Rattle.minelib_reader.specs.Text.{Row, rows_of}
 use Rattle.minelib_reader.specs.Blocks.{width_line, block_line}
 

@@ -3,7 +3,7 @@ use Rattle.std.specs.Prelude.{ℕ, ◌+◌, List, [], ◌∷◌, take, Option, S
 use Rattle.std.specs.List.{slice_get}
 use Rattle.std.specs.Result.{result_err}
 use Rattle.faults.specs.declared.fault.Fault.{Fault}
-use Rattle.minelib_reader.specs.FirstFault.{IsFirstFault}
+use Rattle.faults.specs.FirstFault.{IsFirstFault}
 use Rattle.minelib_reader.specs.Text.{Row, rows_of}
 use Rattle.minelib_reader.specs.PrecFault.{second_number}
 use Rattle.minelib_reader.specs.Fixed.{fixed_line}

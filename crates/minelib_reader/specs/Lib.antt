@@ -1,7 +1,6 @@
 pub mod Device
 pub mod Answer
 pub mod Checks
-pub mod FirstFault
 pub mod Number
 pub mod Text
 pub mod Upit

@@ -4,7 +4,7 @@ use Rattle.std.specs.List.{slice_get}
 use Rattle.faults.specs.declared.fault.Fault.{Fault}
 use Rattle.faults.specs.declared.refusal.Refusal.TheVariants.{EndsEarly, AfterEnd}
 use Rattle.std.specs.Result.{result_err}
-use Rattle.minelib_reader.specs.FirstFault.{IsFirstFault}
+use Rattle.faults.specs.FirstFault.{IsFirstFault}
 use Rattle.minelib_reader.specs.Text.{Row, rows_of, count_of_lines}
 use Rattle.minelib_reader.specs.Upit.{in_model, name_line, type_line, blocks_line, objective_line, value_line}
 

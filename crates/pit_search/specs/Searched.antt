@@ -1,12 +1,14 @@
 -- The pit of a mine with fixed blocks: by the instance that is searched for it.
 use Rattle.std.specs.Global.{Vec}
-use Rattle.std.specs.Prelude.{◌≡◌, ℕ, ℤ, Bool, List, Option, None, Some}
+use Rattle.std.specs.Prelude.{◌≡◌, ◌⊎◌, ℕ, ℤ, Bool, List, Option, None, Some}
+use Rattle.faults.specs.Refused.{no_memory}
+use Rattle.faults.specs.declared.fault.Fault.{Fault}
 use Rattle.pit_model.specs.declared.direction.Direction.{Direction}
 use Rattle.pit_model.specs.declared.direction.Direction.TheVariants.{Least, Greatest}
 use Rattle.pit_model.specs.Mine.{Instance, members, worth}
 use Rattle.pit_model.specs.Fixed.{Fixed, graph_of_mine}
 use Rattle.pit_model.specs.Limits.{IsInstance}
-use Rattle.pit_model.specs.Direction.{IsDual, ListsPit, no_blocks_fixed}
+use Rattle.pit_model.specs.Direction.{IsDual, IsSearched, ListsPit, no_blocks_fixed}
 use Rattle.pit_model.specs.Graph.{IsGraph}
 use Rattle.mine_graph.specs.FixedBlocks.{FixedBlocks, IsFixedOf, no_lists}
 use Rattle.merging.specs.Reduced.{IsRestIn}
@@ -59,3 +61,11 @@ pub record IsSearch (fixed : FixedBlocks) (searched : Searched) : Type 0 where
   pub fixed_blocks : IsFixedOf (graph_of_mine mine) fixed
   pub direction : Direction
   pub of_mine : IsSearchOf direction mine fixed searched
+
+-- this holds of the instance that is searched
+abbrev pub OfSearched : Direction → Instance → Fixed → (Instance → Type 0) → Type 0
+OfSearched direction mine fixed Holds = (searched : Instance) × IsSearched direction mine fixed searched × Holds searched
+
+-- why no pit is found: no memory; or the instance that is searched was refused
+abbrev pub RefusesFind : (Instance → Fault → Type 0) → Direction → Instance → Fixed → Fault → Type 0
+RefusesFind Refuses direction mine fixed fault = (fault ≡ no_memory) ⊎ OfSearched direction mine fixed (λ searched. Refuses searched fault)

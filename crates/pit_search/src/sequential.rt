@@ -1,17 +1,36 @@
 //! The pit of a mine on one thread without a budget, for callers that may neither start threads nor wait.
-ghost use Rattle.std.specs.Prelude.{◌≡◌, IfOk, IfErr};
+ghost use Rattle.std.specs.Prelude.{◌≡◌, ⊤, IfOk, IfErr};
 ghost use Rattle.faults.specs.Refused.{no_memory};
 ghost use Rattle.pit_model.specs.Fixed.{fixed_of, graph_of_mine};
 ghost use Rattle.mine_graph.specs.FixedBlocks.{IsFixedOf};
 ghost use Rattle.pit_search.specs.Searched.{IsFound};
 
+use crate::find::find_pit;
 use crate::found_pit::FoundPit;
-use crate::searched::Searched;
+use crate::pit_solver::PitSolver;
 use faults::Fault;
 use merging::solve_pit;
 use mine_graph::{Fixed, Instance};
 use pit_model::Direction;
 use std::alloc::Global;
+
+/// Finds minimal pits on one thread without a budget.
+#[derive(Drop)]
+pub struct SequentialSolver {
+    pub alloc: Global,
+}
+
+impl PitSolver for SequentialSolver {
+    ghost FindsPits = { λ _. ⊤ };
+
+    ghost Ends = { λ _ _. ⊤ };
+
+    ghost Refuses = { λ _ _ fault. fault ≡ no_memory };
+
+    fn minimal_pit(&self, instance: &Instance) -> Result<Vec<u32>, Fault> {
+        solve_pit(self.alloc, instance)
+    }
+}
 
 /// The pit of a mine with fixed blocks toward a direction, as `Search::pit` finds it. Refused for want of memory alone.
 pub fn solve_pit_sequential(
@@ -24,8 +43,5 @@ pub fn solve_pit_sequential(
     ensures found { IfOk result (IsFound direction mine (fixed_of fixed.now.lists)) }
     ensures refused { IfErr result (λ e. e ≡ no_memory) }
 {
-    mine.law();
-    let searched = Searched::of(alloc, mine, fixed, direction)?;
-    let found = solve_pit(alloc, &searched.instance)?;
-    searched.pit(alloc, fixed, found)
+    find_pit(&SequentialSolver { alloc }, alloc, mine, fixed, direction)
 }

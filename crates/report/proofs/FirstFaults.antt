@@ -3,7 +3,7 @@
 use Rattle.std.proofs.Common.{◌≡◌, ℕ, zero, suc, ◌<◌, List, [], ◌∷◌, take, None, Result, Ok, Err, ap, ◌∙◌, arith, inl, inr}
 use Rattle.std.specs.List.{slice_get}
 use Rattle.faults.specs.declared.fault.Fault.{Fault}
-use Rattle.minelib_reader.specs.FirstFault.{IsFirstFault}
+use Rattle.faults.specs.FirstFault.{IsFirstFault}
 use Rattle.minelib_reader.specs.Text.{Row}
 use Rattle.minelib_reader.proofs.CheckLemmas.{passed, stopped}
 use Rattle.minelib_reader.proofs.FirstFaultLemmas.{no_fault, that_fault}

@@ -1,7 +1,7 @@
 -- The first fault of the text of a journal: that of the least line that breaks a check, and on it the first check.
 use Rattle.std.specs.Prelude.{ℕ, List, Option}
 use Rattle.faults.specs.declared.fault.Fault.{Fault}
-use Rattle.minelib_reader.specs.FirstFault.{IsFirstFault}
+use Rattle.faults.specs.FirstFault.{IsFirstFault}
 use Rattle.minelib_reader.specs.Text.{rows_of, count_of_lines}
 use Rattle.pit_model.specs.Graph.{Graph}
 use Rattle.report.specs.LineByLine.{line_fault_after}

@@ -15,7 +15,7 @@ use Rattle.faults.specs.declared.source.Source.TheVariants as sources
 use Rattle.minelib_reader.proofs.TextFaults.{IsOfText, table_fault_of_text, prec_fault_of_text}
 use Rattle.mine_graph.specs.Faults.{RefusesPairs, IsGraphFault}
 use Rattle.pit_model.specs.Graph.{IsAcyclic}
-use Rattle.shells.specs.Prices.{RefusesColumns}
+use Rattle.shells.specs.Columns.{RefusesColumns}
 use Rattle.runs.specs.Solve.{Reading, Gave, NeverFailed}
 use Rattle.runs.specs.Deposit.{rows, GaveTable, RefusesDeposit, in_blocks, in_prec, in_pairs, in_columns}
 

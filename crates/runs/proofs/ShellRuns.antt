@@ -22,8 +22,8 @@ use Rattle.pit_model.specs.ShellText.{shells_text}
 use Rattle.pit_model.proofs.SamePairs.{turned, fixed_pit_knows_no_order}
 use Rattle.solver.specs.declared.mode.Mode.{Mode}
 use Rattle.solver.specs.declared.mode.Mode.TheVariants.{Single, Parts, Shared}
-use Rattle.shells.specs.Prices.{Prices, deposit_of}
-use Rattle.shells.specs.Grown.{EachEndsWithin, RefusesShells}
+use Rattle.nesting.specs.Prices.{Prices, deposit_of}
+use Rattle.shells.specs.ByMode.{EachEndsWithin, RefusesShells}
 use Rattle.runs.specs.Solve.{Reading}
 use Rattle.runs.specs.Deposit.{deposit_of_table, rows, GaveDeposit, HoldsDeposit, RefusesDeposit}
 use Rattle.runs.specs.ShellsRun.{GivesShells, HoldsOfDeposit, IsShellsCut, IsShellsDone, RefusesShellsRun}

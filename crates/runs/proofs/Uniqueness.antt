@@ -36,7 +36,7 @@ use Rattle.certificate.specs.CertificateLines.{PitAndFlow}
 use Rattle.certificate.proofs.TextRead as certificates
 use Rattle.merging.specs.Parts.{graph_of_instance}
 use Rattle.mine_graph.proofs.Sorted.{same_joined}
-use Rattle.shells.specs.Prices.{Prices}
+use Rattle.nesting.specs.Prices.{Prices}
 use Rattle.report.specs.AnswerText.{answer_text}
 use Rattle.runs.specs.Solve.{OptionalReading, no_reader, one_reader, gone, Files, FixedInstance, Reading, Gave, GaveFixed, GaveInOrder, GaveMine, GaveFixedMine, IsPitText, fixed_in, mine_of}
 use Rattle.runs.specs.Check.{AnswersText, Checks, status_of_answer}

@@ -13,7 +13,8 @@ use Rattle.faults.specs.declared.source.Source.TheVariants as sources
 use Rattle.mine_graph.specs.Faults.{IsGraphFault}
 use Rattle.pit_model.specs.Graph.{Graph, AreSamePairs, IsAcyclic}
 use Rattle.pit_model.specs.Deposit.{Deposit}
-use Rattle.shells.specs.Prices.{Prices, deposit_of, AreColumns, RefusesColumns}
+use Rattle.nesting.specs.Prices.{Prices, deposit_of}
+use Rattle.shells.specs.Columns.{AreColumns, RefusesColumns}
 use Rattle.runs.specs.Solve.{Reading, Gave, NeverFailed, FailedOnce}
 
 abbrev pub rows : Table → ℕ

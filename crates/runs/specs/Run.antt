@@ -14,7 +14,8 @@ use Rattle.merging.specs.declared.outcome.Outcome.{Outcome}
 use Rattle.merging.specs.declared.outcome.Outcome.TheVariants as outcomes
 use Rattle.solver.specs.declared.mode.Mode.{Mode}
 use Rattle.solver.specs.Modes.{EndsWithin, IsShared, LacksRoom, RunsOut}
-use Rattle.solver.specs.Searched.{OfSearched, RefusesSearch}
+use Rattle.pit_search.specs.Searched.{OfSearched}
+use Rattle.solver.specs.Searched.{RefusesSearch}
 use Rattle.runs.specs.declared.settings.SolveSettings.{SolveSettings}
 use Rattle.runs.specs.Solve.{Files, FixedInstance, HoldsMine, RefusesMine, IsCutShort, fixed_in}
 use Rattle.runs.specs.Chosen.{Chosen, IsCountable, IsLeft, OfWriter, OfWriterIfAny, progress_of}

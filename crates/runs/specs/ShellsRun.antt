@@ -11,7 +11,7 @@ use Rattle.pit_model.specs.Deposit.{Deposit}
 use Rattle.pit_model.specs.Shells.{AreShells}
 use Rattle.pit_model.specs.ShellText.{shells_text}
 use Rattle.solver.specs.declared.mode.Mode.{Mode}
-use Rattle.shells.specs.Grown.{EachEndsWithin, RefusesShells}
+use Rattle.shells.specs.ByMode.{EachEndsWithin, RefusesShells}
 use Rattle.runs.specs.Solve.{Reading}
 use Rattle.runs.specs.Deposit.{GaveDeposit, RefusesDeposit}
 use Rattle.runs.specs.declared.status.Status.{Status}

@@ -8,7 +8,7 @@ use counters::Phase;
 use faults::Fault;
 use mine_graph::Graph;
 use minelib_reader::{InBytes, read_blocks, read_prec_rows};
-use shells::Columns;
+use shells::{Columns, FromTable};
 use std::alloc::Global;
 use std::sync::Arc;
 
@@ -50,7 +50,7 @@ pub fn read_deposit<B: InBytes, P: InBytes>(
     let graph = Graph::of_rows(alloc, n, needs)?;
     let counters = blocks.counters();
     counters.enter(Phase::Solving);
-    let columns = Columns::with_counters(alloc, &table, revenue, cost, counters)?;
+    let columns = Columns::of_with_counters(alloc, &table, revenue, cost, counters)?;
     let shared = Arc::new(alloc, graph)?;
     Ok(Deposit {
         columns,

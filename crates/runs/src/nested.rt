@@ -1,6 +1,6 @@
 //! `shells`: from the bytes of a block model and a precedence file to the bytes of the nested pits.
 ghost use Rattle.std.specs.Prelude.{◌<◌, ◌^◌, IfOk, IfErr};
-ghost use Rattle.shells.specs.Grown.{EachEndsWithin};
+ghost use Rattle.shells.specs.ByMode.{EachEndsWithin};
 ghost use Rattle.std.specs.Io.KnownBytes.{Keeps};
 ghost use Rattle.runs.specs.Solve.{reading};
 ghost use Rattle.runs.specs.ShellsRun.{HoldsOfDeposit, IsShellsDone, RefusesShellsRun};

@@ -13,8 +13,8 @@ ghost use Rattle.runs.specs.Journaled.{EndOf, IsJournaled, MayJournal, MayPutEnt
 ghost use Rattle.runs.specs.Run.{settings_of, EndsJournaled, HoldsOfSearched, MayWrite, RefusesOutcome, RefusesPit, RefusesRun};
 ghost use Rattle.runs.specs.Solve.{files_of, mine_files, fixed_instance_of, IsDone, MayRead};
 ghost use Rattle.solver.specs.Modes.{EndsWithin};
-ghost use Rattle.pit_search.specs.Searched.{IsFound};
-ghost use Rattle.solver.specs.Searched.{EndsFixed, OfSearched};
+ghost use Rattle.pit_search.specs.Searched.{IsFound, OfSearched};
+ghost use Rattle.solver.specs.Searched.{EndsFixed};
 
 use crate::mine::{FixedMine, read_mine};
 use crate::settings::SolveSettings;

@@ -1,10 +1,2 @@
-pub mod ItemChecks
-pub mod Joining
-pub mod Nests
-pub mod Marking
-pub mod PriceBounds
-pub mod Lifting
-pub mod Amounts
-pub mod Ends
-pub mod Outer
-pub mod Parametric
+pub mod ByMode
+pub mod ItemTexts

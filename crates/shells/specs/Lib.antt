@@ -1,7 +1,3 @@
-pub mod FactorList
-pub mod Prices
-pub mod Grown
-pub mod Parametric
-pub mod Outermost
-pub mod Within
-pub mod Planned
+pub mod Columns
+pub mod FactorText
+pub mod ByMode

@@ -1,85 +1,42 @@
-//! The revenue and the cost of each block: two columns of a table of blocks.
-ghost use Rattle.std.specs.Prelude.{◌≡◌, ◌<◌, ◌≤◌, ◌^◌, pos, ◌≤ℤ◌, map, length, get_or, IfOk, IfErr};
-ghost use Rattle.std.specs.List.{All};
-ghost use Rattle.minelib_reader.specs.Number.{IsBounded};
-ghost use Rattle.pit_model.specs.Deposit.{priced};
-ghost use Rattle.pit_model.specs.Sum.{total};
-ghost use Rattle.shells.specs.Outermost.{amounts_of};
-ghost use Rattle.shells.specs.Prices.{price_of, AreColumns, ArePrices, RefusesColumns};
-ghost use Rattle.pit_model.specs.Size.{most_blocks};
+//! The revenue and the cost of each block, as two columns of a table of blocks.
+ghost use Rattle.std.specs.Prelude.{IfOk, IfErr};
+ghost use Rattle.shells.specs.Columns.{AreColumns, RefusesColumns};
 
 use counters::Counters;
 use faults::Fault;
 use minelib_reader::{BlockTable, column};
-use std::alloc::{AllocError, Global};
-use std::marker::Model;
+use nesting::Columns;
+use std::alloc::Global;
 
-/// The revenue and the cost of each block in millionths, none negative.
-#[derive(Drop)]
-pub struct Columns {
-    revenues: Vec<i128>,
-    costs: Vec<i128>,
-    counters: Counters,
+/// Made of two columns of a table of blocks.
+pub trait FromTable: Sized {
+    /// Returns two columns of a table: of revenues and of costs.
+    ///
+    /// # Errors
+    ///
+    /// The column of revenues is taken first. If the table has no such column (16), by the least block with a negative number in
+    /// it (15), and if memory runs out (1).
+    fn of(alloc: Global, table: &BlockTable, revenue: u32, cost: u32) -> Result<Self, Fault>;
+
+    /// Returns the same as `of`, with counters that count over the instances that are made of the columns.
+    fn of_with_counters(
+        alloc: Global,
+        table: &BlockTable,
+        revenue: u32,
+        cost: u32,
+        counters: Counters,
+    ) -> Result<Self, Fault>;
 }
 
-impl Model for Columns {
-    ghost use Rattle.shells.specs.Prices.{Prices, ArePrices};
-
-    ghost Value = { Prices };
-
-    ghost view = { λ c. record { revenues = c.revenues.items; costs = c.costs.items } };
-
-    ghost invariant = { λ c. ArePrices c.revenues.items c.costs.items };
-}
-
-/// What a revenue and a cost are worth at a factor.
-fn price(factor: u32, revenue: i128, cost: i128) -> i128
-    requires factor { factor ≤ 100000 }
-    requires revenue { (pos 0 ≤ℤ revenue) × (revenue ≤ℤ pos (10 ^ 18)) }
-    requires cost { (pos 0 ≤ℤ cost) × (cost ≤ℤ pos (10 ^ 18)) }
-    ensures value { result ≡ priced factor revenue cost }
-    ensures small { IsBounded (10 ^ 23) result }
-{
-    i128::from(factor) * revenue - 1000 * cost
-}
-
-/// The amounts of some blocks.
-fn amounts_at(alloc: Global, amounts: &[i128], blocks: &[u32]) -> Result<Vec<i128>, AllocError>
-    requires { All (λ u. u < length amounts.now) blocks.now }
-    ensures { IfOk result (λ v. v.items ≡ amounts_of amounts.now blocks.now) }
-{
-    let mut list = Vec::with_capacity(alloc, blocks.len())?;
-    for &u in blocks {
-        list.push(amounts[u as usize])?;
-    }
-    Ok(list)
-}
-
-impl Columns {
-    /// Two columns of a table. The column of revenues is taken first. Refused where the table has no such column (16), by
-    /// the least block with a negative number in it (15), and for want of memory (1).
-    pub fn of(alloc: Global, table: &BlockTable, revenue: u32, cost: u32) -> Result<Columns, Fault>
+impl FromTable for Columns {
+    fn of(alloc: Global, table: &BlockTable, revenue: u32, cost: u32) -> Result<Columns, Fault>
         ensures columns { IfOk result (AreColumns table.now revenue cost) }
         ensures refused { IfErr result (RefusesColumns table.now revenue cost) }
     {
-        Columns::with_counters(alloc, table, revenue, cost, Counters::none())
+        Columns::of_with_counters(alloc, table, revenue, cost, Counters::none())
     }
 
-    /// These revenues and costs.
-    pub fn new(revenues: Vec<i128>, costs: Vec<i128>) -> Columns
-        requires { ArePrices revenues.items costs.items }
-        ensures revenues { result.revenues ≡ revenues.items }
-        ensures costs { result.costs ≡ costs.items }
-    {
-        Columns {
-            revenues,
-            costs,
-            counters: Counters::none(),
-        }
-    }
-
-    /// The same as `of` gives, over whose instances these counters count.
-    pub fn with_counters(
+    fn of_with_counters(
         alloc: Global,
         table: &BlockTable,
         revenue: u32,
@@ -92,89 +49,6 @@ impl Columns {
         let _rows = table.len();
         let revenues = column(alloc, table, revenue)?;
         let costs = column(alloc, table, cost)?;
-        Ok(Columns {
-            revenues,
-            costs,
-            counters,
-        })
-    }
-
-    /// What counts over the instances of these columns. No clause speaks of it.
-    pub(crate) fn counters(&self) -> &Counters {
-        &self.counters
-    }
-
-    /// What is true of each pair of columns.
-    pub fn law(&self)
-        ensures { ArePrices self.now.revenues self.now.costs }
-    {
-        let _ = &self.revenues;
-    }
-
-    /// The number of rows.
-    pub fn len(&self) -> u32
-        ensures { result ≡ length self.now.revenues }
-    {
-        self.revenues.len() as u32
-    }
-
-    /// The value of a block at a factor in per mille, in billionths.
-    pub fn value(&self, u: u32, factor: u32) -> i128
-        requires block { u < length self.now.revenues }
-        requires factor { factor ≤ 100000 }
-        ensures value { result ≡ price_of self.now factor u }
-        ensures small { IsBounded (10 ^ 23) result }
-    {
-        price(factor, self.revenues[u as usize], self.costs[u as usize])
-    }
-
-    /// The values of a list of blocks at a factor in per mille, in billionths. Refused for want of memory alone.
-    pub(crate) fn values(
-        &self,
-        alloc: Global,
-        blocks: &[u32],
-        factor: u32,
-    ) -> Result<Vec<i128>, AllocError>
-        requires blocks { All (λ u. u < length self.now.revenues) blocks.now }
-        requires factor { factor ≤ 100000 }
-        ensures { IfOk result (λ v. v.items ≡ map (price_of self.now factor) blocks.now) }
-    {
-        let mut values = Vec::with_capacity(alloc, blocks.len())?;
-        for &u in blocks {
-            values.push(self.value(u, factor))?;
-        }
-        Ok(values)
-    }
-
-    /// The rows of some blocks, as columns of their own. Refused for want of memory alone.
-    pub(crate) fn at(&self, alloc: Global, blocks: &[u32]) -> Result<Columns, AllocError>
-        requires few { length blocks.now ≤ most_blocks }
-        requires blocks { All (λ u. u < length self.now.revenues) blocks.now }
-        ensures revenues { IfOk result (λ c. c.revenues ≡ amounts_of self.now.revenues blocks.now) }
-        ensures costs { IfOk result (λ c. c.costs ≡ amounts_of self.now.costs blocks.now) }
-    {
-        self.law();
-        let revenues = amounts_at(alloc, &self.revenues, blocks)?;
-        let costs = amounts_at(alloc, &self.costs, blocks)?;
-        Ok(Columns {
-            revenues,
-            costs,
-            counters: self.counters.share(),
-        })
-    }
-
-    /// The summed value of a list of blocks at a factor in per mille, in billionths.
-    pub(crate) fn worth(&self, blocks: &[u32], factor: u32) -> i128
-        requires few { length blocks.now ≤ most_blocks }
-        requires blocks { All (λ u. u < length self.now.revenues) blocks.now }
-        requires factor { factor ≤ 100000 }
-        ensures { result ≡ total (length blocks.now) (λ i. price_of self.now factor (get_or blocks.now i 0)) }
-    {
-        self.law();
-        let mut sum = 0;
-        for &u in blocks {
-            sum += self.value(u, factor);
-        }
-        sum
+        Ok(Columns::with_counters(revenues, costs, counters))
     }
 }

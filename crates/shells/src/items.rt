@@ -1,49 +1,10 @@
-//! The items of a list of factors, one by one: its checks, and how a text is cut into items.
-ghost use Rattle.std.specs.Prelude.{◌≡◌, ◌<◌, ◌^◌, ◌∷◌, length, Some, None, IfOk, IfErr, IfSome};
+//! How a text of factors is cut into items.
+ghost use Rattle.std.specs.Prelude.{◌≡◌, ◌<◌, ◌∷◌, length, IfSome};
 ghost use Rattle.std.specs.List.{slice_split};
 ghost use Rattle.std.specs.Option.{option_map};
-ghost use Rattle.shells.specs.FactorList.{at_item, item_fault_after, is_comma, items_behind};
+ghost use Rattle.shells.specs.FactorText.{is_comma, items_behind};
 
-use faults::{Fault, Refusal, Source};
 use minelib_reader::cut;
-
-/// The most that a factor may be, in per mille.
-const MOST_FACTOR: u64 = 100_000;
-
-/// The most factors of a list.
-const MOST_FACTORS: usize = 1000;
-
-/// The fault of an item, counted from 1.
-fn at_item(refusal: Refusal, item: usize) -> Fault
-    ensures { result ≡ at_item refusal item }
-{
-    Fault::at_line(Source::Factors, refusal, item as u64)
-}
-
-/// The factor of the item behind so many others, given the factor before it and its own number, None where it is no whole
-/// one; or else what is wrong with it.
-#[tactic(auto, unfolding(crate::specs::FactorList::item_fault_after))]
-pub fn check_item(count: usize, before: Option<u32>, number: Option<u64>) -> Result<u32, Fault>
-    requires { count < 2 ^ 63 }
-    ensures passes { IfOk result (λ factor. (number ≡ Some factor) × (item_fault_after count before number ≡ None)) }
-    ensures fails { IfErr result (λ fault. item_fault_after count before number ≡ Some fault) }
-{
-    if count >= MOST_FACTORS {
-        return Err(at_item(Refusal::OverLimit, count + 1));
-    }
-    let Some(factor) = number else {
-        return Err(at_item(Refusal::NotWhole, count + 1));
-    };
-    if factor > MOST_FACTOR {
-        return Err(at_item(Refusal::OverLimit, count + 1));
-    }
-    match before {
-        Some(least) if factor <= u64::from(least) => {
-            Err(at_item(Refusal::FactorsNotRising, count + 1))
-        }
-        _ => Ok(factor as u32),
-    }
-}
 
 /// The first item of a text, and what stands behind its comma, where it has one.
 pub fn next_item(text: &[u8]) -> (&[u8], Option<&[u8]>)

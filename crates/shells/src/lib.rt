@@ -1,19 +1,13 @@
-//! Nested pits of a mine by price factor: each is solved on what the shell before leaves, and joined with that.
+//! Nested pits of a mine by price factor, in the mode that is asked for, with factors and columns read from text and tables.
 #![tactic(auto)]
 
+mod by_mode;
 mod columns;
 mod factors;
-mod growing;
 mod items;
-mod nesting;
-mod outermost;
-mod parametric_shells;
-mod plan;
-mod sequential;
-mod whole;
 
-pub use columns::Columns;
-pub use factors::Factors;
-pub use nesting::shells;
+pub use by_mode::shells;
+pub use columns::FromTable;
+pub use factors::FromText;
+pub use nesting::{Columns, Factors};
 pub use pit_model::{Direction, Shell, ShellList};
-pub use sequential::shells_sequential;

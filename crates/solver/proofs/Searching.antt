@@ -1,14 +1,9 @@
 -- How a solve of a mine ends, by that of the instance that is searched.
 use Rattle.std.proofs.Common.{◌≡◌, refl, List, get_or}
 use Rattle.std.specs.Prelude.{pos}
-use Rattle.faults.specs.declared.fault.Fault.{Fault}
-use Rattle.faults.specs.declared.refusal.Refusal.{Refusal}
-use Rattle.faults.specs.declared.refusal.Refusal.TheVariants as refusals
-use Rattle.pit_model.specs.declared.direction.Direction.{Direction}
 use Rattle.pit_model.specs.declared.journal.Entry.{Entry}
 use Rattle.pit_model.specs.Mine.{Instance}
-use Rattle.pit_model.specs.Direction.{IsSearched}
-use Rattle.pit_model.specs.Fixed.{Fixed, fixed_of, graph_of_mine}
+use Rattle.pit_model.specs.Fixed.{fixed_of, graph_of_mine}
 use Rattle.pit_model.proofs.OpenCertificates.{none_fixed_certifies}
 use Rattle.mine_graph.specs.FixedBlocks.{FixedBlocks, IsFixedOf, forced_closure, barred_closure, no_lists}
 use Rattle.optimality.specs.declared.pit_with_flow.Certificate.{Certificate}
@@ -18,8 +13,8 @@ use Rattle.merging.specs.declared.outcome.Outcome.TheVariants as outcomes
 use Rattle.pit_search.proofs.Searching.{none_is_rest, none_named}
 use Rattle.solver.specs.declared.mode.Mode.{Mode}
 use Rattle.solver.specs.declared.mode.Mode.TheVariants.{Single, Parts, Shared}
-use Rattle.solver.specs.Modes.{EndsIn, RefusesSolve}
-use Rattle.solver.specs.Searched.{EndsFixed, IsLiftedOutcome, IsShown, RefusesSearch}
+use Rattle.solver.specs.Modes.{EndsIn}
+use Rattle.solver.specs.Searched.{EndsFixed, IsLiftedOutcome, IsShown}
 
 -- ---- outcomes
 pub shown_of : (mode : Mode) (mine : Instance) (outcome : Outcome) (journal : List Entry) → EndsIn mode mine outcome journal → IsShown mine outcome
@@ -51,8 +46,3 @@ pub ends_plain : (mode : Mode) (mine : Instance) (fixed : FixedBlocks) (outcome 
     → EndsIn mode mine outcome journal → EndsFixed mode mine (fixed_of fixed.lists) outcome journal
 ends_plain mode mine fixed outcome journal of none ended =
     (mine, none_is_rest mine fixed.lists none, (outcome, ended, lifts_itself mine fixed outcome of none (shown_of mode mine outcome journal ended)))
-
-pub search_refused : (mode : Mode) (direction : Direction) (mine : Instance) (fixed : Fixed) (searched : Instance) (r : Refusal) (e : Fault) → IsSearched direction mine fixed searched
-    → RefusesSolve mode searched r e → RefusesSearch mode direction mine fixed r e
-search_refused mode direction mine fixed searched (refusals.Exhausted count) e is h = (h.0, (searched, is, h.1))
-search_refused mode direction mine fixed searched _ e is h = h

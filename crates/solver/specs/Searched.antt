@@ -1,5 +1,5 @@
 -- Solves of a mine with fixed blocks, and for the greatest pit: each is a solve of another instance, which is searched.
-use Rattle.std.specs.Prelude.{◌≡◌, ℕ, List}
+use Rattle.std.specs.Prelude.{◌≡◌, List}
 use Rattle.faults.specs.Refused.{exhausted}
 use Rattle.faults.specs.declared.fault.Fault.{Fault}
 use Rattle.faults.specs.declared.refusal.Refusal.{Refusal}
@@ -9,18 +9,15 @@ use Rattle.pit_model.specs.declared.direction.Direction.TheVariants.{Least, Grea
 use Rattle.pit_model.specs.declared.journal.Entry.{Entry}
 use Rattle.pit_model.specs.Mine.{Instance}
 use Rattle.pit_model.specs.Fixed.{Fixed}
-use Rattle.pit_model.specs.Direction.{IsSearched, ListsPit}
+use Rattle.pit_model.specs.Direction.{ListsPit}
 use Rattle.optimality.specs.Certificate.{IsCertificateOf, IsFixedCertificateOf}
 use Rattle.merging.specs.declared.outcome.Outcome.{Outcome}
 use Rattle.merging.specs.declared.outcome.Outcome.TheVariants as outcomes
+use Rattle.pit_search.specs.Searched.{OfSearched}
 use Rattle.solver.specs.declared.calls.PitOutcome.{PitOutcome}
 use Rattle.solver.specs.declared.calls.PitOutcome.TheVariants.{Pit, Exhausted}
 use Rattle.solver.specs.declared.mode.Mode.{Mode}
 use Rattle.solver.specs.Modes.{EndsIn, EndsWithin, LacksRoom, RunsOut}
-
--- this holds of the instance that is searched
-abbrev pub OfSearched : Direction → Instance → Fixed → (Instance → Type 0) → Type 0
-OfSearched direction mine fixed Holds = (searched : Instance) × IsSearched direction mine fixed searched × Holds searched
 
 -- a pit comes with a certificate
 abbrev pub IsShown : Instance → Outcome → Type 0

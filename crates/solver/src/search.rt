@@ -1,14 +1,13 @@
 //! A search for the pit of a mine: what its steps share, and what it answers.
 ghost use Rattle.std.specs.Prelude.{◌≡◌, IfOk, IfErr};
 ghost use Rattle.faults.specs.Refused.{no_memory};
-ghost use Rattle.pit_model.specs.Direction.{no_blocks_fixed};
 ghost use Rattle.pit_model.specs.Fixed.{fixed_of, graph_of_mine};
 ghost use Rattle.mine_graph.specs.FixedBlocks.{IsFixedOf};
 ghost use Rattle.merging.specs.Reduced.{IsRestIn};
 ghost use Rattle.optimality.specs.Check.{ShowsPit};
 ghost use Rattle.solver.specs.Modes.{EndsIn, EndsWithin, LacksRoom, RefusesSolve};
-ghost use Rattle.pit_search.specs.Searched.{IsFound};
-ghost use Rattle.solver.specs.Searched.{EndsFixed, IsLiftedOutcome, IsShown, OfSearched, RefusesSearch};
+ghost use Rattle.pit_search.specs.Searched.{IsFound, OfSearched};
+ghost use Rattle.solver.specs.Searched.{EndsFixed, IsLiftedOutcome, IsShown, RefusesSearch};
 
 use crate::mode::Mode;
 use crew::{Entry, Gate, solve_shared};
@@ -16,7 +15,7 @@ use faults::Fault;
 use merging::{Outcome, ReducedMine, pit_by_parts, solve_parts, solve_pit, solve_single};
 use mine_graph::{Fixed, Instance};
 use pit_model::Direction;
-use pit_search::{FoundPit, Searched};
+use pit_search::{FnSolver, FoundPit, find_pit};
 use std::alloc::Global;
 use std::sync::Wait;
 use std::thread::Threads;
@@ -78,7 +77,7 @@ impl<R: Threads + Wait + Sync, G: Gate + Sync> Search<'_, R, G> {
         Ok((outcome, Vec::new(alloc)))
     }
 
-    /// The least pit of an instance by a solve that makes its certificate. Refused as `least` is.
+    /// The least pit of an instance by a solve that makes its certificate. Refused as `minimal_pit` is.
     fn solve_with_certificate(&self, instance: &Instance) -> Result<Vec<u32>, Fault>
         ensures shown { IfOk result (λ pit. ShowsPit instance.now pit.items) }
         ensures within { IfOk result (λ _. EndsWithin self.now.mode instance.now) }
@@ -92,9 +91,9 @@ impl<R: Threads + Wait + Sync, G: Gate + Sync> Search<'_, R, G> {
         }
     }
 
-    /// The least pit of an instance. By one thread without a budget, and by parts, no certificate is made. Refused for want of
+    /// The minimal pit of an instance. By one thread without a budget, and by parts, no certificate is made. Refused for want of
     /// room, and where the budget is used up with a merger arc left (20).
-    fn minimal_pit(&self, instance: &Instance) -> Result<Vec<u32>, Fault>
+    pub fn minimal_pit(&self, instance: &Instance) -> Result<Vec<u32>, Fault>
         ensures shown { IfOk result (λ pit. ShowsPit instance.now pit.items) }
         ensures within { IfOk result (λ _. EndsWithin self.now.mode instance.now) }
         ensures refused { IfErr result (λ e. RefusesSolve self.now.mode instance.now e.refusal e) }
@@ -118,19 +117,12 @@ impl<R: Threads + Wait + Sync, G: Gate + Sync> Search<'_, R, G> {
         ensures within { IfOk result (λ _. OfSearched self.now.direction mine (fixed_of fixed.now.lists) (EndsWithin self.now.mode)) }
         ensures refused { IfErr result (λ e. RefusesSearch self.now.mode self.now.direction mine (fixed_of fixed.now.lists) e.refusal e) }
     {
-        mine.law();
-        let searched = Searched::of(self.alloc, mine, fixed, self.direction)?;
-        let found = self.minimal_pit(&searched.instance)?;
-        searched.pit(self.alloc, fixed, found)
-    }
-
-    /// The pit of a mine of which no block is fixed. Refused as `pit` is.
-    pub fn pit_without_fixed_blocks(&self, mine: Instance) -> Result<FoundPit, Fault>
-        ensures found { IfOk result (IsFound self.now.direction mine no_blocks_fixed) }
-        ensures within { IfOk result (λ _. OfSearched self.now.direction mine no_blocks_fixed (EndsWithin self.now.mode)) }
-        ensures refused { IfErr result (λ e. RefusesSearch self.now.mode self.now.direction mine no_blocks_fixed e.refusal e) }
-    {
-        self.pit(mine, &Fixed::none())
+        let solve = |instance: &Instance| -> Result<Vec<u32>, Fault>
+            ensures shown { IfOk result (λ pit. ShowsPit instance.now pit.items) }
+            ensures within { IfOk result (λ _. EndsWithin self.entry.now.mode instance.now) }
+            ensures refused { IfErr result (λ e. RefusesSolve self.entry.now.mode instance.now e.refusal e) }
+        { self.minimal_pit(instance) };
+        find_pit(&FnSolver { solve }, self.alloc, mine, fixed, self.direction)
     }
 
     /// How the mode's solve of a mine with fixed blocks for its least pit ended, whatever the direction: with a certificate of the

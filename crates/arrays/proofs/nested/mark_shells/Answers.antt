@@ -5,8 +5,8 @@ use Rattle.std.specs.List.{All}
 use Rattle.pit_model.specs.declared.direction.Direction.TheVariants.{Least}
 use Rattle.pit_model.specs.declared.shell.Shell.{Shell}
 use Rattle.pit_model.specs.Shells.{AreFactors, AreShells}
-use Rattle.shells.specs.Prices.{deposit_of}
-use Rattle.shells.proofs.Joining.{is_priced}
+use Rattle.nesting.specs.Prices.{deposit_of}
+use Rattle.nesting.proofs.Joining.{is_priced}
 use Rattle.arrays.specs.Firsts.{AreFirsts}
 use Rattle.arrays.specs.Encoded.{priced_rows}
 use Rattle.arrays.proofs.MarkedShells.{are_marked, shells_below}

@@ -1,6 +1,6 @@
 -- Each exit: what the step said of its refusal is said of the run; and at the end the shells of the deposit were written.
 use Rattle.std.proofs.lemmas.Result.{err_from_is_err_and}
-use Rattle.shells.specs.Prices.{deposit_of}
+use Rattle.nesting.specs.Prices.{deposit_of}
 use Rattle.runs.specs.Solve.{reading}
 use Rattle.runs.proofs.ShellRuns.{deposit_refused, shells_refused, shells_cut, shells_done, shells_within, shells_rise}
 use Rattle.runs.proofs.nested.run_shells.Goals as goal

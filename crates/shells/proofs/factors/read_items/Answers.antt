@@ -2,8 +2,10 @@
 use Rattle.std.proofs.Common.{◌≡◌, ◌∙◌, List, Option, ℕ, None, sym, ap, subst, length}
 use Rattle.std.specs.Option.{option_map}
 use Rattle.std.proofs.lemmas.Result.{err_from_is_err_and}
-use Rattle.shells.specs.FactorList.{item_fault_after, item_fault, item_numbers}
-use Rattle.shells.proofs.ItemChecks.{all_items, fault_here, first_item_fault, item_here, item_refused, no_fault_are_factors}
+use Rattle.nesting.specs.FactorList.{item_fault_after, item_fault}
+use Rattle.nesting.proofs.ItemChecks.{fault_here, first_item_fault, no_fault_are_factors}
+use Rattle.shells.specs.FactorText.{item_numbers}
+use Rattle.shells.proofs.ItemTexts.{all_items, item_here, item_refused}
 use Rattle.shells.proofs.factors.read_items.Goals as goal
 
 pub returns-in_err-factor-clause-refused : goal.returns-in_err-factor-clause-refused

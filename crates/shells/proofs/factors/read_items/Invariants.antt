@@ -2,8 +2,9 @@
 use Rattle.std.proofs.Common.{◌≡◌, ◌<◌, ◌++◌, ℕ, suc, map, length, None}
 use Rattle.std.specs.Option.{option_map, option_map_or}
 use Rattle.minelib_reader.specs.Number.{whole_of}
-use Rattle.shells.specs.FactorList.{item_fault, items_behind, number_before, item_numbers}
-use Rattle.shells.proofs.ItemChecks.{numbers}
+use Rattle.nesting.specs.FactorList.{item_fault, number_before}
+use Rattle.nesting.proofs.ItemChecks.{numbers}
+use Rattle.shells.specs.FactorText.{item_numbers, items_behind}
 use Rattle.shells.proofs.factors.read_items.Given as goal
 
 abbrev pub invariant-loop-rest : goal.invariant-loop-rest

@@ -1,6 +1,6 @@
 -- An item is cut off at the first comma, or is all that is left.
 use Rattle.std.proofs.Common.{sym}
-use Rattle.shells.proofs.ItemChecks.{items_end, items_go_on}
+use Rattle.shells.proofs.ItemTexts.{items_end, items_go_on}
 use Rattle.shells.proofs.items.next_item.Goals as goal
 
 pub returns-in-None-clause-items : goal.returns-in-None-clause-items

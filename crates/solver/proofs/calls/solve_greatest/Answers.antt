@@ -7,7 +7,7 @@ use Rattle.pit_model.specs.Fixed.{fixed_of}
 use Rattle.pit_model.specs.Mine.{Instance}
 use Rattle.solver.specs.Modes.{EndsWithin}
 use Rattle.pit_search.specs.Searched.{IsFound}
-use Rattle.solver.specs.Searched.{OfSearched}
+use Rattle.pit_search.specs.Searched.{OfSearched}
 use Rattle.pit_search.specs.declared.found_pit.FoundPit.{FoundPit}
 use Rattle.solver.proofs.calls.solve_greatest.Goals as goal
 

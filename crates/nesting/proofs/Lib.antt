@@ -1,0 +1,10 @@
+pub mod ItemChecks
+pub mod Joining
+pub mod Nests
+pub mod Marking
+pub mod PriceBounds
+pub mod Lifting
+pub mod Amounts
+pub mod Refusing
+pub mod Outer
+pub mod Parametric

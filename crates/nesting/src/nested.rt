@@ -1,0 +1,116 @@
+//! The shells of a mine: the pit at each factor, one within the next, however a pit is found.
+ghost use Rattle.std.specs.Prelude.{◌≡◌, ◌<◌, length, IfOk, IfErr};
+ghost use Rattle.faults.specs.Refused.{no_memory};
+ghost use Rattle.pit_model.specs.Shells.{AreShells};
+ghost use Rattle.nesting.specs.Grown.{EndsEachRest, IsUnlimited, RefusesRests};
+ghost use Rattle.nesting.specs.Planned.{deposit_in, HasRows};
+
+use crate::growing::{next_shell, start};
+use crate::outermost::{lift_shells, outermost_shell};
+use crate::parametric_shells::parametric_shells;
+use crate::plan::ShellPlan;
+use faults::Fault;
+use pit_model::{Direction, Shell};
+use pit_search::PitSolver;
+use std::alloc::Global;
+
+/// The shell of each factor, in their order: each is found on what the shell before leaves, and joined with that shell. A budget
+/// of mergers counts for each factor.
+///
+/// # Errors
+///
+/// If memory runs out, or as the solver refuses the instance that is searched for some factor's rest.
+pub fn shells_by_rests<S: PitSolver>(
+    solver: &S,
+    alloc: Global,
+    plan: &ShellPlan<'_>,
+) -> Result<Vec<Shell>, Fault>
+    requires solver { S.FindsPits solver.now }
+    requires rows { HasRows plan.now }
+    ensures shells { IfOk result (λ list. AreShells plan.now.direction (deposit_in plan.now) plan.now.factors.now list.items) }
+    ensures within { IfOk result (λ _. EndsEachRest (S.Ends solver.now) plan.now.direction (deposit_in plan.now) plan.now.factors.now) }
+    ensures refused { IfErr result (λ e. RefusesRests (S.Refuses solver.now) plan.now.direction (deposit_in plan.now) plan.now.factors.now e) }
+{
+    plan.factors.law();
+    plan.columns.law();
+    plan.graph.law();
+    let mut growing = start(alloc, plan.graph)?;
+    let mut list = Vec::new(alloc);
+    for k in 0..plan.factors.len() {
+        plan.columns
+            .counters()
+            .at_factor(k as u64 + 1, plan.factors.len() as u64);
+        let shell = next_shell(solver, alloc, plan, k, &mut growing)?;
+        list.push(shell)?;
+    }
+    Ok(list)
+}
+
+/// The shell of each factor, in their order: the least ones by one tree, where that is asked for. Refused for want of memory alone.
+fn inner_shells<S: PitSolver>(
+    solver: &S,
+    alloc: Global,
+    plan: &ShellPlan<'_>,
+    one_tree: bool,
+) -> Result<Vec<Shell>, Fault>
+    requires solver { S.FindsPits solver.now }
+    requires rows { HasRows plan.now }
+    requires some { 0 < length plan.now.factors.now }
+    requires unlimited { IsUnlimited (S.Refuses solver.now) }
+    ensures shells { IfOk result (λ list. AreShells plan.now.direction (deposit_in plan.now) plan.now.factors.now list.items) }
+    ensures refused { IfErr result (λ e. e ≡ no_memory) }
+{
+    match (one_tree, plan.direction) {
+        (true, Direction::Least) => parametric_shells(alloc, plan),
+        _ => shells_by_rests(solver, alloc, plan),
+    }
+}
+
+/// The shell of each factor, in their order: the last is found first, and the others among its blocks. Refused for want of memory
+/// alone.
+fn shells_within_last<S: PitSolver>(
+    solver: &S,
+    alloc: Global,
+    plan: &ShellPlan<'_>,
+    one_tree: bool,
+) -> Result<Vec<Shell>, Fault>
+    requires solver { S.FindsPits solver.now }
+    requires rows { HasRows plan.now }
+    requires some { 0 < length plan.now.factors.now }
+    requires unlimited { IsUnlimited (S.Refuses solver.now) }
+    ensures shells { IfOk result (λ list. AreShells plan.now.direction (deposit_in plan.now) plan.now.factors.now list.items) }
+    ensures refused { IfErr result (λ e. e ≡ no_memory) }
+{
+    let outer = outermost_shell(solver, alloc, plan, plan.last_factor())?;
+    let inner = inner_shells(
+        solver,
+        alloc,
+        &outer.plan(plan.factors, plan.direction),
+        one_tree,
+    )?;
+    lift_shells(alloc, plan, &outer, &inner)
+}
+
+/// The shell of each factor, in their order, by a solver without a budget: the last is found first, and the others among its
+/// blocks. Where `one_tree` is set, this thread takes the least of these others from one tree, without the solver.
+///
+/// # Errors
+///
+/// If memory runs out.
+pub fn shells_by_last<S: PitSolver>(
+    solver: &S,
+    alloc: Global,
+    plan: &ShellPlan<'_>,
+    one_tree: bool,
+) -> Result<Vec<Shell>, Fault>
+    requires solver { S.FindsPits solver.now }
+    requires rows { HasRows plan.now }
+    requires unlimited { IsUnlimited (S.Refuses solver.now) }
+    ensures shells { IfOk result (λ list. AreShells plan.now.direction (deposit_in plan.now) plan.now.factors.now list.items) }
+    ensures refused { IfErr result (λ e. e ≡ no_memory) }
+{
+    if plan.factors.len() < 2 {
+        return shells_by_rests(solver, alloc, plan);
+    }
+    shells_within_last(solver, alloc, plan, one_tree)
+}

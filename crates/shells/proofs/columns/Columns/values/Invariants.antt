@@ -1,7 +1,0 @@
--- The values so far are those of the blocks so far.
-use Rattle.std.proofs.Common.{◌≡◌, map, take}
-use Rattle.shells.specs.Prices.{price_of}
-use Rattle.shells.proofs.columns.Columns.values.Given as goal
-
-abbrev pub invariant-loop-u : goal.invariant-loop-u
-invariant-loop-u l = l.values.items ≡ map (price_of l.self l.factor) (take l.u-index l.blocks)

@@ -1,6 +1,0 @@
--- The shells so far are lifted.
-use Rattle.shells.specs.Outermost.{AreLifted}
-use Rattle.shells.proofs.outermost.lift_each.Given as goal
-
-abbrev pub invariant-loop-i : goal.invariant-loop-i
-invariant-loop-i l = AreLifted l.n l.blocks l.shells l.lifted.items l.i

@@ -1,6 +1,0 @@
--- The first blocks have risen.
-use Rattle.shells.specs.Parametric.{HasIncreased}
-use Rattle.shells.proofs.parametric_shells.rise.Given as goal
-
-abbrev pub invariant-loop-block : goal.invariant-loop-block
-invariant-loop-block l = HasIncreased l.columns l.marks l.to l.block l.initial.mine l.mine
