@@ -221,7 +221,7 @@ fn pit_word<'a>(alloc: Global) -> Arg<'a>
     .default_value("least")
 }
 
-/// What is asked for: the word of the mode and that of the pit, which `runs` checks, the number of workers and the budget of
+/// What is asked for: the word of the mode and that of the pit, which `commands` checks, the number of workers and the budget of
 /// mergers. Help shows them in places from this one on.
 fn with_settings<'a>(
     alloc: Global,

@@ -1,5 +1,5 @@
 //! `pitshell`: the ultimate pit of a mine, from files to standard output.
-//! The crate `runs` does the work over readers and writers; `main` opens files, calls it and gives the exit status.
+//! The crate `commands` does the work over any file system; `main` hands it the files of the system and gives the exit status.
 #![tactic(auto)]
 
 mod options;
@@ -12,12 +12,11 @@ mod watch;
 
 use clap::error::ErrorKind;
 use command_line::command;
+use commands::{Status, report_fault};
 use faults::Fault;
-use file_runs::report_fault;
 use minelib_reader::StreamWriter;
 use options::{Options, WatchOptions};
 use progress::run_with_progress;
-use runs::Status;
 use std::alloc::{AllocError, AllocGlobal};
 use std::process::ExitCode;
 use std::sync::Wait;

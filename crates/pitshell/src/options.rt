@@ -1,8 +1,10 @@
 //! What the command line asks for, as types of the program's own.
 
 use clap::ArgMatches;
-use file_runs::{CheckOptions, MineNames, ReplayOptions, ShellsOptions, SolveOptions};
-use runs::{SolveSettings, mode_fault, parse_mode, parse_pit, pit_fault};
+use commands::{
+    CheckOptions, MineNames, ReplayOptions, ShellsOptions, SolveOptions, SolveSettings, mode_fault,
+    parse_mode, parse_pit, pit_fault,
+};
 use solver::Mode;
 
 /// One subcommand with its options.

@@ -3,7 +3,7 @@
 //! permissions. A pipe or a device is written as it is.
 ghost use Rattle.std.specs.Prelude.{◌≡◌, IfErr};
 ghost use Rattle.faults.specs.Refused.{write_failed};
-ghost use Rattle.file_runs.specs.Faults.{IsUnmade};
+ghost use Rattle.commands.specs.Faults.{IsUnmade};
 
 use faults::Fault;
 use std::fs::{File, Metadata, OpenOptions, Permissions};

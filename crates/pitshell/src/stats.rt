@@ -3,9 +3,9 @@
 
 use crate::output::Output;
 use crate::watch::Times;
+use commands::{MineNames, ShellsOptions, SolveOptions};
 use counters::Stats;
 use faults::Fault;
-use file_runs::{MineNames, ShellsOptions, SolveOptions};
 use std::alloc::AllocError;
 use std::fs;
 use std::fs::Metadata;

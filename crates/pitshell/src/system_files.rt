@@ -3,15 +3,14 @@
 
 ghost use Rattle.std.specs.Prelude.{◌≡◌, IfErr};
 ghost use Rattle.faults.specs.Refused.{write_failed};
-ghost use Rattle.file_runs.specs.Faults.{IsUnopened};
+ghost use Rattle.commands.specs.Faults.{IsUnopened};
 
 use crate::output::Output;
 use crate::stats::write_stats;
 use crate::watch::Times;
+use commands::{InputFiles, MineFiles, OutputFiles};
 use counters::Counters;
 use faults::{Fault, Refusal, Source};
-use file_runs::{InputFiles, OutputFiles};
-use runs::MineFiles;
 use std::fs::File;
 
 /// The files of the system: the counters of the run that reads them, the stats file if one is wanted, and the outputs that are on

@@ -1,0 +1,129 @@
+//! `shells`: from the bytes of a block model and a precedence file to the bytes of the nested pits.
+ghost use Rattle.std.specs.Prelude.{◌<◌, ◌^◌, IfOk, IfErr};
+ghost use Rattle.shells.specs.ByMode.{EachEndsWithin};
+ghost use Rattle.std.specs.Io.KnownBytes.{Keeps};
+ghost use Rattle.commands.specs.Solve.{reading};
+ghost use Rattle.commands.specs.ShellsRun.{HoldsOfDeposit, IsShellsDone, RefusesShellsRun};
+ghost use Rattle.commands.specs.Ended.{Ended};
+ghost use Rattle.commands.specs.Nested.{EndsShells};
+ghost use Rattle.commands.specs.Place.{file_state};
+
+use crate::deposit::read_deposit;
+use crate::ending::report_fault;
+use crate::inputs::InputFiles;
+use crate::options::ShellsOptions;
+use crate::place::Readable;
+use crate::status::Status;
+use counters::Phase;
+use faults::Fault;
+use minelib_reader::{FileReader, InBytes, OutBytes};
+use pit_model::Direction;
+use report::write_shells;
+use shells::{Factors, FromText, shells};
+use solver::{Mode, OpenGate};
+use std::alloc::{AllocGlobal, Global};
+use std::sync::Wait;
+use std::thread::Threads;
+
+/// Reads a block model and then a precedence file, takes the columns of revenue and of cost, and writes the text of the
+/// shells: the pit that is asked for at each factor, whatever the mode.
+///
+/// Refused by the first fault of the files (3 to 14), by that of the columns (15, 16), for want of memory (1), where a read
+/// failed (2), where the budget is used up on some factor's rest (20) and where a worker could not be started (22), all with
+/// nothing written; and where a write failed (18), with a beginning of the text written.
+#[tactic(auto, using(crate::proofs::Keeping::still_kept, crate::proofs::Keeping::still_kept_if_any))]
+pub fn run_shells<R: Threads + Wait + Sync, B: InBytes, P: InBytes, W: OutBytes>(
+    rt: &R,
+    alloc: Global,
+    blocks: &mut B,
+    prec: &mut P,
+    out: &mut W,
+    revenue: u32,
+    cost: u32,
+    factors: &Factors,
+    mode: Mode,
+    pit: Direction,
+) -> Result<Status, Fault>
+    requires blocks_countable { (B.progress blocks.old).failures < 2 ^ 63 }
+    requires prec_countable { (P.progress prec.old).failures < 2 ^ 63 }
+    requires out_countable { (W.progress out.old).failures < 2 ^ 63 }
+    ensures done { IfOk result (IsShellsDone pit
+        (reading (B.progress blocks.old) (B.progress blocks.new) (B.IsAtEnd blocks.new))
+        (reading (P.progress prec.old) (P.progress prec.new) (P.IsAtEnd prec.new))
+        revenue cost factors.now (W.progress out.old) (W.progress out.new)) }
+    ensures within { IfOk result (λ _. HoldsOfDeposit
+        (reading (B.progress blocks.old) (B.progress blocks.new) (B.IsAtEnd blocks.new))
+        (reading (P.progress prec.old) (P.progress prec.new) (P.IsAtEnd prec.new))
+        revenue cost (λ deposit. EachEndsWithin mode pit deposit factors.now)) }
+    ensures refused { IfErr result (λ e. RefusesShellsRun mode pit e.refusal e
+        (reading (B.progress blocks.old) (B.progress blocks.new) (B.IsAtEnd blocks.new))
+        (reading (P.progress prec.old) (P.progress prec.new) (P.IsAtEnd prec.new))
+        revenue cost factors.now (W.progress out.old) (W.progress out.new)) }
+    ensures blocks_kept { Keeps (B.known_text blocks.old) (B.known_text blocks.new) }
+    ensures prec_kept { Keeps (P.known_text prec.old) (P.known_text prec.new) }
+{
+    let deposit = read_deposit(alloc, blocks, prec, revenue, cost)?;
+    let list = shells(
+        rt,
+        alloc,
+        &deposit.columns,
+        &deposit.graph,
+        factors,
+        &mode,
+        &OpenGate,
+        pit,
+    )?;
+    blocks.counters().enter(Phase::Writing);
+    write_shells(out, &list)?;
+    Ok(Status::Done)
+}
+
+/// Writes the nested pits of the deposit of two files. The factors are read first, before a file is opened. `rt` starts the
+/// workers.
+fn shells_files<R: AllocGlobal + Threads + Wait + Sync, F: InputFiles, W: OutBytes>(
+    rt: &R,
+    files: &mut F,
+    options: &ShellsOptions<'_>,
+    out: &mut W,
+) -> Result<Status, Fault>
+    requires countable { (W.progress out.old).failures < 2 ^ 63 }
+    ensures { EndsShells ⟦<F as Readable>⟧.place options.now (file_state files.old (W.progress out.old)) (file_state files.new (W.progress out.new)) result }
+{
+    let alloc = rt.alloc();
+    let factors = Factors::read(alloc, options.factors)?;
+    let blocks = files.open_blocks(options.blocks)?;
+    let prec = files.open_prec(options.prec)?;
+    let counters = files.counters();
+    let mut blocks = FileReader::with_counters(blocks, counters.share());
+    let mut prec = FileReader::with_counters(prec, counters);
+    run_shells(
+        rt,
+        alloc,
+        &mut blocks,
+        &mut prec,
+        out,
+        options.revenue,
+        options.cost,
+        &factors,
+        options.settings.mode,
+        options.settings.pit,
+    )
+}
+
+/// The whole call of `shells`: reads the factors, opens the block model and then the precedence file, and writes the nested pits.
+/// A fault is told on standard error, and the exit status is answered.
+pub fn shells_call<R: AllocGlobal + Threads + Wait + Sync, F: InputFiles, W: OutBytes, E: OutBytes>(
+    rt: &R,
+    files: &mut F,
+    options: &ShellsOptions<'_>,
+    out: &mut W,
+    err: &mut E,
+) -> u8
+    requires out_countable { (W.progress out.old).failures < 2 ^ 63 }
+    requires err_countable { (E.progress err.old).failures < 2 ^ 63 }
+    ensures { Ended result (E.progress err.old) (E.progress err.new) (EndsShells ⟦<F as Readable>⟧.place options.now
+        (file_state files.old (W.progress out.old)) (file_state files.new (W.progress out.new))) }
+{
+    let outcome = shells_files(rt, files, options, out);
+    report_fault(err, &outcome)
+}

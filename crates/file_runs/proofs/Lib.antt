@@ -1,3 +1,0 @@
-mod Calling
-mod Reading
-mod Writing

@@ -1,8 +1,0 @@
-use Rattle.runs.specs.Solve.{files_of}
-use Rattle.runs.proofs.Uniqueness.{solves_once}
-use Rattle.runs.proofs.laws.solve_writes_one_text.Goals as goal
-
-pub returns : goal.returns
-returns g c files files_end other other_end = solves_once
-    (files_of g.M.InBytes.progress g.M.InBytes.IsAtEnd g.P.InBytes.progress g.P.InBytes.IsAtEnd g.F.InBytes.progress g.F.InBytes.IsAtEnd files files_end)
-    (files_of g.N.InBytes.progress g.N.InBytes.IsAtEnd g.Q.InBytes.progress g.Q.InBytes.IsAtEnd g.G.InBytes.progress g.G.InBytes.IsAtEnd other other_end)
