@@ -17,11 +17,8 @@ use faults::Fault;
 use minelib_reader::StreamWriter;
 use options::{Options, WatchOptions};
 use progress::run_with_progress;
-use std::alloc::{AllocError, AllocGlobal};
+use std::alloc::AllocError;
 use std::process::ExitCode;
-use std::sync::Wait;
-use std::thread::Threads;
-use std::time::Clock;
 use std::{env, io};
 use streams::StandIns;
 
@@ -61,34 +58,28 @@ fn words_of(rt: &HostRuntime) -> Result<Vec<String>, NoWords> {
     }
 }
 
-/// Does what the words of the command line ask for.
-fn run<R: AllocGlobal + Threads + Wait + Clock + Eprint + Sync>(
-    rt: &HostRuntime,
-    threads: &R,
-    words: &[String],
-) -> Result<ExitCode, Fault> {
-    match command(rt.alloc())?.try_get_matches_from(words) {
-        Err(error) => Ok(explain(rt, &error)),
-        Ok(matches) => match Options::of(&matches) {
-            None => Ok(ExitCode::from(2)),
-            Some(Err(line)) => Ok(not_understood(rt, line)),
-            Some(Ok(options)) => {
-                let settings = WatchOptions::of(&matches);
-                Ok(ExitCode::from(run_with_progress(rt, threads, &options, &settings)?))
-            }
-        },
-    }
-}
-
 fn main(rt: HostRuntime) -> ExitCode {
     let _stand_ins = StandIns::new(&rt);
-    let outcome = match words_of(&rt) {
-        Ok(words) => run(&rt, &rt, &words),
-        Err(NoWords::NotText) => Ok(not_understood(&rt, "pitshell: an argument is not UTF-8")),
-        Err(NoWords::NoMemory) => Err(Fault::from(AllocError)),
+    let words = match words_of(&rt) {
+        Ok(words) => words,
+        Err(NoWords::NotText) => return not_understood(&rt, "pitshell: an argument is not UTF-8"),
+        Err(NoWords::NoMemory) => return ended(&rt, Err(Fault::from(AllocError))),
     };
-    match outcome {
-        Ok(code) => code,
+    let command = match command(rt.alloc()) {
+        Ok(command) => command,
+        Err(error) => return ended(&rt, Err(Fault::from(error))),
+    };
+    let matches = match command.try_get_matches_from(&words) {
+        Ok(matches) => matches,
+        Err(error) => return explain(&rt, &error),
+    };
+    let options = match Options::of(&matches) {
+        Some(Ok(options)) => options,
+        Some(Err(line)) => return not_understood(&rt, line),
+        None => return ExitCode::from(2),
+    };
+    match run_with_progress(&rt, &rt, &options, &WatchOptions::of(&matches)) {
+        Ok(status) => ExitCode::from(status),
         Err(fault) => ended(&rt, Err(fault)),
     }
 }
