@@ -1,5 +1,5 @@
 -- What a run of `solve` writes, and what it refuses, over the bytes that went through its readers and its writer.
-use Rattle.std.specs.Prelude.{◌≡◌, ℕ, ◌+◌, ◌^◌, ◌<◌, ◌≤◌, ◌++◌, ◌⊎◌, Bool, List, Option, Some, None, Result}
+use Rattle.std.specs.Prelude.{◌≡◌, ℕ, ◌+◌, ◌^◌, ◌<◌, ◌++◌, ◌⊎◌, Bool, List, Option, Some, None, Result}
 use Rattle.minelib_reader.specs.Device.{Progress, Begins, Writes}
 use Rattle.minelib_reader.specs.Answer.{IsRead}
 use Rattle.faults.specs.Refused.{at_line, clash, no_memory}

@@ -3,16 +3,15 @@ ghost use Rattle.std.specs.Prelude.{◌≡◌, ◌<◌, ◌^◌, IfOk, IfErr};
 ghost use Rattle.mine_graph.specs.FixedBlocks.{IsFixedOf};
 ghost use Rattle.pit_model.specs.Fixed.{graph_of_mine};
 ghost use Rattle.std.specs.Io.KnownBytes.{Keeps};
-ghost use Rattle.commands.specs.Kept.{KeepsTexts};
 ghost use Rattle.commands.specs.Check.{status_of_answer, IsAnswered, IsChecked, RefusesCertificate, RefusesCheck};
-ghost use Rattle.commands.specs.Solve.{files_of, mine_files, reading, fixed_instance_of, MayRead};
+ghost use Rattle.commands.specs.Solve.{reading, fixed_instance_of};
 ghost use Rattle.commands.specs.Ended.{Ended};
 ghost use Rattle.commands.specs.Over.{EndsCheck};
 ghost use Rattle.commands.specs.Place.{file_state};
 
 use crate::ending::report_fault;
 use crate::inputs::InputFiles;
-use crate::mine::{FixedMine, open_mine, read_mine};
+use crate::mine::{FixedMine, MineReader, open_mine};
 use crate::options::CheckOptions;
 use crate::place::Readable;
 use crate::readers::readers_of;
@@ -60,29 +59,27 @@ fn answer_of<C: InBytes>(
 /// Refused by the first fault of the files (3 to 14, 17, 21), for want of memory (1), where a read failed (2), all with nothing
 /// written; and where a write failed (18), with a beginning of the answer written.
 #[tactic(auto, using(crate::proofs::Keeping::still_kept, crate::proofs::Keeping::still_kept_if_any))]
-pub fn run_check<M: InBytes, P: InBytes, F: InBytes, C: InBytes, W: OutBytes>(
+pub fn run_check<I: MineReader, C: InBytes, W: OutBytes>(
     alloc: Global,
-    model: &mut M,
-    prec: &mut P,
-    fixed: &mut Option<F>,
+    mine: &mut I,
     certificate: &mut C,
     out: &mut W,
 ) -> Result<Status, Fault>
-    requires read { MayRead M.progress P.progress F.progress (mine_files model.old prec.old fixed.old) }
+    requires read { I.CanRead mine.old }
     requires certificate_countable { (C.progress certificate.old).failures < 2 ^ 63 }
     requires out_countable { (W.progress out.old).failures < 2 ^ 63 }
     ensures checked { IfOk result (IsChecked
-        (files_of M.progress M.IsAtEnd P.progress P.IsAtEnd F.progress F.IsAtEnd (mine_files model.old prec.old fixed.old) (mine_files model.new prec.new fixed.new))
+        (I.gave mine.old mine.new)
         (reading (C.progress certificate.old) (C.progress certificate.new) (C.IsAtEnd certificate.new))
         (W.progress out.old) (W.progress out.new)) }
     ensures refused { IfErr result (λ e. RefusesCheck e.refusal e
-        (files_of M.progress M.IsAtEnd P.progress P.IsAtEnd F.progress F.IsAtEnd (mine_files model.old prec.old fixed.old) (mine_files model.new prec.new fixed.new))
+        (I.gave mine.old mine.new)
         (reading (C.progress certificate.old) (C.progress certificate.new) (C.IsAtEnd certificate.new))
         (W.progress out.old) (W.progress out.new)) }
-    ensures files_kept { KeepsTexts M.known_text P.known_text F.known_text (mine_files model.old prec.old fixed.old) (mine_files model.new prec.new fixed.new) }
+    ensures texts_kept { I.Keeps mine.old mine.new }
     ensures certificate_kept { Keeps (C.known_text certificate.old) (C.known_text certificate.new) }
 {
-    let fixed_mine = read_mine(alloc, model, prec, fixed)?;
+    let fixed_mine = mine.read_mine(alloc)?;
     fixed_mine.mine.law();
     let answer = answer_of(alloc, &fixed_mine, certificate)?;
     write_answer(out, answer)?;
@@ -103,14 +100,7 @@ fn check_files<F: InputFiles, W: OutBytes>(
     let certificate = files.open_certificate(options.certificate)?;
     let mut mine = readers_of(mine, &files.counters());
     let mut certificate = FileReader::new(certificate);
-    run_check(
-        alloc,
-        &mut mine.model,
-        &mut mine.prec,
-        &mut mine.fixed,
-        &mut certificate,
-        out,
-    )
+    run_check(alloc, &mut mine, &mut certificate, out)
 }
 
 /// The whole call of `check`: opens the files of a mine and then the certificate, and writes whether that shows the pit. A fault

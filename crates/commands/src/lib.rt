@@ -29,7 +29,7 @@ pub use laws::{
     answer_is_one, check_answers_once, done_texts_have_no_fault, shells_write_one_text,
     solve_passes_check, solve_passes_replay, solve_writes_one_text, texts_have_one_fault,
 };
-pub use mine::{FixedMine, MineFiles};
+pub use mine::{FixedMine, MineFiles, MineReader};
 pub use mode_option::{mode_fault, parse_mode};
 pub use nested::{run_shells, shells_call};
 pub use options::{
@@ -40,3 +40,4 @@ pub use pit_option::{parse_pit, pit_fault};
 pub use replay::{replay_call, run_replay};
 pub use solve::{run_solve, solve_call};
 pub use status::{Status, exit_code};
+pub use writers::SolveWriters;

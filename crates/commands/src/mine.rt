@@ -4,12 +4,12 @@ ghost use Rattle.pit_model.specs.Fixed.{AreFixable, graph_of_mine};
 ghost use Rattle.mine_graph.specs.FixedBlocks.{IsFixedOf, lists_of};
 ghost use Rattle.minelib_reader.specs.Fixed.{fixed_lists};
 ghost use Rattle.commands.specs.Kept.{KeepsIfAny, KeepsTexts};
-ghost use Rattle.commands.specs.Solve.{optional_reading, files_of, mine_files, fixed_instance_of, GaveFixed, HoldsMine, MayRead, MayReadIfAny, RefusesFixedText, RefusesMine};
+ghost use Rattle.commands.specs.Solve.{optional_reading, files_of, mine_files, fixed_instance_of, Files, GaveFixed, HoldsMine, MayRead, MayReadIfAny, RefusesFixedText, RefusesMine};
 ghost use Rattle.commands.specs.Opened.{known_if_any, texts_of, LacksFixed, LacksMine, OpensFixed, OpensMine};
 
 use crate::inputs::{InputFiles, MineStreams};
 use crate::options::MineNames;
-use counters::Phase;
+use counters::{Counters, Phase};
 use faults::Fault;
 use mine_graph::{Fixed, Graph, Instance};
 use minelib_reader::{InBytes, read_fixed, read_prec_rows, read_upit};
@@ -30,6 +30,33 @@ pub struct MineFiles<M, P, F> {
 pub struct FixedMine {
     pub mine: Instance,
     pub fixed: Fixed,
+}
+
+/// Reads a mine from its readers.
+pub trait MineReader {
+    /// What the readers gave between two states.
+    ghost gave: { Self → Self → Files };
+
+    /// Each reader can count another failure.
+    ghost CanRead: { Self → Type 0 };
+
+    /// What each reader knows of its text stays.
+    ghost Keeps: { Self → Self → Type 0 };
+
+    /// Returns the mine of a model, a precedence file and the file of its fixed blocks, if there is one.
+    ///
+    /// # Errors
+    ///
+    /// The first fault of the files, then a cycle of the arcs (14), then a clash of the fixed blocks (21).
+    fn read_mine(&mut self, alloc: Global) -> Result<FixedMine, Fault>
+        requires { CanRead self.old }
+        ensures mine { IfOk result (λ t. HoldsMine (gave self.old self.new) (fixed_instance_of t)) }
+        ensures fixed { IfOk result (λ t. IsFixedOf (graph_of_mine t.mine) t.fixed) }
+        ensures refused { IfErr result (λ e. RefusesMine e.refusal e (gave self.old self.new)) }
+        ensures kept { Keeps self.old self.new };
+
+    /// Returns the counters of the run that reads from here. No clause speaks of them.
+    fn counters(&self) -> Counters;
 }
 
 /// The blocks forced in and those barred that the file of fixed blocks names; none where there is no such file.
@@ -54,7 +81,7 @@ fn read_lists<F: InBytes>(
 /// The mine of a model, a precedence file and the file of its fixed blocks, where there is one; else the first fault: of the
 /// files, then a cycle of the pairs (14), then a clash of the fixed blocks (21).
 #[tactic(auto, using(crate::proofs::Keeping::still_kept, crate::proofs::Keeping::still_kept_if_any))]
-pub fn read_mine<M: InBytes, P: InBytes, F: InBytes>(
+fn read_files<M: InBytes, P: InBytes, F: InBytes>(
     alloc: Global,
     model: &mut M,
     prec: &mut P,
@@ -77,6 +104,22 @@ pub fn read_mine<M: InBytes, P: InBytes, F: InBytes>(
     mine.law();
     let fixed = Fixed::new(alloc, mine.graph(), forced, barred)?;
     Ok(FixedMine { mine, fixed })
+}
+
+impl<M: InBytes, P: InBytes, F: InBytes> MineReader for MineFiles<M, P, F> {
+    ghost gave = { files_of M.progress M.IsAtEnd P.progress P.IsAtEnd F.progress F.IsAtEnd };
+
+    ghost CanRead = { MayRead M.progress P.progress F.progress };
+
+    ghost Keeps = { KeepsTexts M.known_text P.known_text F.known_text };
+
+    fn read_mine(&mut self, alloc: Global) -> Result<FixedMine, Fault> {
+        read_files(alloc, &mut self.model, &mut self.prec, &mut self.fixed)
+    }
+
+    fn counters(&self) -> Counters {
+        self.model.counters()
+    }
 }
 
 /// Opens the file of fixed blocks, where there is one.

@@ -7,16 +7,15 @@ ghost use Rattle.pit_model.specs.Direction.{ListsPit};
 ghost use Rattle.pit_model.specs.Fixed.{fixed_of, graph_of_mine};
 ghost use Rattle.pit_model.specs.Mine.{members};
 ghost use Rattle.std.specs.Io.KnownBytes.{Keeps};
-ghost use Rattle.commands.specs.Kept.{KeepsTexts};
 ghost use Rattle.commands.specs.Replay.{IsReplayed, IsReplayedOn, ReportsEnd, ReportsReplay, FailsToReport, RefusesJournal, RefusesJournalOn, RefusesReplay, ShowsEnd};
-ghost use Rattle.commands.specs.Solve.{files_of, mine_files, reading, fixed_instance_of, MayRead, WritesPit};
+ghost use Rattle.commands.specs.Solve.{reading, fixed_instance_of, WritesPit};
 ghost use Rattle.commands.specs.Ended.{Ended};
 ghost use Rattle.commands.specs.Over.{EndsReplayCall};
 ghost use Rattle.commands.specs.Place.{file_state};
 
 use crate::ending::report_fault;
 use crate::inputs::InputFiles;
-use crate::mine::{FixedMine, open_mine, read_mine};
+use crate::mine::{FixedMine, MineReader, open_mine};
 use crate::options::ReplayOptions;
 use crate::place::Readable;
 use crate::readers::readers_of;
@@ -117,29 +116,27 @@ fn put_end<W: OutBytes>(
 /// journal's budget is used up with a merger arc left (20), all with nothing written; and where a write failed (18), with a
 /// beginning of the answer written.
 #[tactic(auto, using(crate::proofs::Keeping::still_kept, crate::proofs::Keeping::still_kept_if_any))]
-pub fn run_replay<M: InBytes, P: InBytes, F: InBytes, J: InBytes, W: OutBytes>(
+pub fn run_replay<I: MineReader, J: InBytes, W: OutBytes>(
     alloc: Global,
-    model: &mut M,
-    prec: &mut P,
-    fixed: &mut Option<F>,
+    mine: &mut I,
     journal: &mut J,
     out: &mut W,
 ) -> Result<Status, Fault>
-    requires read { MayRead M.progress P.progress F.progress (mine_files model.old prec.old fixed.old) }
+    requires read { I.CanRead mine.old }
     requires journal_countable { (J.progress journal.old).failures < 2 ^ 63 }
     requires out_countable { (W.progress out.old).failures < 2 ^ 63 }
     ensures reported { IfOk result (ReportsReplay
-        (files_of M.progress M.IsAtEnd P.progress P.IsAtEnd F.progress F.IsAtEnd (mine_files model.old prec.old fixed.old) (mine_files model.new prec.new fixed.new))
+        (I.gave mine.old mine.new)
         (reading (J.progress journal.old) (J.progress journal.new) (J.IsAtEnd journal.new))
         (W.progress out.old) (W.progress out.new)) }
     ensures refused { IfErr result (λ e. RefusesReplay e.refusal e
-        (files_of M.progress M.IsAtEnd P.progress P.IsAtEnd F.progress F.IsAtEnd (mine_files model.old prec.old fixed.old) (mine_files model.new prec.new fixed.new))
+        (I.gave mine.old mine.new)
         (reading (J.progress journal.old) (J.progress journal.new) (J.IsAtEnd journal.new))
         (W.progress out.old) (W.progress out.new)) }
-    ensures files_kept { KeepsTexts M.known_text P.known_text F.known_text (mine_files model.old prec.old fixed.old) (mine_files model.new prec.new fixed.new) }
+    ensures texts_kept { I.Keeps mine.old mine.new }
     ensures journal_kept { Keeps (J.known_text journal.old) (J.known_text journal.new) }
 {
-    let fixed_mine = read_mine(alloc, model, prec, fixed)?;
+    let fixed_mine = mine.read_mine(alloc)?;
     fixed_mine.mine.law();
     let end = replay_of(alloc, &fixed_mine, journal)?;
     put_end(out, &fixed_mine, &end)
@@ -159,14 +156,7 @@ fn replay_files<F: InputFiles, W: OutBytes>(
     let journal = files.open_journal(options.journal)?;
     let mut mine = readers_of(mine, &files.counters());
     let mut journal = FileReader::new(journal);
-    run_replay(
-        alloc,
-        &mut mine.model,
-        &mut mine.prec,
-        &mut mine.fixed,
-        &mut journal,
-        out,
-    )
+    run_replay(alloc, &mut mine, &mut journal, out)
 }
 
 /// The whole call of `replay`: opens the files of a mine and then the journal, and writes what that comes to. A fault

@@ -6,12 +6,11 @@ ghost use Rattle.mine_graph.specs.FixedBlocks.{IsFixedOf};
 ghost use Rattle.pit_model.specs.declared.direction.Direction.TheVariants.{Least};
 ghost use Rattle.pit_model.specs.Fixed.{fixed_of, graph_of_mine};
 ghost use Rattle.pit_model.specs.Replay.{IsComplete};
-ghost use Rattle.commands.specs.Kept.{KeepsTexts};
 ghost use Rattle.commands.specs.Certified.{IsCertified, PutsCertificate};
 ghost use Rattle.commands.specs.Chosen.{chosen, progress_of, IsCountable, OfWriterIfAny, Stays};
 ghost use Rattle.commands.specs.Journaled.{EndOf, IsJournaled, MayJournal, MayPutEntries, PutsEntries, PutsJournal, RefusesEntries};
 ghost use Rattle.commands.specs.Run.{settings_of, EndsJournaled, HoldsOfSearched, MayWrite, RefusesOutcome, RefusesPit, RefusesRun};
-ghost use Rattle.commands.specs.Solve.{files_of, mine_files, fixed_instance_of, IsDone, MayRead};
+ghost use Rattle.commands.specs.Solve.{fixed_instance_of, IsDone};
 ghost use Rattle.solver.specs.Modes.{EndsWithin};
 ghost use Rattle.pit_search.specs.Searched.{IsFound, OfSearched};
 ghost use Rattle.solver.specs.Searched.{EndsFixed};
@@ -21,19 +20,18 @@ ghost use Rattle.commands.specs.Solved.{EndsSolveCall};
 
 use crate::ending::report_fault;
 use crate::make_outputs::{end_outputs, make_outputs};
-use crate::mine::{FixedMine, open_mine, read_mine};
+use crate::mine::{FixedMine, MineReader, open_mine};
 use crate::options::{SolveOptions, SolveSettings};
 use crate::outputs::OutputFiles;
 use crate::place::Writable;
 use crate::readers::readers_of;
 use crate::status::Status;
-use crate::writers::{output_of, writer_of};
+use crate::writers::{SolveWriters, output_of, writer_of};
 use certificate::{Certificate, write};
 use counters::Phase;
 use faults::Fault;
 use merging::Outcome;
-use minelib_reader::{InBytes, OutBytes};
-use pit_model::Direction;
+use minelib_reader::OutBytes;
 use report::{write_journal, write_pit};
 use solver::{Entry, FoundPit, Mode, OpenGate, Search};
 use std::alloc::{AllocGlobal, Global};
@@ -165,23 +163,64 @@ fn recorded_pit<J: OutBytes, C: OutBytes, R: Threads + Wait + Sync>(
 /// The pit that is asked for. Where neither a journal nor a certificate is wanted, the mine's graph is given up while the rest is
 /// solved; for the greatest pit neither is.
 fn solve_mine<J: OutBytes, C: OutBytes, R: Threads + Wait + Sync>(
-    rt: &R,
-    alloc: Global,
+    search: &Search<'_, R, OpenGate>,
     fixed_mine: FixedMine,
-    settings: &SolveSettings,
     journal: &mut Option<J>,
     certificate: &mut Option<C>,
 ) -> Result<FoundPit, Fault>
-    requires may { MayWrite J.progress C.progress settings.now journal.old certificate.old }
+    requires may { MayWrite J.progress C.progress (settings_of search.now.mode search.now.direction) journal.old certificate.old }
     requires fixed { IsFixedOf (graph_of_mine fixed_mine.mine) fixed_mine.fixed }
-    ensures found { IfOk result (IsFound settings.now.pit fixed_mine.mine (fixed_of fixed_mine.fixed.lists)) }
-    ensures journaled { IfOk result (λ _. PutsJournal IsComplete settings.now.mode (fixed_instance_of fixed_mine) (chosen J.progress journal.old journal.new) (Ok tt)) }
+    ensures found { IfOk result (IsFound search.now.direction fixed_mine.mine (fixed_of fixed_mine.fixed.lists)) }
+    ensures journaled { IfOk result (λ _. PutsJournal IsComplete search.now.mode (fixed_instance_of fixed_mine) (chosen J.progress journal.old journal.new) (Ok tt)) }
     ensures certified { IfOk result (λ _. PutsCertificate (fixed_instance_of fixed_mine) (chosen C.progress certificate.old certificate.new) (Ok tt)) }
-    ensures within { IfOk result (λ _. OfSearched settings.now.pit fixed_mine.mine (fixed_of fixed_mine.fixed.lists) (EndsWithin settings.now.mode)) }
-    ensures refused { IfErr result (λ e. RefusesPit settings.now.mode settings.now.pit (fixed_instance_of fixed_mine) e.refusal e (chosen J.progress journal.old journal.new) (chosen C.progress certificate.old certificate.new)) }
+    ensures within { IfOk result (λ _. OfSearched search.now.direction fixed_mine.mine (fixed_of fixed_mine.fixed.lists) (EndsWithin search.now.mode)) }
+    ensures refused { IfErr result (λ e. RefusesPit search.now.mode search.now.direction (fixed_instance_of fixed_mine) e.refusal e (chosen J.progress journal.old journal.new) (chosen C.progress certificate.old certificate.new)) }
     ensures journal_stays { Stays journal.old journal.new }
     ensures certificate_stays { Stays certificate.old certificate.new }
 {
+    if journal.is_none() && certificate.is_none() {
+        let FixedMine { mine, fixed } = fixed_mine;
+        return search.pit(mine, &fixed);
+    }
+    recorded_pit(search, &fixed_mine, journal, certificate)
+}
+
+/// Reads a model, then a precedence file, then the file of fixed blocks, if there is one, and writes the text of the pit, in every
+/// mode: of the smallest closed set of greatest worth, or of the largest, as is asked for, among the closed sets that hold each
+/// block forced in and none that is barred. If there is a writer for the journal, which only mode shared may have, a journal that
+/// ends at the least pit is written before it: `run_replay` comes to the same pit. If there is one for a certificate, the
+/// certificate that shows the pit is written after the journal: `run_check` answers yes to it. Neither may be there for the
+/// greatest pit.
+///
+/// # Errors
+///
+/// The first fault of the files (3 to 14, 21), lack of memory (1), a failed read (2) and a worker that could not be started (22),
+/// all with nothing written; a used-up budget (20), with the whole journal written and nothing else; and a failed write (18), with
+/// a beginning of these texts in their order.
+#[tactic(auto, using(crate::proofs::Keeping::still_kept, crate::proofs::Keeping::still_kept_if_any))]
+pub fn run_solve<R: Threads + Wait + Sync, I: MineReader, J: OutBytes, C: OutBytes, W: OutBytes>(
+    rt: &R,
+    alloc: Global,
+    mine: &mut I,
+    outputs: &mut SolveWriters<J, C, W>,
+    settings: &SolveSettings,
+) -> Result<Status, Fault>
+    requires read { I.CanRead mine.old }
+    requires write { MayWrite J.progress C.progress settings.now outputs.old.journal outputs.old.certificate }
+    requires countable { (W.progress outputs.old.pit).failures < 2 ^ 63 }
+    ensures done { IfOk result (IsDone settings.now.pit (I.gave mine.old mine.new) (W.progress outputs.old.pit) (W.progress outputs.new.pit)) }
+    ensures journaled { IfOk result (λ _. OfWriterIfAny (chosen J.progress outputs.old.journal outputs.new.journal) (IsJournaled IsComplete settings.now.mode (I.gave mine.old mine.new))) }
+    ensures certified { IfOk result (λ _. OfWriterIfAny (chosen C.progress outputs.old.certificate outputs.new.certificate) (IsCertified (I.gave mine.old mine.new))) }
+    ensures within { IfOk result (λ _. HoldsOfSearched settings.now.pit (I.gave mine.old mine.new) (EndsWithin settings.now.mode)) }
+    ensures refused { IfErr result (λ e. RefusesRun settings.now e.refusal e (I.gave mine.old mine.new)
+        (chosen J.progress outputs.old.journal outputs.new.journal) (chosen C.progress outputs.old.certificate outputs.new.certificate)
+        (W.progress outputs.old.pit) (W.progress outputs.new.pit)) }
+    ensures texts_kept { I.Keeps mine.old mine.new }
+    ensures journal_stays { Stays outputs.old.journal outputs.new.journal }
+    ensures certificate_stays { Stays outputs.old.certificate outputs.new.certificate }
+{
+    let fixed_mine = mine.read_mine(alloc)?;
+    let n = fixed_mine.mine.graph().n();
     let search = Search {
         rt,
         alloc,
@@ -189,72 +228,14 @@ fn solve_mine<J: OutBytes, C: OutBytes, R: Threads + Wait + Sync>(
         direction: settings.pit,
         gate: &OpenGate,
     };
-    if journal.is_none() && certificate.is_none() {
-        let FixedMine { mine, fixed } = fixed_mine;
-        return search.pit(mine, &fixed);
-    }
-    recorded_pit(&search, &fixed_mine, journal, certificate)
-}
-
-/// Reads a model, then a precedence file, then the file of fixed blocks, where there is one, and writes the text of the pit,
-/// whatever the mode: of the smallest closed set of greatest worth, or of the largest, as is asked for, among the closed sets
-/// that hold each block forced in and none that is barred. Where there is a writer for the journal, which mode shared alone may
-/// have, a journal that ends at the least pit is written before it: `run_replay` comes to the same pit. Where there is one for a
-/// certificate, the certificate that shows the pit is written behind the journal: `run_check` answers yes to it. Neither may be
-/// there for the greatest pit.
-///
-/// Refused by the first fault of the files (3 to 14, 21), for want of memory (1), where a read failed (2) and where a worker
-/// could not be started (22), all with nothing written; where the budget is used up (20), with the whole journal written and
-/// nothing else; and where a write failed (18), with a beginning of these texts in their order.
-#[tactic(auto, using(crate::proofs::Keeping::still_kept, crate::proofs::Keeping::still_kept_if_any))]
-pub fn run_solve<
-    R: Threads + Wait + Sync,
-    M: InBytes,
-    P: InBytes,
-    F: InBytes,
-    J: OutBytes,
-    C: OutBytes,
-    W: OutBytes,
->(
-    rt: &R,
-    alloc: Global,
-    model: &mut M,
-    prec: &mut P,
-    fixed: &mut Option<F>,
-    journal: &mut Option<J>,
-    certificate: &mut Option<C>,
-    out: &mut W,
-    mode: Mode,
-    pit: Direction,
-) -> Result<Status, Fault>
-    requires read { MayRead M.progress P.progress F.progress (mine_files model.old prec.old fixed.old) }
-    requires write { MayWrite J.progress C.progress (settings_of mode pit) journal.old certificate.old }
-    requires out_countable { (W.progress out.old).failures < 2 ^ 63 }
-    ensures done { IfOk result (IsDone pit
-        (files_of M.progress M.IsAtEnd P.progress P.IsAtEnd F.progress F.IsAtEnd (mine_files model.old prec.old fixed.old) (mine_files model.new prec.new fixed.new))
-        (W.progress out.old) (W.progress out.new)) }
-    ensures journaled { IfOk result (λ _. OfWriterIfAny (chosen J.progress journal.old journal.new) (IsJournaled IsComplete mode
-        (files_of M.progress M.IsAtEnd P.progress P.IsAtEnd F.progress F.IsAtEnd (mine_files model.old prec.old fixed.old) (mine_files model.new prec.new fixed.new)))) }
-    ensures certified { IfOk result (λ _. OfWriterIfAny (chosen C.progress certificate.old certificate.new) (IsCertified
-        (files_of M.progress M.IsAtEnd P.progress P.IsAtEnd F.progress F.IsAtEnd (mine_files model.old prec.old fixed.old) (mine_files model.new prec.new fixed.new)))) }
-    ensures within { IfOk result (λ _. HoldsOfSearched pit
-        (files_of M.progress M.IsAtEnd P.progress P.IsAtEnd F.progress F.IsAtEnd (mine_files model.old prec.old fixed.old) (mine_files model.new prec.new fixed.new))
-        (EndsWithin mode)) }
-    ensures refused { IfErr result (λ e. RefusesRun (settings_of mode pit) e.refusal e
-        (files_of M.progress M.IsAtEnd P.progress P.IsAtEnd F.progress F.IsAtEnd (mine_files model.old prec.old fixed.old) (mine_files model.new prec.new fixed.new))
-        (chosen J.progress journal.old journal.new)
-        (chosen C.progress certificate.old certificate.new)
-        (W.progress out.old) (W.progress out.new)) }
-    ensures files_kept { KeepsTexts M.known_text P.known_text F.known_text (mine_files model.old prec.old fixed.old) (mine_files model.new prec.new fixed.new) }
-    ensures journal_stays { Stays journal.old journal.new }
-    ensures certificate_stays { Stays certificate.old certificate.new }
-{
-    let fixed_mine = read_mine(alloc, model, prec, fixed)?;
-    let n = fixed_mine.mine.graph().n();
-    let settings = SolveSettings { mode, pit };
-    let pit = solve_mine(rt, alloc, fixed_mine, &settings, journal, certificate)?;
-    model.counters().enter(Phase::Writing);
-    write_pit(out, n, &pit.blocks, pit.worth)?;
+    let pit = solve_mine(
+        &search,
+        fixed_mine,
+        &mut outputs.journal,
+        &mut outputs.certificate,
+    )?;
+    mine.counters().enter(Phase::Writing);
+    write_pit(&mut outputs.pit, n, &pit.blocks, pit.worth)?;
     Ok(Status::Done)
 }
 
@@ -278,21 +259,17 @@ fn solve_files<R: AllocGlobal + Threads + Wait + Sync, F: OutputFiles, W: OutByt
         Err(fault) => return (Err(fault), out),
     };
     let mut mine = readers_of(mine, &files.counters());
-    let mut journal = writer_of(journal);
-    let mut certificate = writer_of(certificate);
-    let mut out = out;
-    let outcome = run_solve(
-        rt,
-        rt.alloc(),
-        &mut mine.model,
-        &mut mine.prec,
-        &mut mine.fixed,
-        &mut journal,
-        &mut certificate,
-        &mut out,
-        options.settings.mode,
-        options.settings.pit,
-    );
+    let mut writers = SolveWriters {
+        journal: writer_of(journal),
+        certificate: writer_of(certificate),
+        pit: out,
+    };
+    let outcome = run_solve(rt, rt.alloc(), &mut mine, &mut writers, &options.settings);
+    let SolveWriters {
+        journal,
+        certificate,
+        pit: out,
+    } = writers;
     let made = (output_of(journal), output_of(certificate));
     (end_outputs(files, made, outcome), out)
 }

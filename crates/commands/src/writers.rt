@@ -6,6 +6,15 @@ ghost use Rattle.commands.specs.Solved.{IsNew};
 use minelib_reader::{OutBytes, StreamWriter};
 use std::io::Write;
 
+/// The writers of a solve, in the order in which they are written: those of the journal and of the certificate if these are wanted,
+/// and that of the pit.
+#[derive(Drop)]
+pub struct SolveWriters<J, C, W> {
+    pub journal: Option<J>,
+    pub certificate: Option<C>,
+    pub pit: W,
+}
+
 /// What writes an output, where there is one.
 pub(crate) fn writer_of<S: Write + Drop>(output: Option<S>) -> Option<StreamWriter<S>>
     ensures { IsNew (⟦<StreamWriter<S> as OutBytes>⟧) (is_some output) (known_if_any S.contents output) result }

@@ -1,7 +1,6 @@
 -- Each exit is a case of how the call ends.
 use Rattle.std.proofs.Common.{refl, sym, ◌∙◌}
 use Rattle.std.specs.Prelude.{option_copied}
-use Rattle.commands.specs.Solve.{mine_files}
 use Rattle.commands.specs.Solved.{solved, unmade, unopened}
 use Rattle.commands.proofs.Calling.{runs_solve}
 use Rattle.commands.proofs.Reading.{are_from_front}
@@ -21,28 +20,28 @@ run_solve-outcome-requires-clause-write g c κs within =
     let made = c.in-Ok-make_outputs in
     let options = c.args.options.now in
     may_write options.settings (option_copied options.journal) (option_copied options.certificate) _ _ _ _
-    c.writer_of-journal.ensures.unwritten (c.writer_of-journal.ensures.named ∙ made.ensures.journal_named)
-    c.writer_of-certificate.ensures.unwritten (c.writer_of-certificate.ensures.named ∙ made.ensures.certificate_named)
+    c.writer_of.ensures.unwritten (c.writer_of.ensures.named ∙ made.ensures.journal_named)
+    c.writer_of-2.ensures.unwritten (c.writer_of-2.ensures.named ∙ made.ensures.certificate_named)
 
 pub returns : goal.returns
 returns g c =
     let made = c.in-Ok-make_outputs in
     let run = c.run_solve-outcome in
-    let journal = c.output_of.ensures.named ∙ run.ensures.journal_stays ∙ c.writer_of-journal.ensures.named ∙ made.ensures.journal_named in
-    let certificate = c.output_of-2.ensures.named ∙ run.ensures.certificate_stays ∙ c.writer_of-certificate.ensures.named ∙ made.ensures.certificate_named in
+    let journal = c.output_of.ensures.named ∙ run.ensures.journal_stays ∙ c.writer_of.ensures.named ∙ made.ensures.journal_named in
+    let certificate = c.output_of-2.ensures.named ∙ run.ensures.certificate_stays ∙ c.writer_of-2.ensures.named ∙ made.ensures.certificate_named in
     solved run.result _ _ (record {
-      journal = c.writer_of-journal.result;
-      journal_left = run.new.journal;
-      certificate = c.writer_of-certificate.result;
-      certificate_left = run.new.certificate;
-    }) c.open_mine.new.files c.make_outputs.new.files c.readers_of-mine.result (mine_files run.new.model run.new.prec run.new.fixed)
+      journal = c.writer_of.result;
+      journal_left = run.new.outputs.journal;
+      certificate = c.writer_of-2.result;
+      certificate_left = run.new.outputs.certificate;
+    }) c.open_mine.new.files c.make_outputs.new.files c.readers_of-mine.result run.new.mine
     c.in-Ok.ensures.opened made.ensures.made
     (are_from_front _ _ _ c.in-Ok.mine.fixed c.readers_of-mine.result c.in-Ok.ensures.named c.readers_of-mine.ensures.named
     c.readers_of-mine.ensures.model c.readers_of-mine.ensures.prec c.readers_of-mine.ensures.fixed)
-    run.ensures.files_kept
+    run.ensures.texts_kept
     (record {
-      journal_new = rw (sym made.ensures.journal_named) c.writer_of-journal.ensures;
-      certificate_new = rw (sym made.ensures.certificate_named) c.writer_of-certificate.ensures;
+      journal_new = rw (sym made.ensures.journal_named) c.writer_of.ensures;
+      certificate_new = rw (sym made.ensures.certificate_named) c.writer_of-2.ensures;
       runs = runs_solve _ _ _ run.result run.ensures.done run.ensures.journaled run.ensures.certified run.ensures.within run.ensures.refused;
     })
     (rw (sym journal, sym certificate, sym c.output_of.ensures.known, sym c.output_of-2.ensures.known) c.end_outputs.ensures)

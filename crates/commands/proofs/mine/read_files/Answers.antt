@@ -11,7 +11,7 @@ use Rattle.merging.proofs.SolvedPart.{graph_is}
 use Rattle.commands.specs.Solve.{FixedInstance, GaveFixed, GaveFixedMine, files_of, mine_files, fixed_instance_of}
 use Rattle.commands.specs.declared.mine.FixedMine.{FixedMine}
 use Rattle.commands.proofs.Refusing.{model_refused, prec_refused, fixed_refused, pairs_refused, blocks_refused, has_no_clash, memory_refused, still}
-use Rattle.commands.proofs.mine.read_mine.Goals as goal
+use Rattle.commands.proofs.mine.read_files.Goals as goal
 
 pub returns-in_err-model-clause-refused : goal.returns-in_err-model-clause-refused
 returns-in_err-model-clause-refused g c =
