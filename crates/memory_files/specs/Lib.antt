@@ -1,0 +1,2 @@
+pub mod MemoryRelations
+pub mod SolvedFiles
