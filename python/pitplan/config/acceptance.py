@@ -6,6 +6,7 @@ from collections.abc import Iterator
 from dataclasses import dataclass
 from typing import Optional
 
+from .feed_grades import read_range
 from .toml_section import Section
 
 # The keys of codes, which name columns of [table].
@@ -64,11 +65,4 @@ def read_codes(section: Section, key: str) -> tuple[str, ...]:
 
 def read_grades(section: Section) -> Iterator[GradeRange]:
     for column in [name for name in section.data if name not in CODES]:
-        inner = section.section(column)
-        least, most = (float(inner.number(key, least=0)) if inner.has(key) else None for key in ("min", "max"))
-        inner.finish()
-        if least is None and most is None:
-            raise section.wrong(column, "expected min, max or both, such as { min = 0.1 }")
-        if least is not None and most is not None and least > most:
-            raise section.wrong(column, f"min {least:.10g} is above max {most:.10g}")
-        yield GradeRange(column, least, most)
+        yield GradeRange(column, *read_range(section, column, "{ min = 0.1 }"))

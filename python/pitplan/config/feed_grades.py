@@ -32,12 +32,18 @@ def read_feed(section: Section, process: str = "") -> tuple[FeedGrade, ...]:
     """Reads a section. Raises PlanError, with the key, if it has a mistake."""
     found = []
     for column in section.data:
-        inner = section.section(column)
-        least, most = (float(inner.number(key, least=0)) if inner.has(key) else None for key in ("min", "max"))
-        inner.finish()
-        if least is None and most is None:
-            raise section.wrong(column, "expected min, max or both, such as { max = 140 }")
-        if least is not None and most is not None and least > most:
-            raise section.wrong(column, f"min {least:.10g} is above max {most:.10g}")
+        least, most = read_range(section, column, "{ max = 140 }")
         found.append(FeedGrade(column, least, most, process))
     return tuple(found)
+
+
+def read_range(section: Section, column: str, example: str) -> tuple[Optional[float], Optional[float]]:
+    """Returns min and max of a grade, None where one is not given. Raises PlanError, with the key, if both lack or are in the wrong order."""
+    inner = section.section(column)
+    least, most = (float(inner.number(key, least=0)) if inner.has(key) else None for key in ("min", "max"))
+    inner.finish()
+    if least is None and most is None:
+        raise section.wrong(column, f"expected min, max or both, such as {example}")
+    if least is not None and most is not None and least > most:
+        raise section.wrong(column, f"min {least:.10g} is above max {most:.10g}")
+    return least, most
