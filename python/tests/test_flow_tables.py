@@ -47,19 +47,82 @@ def test_ore_is_stockpiled_and_reclaimed(written):
     told = json.loads((folder / "schedule.json").read_text())
     assert told["methods"]["rule"]["npv"] < told["methods"]["lp"]["npv"] <= told["upper_bound"] + 1e-3
     # Bins of 0.3 and 0.35 per cent, and of 1 and 1.2: 40 a per cent and tonne, less 10 for processing.
-    assert told["bins"] == {"mill": [pytest.approx((4 + 30) / 2)]} and told["reclaim_cost"] == 0.5
+    assert told["bins"] == {"mill": [pytest.approx((4 + 30) / 2)]} and told["stockpiles"] == ["stockpile"]
     flows = pd.read_csv(folder / "tables/flows.csv")
     of_lp = flows[flows["method"] == "lp"]
     assert of_lp.loc[of_lp["source"] == "stockpile", "feed_tonnes"].sum() > 0
     feed = pd.read_csv(folder / "tables/feed.csv").query("method == 'lp'")
-    assert (
-        feed["feed_tonnes"].sum() == pytest.approx(of_lp["feed_tonnes"].sum()) and (feed["feed_tonnes"] < 100.001).all()
-    )
+    milled = of_lp.loc[of_lp["destination"] == "mill", "feed_tonnes"].sum()
+    assert feed["feed_tonnes"].sum() == pytest.approx(milled) and (feed["feed_tonnes"] < 100.001).all()
     piles = pd.read_csv(folder / "tables/stockpiles.csv").query("method == 'lp'")
     assert (piles["opening_tonnes"] + piles["in_tonnes"] - piles["out_tonnes"]).tolist() == pytest.approx(
         piles["closing_tonnes"].tolist(), abs=0.01
     )
     assert set(pd.read_csv(folder / "tables/blocks.csv")["bin"]) == {0, 1, 2} and wrong(folder) == set()
+
+
+PILES = """[schedule]
+bins = 2
+[[schedule.stockpiles]]
+name = "poor"
+reclaim_cost = 0.5
+stacking_cost = 0.1
+capacity = 60
+accepts = { cu = { max = 0.5 } }
+recovery = { copper = 0.98 }
+[[schedule.stockpiles]]
+name = "rich"
+reclaim_cost = 0.1
+accepts = { cu = { min = 0.9 } }
+"""
+
+
+@pytest.fixture(scope="module")
+def piled(tmp_path_factory):
+    place = tmp_path_factory.mktemp("piles")
+    pitplan.write_schedule(written_to(place, PILES))
+    return place
+
+
+def test_two_stockpiles_keep_what_they_accept_and_hold(piled):
+    folder = piled / "plan" / "schedule"
+    flows = pd.read_csv(folder / "tables/flows.csv").query("method == 'lp'")
+    placed = flows[flows["destination"] == "poor"]
+    # Ore of 0.3 and 0.35 per cent is the first bin; 60 t of it wait.
+    assert (placed["bin"] == 1).all() and placed["feed_tonnes"].sum() == pytest.approx(60, abs=0.01)
+    assert placed["cash_flow"].tolist() == pytest.approx((-0.1 * placed["feed_tonnes"]).tolist(), abs=0.01)
+    out = flows[flows["source"] == "poor"]
+    # Half of the copper of a tonne is recovered, 2 % less after reclaim; it earns 80 a per cent and tonne, and milling costs 10.
+    assert out["recovered_copper"].tolist() == pytest.approx((0.49 * out["contained_copper"]).tolist(), abs=0.001)
+    earned = 8000 * 0.49 * out["contained_copper"] - (10 + 0.5) * out["feed_tonnes"]
+    assert len(out) and out["cash_flow"].tolist() == pytest.approx(earned.tolist(), abs=0.1)
+    piles = pd.read_csv(folder / "tables/stockpiles.csv").query("method == 'lp' and stockpile == 'poor'")
+    assert piles["closing_tonnes"].max() == pytest.approx(60, abs=0.01)
+    full = piles[piles["closing_tonnes"] > 1]
+    assert full["grade_copper"].between(0.3, 0.35).all() and wrong(folder) == set()
+    limits = pd.read_csv(folder / "tables/limits.csv").query("method == 'lp' and limit == 'stockpile_poor'")
+    assert (limits["maximum"] == 60).all() and limits["used"].max() == pytest.approx(60, abs=0.01)
+
+
+@pytest.mark.parametrize(
+    ("words", "other", "said"),
+    [
+        ("accepts = { cu = { max = 0.5 } }", "accepts = { cu = { max = 0.2 } }", "poor does not accept these blocks"),
+        ("capacity = 60", "capacity = 50", "poor holds 60 t above its capacity of 50"),
+        ("recovery = { copper = 0.98 }", "recovery = { copper = 0.9 }", "recovered_copper"),
+        ("stacking_cost = 0.1", "stacking_cost = 0.2", "cash_flow"),
+        ("reclaim_cost = 0.5", "reclaim_cost = 0.6", "cash_flow"),
+    ],
+)
+def test_stockpiles_other_than_those_of_the_project_are_found(piled, tmp_path, words, other, said):
+    """The schedule is that of other rules than the project of its folder has."""
+    folder = shutil.copytree(piled, tmp_path / "mine") / "plan" / "schedule"
+    kept = folder / "project-as-run.toml"
+    text = kept.read_text()
+    assert words in text
+    kept.write_text(text.replace(words, other))
+    found = [text for rule in verify(folder) for text in rule.differences]
+    assert any(said in text for text in found)
 
 
 def test_head_grades_and_metal_by_hand(plan_folder):
@@ -97,6 +160,7 @@ def test_head_grades_and_metal_by_hand(plan_folder):
         ("stockpiles", "opening_tonnes", 1.0, {"material flow"}),
         ("stockpiles", "in_tonnes", 1.0, {"material flow"}),
         ("stockpiles", "closing_tonnes", 1.0, {"material flow"}),
+        ("stockpiles", "grade_copper", 0.01, {"material flow"}),
         ("blocks", "bin", 1, {"material flow"}),
         ("bound", "price", 0.5, {"upper bound"}),
     ],
@@ -119,7 +183,7 @@ def test_ore_that_is_reclaimed_before_it_is_stocked_is_found(copied):
     found.loc[found["source"] == "stockpile", "year"] = 1
     found.to_csv(path, index=False)
     said = [text for rule in verify(copied) for text in rule.differences]
-    assert any("more is reclaimed than was stockpiled before" in text for text in said)
+    assert any("more is reclaimed from stockpile than was placed before" in text for text in said)
 
 
 def test_ore_that_goes_elsewhere_is_found(copied):
@@ -260,6 +324,15 @@ def test_a_minimum_that_no_trial_meets_is_left_to_the_integer_programme(plan_fol
     )
 
 
+TWO = """[[schedule.stockpiles]]
+name = "{}"
+reclaim_cost = 1
+[[schedule.stockpiles]]
+name = "{}"
+reclaim_cost = 1
+"""
+
+
 def test_a_minimum_that_nothing_meets_is_an_error(plan_folder, capsys):
     path = hill(plan_folder, "[schedule]\nyears = 30\nminimum = { feed = 99 }\n")
     assert main(["schedule", str(path), "--quiet"]) == 1
@@ -273,6 +346,29 @@ def test_a_minimum_that_nothing_meets_is_an_error(plan_folder, capsys):
     [
         ("[schedule]\nbins = 0\n", "", "[schedule] bins: must be a whole number from 1 to 50"),
         ("[schedule]\nstockpile = { cost = 1 }\n", "", "[schedule.stockpile] reclaim_cost: is missing"),
+        (f"{TWO.format('a', 'a')}", "", "[schedule] stockpiles: found a twice, expected a name of its own for each"),
+        (
+            f"{TWO.format('a', 'waste')}",
+            "",
+            "[schedule.stockpiles] waste: is the name of another source or destination",
+        ),
+        (
+            f"{TWO.format('a', 'b')}recovery = {{ tin = 1 }}\n",
+            "",
+            "b recovery: found tin, expected one of the [[metals]]: copper",
+        ),
+        (
+            f"{TWO.format('a', 'b')}recovery = {{ copper = 1.1 }}\n",
+            "",
+            "copper: found 1.1, expected the share that remains",
+        ),
+        (
+            f"{TWO.format('a', 'b')}accepts = {{ class = '1' }}\n",
+            "",
+            "b accepts: has class, and [table] class names no",
+        ),
+        (f"{TWO.format('a', 'b')}capacity = 0\n", "", "2] capacity: "),
+        (f"{TWO.format('a', 'b c')}", "", 'name: found "b c", expected one word'),
         ("[schedule.feed]\narsenic = { most = 3 }\n", "", "[schedule.feed.arsenic] most: unknown key"),
         ("[schedule.feed]\narsenic = {}\n", "", "[schedule.feed] arsenic: expected min, max or both"),
         ("[schedule.feed]\narsenic = { min = 5, max = 3 }\n", "", "[schedule.feed] arsenic: min 5 is above max 3"),

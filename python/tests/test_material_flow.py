@@ -5,12 +5,13 @@ from dataclasses import replace
 import numpy as np
 import pytest
 from helpers.benches import benches_of, demand_diggable, problem_of
-from helpers.flows import complete_optimum, linear_optimum, mine_of, mines, model_of, processes
+from helpers.flows import complete_optimum, linear_optimum, mine_of, mines, model_of, plain, processes, stockpiles
 from helpers.programmes import limits
 from helpers.random_tests import examples
 from hypothesis import given, strategies as st
 
 from pitplan import PlanError
+from pitplan.config.stockpiles import Stockpile
 from pitplan.economics.value_bins import edges_of
 from pitplan.scheduling.bench_sequencing import Limits
 from pitplan.scheduling.flow import scheduler
@@ -36,7 +37,7 @@ def two_benches(limits, years, cost=None):
     benches = benches_of((1, 0, 200, 0, -200), (1, 1, 100, 0, -100))
     amounts = {"feed_tonnes": np.array([[100.0, 100, 100]]), "recovered_copper": np.ones((1, 3))}
     ore = Ore(np.array([0, 0, 1]), np.array([1, 2, 2]), np.array([[100.0, 1000, 1000]]), amounts)
-    return FlowModel(problem_of(benches, limits), ore, years, cost)
+    return FlowModel(problem_of(benches, limits), ore, years, () if cost is None else (Stockpile(cost),))
 
 
 @pytest.mark.parametrize(
@@ -95,7 +96,7 @@ def blended(cost):
     amounts = {"feed_tonnes": np.array([[100.0, 100]]), "grade_as_max": excess}
     ore = Ore(np.array([0, 1]), np.array([2, 1]), np.array([[1000.0, 10_000]]), amounts)
     limits = Limits({"feed_tonnes": 150, "total_tonnes": 100, "grade_as_max": 0.0})
-    return FlowModel(problem_of(benches, limits), ore, 2, cost)
+    return FlowModel(problem_of(benches, limits), ore, 2, () if cost is None else (Stockpile(cost),))
 
 
 @pytest.mark.parametrize(("cost", "dirty"), [(None, 0.0), (0.0, 50.0), (4.0, 50.0), (11.0, 0.0)])
@@ -108,7 +109,7 @@ def test_arsenic_is_blended_from_the_stockpile_by_hand(cost, dirty):
     found = [optimum.value, flows.value, upper_bound(model, model.ore, optimum.prices)]
     assert found == pytest.approx([value] * 3)
     assert flows.dug.tolist() == [[1, 0], [0, 1]] and flows.direct[0].tolist() == [[0, 0], [0, 1]]
-    assert flows.reclaimed[0].tolist() == [[0, pytest.approx(dirty / 100)], [0, 0]]
+    assert flows.reclaimed.sum(axis=(0, 1)).tolist() == [[0, pytest.approx(dirty / 100)], [0, 0]]
     assert flows.used("grade_as_max").max() < 1e-6
 
 
@@ -124,9 +125,9 @@ def slack_of(model):
 
 
 @examples(14)
-@given(mines, limits, processes, st.integers(0, 1), st.sampled_from([None, 0.0, 0.5]))
-def test_the_bound_and_what_is_made_of_it(pits, limits, several, lag, cost):
-    model = model_of(mine_of(pits, lag), several, limits, 4, cost)
+@given(mines, limits, processes, st.integers(0, 1), stockpiles)
+def test_the_bound_and_what_is_made_of_it(pits, limits, several, lag, piles):
+    model = model_of(mine_of(pits, lag), several, limits, 4, piles)
     optimum, slack = FlowProgramme(model).solved(), slack_of(model)
     assert optimum.value == pytest.approx(linear_optimum(model), abs=slack)
     assert optimum.cash @ model.discounts == pytest.approx(optimum.value, abs=slack)
@@ -144,21 +145,25 @@ def demand_kept(flows):
     for number, (name, _) in enumerate(model.problem.limits.most.items()):
         most = model.problem.limits.of_years(max(flows.years, 1))[: flows.years, number]
         assert (flows.used(name) <= most * (1 + 1e-8) + 1e-6).all(), name
-    assert (flows.direct.sum(axis=0) + flows.stocked <= dug + 1e-12).all()
-    before = np.pad((flows.stocked - flows.reclaimed.sum(axis=0)).cumsum(axis=1), ((0, 0), (1, 0)))[:, :-1]
-    assert (flows.reclaimed.sum(axis=0) <= before + 1e-9).all()
-    assert model.reclaim_cost is not None or not (flows.stocked.any() or flows.reclaimed.any())
+    assert (flows.direct.sum(axis=0) + flows.stocked.sum(axis=0) <= dug + 1e-12).all()
+    out = flows.reclaimed.sum(axis=1)
+    lies = (flows.stocked - out).cumsum(axis=2)
+    assert (out <= np.pad(lies, ((0, 0), (0, 0), (1, 0)))[..., :-1] + 1e-9).all()
+    for number, it in enumerate(model.stockpiles):
+        assert model.ore.accepted is None or not flows.stocked[number, ~model.ore.accepted[number]].any()
+        assert (model.ore.feed @ lies[number] <= (it.capacity or np.inf) * (1 + 1e-6)).all()
 
 
 @examples(8)
-@given(mines, limits, processes, st.integers(0, 1), st.sampled_from([None, 0.0, 0.5]))
-def test_whatever_each_block_does_earns_no_more_than_the_bound(pits, limits, several, lag, cost):
+@given(mines, limits, processes, st.integers(0, 1), stockpiles)
+def test_whatever_each_block_does_earns_no_more_than_the_bound(pits, limits, several, lag, piles):
     """Parcels hold two blocks each. Any schedule of whole benches in which each block goes its own way is below the bound, and what is made of
     the parcels is below the best of these."""
-    blocks = model_of(mine_of(pits, lag), several, limits, 3, cost)
-    parcel = blocks.ore.bench
-    used, place = np.unique(parcel, return_inverse=True)
-    model = replace(blocks, ore=blocks.ore.merged(place, used, np.ones(len(used), dtype=np.int64)))
+    blocks = model_of(mine_of(pits, lag), several, limits, 3, piles)
+    # Parcels of a bench, and where the second stockpile accepts second parcels alone, these apart.
+    second = blocks.ore.bin - 1 if len(piles) > 1 else 0
+    used, place = np.unique(2 * blocks.ore.bench + second, return_inverse=True)
+    model = replace(blocks, ore=blocks.ore.merged(place, used // 2, used % 2 + 1))
     optimum, slack = FlowProgramme(model).solved(), slack_of(model)
     complete = complete_optimum(blocks)
     assert complete <= upper_bound(model, blocks.ore, optimum.prices) + slack
@@ -169,7 +174,7 @@ def test_whatever_each_block_does_earns_no_more_than_the_bound(pits, limits, sev
 @given(mines, limits, processes, st.sampled_from([0.0, 0.5]), st.sampled_from(["process", "stockpile", "capacity"]))
 def test_more_freedom_never_lowers_the_optimum(pits, limits, several, cost, more):
     """Nor the bound, which is the optimum where each parcel is one block."""
-    wide = model_of(mine_of(pits, 0), several, limits, 4, cost)
+    wide = model_of(mine_of(pits, 0), several, limits, 4, plain(cost))
     if more == "process":
         limited = dict(list(wide.problem.limits.most.items())[:-1])
         ore = Ore(
@@ -180,7 +185,7 @@ def test_more_freedom_never_lowers_the_optimum(pits, limits, several, cost, more
         )
         narrow = replace(wide, ore=ore, problem=replace(wide.problem, limits=replace(limits_of(wide), most=limited)))
     elif more == "stockpile":
-        narrow = replace(wide, reclaim_cost=None)
+        narrow = replace(wide, stockpiles=())
     else:
         least = {name: 0.8 * most for name, most in limits_of(wide).most.items()}
         narrow = replace(wide, problem=replace(wide.problem, limits=replace(limits_of(wide), most=least)))
@@ -198,7 +203,7 @@ def limits_of(model):
 @examples(8)
 @given(mines, limits, st.sampled_from([None, 0.5]))
 def test_a_process_twice_with_half_its_capacity_is_the_process(pits, limits, cost):
-    one = model_of(mine_of(pits, 0), [(1.0, 60.0)], limits, 4, cost)
-    two = model_of(mine_of(pits, 0), [(1.0, 30.0), (1.0, 30.0)], limits, 4, cost, favour=0)
+    one = model_of(mine_of(pits, 0), [(1.0, 60.0)], limits, 4, plain(cost))
+    two = model_of(mine_of(pits, 0), [(1.0, 30.0), (1.0, 30.0)], limits, 4, plain(cost), favour=0)
     found = [FlowProgramme(it).solved().value for it in (one, two)]
     assert found[0] == pytest.approx(found[1], abs=slack_of(one))

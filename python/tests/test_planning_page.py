@@ -12,6 +12,7 @@ import pitplan
 from pitplan.config.pushbacks import PushbackRules
 from pitplan.config.schedule import ScheduleRules
 from pitplan.config.sensitivity import SensitivityRules
+from pitplan.config.stockpiles import Stockpile
 from pitplan.scheduling import pushback_schedule
 from pitplan.scheduling.blocks import tables as block_result
 from pitplan.scheduling.flow.cutoffs import cutoffs
@@ -137,7 +138,7 @@ def test_the_schedule_of_the_page_is_that_of_the_example():
                 )
             )
         )
-        for asked in (rules, replace(rules, reclaim_cost=1.0))
+        for asked in (rules, replace(rules, stockpiles=(Stockpile(1.0),)))
     )
     ways = pushback_schedule.methods(plain).set_index("method")
     assert f"earn {ways['npv']['rule'] / 1e6:.2f} M USD by rule in {ways['years']['rule']} years" in PAGE

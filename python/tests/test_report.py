@@ -366,7 +366,5 @@ def test_the_way_of_a_schedule_is_told_in_words(written):
 
 def test_the_bound_of_a_schedule_names_its_premise(written):
     page = " ".join((written / "plan" / "schedule" / "report.html").read_text().split())
-    assert (
-        "wherever each block goes: to a process, to the stockpile or to waste. Other pushbacks may earn more." in page
-    )
+    assert "wherever each block goes: to a process, to a stockpile or to waste. Other pushbacks may earn more." in page
     assert "Upper bound, these pushbacks" in page

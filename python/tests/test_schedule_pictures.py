@@ -14,6 +14,7 @@ from matplotlib.figure import Figure
 
 from pitplan import PlanError
 from pitplan.config.project import Metal
+from pitplan.config.stockpiles import Stockpile
 from pitplan.export import xlsx
 from pitplan.figures import schedule as schedule_figures
 from pitplan.report import viewer3d
@@ -122,7 +123,7 @@ def test_each_destination_is_a_layer_of_its_own(schedule):
         lp[lp["year"] == 1].assign(destination="stockpile", total_tonnes=30, feed_tonnes=0),
         lp[lp["year"] == 2].assign(source="stockpile", total_tonnes=30, feed_tonnes=30),
     ]
-    stocked = replace(schedule, model=replace(schedule.model, reclaim_cost=0.5))
+    stocked = replace(schedule, model=replace(schedule.model, stockpiles=(Stockpile(0.5),)))
     stocked.__dict__["material_flows"] = pd.concat([flows, *more])
     mill, leach = SimpleNamespace(name="mill"), SimpleNamespace(name="leach")
     stocked.pushbacks.plan.project.processes = (mill, leach)

@@ -6,10 +6,11 @@ from typing import TYPE_CHECKING, Any
 
 from pitplan.errors import PlanError
 
-from .acceptance import CLASS, DOMAIN, ROCK_TYPE
+from .acceptance import CLASS, DOMAIN, ROCK_TYPE, Accepts
 from .classes import REFUSE
-from .economics import ByDomain, Process
+from .economics import ByDomain
 from .period_agreement import demand_periods
+from .places import MILL, PIT, WASTE
 from .schedule import FEED, TOTAL, ScheduleRules
 from .table import MissingRock
 
@@ -33,6 +34,7 @@ def demand_agreement(project: Project) -> None:
     if len(set(names)) < len(names):
         raise PlanError(f"{path}: two [[metals]] have one name")
     demand_sums_agree(project)
+    demand_stockpiles(project)
     demand_periods(project)
     varied = project.sensitivity
     if (
@@ -162,18 +164,34 @@ def demand_sums_of_parts(project: Project, rules: ScheduleRules) -> None:
             raise PlanError(f"{project.path}: [schedule.limits] {it.name}: {why}")
 
 
-def demand_accepted(project: Project, process: Process) -> None:
+def demand_accepted(project: Project, accepts: Accepts, where: str) -> None:
     """Refuses codes of columns that the project does not name, and grades of columns that are not read."""
-    where, table = f"{project.path}: [[processes]] {process.name} accepts", project.table
+    where, table = f"{project.path}: {where} accepts", project.table
     columns = {ROCK_TYPE: table.rock_type, DOMAIN: table.domain, CLASS: table.resource_class}
-    for key, codes in process.accepts.codes.items():
+    for key, codes in accepts.codes.items():
         if codes and columns[key] is None:
             raise PlanError(f"{where}: has {key}, and [table] {key} names no column: name it")
     known = [*(metal.column for metal in project.metals), *project.limited_columns]
-    for grade in process.accepts.grades:
+    for grade in accepts.grades:
         if grade.column not in known:
             expected = ", ".join(dict.fromkeys([*columns, *known]))
             raise PlanError(f"{where}: found {grade.column}, expected one of {expected}")
+
+
+def demand_stockpiles(project: Project) -> None:
+    """Refuses stockpiles with the name of another place, and recoveries of metals that there are not."""
+    metals = [metal.name for metal in project.metals]
+    taken = {PIT, WASTE, *([process.name for process in project.processes] or [MILL])}
+    for stockpile in project.schedule.stockpiles if project.schedule else ():
+        where = f"[schedule.stockpiles] {stockpile.name}"
+        if stockpile.name in taken:
+            raise PlanError(f"{project.path}: {where}: is the name of another source or destination: rename it")
+        for name in stockpile.recovery:
+            if name not in metals:
+                raise PlanError(
+                    f"{project.path}: {where} recovery: found {name}, expected one of the [[metals]]: {', '.join(metals)}"
+                )
+        demand_accepted(project, stockpile.accepts, where)
 
 
 def demand_processes_agree(project: Project) -> None:
@@ -183,7 +201,7 @@ def demand_processes_agree(project: Project) -> None:
     if len(set(names)) < len(names):
         raise PlanError(f"{path}: two [[processes]] have one name")
     for process in project.processes:
-        demand_accepted(project, process)
+        demand_accepted(project, process.accepts, f"[[processes]] {process.name}")
         for name in process.recovery:
             if name not in metals:
                 raise PlanError(

@@ -27,6 +27,7 @@ from .pushbacks import PushbackRules
 from .schedule import ScheduleRules, Sum
 from .sensitivity import SensitivityRules
 from .slopes import WALL, Slopes, Wall
+from .stockpiles import Stockpile
 from .survey import SurveyFile
 
 # A section: values by key. A key whose value is None is left out.
@@ -325,12 +326,18 @@ def of_schedule(rules: ScheduleRules) -> Values:
     return {
         **{name: getattr(rules, name) for name in names},
         "milp": milp,
-        "stockpile": None if rules.reclaim_cost is None else {"reclaim_cost": rules.reclaim_cost},
+        "stockpiles": [of_stockpile(it) for it in rules.stockpiles] or None,
         "max_metal_per_year": rules.max_metal_per_year or None,
         "minimum": rules.minimum or None,
         "limits": [of_sum(it) for it in rules.limits] or None,
         "feed": of_feed(rules.feed),
     }
+
+
+def of_stockpile(it: Stockpile) -> Values:
+    names = ("name", "reclaim_cost", "stacking_cost", "capacity")
+    values = {name: getattr(it, name) for name in names}
+    return {**values, "recovery": it.recovery or None, "accepts": of_accepts(it.accepts)}
 
 
 def of_sum(it: Sum) -> Values:

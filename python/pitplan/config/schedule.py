@@ -8,6 +8,7 @@ from decimal import Decimal
 from typing import Optional
 
 from .feed_grades import FeedGrade, read_feed
+from .stockpiles import Stockpile, read_stockpiles
 from .toml_section import Section
 
 MOST_YEARS, MOST_BENCHES = 200, 1_000
@@ -54,7 +55,7 @@ class ScheduleRules:
     years           so many years at most; None: a fifth more than the rule takes
     milp            whether and how far an integer programme is solved too; None: it is not
     bins            value bins of each process; None: as many as the schedule of pushbacks has by default
-    reclaim_cost    what it costs to reclaim a tonne from a stockpile; None: there is none
+    stockpiles      the stockpiles; none by default
     minimum         of total material, feed, metals and processes by name the minimum of each year, of feed with ramp_up
     limits          on sums of columns of the table
     feed            on head grades, in a project with one process
@@ -69,7 +70,7 @@ class ScheduleRules:
     years: Optional[int] = None
     milp: Optional[Effort] = None
     bins: Optional[int] = None
-    reclaim_cost: Optional[float] = None
+    stockpiles: tuple[Stockpile, ...] = ()
     minimum: dict[str, float] = field(default_factory=dict)
     limits: tuple[Sum, ...] = ()
     feed: tuple[FeedGrade, ...] = ()
@@ -98,7 +99,7 @@ def read_schedule(section: Section) -> ScheduleRules:
         years=section.whole("years", 1, 1, MOST_YEARS) if section.has("years") else None,
         milp=read_effort(section.section("milp")) if section.has("milp") else None,
         bins=section.whole("bins", 1, 1, MOST_BINS) if section.has("bins") else None,
-        reclaim_cost=read_stockpile(section.section("stockpile")) if section.has("stockpile") else None,
+        stockpiles=read_stockpiles(section),
         minimum=read_minimum(section.section("minimum")) if section.has("minimum") else {},
         limits=tuple(read_sum(it) for it in section.sections("limits")) if section.has("limits") else (),
         feed=read_feed(section.section("feed")) if section.has("feed") else (),
@@ -111,12 +112,6 @@ def read_schedule(section: Section) -> ScheduleRules:
     if rules.vertical_advance_rate is not None and rules.vertical_advance_rate <= 0:
         raise section.wrong("vertical_advance_rate", "must be above 0 benches per year: remove it if there is no limit")
     return rules
-
-
-def read_stockpile(section: Section) -> float:
-    cost = float(section.number("reclaim_cost", least=0))
-    section.finish()
-    return cost
 
 
 def read_minimum(section: Section) -> dict[str, float]:

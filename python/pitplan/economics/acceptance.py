@@ -1,4 +1,4 @@
-"""The blocks that processes accept."""
+"""The blocks that processes and stockpiles accept."""
 
 from __future__ import annotations
 
@@ -6,19 +6,18 @@ import numpy as np
 import pandas as pd
 from numpy.typing import NDArray
 
-from pitplan.config.acceptance import CLASS, DOMAIN, ROCK_TYPE
-from pitplan.config.economics import Process
+from pitplan.config.acceptance import CLASS, DOMAIN, ROCK_TYPE, Accepts
 from pitplan.config.project import Project
 
 
-def accepted_by(process: Process, frame: pd.DataFrame, project: Project) -> NDArray[np.bool_]:
-    """Returns whether each row of a checked table is accepted by a process: by its codes and its in-situ grades."""
+def accepted_by(accepts: Accepts, frame: pd.DataFrame, project: Project) -> NDArray[np.bool_]:
+    """Returns whether each row of a checked table is accepted: by its codes and its in-situ grades."""
     table, found = project.table, np.ones(len(frame), dtype=bool)
     columns = {ROCK_TYPE: table.rock_type, DOMAIN: table.domain, CLASS: table.resource_class}
-    for key, codes in process.accepts.codes.items():
+    for key, codes in accepts.codes.items():
         if codes:
             found &= frame[columns[key]].astype(str).isin(codes).to_numpy()
-    for grade in process.accepts.grades:
+    for grade in accepts.grades:
         values = frame[grade.column].to_numpy(dtype=float)
         found &= values >= (-np.inf if grade.min is None else grade.min)
         found &= values <= (np.inf if grade.max is None else grade.max)

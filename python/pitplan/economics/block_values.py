@@ -200,7 +200,7 @@ def values_of(frame: pd.DataFrame, grid: Grid, project: Project, source: str = "
 
 def accepted(ways: tuple[Way, ...], rows: Rows) -> tuple[Way, ...]:
     """Returns the amounts of processes without those of blocks that they do not accept."""
-    masks = [rows.grid.spread(accepted_by(it, rows.frame, rows.project)) for it in rows.project.processes]
+    masks = [rows.grid.spread(accepted_by(it.accepts, rows.frame, rows.project)) for it in rows.project.processes]
     return tuple(way.within(mask) for way, mask in zip(ways, masks)) if masks else ways
 
 
@@ -220,7 +220,7 @@ def greatest_gains(frame: pd.DataFrame, grid: Grid, project: Project, source: st
     factor = max(project.shells.revenue_factors[-1], BASE_PRICE)
     rows = Rows(frame, grid, project, source, Exact.of_floats(frame[project.table.tonnes].to_numpy()))
     feed, found = rows.feed(), np.zeros(len(frame), dtype=bool)
-    masks = [accepted_by(it, frame, project) for it in project.processes] or [np.ones(len(frame), dtype=bool)]
+    masks = [accepted_by(it.accepts, frame, project) for it in project.processes] or [np.ones(len(frame), dtype=bool)]
     for way, mask in zip(project.by_process, masks):
         weighed = replace(rows, project=way).weighed(feed)
         found |= mask & np.array(at_factor(factor, weighed.revenue, weighed.cost) > 0, dtype=bool)

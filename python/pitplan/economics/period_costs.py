@@ -3,9 +3,11 @@
 from __future__ import annotations
 
 from dataclasses import dataclass, field
+from decimal import Decimal
 
 import numpy as np
 
+from pitplan.config.economics import Metal
 from pitplan.config.project import Project
 
 
@@ -21,11 +23,14 @@ class YearlyMoney:
         Year, from 1, and the amount that is spent at its start if the mine still runs, in the currency.
     premiums : dict of str to tuple
         By amount of metal, what a unit of it earns beyond the base price, less royalty, in each year from 1; the last one continues.
+    net_prices : dict of str to float
+        By amount of metal, what a unit of it earns at the base price, less royalty and selling cost.
     """
 
     fixed_cost: tuple[float, ...] = (0.0,)
     capex: tuple[tuple[int, float], ...] = ()
     premiums: dict[str, tuple[float, ...]] = field(default_factory=dict)
+    net_prices: dict[str, float] = field(default_factory=dict)
 
     @property
     def columns(self) -> tuple[str, ...]:
@@ -73,7 +78,14 @@ def of_project(project: Project) -> YearlyMoney:
             premiums[f"recovered_{metal.name}"] = tuple(float(it * (1 - money.royalty)) for it in more)
     capex = calendar.capex or money.capex
     fixed = calendar.by_year(lambda it: it.fixed_cost_per_year, money.fixed_cost_per_year)
-    return YearlyMoney(tuple(map(float, fixed)), tuple((year, float(amount)) for year, amount in capex), premiums)
+    net_prices = {f"recovered_{metal.name}": float(net_price(metal, money.royalty)) for metal in project.metals}
+    spent = tuple((year, float(amount)) for year, amount in capex)
+    return YearlyMoney(tuple(map(float, fixed)), spent, premiums, net_prices)
+
+
+def net_price(metal: Metal, royalty: Decimal) -> Decimal:
+    """Returns what a unit of a metal's quantity earns at the base price, less royalty and selling cost."""
+    return metal.by_quantity(metal.price) * (1 - royalty) - metal.by_quantity(metal.selling_cost)
 
 
 def notes(project: Project) -> list[str]:

@@ -16,6 +16,7 @@ from matplotlib.ticker import MaxNLocator
 
 from pitplan.blockmodel.grid import metres
 from pitplan.config.economics import Metal
+from pitplan.config.places import MILL, PIT, WASTE as AS_WASTE
 from pitplan.core.magnitude import scaled
 from pitplan.figures.style import (
     BEST,
@@ -31,8 +32,7 @@ from pitplan.figures.style import (
     finish,
     list_of,
 )
-from pitplan.scheduling.flow import tables
-from pitplan.scheduling.flow.parcels import MILL
+from pitplan.scheduling.flow.tables import feed_table
 from pitplan.scheduling.methods import LP, MILP, NAMES, RULE
 from pitplan.scheduling.pushback_schedule import YearlySchedule
 
@@ -60,7 +60,9 @@ LINES = {
     "best": MARKED | {"marker": BEST_MARK, "markersize": 4},
     "relaxed": {"linestyle": "--", "linewidth": 1.2},
 }
-GRADE, STOCKED = "#a23b8f", "#8fb3d9"
+GRADE = "#a23b8f"
+# Of several stockpiles, in their order.
+STOCKED = ("#8fb3d9", "#d9b98f", "#9fc79d", "#b9a3cf")
 # Of several processes, in their order.
 PROCESSES = ("#1f5f9e", "#c8792b", "#4c8c4a", "#7b4fa3", "#b23a48")
 # The least opacity, for the smallest part of a bench.
@@ -166,7 +168,7 @@ def plot_tonnes(schedule: YearlySchedule, axes: Any) -> list[Axes]:
     -------
     list of Axes
     """
-    found, feed = list_of(axes, len(schedule.shares)), tables.feed_table(schedule)
+    found, feed = list_of(axes, len(schedule.shares)), feed_table(schedule)
     metal = schedule.pushbacks.plan.project.metals[0]
     size, sign = scaled(float(tonnes_of(schedule).groupby(["method", "year"]).sum().max() if len(feed) else 1.0))
     rights = [ax.twinx() for ax in found]
@@ -219,16 +221,16 @@ def draw_grades(ax: Axes, feed: pd.DataFrame, metal: Metal) -> None:
 def layers_of(schedule: YearlySchedule) -> list[tuple[str, str, str, dict[str, Any]]]:
     """Returns the layers of a year's bar from below: source, destination, label and look."""
     found: list[tuple[str, str, str, dict[str, Any]]] = []
-    names = [name or MILL for name in schedule.names]
+    names, stockpiles = [name or MILL for name in schedule.names], schedule.model.stockpiles
     for number, name in enumerate(names):
         colour = ORE if len(names) == 1 else PROCESSES[number % len(PROCESSES)]
-        found.append((tables.PIT, name, name, {"color": colour}))
-        if schedule.is_stocked:
-            look = {"color": colour, "alpha": 0.55, "hatch": "///", "edgecolor": "white"}
-            found.append((tables.STOCKPILE, name, f"{name}, reclaimed", look))
-    if schedule.is_stocked:
-        found.append((tables.PIT, tables.STOCKPILE, "to the stockpile", {"color": STOCKED}))
-    return [*found, (tables.PIT, tables.WASTE, "waste", {"color": WASTE})]
+        found.append((PIT, name, name, {"color": colour}))
+        look = {"color": colour, "alpha": 0.55, "hatch": "///", "edgecolor": "white"}
+        found += [(it.name, name, f"{name}, reclaimed", look) for it in stockpiles]
+    for number, it in enumerate(stockpiles):
+        label = "to the stockpile" if len(stockpiles) == 1 else f"to {it.name}"
+        found.append((PIT, it.name, label, {"color": STOCKED[number % len(STOCKED)]}))
+    return [*found, (PIT, AS_WASTE, "waste", {"color": WASTE})]
 
 
 def draw_flows(ax: Axes, schedule: YearlySchedule, way: str, size: float) -> None:

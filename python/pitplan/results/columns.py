@@ -186,16 +186,17 @@ MATERIAL_FLOWS = Table(
     "of a schedule of pushbacks: a row per method, year, lot of a bench, source and destination",
     (
         *(METHOD, YEAR, PUSHBACK, BENCH, BIN),
-        Column("source", TEXT, "`pit` or `stockpile`", "source"),
+        Column("source", TEXT, "`pit` or a stockpile", "source"),
         Column(
-            "destination", TEXT, "a process (`mill` if the project names none), `stockpile` or `waste`", "destination"
+            "destination", TEXT, "a process (`mill` if the project names none), a stockpile or `waste`", "destination"
         ),
         replace(MINED, holds="in-situ tonnes that flow"),
-        replace(FEED, holds="mill feed, if a process takes them"),
+        replace(FEED, holds="mill feed, if a process or a stockpile takes them"),
         CONTAINED,
         RECOVERED,
         replace(
-            FLOWS[0], holds="revenue less the costs of processing, selling and reclaiming, at the prices of the year"
+            FLOWS[0],
+            holds="revenue less the costs of processing, selling, stacking and reclaiming, at the prices of the year",
         ),
     ),
 )
@@ -206,7 +207,7 @@ FEEDS = Table(
         *(METHOD, YEAR),
         Column("process", TEXT, "`mill` if the project names none", "process"),
         FEED,
-        Column("reclaimed_tonnes", TONNES, "of these from the stockpile", "from stockpile"),
+        Column("reclaimed_tonnes", TONNES, "of these from stockpiles", "from stockpile"),
         *(HEAD_GRADE, CONTAINED, RECOVERED),
         Column(
             "cutoff",
@@ -218,13 +219,16 @@ FEEDS = Table(
 )
 STOCKPILES = Table(
     "stockpiles.csv",
-    "with `[schedule.stockpile]`: a row per method and year, in-situ tonnes",
+    "with `[[schedule.stockpiles]]`: a row per method, stockpile and year, in tonnes of feed",
     (
-        *(METHOD, YEAR),
-        Column("opening_tonnes", TONNES, "in the stockpile at the start of the year", "opening"),
-        Column("in_tonnes", TONNES, "stockpiled in the year", "in"),
+        METHOD,
+        Column("stockpile", TEXT, "its name", "stockpile"),
+        YEAR,
+        Column("opening_tonnes", TONNES, "at the start of the year", "opening"),
+        Column("in_tonnes", TONNES, "placed in the year", "in"),
         Column("out_tonnes", TONNES, "reclaimed in the year", "out"),
         Column("closing_tonnes", TONNES, "at the end of the year", "closing"),
+        Column("grade_METAL", GRADE, "mean of what lies there at the end of the year; empty if nothing does", "METAL"),
     ),
 )
 LIMITED = Unit("that of the amount", 6, 2)

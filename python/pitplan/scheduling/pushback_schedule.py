@@ -12,6 +12,7 @@ import numpy as np
 import pandas as pd
 import scipy
 
+from pitplan.config.places import MILL
 from pitplan.config.project import Project
 from pitplan.config.schedule import ScheduleRules
 from pitplan.config.shells import ShellRules
@@ -107,7 +108,7 @@ class YearlySchedule:
     @property
     def is_stocked(self) -> bool:
         """Whether there is a stockpile."""
-        return self.model.reclaim_cost is not None
+        return bool(self.model.stockpiles)
 
     @cached_property
     def material_flows(self) -> pd.DataFrame:
@@ -170,7 +171,7 @@ def make(pushbacks: Pushbacks, progress: Progress = silent) -> YearlySchedule:
     material = parcels.of_pushbacks(pushbacks, rules)
     limits = parcels.with_grades(all_limits_of(project, rules), material.blocks)
     problem = Problem(material.benches, limits, project.shells, period_costs.of_project(project))
-    model, count = FlowModel(problem, material.parcels, rules.years or 1, rules.reclaim_cost), len(material.benches)
+    model, count = FlowModel(problem, material.parcels, rules.years or 1, rules.stockpiles), len(material.benches)
     schedule = YearlySchedule(pushbacks, material, model, {}, 0)
     with progress.step(f"scheduling {count:,} benches of {len(pushbacks.factors)} pushbacks by rule"):
         flows, lead = scheduler.by_rule(model, pace_of(schedule), rules.years)
@@ -350,8 +351,8 @@ def record(schedule: YearlySchedule) -> dict[str, Any]:
         **({"least": limits.least} if limits.least else {}),
         "ramp_up": list(limits.ramp_up),
         "vertical_advance_rate": None if math.isinf(limits.vertical_advance_rate) else limits.vertical_advance_rate,
-        "bins": {name or parcels.MILL: edges.tolist() for name, edges in schedule.material.edges.items()},
-        "reclaim_cost": schedule.model.reclaim_cost,
+        "bins": {name or MILL: edges.tolist() for name, edges in schedule.material.edges.items()},
+        "stockpiles": [it.name for it in schedule.model.stockpiles],
         "interrupted": schedule.interrupted,
         "solver": f"HiGHS of scipy {scipy.__version__}",
     }
@@ -360,7 +361,7 @@ def record(schedule: YearlySchedule) -> dict[str, Any]:
 def record_of(schedule: YearlySchedule, method: str) -> dict[str, Any]:
     """Returns the record of a method; cutoffs, by process, in net value per tonne of feed by year."""
     found = cutoffs(schedule.flows[method], schedule.names)
-    by_process = {name or parcels.MILL: values.round(6).tolist() for name, values in (found or {}).items()}
+    by_process = {name or MILL: values.round(6).tolist() for name, values in (found or {}).items()}
     return {
         "npv": round(schedule.value(method), 3),
         "years": schedule.flows[method].years,
@@ -387,9 +388,7 @@ def notes(schedule: YearlySchedule) -> list[str]:
         found.append(f"upper bound of milp on schedules by these value bins: {schedule.milp_upper_bound:,.0f}")
     for name, values in (cutoffs(schedule.flows[schedule.shown], schedule.names) or {}).items():
         told = ", ".join(f"{worth:.2f}" for worth in values)
-        found.append(
-            f"{schedule.shown}: cut-off of {name or parcels.MILL} by year (net value per tonne of feed): {told}"
-        )
+        found.append(f"{schedule.shown}: cut-off of {name or MILL} by year (net value per tonne of feed): {told}")
     for method in schedule.flows:
         rock = schedule.left(method)
         if not schedule.shares[method].any():

@@ -1,16 +1,16 @@
-"""The blocks that a process accepts, by their codes and in-situ grades."""
+"""The blocks that a process or a stockpile accepts, by their codes and in-situ grades."""
 
 from __future__ import annotations
 
 import numpy as np
 import pandas as pd
 
-from planaudit.inputs.project import Project
+from planaudit.inputs.project import Accepts, Project
 
 
-def refused(rows: pd.DataFrame, project: Project) -> np.ndarray:
-    """Returns whether the only process of a project does not accept each row."""
-    rules, table = project.accepts, project.table
+def refused(rows: pd.DataFrame, project: Project, rules: Accepts) -> np.ndarray:
+    """Returns whether rules do not accept each row."""
+    table = project.table
     found = np.zeros(len(rows), dtype=bool)
     named = (
         (rules.rock_type, table.rock_type),

@@ -155,7 +155,7 @@ class FeedGrade:
 
 @dataclass(frozen=True)
 class GradeRange:
-    """In-situ grades that a process accepts, both limits included."""
+    """In-situ grades that a process or a stockpile accepts, both limits included."""
 
     column: str
     min: Optional[float]
@@ -164,7 +164,7 @@ class GradeRange:
 
 @dataclass(frozen=True)
 class Accepts:
-    """`[processes.accepts]`: codes, any if there are none, and grades."""
+    """`accepts` of a process or a stockpile: codes, any if there are none, and grades."""
 
     rock_type: tuple[str, ...] = ()
     domain: tuple[str, ...] = ()
@@ -181,6 +181,18 @@ class Process:
     recovery: dict[str, Union[Recovery, dict[str, Recovery]]]
     capacity: float
     feed: tuple[FeedGrade, ...] = ()
+    accepts: Accepts = Accepts()
+
+
+@dataclass(frozen=True)
+class Stockpile:
+    """`[schedule.stockpile]`, or an entry of `[[schedule.stockpiles]]`."""
+
+    reclaim_cost: float
+    stacking_cost: float = 0.0
+    name: str = "stockpile"
+    capacity: Optional[float] = None
+    recovery: dict[str, float] = field(default_factory=dict)
     accepts: Accepts = Accepts()
 
 
@@ -329,7 +341,7 @@ class ScheduleRules:
     minimum: dict[str, float] = field(default_factory=dict)
     limits: tuple[Sum, ...] = ()
     feed: tuple[FeedGrade, ...] = ()
-    reclaim_cost: Optional[float] = None
+    stockpiles: tuple[Stockpile, ...] = ()
 
 
 @dataclass(frozen=True)

@@ -43,6 +43,7 @@ from planaudit.inputs.project import (
     ShellRules,
     Slopes,
     SpecifiedCase,
+    Stockpile,
     Sum,
     SurveyFile,
     TableColumns,
@@ -360,7 +361,18 @@ def schedule_of(data: Data) -> ScheduleRules:
         minimum=floats(data.get("minimum", {})),
         limits=tuple(sum_of(it) for it in data.get("limits", ())),
         feed=feed_of(data.get("feed", {}), ""),
-        reclaim_cost=float(number(data["stockpile"]["reclaim_cost"])) if "stockpile" in data else None,
+        stockpiles=tuple(map(stockpile_of, [data["stockpile"]] if "stockpile" in data else data.get("stockpiles", ()))),
+    )
+
+
+def stockpile_of(data: Data) -> Stockpile:
+    return Stockpile(
+        reclaim_cost=float(number(data["reclaim_cost"])),
+        stacking_cost=float(number(data.get("stacking_cost", 0))),
+        name=data.get("name", "stockpile"),
+        capacity=metres(data, "capacity"),
+        recovery=floats(data.get("recovery", {})),
+        accepts=accepts_of(data.get("accepts", {})),
     )
 
 

@@ -210,7 +210,9 @@ class Exactly:
         ]
         codes = list(zip(*named))
         costs = {code: Costs.of(project, *code) for code in set(codes)}
-        is_waste = classes.treated_as("waste", answer.rows, project) | acceptance.refused(answer.rows, project)
+        is_waste = classes.treated_as("waste", answer.rows, project) | acceptance.refused(
+            answer.rows, project, project.accepts
+        )
         grades = [np.where(is_waste, 0.0, answer.rows[metal.column]).tolist() for metal in project.metals]
         depths = [more_for_depth(answer, z) for z in answer.elevations]
         rules = project.haulage

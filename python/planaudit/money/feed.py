@@ -37,7 +37,7 @@ def recovered(metal: Metal, rows: pd.DataFrame, project: Project) -> np.ndarray:
     """Returns the recovered grade of each row per undiluted tonne that reaches the mill, in the unit of the column; 0 of a row that is waste by its
     resource class, or that the process does not accept."""
     grades, table = rows[metal.column].to_numpy(), project.table
-    grades = np.where(treated_as("waste", rows, project) | refused(rows, project), 0.0, grades)
+    grades = np.where(treated_as("waste", rows, project) | refused(rows, project, project.accepts), 0.0, grades)
     tonnes_of = 1 + by_code(project.economics.dilution, rows, table)
     codes = [
         rows[name].astype(str).to_numpy() if name else np.full(len(rows), "")

@@ -14,7 +14,7 @@ from planaudit.inputs.tables import read_table
 from planaudit.schedules.discounts import discount
 from planaudit.schedules.lots import BlockAmounts, grade_name
 
-FILE, ADVANCE = "limits.csv", "vertical_advance_"
+FILE, ADVANCE, STOCK = "limits.csv", "vertical_advance_", "stockpile_"
 # The last decimals of used amounts and limits, of utilisation, and of shadow prices.
 AMOUNT, SHARE, PRICE = 0.6e-3, 1e-6, 1e-5
 Limits = dict[str, tuple[np.ndarray, np.ndarray]]
@@ -63,13 +63,20 @@ class LimitTable:
         numbers = np.unique(self.answer.said["pushback"].to_numpy())
         sinking = [f"{ADVANCE}{it}" for it in numbers if it > 0] if rules and rules.vertical_advance_rate else []
         finite = [name for name, (_, most) in self.limits.items() if np.isfinite(most).any() or name in self.minimums]
-        due = {(name, year) for name in [*finite, *sinking] for year in range(1, last + 1)}
+        held = [f"{STOCK}{name}" for name in self.capacities]
+        due = {(name, year) for name in [*finite, *sinking, *held] for year in range(1, last + 1)}
         there = list(zip(rows["limit"], rows["year"]))
         if set(there) != due or len(there) != len(due):
             yield f"{FILE}: {method}: {len(there)} rows for {len(due)} limits by year, or others"
             return
         for name in dict.fromkeys(rows["limit"]):
             yield from self.unlike_limit(method, rows[rows["limit"] == name].set_index("year"), str(name), used)
+
+    @property
+    def capacities(self) -> dict[str, float]:
+        """The capacity of each stockpile that has one, by name."""
+        rules = self.answer.project.schedule
+        return {it.name: it.capacity for it in (rules.stockpiles if rules else ()) if it.capacity is not None}
 
     @property
     def minimums(self) -> list[str]:
@@ -110,6 +117,8 @@ class LimitTable:
         if name.startswith(ADVANCE):
             assert self.answer.project.schedule is not None
             return np.nan, float(self.answer.project.schedule.vertical_advance_rate or np.nan)
+        if name.startswith(STOCK):
+            return np.nan, self.capacities[name.removeprefix(STOCK)]
         least, most = (float(values[year - 1]) for values in self.limits[name])
         return least if name in self.minimums else np.nan, most if np.isfinite(most) else np.nan
 

@@ -8,10 +8,12 @@ from functools import cached_property
 import numpy as np
 import pandas as pd
 
+from planaudit.inputs.acceptance import refused
 from planaudit.inputs.answer import Answer
 from planaudit.inputs.matching import BIN, PUSHBACK, own_name
-from planaudit.inputs.project import GRADE_UNITS
+from planaudit.inputs.project import GRADE_UNITS, Stockpile
 from planaudit.money.feed import recovered
+from planaudit.money.prices import converted
 
 MILL = "mill"
 
@@ -56,6 +58,27 @@ class BlockAmounts:
         return np.stack(
             [self.answer.said[revenue].to_numpy()[self.inside] > 0 for revenue, _ in self.answer.amounts_of_ways]
         )
+
+    @property
+    def stockpiles(self) -> tuple[Stockpile, ...]:
+        rules = self.answer.project.schedule
+        return rules.stockpiles if rules else ()
+
+    @cached_property
+    def refused(self) -> dict[str, np.ndarray]:
+        """Whether a stockpile, by name, does not accept each block."""
+        answer = self.answer
+        return {it.name: refused(answer.rows, answer.project, it.accepts)[self.inside] for it in self.stockpiles}
+
+    @cached_property
+    def net_prices(self) -> dict[str, float]:
+        """What a tonne or gram of each metal earns at the base price, less royalty and selling cost."""
+        project = self.answer.project
+        kept = 1 - project.economics.royalty
+        return {
+            metal.name: float(converted(metal, metal.price) * kept - converted(metal, metal.selling_cost))
+            for metal in project.metals
+        }
 
     @cached_property
     def gain(self) -> np.ndarray:
@@ -136,7 +159,7 @@ class BlockAmounts:
     @cached_property
     def lots(self) -> pd.DataFrame:
         """The sums of each lot, by its key: total_tonnes, mining cash, feed, contained metal, and by process recovered metal, gain, whether all
-        of its blocks have a revenue there, and limited amounts."""
+        of its blocks have a revenue there, and limited amounts; and how many blocks each stockpile refuses."""
         columns = {"total_tonnes": self.tonnes, "mining_cash": self.mining_cash, "feed_tonnes": self.feed}
         columns |= {f"contained_{name}": amounts for name, amounts in self.contained.items()}
         for process in range(len(self.processes)):
@@ -144,6 +167,7 @@ class BlockAmounts:
             columns |= {f"gain {process}": self.gain[process], f"not taken {process}": 1.0 - self.takes[process]}
             columns |= {f"{name} {process}": self.of_process(name, process) for name in self.limited}
         columns |= {name: self.of_mining(name) for name in self.limited}
+        columns |= {f"refused {name}": mask.astype(float) for name, mask in self.refused.items()}
         keys = list(self.keys)
         return pd.concat([self.keys, pd.DataFrame(columns)], axis=1).groupby(keys).sum()
 

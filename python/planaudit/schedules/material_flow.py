@@ -1,8 +1,8 @@
-"""Verifies flows.csv, feed.csv and stockpiles.csv of a schedule of pushbacks from the blocks: each tonne that is mined goes somewhere once."""
+"""Verifies flows.csv and feed.csv of a schedule of pushbacks from the blocks: each tonne that is mined goes somewhere once."""
 
 from __future__ import annotations
 
-from collections.abc import Iterator
+from collections.abc import Callable, Iterator
 from dataclasses import dataclass
 from functools import cached_property
 from typing import Any
@@ -11,13 +11,14 @@ import numpy as np
 import pandas as pd
 
 from planaudit.inputs.answer import Answer
-from planaudit.inputs.project import GRADE_UNITS
+from planaudit.inputs.project import GRADE_UNITS, Stockpile
 from planaudit.inputs.tables import read_table
 from planaudit.money.period_costs import premiums
 from planaudit.rules import TOLD, Rule, rule
+from planaudit.schedules import stockpiles
 from planaudit.schedules.lots import MILL, BlockAmounts
 
-PIT, STOCKPILE, WASTE = "pit", "stockpile", "waste"
+PIT, WASTE = "pit", "waste"
 # The last decimal place of amounts, and the tolerance of the solver for shares.
 AMOUNT, SHARE = 0.6e-3, 1e-6
 # Tolerance of the elevation of a bench, as a share of its height, and of sums.
@@ -54,11 +55,15 @@ class MaterialFlow:
         """The share of its lot that flows in each row."""
         return (self.rows["total_tonnes"] / self.whole["total_tonnes"]).to_numpy()
 
+    @property
+    def names(self) -> dict[str, int]:
+        """The numbers of the processes by their names in flows.csv."""
+        return {name or MILL: number for number, name in enumerate(self.blocks.processes)}
+
     @cached_property
     def process(self) -> np.ndarray:
         """The number of the process that takes each row; -1: none."""
-        names = {name or MILL: number for number, name in enumerate(self.blocks.processes)}
-        return self.rows["destination"].map(names).fillna(-1).to_numpy(dtype=int)
+        return self.rows["destination"].map(self.names).fillna(-1).to_numpy(dtype=int)
 
     def by_process(self, name: str) -> np.ndarray:
         """Returns the whole lot's amount in the process of each row; 0 without one."""
@@ -69,37 +74,75 @@ class MaterialFlow:
         return found
 
     @cached_property
+    def stockpile_of(self) -> np.ndarray:
+        """The number of the stockpile that each row goes to or comes from; -1: none."""
+        names = {it.name: number for number, it in enumerate(self.blocks.stockpiles)}
+        side = self.rows["source"].where(self.process >= 0, self.rows["destination"])
+        return side.map(names).fillna(-1).to_numpy(dtype=int)
+
+    def of_stockpile(self, value: Callable[[Stockpile], float], otherwise: float) -> np.ndarray:
+        """Returns by row a value of its stockpile; `otherwise` without one."""
+        values = np.array([*map(value, self.blocks.stockpiles), otherwise], dtype=float)
+        return np.asarray(values[self.stockpile_of])
+
+    def recovery(self, metal: str) -> np.ndarray:
+        """The share of a metal's recovery that each row keeps."""
+        kept = self.of_stockpile(lambda it: it.recovery.get(metal, 1.0), 1.0)
+        return np.where(self.process >= 0, kept, 1.0)
+
+    def recovered(self, metal: str) -> np.ndarray:
+        """What the process of each row recovers of its whole lot."""
+        return self.by_process(f"recovered_{metal}") * self.recovery(metal)
+
+    @cached_property
     def expected(self) -> dict[str, tuple[np.ndarray, np.ndarray]]:
         """By column what each row should have, and its tolerance."""
         fed = np.where(self.process >= 0, self.share, 0.0)
+        moved = np.where((self.rows["destination"] == WASTE).to_numpy(), 0.0, self.share)
         # The share that a rounded tonnage leaves open.
         open_to = AMOUNT / self.whole["total_tonnes"].to_numpy()
         found = {}
         for name in ("feed_tonnes", *(f"contained_{metal.name}" for metal in self.answer.project.metals)):
             whole = self.whole[name].to_numpy()
-            found[name] = whole * fed, AMOUNT + np.abs(whole) * open_to
+            found[name] = whole * moved, AMOUNT + np.abs(whole) * open_to
         for metal in self.answer.project.metals:
-            whole = self.by_process(f"recovered_{metal.name}")
+            whole = self.recovered(metal.name)
             found[f"recovered_{metal.name}"] = whole * fed, AMOUNT + np.abs(whole) * open_to
-        found["cash_flow"] = self.cash(fed, open_to)
+        cash, handled = self.cash
+        slack = AMOUNT + (np.abs(cash) + handled) * open_to
+        found["cash_flow"] = (cash - handled) * self.share, slack
         return found
 
-    def cash(self, fed: np.ndarray, open_to: np.ndarray) -> tuple[np.ndarray, np.ndarray]:
+    @cached_property
+    def cash(self) -> tuple[np.ndarray, np.ndarray]:
+        """What the whole lot of each row earns in its process, at the prices of the year, and what stacking or reclaiming it costs."""
         gain = self.by_process("gain")
+        for metal in self.answer.project.metals:
+            lost = self.by_process(f"recovered_{metal.name}") * (1 - self.recovery(metal.name))
+            gain -= lost * self.blocks.net_prices[metal.name]
         for year in self.rows["year"].unique():
             mine = (self.rows["year"] == year).to_numpy()
             for name, premium in premiums(self.answer.project, int(year)).items():
-                gain[mine] += premium * self.by_process(name)[mine]
-        rules = self.answer.project.schedule
-        cost = np.where(self.rows["source"] == STOCKPILE, (rules and rules.reclaim_cost) or 0.0, 0.0)
-        handled = cost * self.whole["feed_tonnes"].to_numpy()
-        return (gain - handled) * fed, AMOUNT + (np.abs(gain) + handled) * open_to
+                gain[mine] += premium * self.recovered(name.removeprefix("recovered_"))[mine]
+        placed = self.of_stockpile(lambda it: it.stacking_cost, 0.0)
+        cost = np.where(self.process >= 0, self.of_stockpile(lambda it: it.reclaim_cost, 0.0), placed)
+        return gain, cost * self.whole["feed_tonnes"].to_numpy()
+
+    def lying(self, name: str, method: str, last: int) -> tuple[pd.Series, pd.Series]:
+        """Returns the tonnes of feed on a stockpile at the end of each year of a method, and their tolerance."""
+        mine, years = self.rows[self.rows["method"] == method], range(1, last + 1)
+        moves = [mine[mine[side] == name] for side in ("destination", "source")]
+        placed, out = (rows.groupby("year")["feed_tonnes"].sum().reindex(years, fill_value=0.0) for rows in moves)
+        slack = AMOUNT * sum(map(len, moves))
+        return (placed - out).cumsum(), pd.Series(slack, index=years)
 
     def used(self, name: str, method: str, dug: pd.Series) -> tuple[pd.Series, pd.Series]:
         """Returns a limited amount of a method by year, and its tolerance; `dug` are the shares of benches by year, pushback and level."""
         mine = (self.rows["method"] == method).to_numpy()
-        fed = self.by_process(name) * self.share
-        loose = np.abs(self.by_process(name)) * AMOUNT / self.whole["total_tonnes"].to_numpy()
+        of_lot = self.by_process(name)
+        if name.startswith("recovered_"):
+            of_lot = self.recovered(name.removeprefix("recovered_"))
+        fed, loose = of_lot * self.share, np.abs(of_lot) * AMOUNT / self.whole["total_tonnes"].to_numpy()
         year = self.rows["year"][mine]
         found, slack = (pd.Series(values[mine]).groupby(year.to_numpy()).sum() for values in (fed, loose))
         mined = self.blocks.lots[name].groupby(level=["pushback", "level"]).sum()
@@ -128,9 +171,8 @@ def read(answer: Answer) -> tuple[MaterialFlow, list[str]]:
     rows["level"] = np.rint(steps).astype(int)
     processes = {name or MILL for name in blocks.processes}
     legs = {(PIT, WASTE), *((PIT, name) for name in processes)}
-    rules = answer.project.schedule
-    if rules is not None and rules.reclaim_cost is not None:
-        legs |= {(PIT, STOCKPILE), *((STOCKPILE, name) for name in processes)}
+    for it in blocks.stockpiles:
+        legs |= {(PIT, it.name), *((it.name, name) for name in processes)}
     known = pd.MultiIndex.from_frame(rows[list(blocks.keys)]).isin(blocks.lots.index)
     leg = pd.Series(list(zip(rows["source"], rows["destination"]))).isin(legs).to_numpy()
     wrong = ((steps - rows["level"]).abs() > SLIGHT).to_numpy() | ~known | ~leg | (rows["year"] < 1).to_numpy()
@@ -144,7 +186,7 @@ def called(row: Any) -> str:
 
 
 def verify(flow: MaterialFlow, schedule: pd.DataFrame, misplaced: list[str]) -> Rule:
-    """Verifies the amounts of all rows, the conservation of each lot, the stockpile, and feed.csv and stockpiles.csv.
+    """Verifies the amounts of all rows, the conservation of each lot, stockpiles, and feed.csv and stockpiles.csv.
 
     Parameters
     ----------
@@ -155,8 +197,8 @@ def verify(flow: MaterialFlow, schedule: pd.DataFrame, misplaced: list[str]) -> 
         Differences found in reading.
     """
     found = [*misplaced, *unlike_amounts(flow), *untaken(flow), *unlike_mined(flow, schedule)]
-    found += [*unlike_stock(flow), *unlike_feed(flow), *unlike_stockpiles(flow)]
-    holds = "each tonne that is mined goes to a process, to the stockpile or to waste once, with the metal and cash flow of its blocks"
+    found += [*stockpiles.differences(flow), *unlike_feed(flow)]
+    holds = "each tonne that is mined goes to a process, to a stockpile or to waste once, with the metal and cash flow of its blocks"
     return rule("material flow", holds, found[:TOLD], len(found))
 
 
@@ -187,24 +229,6 @@ def unlike_mined(flow: MaterialFlow, schedule: pd.DataFrame) -> Iterator[str]:
         yield f"flows.csv: {', '.join(map(str, at))}: {row['sum']:.10g} t leave the pit for {row['due']:.10g} mined"
 
 
-def unlike_stock(flow: MaterialFlow) -> Iterator[str]:
-    """Yields lots from which more is reclaimed by the end of a year than was stockpiled before it."""
-    keys = ["method", *flow.keys]
-    years = range(1, int(flow.rows["year"].max()) + 1) if len(flow.rows) else range(0)
-    tables = []
-    for side in ("destination", "source"):
-        rows = flow.rows[flow.rows[side] == STOCKPILE]
-        sums = rows.groupby([*keys, "year"])["total_tonnes"].sum().unstack("year", fill_value=0.0)
-        tables.append(sums.reindex(columns=years, fill_value=0.0).cumsum(axis=1))
-    stocked, out = tables
-    before = stocked.shift(1, axis=1, fill_value=0.0).reindex(out.index, fill_value=0.0)
-    whole = flow.blocks.lots["total_tonnes"].reindex(out.index.droplevel("method")).to_numpy()
-    slack = pd.Series(SHARE * whole + 3 * AMOUNT * len(years), index=out.index)
-    wrong = out.sub(before).gt(slack, axis=0).any(axis=1)
-    for at in out.index[wrong]:
-        yield f"flows.csv: {', '.join(map(str, at))}: more is reclaimed than was stockpiled before"
-
-
 def unlike_feed(flow: MaterialFlow) -> Iterator[str]:
     """Yields rows of feed.csv that are not the sums of their flows."""
     said = read_table(flow.answer.folder / "tables/feed.csv", ["method", "process"])
@@ -212,7 +236,7 @@ def unlike_feed(flow: MaterialFlow) -> Iterator[str]:
     rows = flow.rows[flow.process >= 0].rename(columns={"destination": "process"})
     names = ["feed_tonnes", *(f"{kind}_{metal.name}" for kind in ("contained", "recovered") for metal in metals)]
     sums, count = rows.groupby(keys)[names].sum(), rows.groupby(keys).size()
-    sums["reclaimed_tonnes"] = rows[rows["source"] == STOCKPILE].groupby(keys)["feed_tonnes"].sum()
+    sums["reclaimed_tonnes"] = rows[rows["source"] != PIT].groupby(keys)["feed_tonnes"].sum()
     at = pd.MultiIndex.from_frame(said[keys])
     missing = [key for key in sums.index if key not in at]
     yield from (f"feed.csv: {', '.join(map(str, key))}: is missing" for key in missing)
@@ -237,32 +261,3 @@ def unlike_feed(flow: MaterialFlow) -> Iterator[str]:
             f"feed.csv: {row.method}, year {row.year}, {row.process}: {name} {getattr(row, name):.10g} for {sums[name][row.Index]:.10g}"
             for row in said[off].itertuples()
         )
-
-
-def unlike_stockpiles(flow: MaterialFlow) -> Iterator[str]:
-    """Yields rows of stockpiles.csv that do not follow from the flows."""
-    rules = flow.answer.project.schedule
-    if rules is None or rules.reclaim_cost is None:
-        return
-    said = read_table(flow.answer.folder / "tables/stockpiles.csv", ["method"])
-    for method, rows in said.groupby("method"):
-        mine = flow.rows[flow.rows["method"] == method]
-        years = rows["year"].tolist()
-        if years != list(range(1, len(years) + 1)):
-            yield f"stockpiles.csv: {method}: years {years}"
-            continue
-        sides = {"in_tonnes": "destination", "out_tonnes": "source"}
-        flows = {
-            name: mine[mine[side] == STOCKPILE].groupby("year")["total_tonnes"].sum().reindex(years, fill_value=0.0)
-            for name, side in sides.items()
-        }
-        closing = (flows["in_tonnes"] - flows["out_tonnes"]).cumsum()
-        flows |= {"closing_tonnes": closing, "opening_tonnes": closing.shift(1, fill_value=0.0)}
-        for name, values in flows.items():
-            off = (rows[name].to_numpy() - values.to_numpy()).__abs__() > AMOUNT * (
-                len(mine) + 1
-            ) + 1e-9 * values.abs().to_numpy()
-            yield from (
-                f"stockpiles.csv: {method}, year {year}: {name} is not the sum of its flows"
-                for year in np.array(years)[off]
-            )

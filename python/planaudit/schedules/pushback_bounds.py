@@ -1,7 +1,7 @@
 """Recomputes the upper bound of a schedule of pushbacks from its Lagrange multipliers, tables/bound.csv.
 
 With a price on each limit in each year no schedule earns more than the prices times the limits, what the running years earn at these prices, and the
-greatest value of benches mined in order, where each block goes where it earns most less the prices of what it uses: to a process, to the
+greatest value of benches mined in order, where each block goes where it earns most less the prices of what it uses: to a process, to a
 stockpile until its best later year, or to waste. This holds for any prices.
 """
 
@@ -10,7 +10,7 @@ from __future__ import annotations
 from collections.abc import Iterator
 from dataclasses import dataclass
 from functools import cached_property
-from typing import Any
+from typing import Any, Optional
 
 import numpy as np
 import pandas as pd
@@ -18,6 +18,7 @@ from scipy.optimize import linprog
 from scipy.sparse import coo_matrix
 
 from planaudit.inputs.answer import Answer
+from planaudit.inputs.project import Stockpile
 from planaudit.inputs.tables import TABLES
 from planaudit.money.period_costs import capex, fixed_cost, premiums
 from planaudit.rules import Rule, rule
@@ -26,7 +27,7 @@ from planaudit.schedules.lots import BlockAmounts
 
 FILE = "bound.csv"
 MAX, MIN, RUNNING = "max", "min", "running"
-ADVANCE = "vertical_advance_"
+ADVANCE, STOCK = "vertical_advance_", "stockpile_"
 NAME = "upper bound"
 HOLDS = (
     "the upper bound follows from the multipliers of bound.csv: no schedule of these pushbacks within these limits and years has a higher NPV, "
@@ -87,6 +88,8 @@ class Bound:
         if rules and rules.vertical_advance_rate:
             rate = np.full(self.years, float(rules.vertical_advance_rate))
             found |= {(f"{ADVANCE}{number}", MAX): rate for number in np.unique(self.benches["pushback"])}
+        for it in self.blocks.stockpiles:
+            found |= {(f"{STOCK}{it.name}", MAX): np.full(self.years, it.capacity)} if it.capacity else {}
         return found
 
     @cached_property
@@ -125,30 +128,47 @@ class Bound:
         sign = -1.0 if side == MIN else 1.0
         return sign * amounts[:, None] * self.by_price[name, side]
 
-    def in_process(self, process: int, cost: float) -> np.ndarray:
-        """What each block earns in a process in each year, less prices and a cost per tonne of feed, shape (blocks, years)."""
-        blocks = self.blocks
+    def in_process(self, process: int, stockpile: Optional[Stockpile] = None) -> np.ndarray:
+        """What each block earns in a process in each year, directly or from a stockpile, less prices, shape (blocks, years)."""
+        blocks, kept = self.blocks, stockpile.recovery if stockpile else {}
+        shares = {f"recovered_{metal}": kept.get(metal, 1.0) for metal in blocks.net_prices}
+        base = blocks.gain[process] - (stockpile.reclaim_cost if stockpile else 0.0) * blocks.feed
+        for metal, share in kept.items():
+            base = base - (1 - share) * blocks.net_prices[metal] * blocks.of_process(f"recovered_{metal}", process)
         found = np.empty((len(blocks.inside), self.years))
         for year in range(self.years):
-            money = blocks.gain[process] - cost * blocks.feed * blocks.takes[process]
+            money = base
             for name, premium in premiums(self.answer.project, year + 1).items():
-                money = money + premium * blocks.of_process(name, process)
+                money = money + premium * shares[name] * blocks.of_process(name, process)
             found[:, year] = money * self.discounts[year]
         for name, side in self.by_price:
-            found -= self.charged(name, side, blocks.of_process(name, process))
+            found -= self.charged(name, side, shares.get(name, 1.0) * blocks.of_process(name, process))
         # A block without revenue in a process is never sent there.
         return np.where(blocks.takes[process][:, None], found, -np.inf)
+
+    def in_stockpile(self, stockpile: Stockpile) -> np.ndarray:
+        """What each block earns that is placed on a stockpile in each year, and reclaimed in its best later year or never."""
+        blocks = self.blocks
+        later = np.max([self.in_process(number, stockpile) for number in range(len(blocks.processes))], axis=0)
+        price = self.by_price.get((f"{STOCK}{stockpile.name}", MAX), np.zeros(self.years))
+        rent = blocks.feed[:, None] * np.cumsum(price)
+        found = np.empty_like(later)
+        for year in range(self.years):
+            # By the year of the reclaim, in which it pays no more; or it lies there to the end.
+            paid = np.append(rent[:, year:-1], rent[:, -1:], axis=1) - (rent[:, year - 1 : year] if year else 0.0)
+            earned = np.append(later[:, year + 1 :], np.zeros((len(rent), 1)), axis=1)
+            found[:, year] = (earned - paid).max(axis=1)
+        found -= stockpile.stacking_cost * blocks.feed[:, None] * self.discounts
+        return np.where(blocks.refused[stockpile.name][:, None], -np.inf, found)
 
     @cached_property
     def earned(self) -> np.ndarray:
         """What each block earns, mined in each year, shape (blocks, years)."""
-        blocks, rules = self.blocks, self.answer.project.schedule
-        count = len(blocks.processes)
-        best = np.maximum(np.max([self.in_process(number, 0.0) for number in range(count)], axis=0), 0.0)
-        if rules is not None and rules.reclaim_cost is not None:
-            later = np.max([self.in_process(number, rules.reclaim_cost) for number in range(count)], axis=0)
-            for year in range(self.years - 1):
-                best[:, year] = np.maximum(best[:, year], later[:, year + 1 :].max(axis=1))
+        blocks = self.blocks
+        best = np.max([self.in_process(number) for number in range(len(blocks.processes))], axis=0)
+        best = np.maximum(best, 0.0)
+        for stockpile in blocks.stockpiles:
+            best = np.maximum(best, self.in_stockpile(stockpile))
         best = best + blocks.mining_cash[:, None] * self.discounts
         for name, side in self.by_price:
             best -= self.charged(name, side, blocks.of_mining(name))

@@ -166,6 +166,8 @@ def verify_amounts(ways: list[Way], flow: MaterialFlow, sums: pd.DataFrame, misp
 def flows_of(way: Way, rows: pd.DataFrame, flow: MaterialFlow) -> tuple[pd.DataFrame, pd.DataFrame]:
     """Returns the sums of flows.csv for each row of schedule.csv, and their tolerances."""
     mine = flow.rows[flow.rows["method"] == way.name]
+    # What a stockpile takes is no mill feed yet.
+    mine = mine.assign(feed_tonnes=mine["feed_tonnes"].where(mine["destination"].isin(flow.names), 0.0))
     names = ["feed_tonnes", *(f"recovered_{metal.name}" for metal in way.answer.project.metals), "cash_flow"]
     keys = ["year", "pushback", "level"]
     at = pd.MultiIndex.from_frame(rows[keys])
@@ -276,6 +278,8 @@ def used_of(way: Way, flow: MaterialFlow, name: str) -> tuple[pd.Series, pd.Seri
     if name.startswith(limit_table.ADVANCE):
         mine = way.rows[way.rows["pushback"] == int(name.removeprefix(limit_table.ADVANCE))]
         return mine.groupby("year")["share"].sum(), nothing
+    if name.startswith(limit_table.STOCK):
+        return flow.lying(name.removeprefix(limit_table.STOCK), way.name, way.last)
     if name.startswith("feed "):
         mine = flow.rows[(flow.rows["method"] == way.name) & (flow.process == int(name.removeprefix("feed ")))]
         return mine.groupby("year")["feed_tonnes"].sum(), nothing

@@ -1,10 +1,14 @@
 """Random problems of material flow, and their optima by programmes that the tests state themselves."""
 
+from dataclasses import replace
+
 import numpy as np
 from helpers.benches import benches_of, problem_of
 from hypothesis import strategies as st
 from scipy.optimize import Bounds, LinearConstraint, linprog, milp
 
+from pitplan.config.stockpiles import Stockpile
+from pitplan.economics.period_costs import YearlyMoney
 from pitplan.scheduling.bench_sequencing import Limits
 from pitplan.scheduling.flow.model import FlowModel
 from pitplan.scheduling.flow.ore import Ore
@@ -19,6 +23,13 @@ mines = st.lists(st.tuples(st.integers(0, 1), st.lists(bench, min_size=1, max_si
 processes = st.lists(
     st.tuples(st.sampled_from([1.0, 0.6, 0.3]), st.sampled_from([25.0, 60.0, 1e5])), min_size=2, max_size=3
 )
+# Reclaim and stacking cost, capacity, and the share of metal that remains.
+stockpile = st.tuples(
+    st.sampled_from([0.0, 0.5]), st.sampled_from([0.0, 0.3]), st.sampled_from([None, 15.0]), st.sampled_from([1.0, 0.8])
+)
+stockpiles = st.lists(stockpile, max_size=2)
+# A tonne of feed holds so much copper, of which a unit earns so much.
+COPPER, NET_PRICE = 0.02, 50.0
 
 
 def mine_of(pits, lag):
@@ -31,12 +42,26 @@ def mine_of(pits, lag):
     return benches_of(*found, lag=lag), np.array(parcels, dtype=float).reshape(-1, 4)
 
 
-def model_of(mine, processes, limits, years, cost, favour=3):
+def stockpiles_of(given):
+    """The stockpiles of some rules, the second of which accepts second parcels alone; none without rules."""
+    return tuple(
+        Stockpile(reclaim, stacking, f"stock{number}", capacity, {"copper": share})
+        for number, (reclaim, stacking, capacity, share) in enumerate(given)
+    )
+
+
+def plain(cost):
+    """A stockpile that costs so much to reclaim from, and nothing else; none for None."""
+    return [] if cost is None else [(cost, 0.0, None, 1.0)]
+
+
+def model_of(mine, processes, limits, years, stockpiles=(), favour=3):
     """The problem of a mine; the capacity of all processes together is the feed of the limits. Each later process gains by `favour` more of
     second parcels."""
     benches, parcels = mine
     place, tonnes, gain = parcels[:, :2].astype(np.int64), parcels[:, 2], parcels[:, 3]
     amounts = {"feed_tonnes": np.tile(tonnes, (len(processes), 1))}
+    amounts["recovered_copper"] = COPPER * amounts["feed_tonnes"]
     most = dict(limits.most)
     for number, (_, capacity) in enumerate(processes):
         of_one = np.zeros((len(processes), len(tonnes)))
@@ -46,17 +71,19 @@ def model_of(mine, processes, limits, years, cost, favour=3):
     gains = np.stack(
         [gain * factor + favour * number * (place[:, 1] == 2) for number, (factor, _) in enumerate(processes)]
     )
-    ore = Ore(place[:, 0], place[:, 1], gains, amounts)
+    accepted = np.array([np.ones(len(place)), place[:, 1] == 2], dtype=bool)[: len(stockpiles)]
+    ore = Ore(place[:, 0], place[:, 1], gains, amounts, accepted)
     limits = Limits(most, limits.ramp_up, limits.vertical_advance_rate)
-    return FlowModel(problem_of(benches, limits), ore, years, cost)
+    problem = replace(problem_of(benches, limits), money=YearlyMoney(net_prices={"recovered_copper": NET_PRICE}))
+    return FlowModel(problem, ore, years, stockpiles_of(stockpiles))
 
 
 class Statement:
     """The programme by what is mined, fed, stocked and reclaimed in each year: gains, and rows of at most."""
 
     def __init__(self, model: FlowModel) -> None:
-        self.model, ore = model, model.ore
-        counts = [len(model.benches), ore.processes * len(ore), len(ore), ore.processes * len(ore)]
+        self.model, ore, piles = model, model.ore, len(model.stockpiles)
+        counts = [len(model.benches), ore.processes * len(ore), piles * len(ore), piles * ore.processes * len(ore)]
         self.starts = np.concatenate([[0], np.cumsum(counts)]) * model.years
         self.rows: list[np.ndarray] = []
         self.most: list[float] = []
@@ -69,11 +96,15 @@ class Statement:
     def dug(self, bench: int, year: int) -> int:
         return bench * self.model.years + year
 
-    def fed(self, process: int, unit: int, year: int, again: bool = False) -> int:
-        return int(self.starts[3 if again else 1]) + (process * len(self.model.ore) + unit) * self.model.years + year
+    def fed(self, process: int, unit: int, year: int) -> int:
+        return int(self.starts[1]) + (process * len(self.model.ore) + unit) * self.model.years + year
 
-    def stocked(self, unit: int, year: int) -> int:
-        return int(self.starts[2]) + unit * self.model.years + year
+    def again(self, pile: int, process: int, unit: int, year: int) -> int:
+        place = (pile * self.model.ore.processes + process) * len(self.model.ore) + unit
+        return int(self.starts[3]) + place * self.model.years + year
+
+    def stocked(self, pile: int, unit: int, year: int) -> int:
+        return int(self.starts[2]) + (pile * len(self.model.ore) + unit) * self.model.years + year
 
     def add(self, most: float, terms: dict[int, float]) -> None:
         row = np.zeros(self.size)
@@ -108,8 +139,11 @@ class Statement:
                 terms = {self.dug(b, year): model.dug(name)[b] for b in range(len(benches))}
                 for process in range(ore.processes):
                     for unit in range(len(ore)):
-                        for again in (False, True):
-                            terms[self.fed(process, unit, year, again)] = ore.of(name)[process, unit]
+                        amount = ore.of(name)[process, unit]
+                        terms[self.fed(process, unit, year)] = amount
+                        for pile, rules in enumerate(model.stockpiles):
+                            kept = rules.recovery["copper"] if name == "recovered_copper" else 1.0
+                            terms[self.again(pile, process, unit, year)] = kept * amount
                 self.add(most * (ramp[year] if name.startswith("feed") else 1.0), terms)
             if np.isfinite(limits.vertical_advance_rate):
                 for pushback in set(benches.pushback.tolist()):
@@ -117,10 +151,23 @@ class Statement:
                     self.add(limits.vertical_advance_rate, {self.dug(b, year): 1.0 for b in some})
             for unit, bench in enumerate(ore.bench.tolist()):
                 sent = {self.fed(process, unit, year): 1.0 for process in range(ore.processes)}
-                self.add(0.0, sent | {self.stocked(unit, year): 1.0, self.dug(bench, year): -1.0})
-                out = {self.fed(k, unit, t, True): 1.0 for k in range(ore.processes) for t in range(year + 1)}
-                self.add(0.0, out | {self.stocked(unit, t): -1.0 for t in range(year)})
+                sent |= {self.stocked(pile, unit, year): 1.0 for pile in range(len(model.stockpiles))}
+                self.add(0.0, sent | {self.dug(bench, year): -1.0})
+            for pile in range(len(model.stockpiles)):
+                self.state_stockpile(pile, year)
         self.state_order()
+
+    def state_stockpile(self, pile: int, year: int) -> None:
+        """No more is reclaimed than was placed before, and what lies there at the year's end is within the capacity."""
+        model, ore, lies = self.model, self.model.ore, {}
+        for unit in range(len(ore)):
+            out = {self.again(pile, k, unit, t): 1.0 for k in range(ore.processes) for t in range(year + 1)}
+            self.add(0.0, out | {self.stocked(pile, unit, t): -1.0 for t in range(year)})
+            placed = {self.stocked(pile, unit, t): 1.0 for t in range(year + 1)}
+            balance = placed | {place: -1.0 for place in out}
+            lies |= {place: sign * ore.feed[unit] for place, sign in balance.items()}
+        if model.stockpiles[pile].capacity is not None:
+            self.add(model.stockpiles[pile].capacity, lies)
 
     def state_order(self) -> None:
         model = self.model
@@ -149,18 +196,23 @@ class Statement:
             present = 1.1 ** -(year + 1)
             for bench, cash in enumerate(model.benches.of("cash_flow")):
                 found[self.dug(bench, year)] = cash * present
-            for process in range(ore.processes):
-                for unit in range(len(ore)):
-                    gain, cost = ore.gain[process, unit], (model.reclaim_cost or 0.0) * ore.feed[unit]
-                    found[self.fed(process, unit, year)] = gain * present
-                    found[self.fed(process, unit, year, True)] = (gain - cost) * present
+            for unit in range(len(ore)):
+                for process in range(ore.processes):
+                    found[self.fed(process, unit, year)] = ore.gain[process, unit] * present
+                for pile, rules in enumerate(model.stockpiles):
+                    found[self.stocked(pile, unit, year)] = -rules.stacking_cost * ore.feed[unit] * present
+                    lost = (1 - rules.recovery["copper"]) * NET_PRICE * COPPER * ore.feed[unit]
+                    for process in range(ore.processes):
+                        gain = ore.gain[process, unit] - rules.reclaim_cost * ore.feed[unit] - lost
+                        found[self.again(pile, process, unit, year)] = gain * present
         return found
 
     @property
     def upper(self) -> np.ndarray:
-        found = np.ones(self.size)
-        if self.model.reclaim_cost is None:
-            found[self.starts[2] :] = 0.0
+        model, found = self.model, np.ones(self.size)
+        for pile in range(len(model.stockpiles)):
+            for unit in np.flatnonzero(~model.ore.accepted[pile]):
+                found[[self.stocked(pile, unit, year) for year in range(model.years)]] = 0.0
         return found
 
 

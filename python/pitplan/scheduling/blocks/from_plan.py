@@ -8,6 +8,7 @@ import numpy as np
 from numpy.typing import NDArray
 
 import pitshell
+from pitplan.config.places import MILL, WASTE
 from pitplan.config.project import Project
 from pitplan.config.schedule import FEED, MOST_YEARS, TOTAL, ScheduleRules, Sum
 from pitplan.economics.period_costs import YearlyMoney, of_project
@@ -30,7 +31,6 @@ from .schedule import BlockSchedule
 
 # A schedule may take this part of the years more that its limits ask for.
 MORE_YEARS = 0.2
-WASTE, MILL = "waste", "mill"
 # Sums of floats may be above a limit by a hair.
 HAIR = 1e-9
 # By block and destination.

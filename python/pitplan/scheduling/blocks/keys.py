@@ -11,7 +11,7 @@ ADDED_COST = "[pushbacks] mining_cost_added"
 
 def demand_of_blocks(project: Project) -> None:
     """Raises PlanError, with the key, if the project asks for what a schedule by block does not have, and without which its value is another."""
-    if project.schedule is not None and project.schedule.reclaim_cost is not None:
+    if project.schedule is not None and project.schedule.stockpiles:
         why = "found one, expected none by block: ore goes to a process in the year in which it is mined"
         raise PlanError(f"{project.path}: [schedule] stockpile: {why}: remove it, or schedule pushbacks")
 

@@ -2,8 +2,8 @@
 
 With a price on each limit in each year no schedule earns more than the sum of the prices times the limits, and the greatest value of benches
 that are mined in order, a linear programme. There each block of a mined bench goes where it earns most, less the prices of what it uses: to a
-process, to the stockpile until its best later year, or to waste. A share of a bench is the same share of each of its blocks. A real stockpile, which blends, returns no block better than that. This holds
-for any prices; those of the linear programme of parcels give nearly the least bound.
+process, to a stockpile until its best later year, or to waste. A share of a bench is the same share of each of its blocks. A real stockpile,
+which blends, returns no block better than that. This holds for any prices; those of the linear programme of parcels give nearly the least bound.
 """
 
 from __future__ import annotations
@@ -17,7 +17,7 @@ from scipy.optimize import linprog
 
 from .model import FlowModel
 from .ore import Ore
-from .programme import ADVANCE, MIN, RUNNING, FlowProgramme, Prices
+from .programme import ADVANCE, MAX, MIN, RUNNING, STOCK, FlowProgramme, Prices
 from .rows import by_end, order_rows
 
 
@@ -48,15 +48,24 @@ class Lagrangian:
     def worths(self) -> NDArray[np.float64]:
         """What each unit of ore earns beyond waste, by the year in which it is mined, shape (units, years)."""
         model, ore = self.model, self.model.ore
-        present = model.gains * model.discounts
-        best = np.maximum(self.priced(ore.amounts, present).max(axis=0, initial=0.0), 0.0)
-        if model.reclaim_cost is None:
-            return np.asarray(best)
-        later = present - model.handling[None, :, None] * model.discounts
-        reclaimed = self.priced(ore.amounts, later).max(axis=0, initial=-np.inf)
-        after = np.maximum.accumulate(reclaimed[:, ::-1], axis=1)[:, ::-1]
-        best[:, :-1] = np.maximum(best[:, :-1], after[:, 1:])
+        best = np.maximum(self.priced(ore.amounts, model.gains * model.discounts).max(axis=0, initial=0.0), 0.0)
+        for number in range(len(model.stockpiles)):
+            some = np.flatnonzero(ore.accepted_by(number))
+            best[some] = np.maximum(best[some], self.waiting(number)[some])
         return np.asarray(best)
+
+    def waiting(self, number: int) -> NDArray[np.float64]:
+        """What each unit earns that goes to a stockpile in each year, until the best later year or to the end, shape (units, years)."""
+        model, ore = self.model, self.model.reclaims[number]
+        stockpile, nothing = model.stockpiles[number], np.zeros(model.years)
+        gains = ore.gains(model.problem.money, model.years) * model.discounts
+        later = self.priced(ore.amounts, gains).max(axis=0, initial=-np.inf)
+        # A tonne pays the price of the stockpile's capacity in each year at whose end it lies there.
+        lies = ore.feed[:, None] * self.prices.get((f"{STOCK}{stockpile.name}", MAX), nothing)
+        found = -lies
+        for year in range(model.years - 2, -1, -1):
+            found[:, year] += np.maximum(later[:, year + 1], found[:, year + 1])
+        return found - stockpile.stacking_cost * ore.feed[:, None] * model.discounts
 
     @cached_property
     def earned(self) -> NDArray[np.float64]:

@@ -29,10 +29,10 @@ class Flows:
         Shares of benches.
     direct : array, shape (processes, parcels, years)
         Shares of parcels that processes take in the year in which they are mined.
-    stocked : array, shape (parcels, years)
-        Shares that go to the stockpile.
-    reclaimed : array, shape (processes, parcels, years)
-        Shares that processes take from the stockpile.
+    stocked : array, shape (stockpiles, parcels, years)
+        Shares that go to stockpiles.
+    reclaimed : array, shape (stockpiles, processes, parcels, years)
+        Shares that processes take from stockpiles.
     prices : dict
         The price of each limit, if a linear programme chose the flows.
     """
@@ -47,12 +47,13 @@ class Flows:
     @property
     def fed(self) -> NDArray[np.float64]:
         """Shares of parcels by process and year."""
-        return self.direct + self.reclaimed
+        return np.asarray(self.direct + self.reclaimed.sum(axis=0))
 
     @property
     def waste(self) -> NDArray[np.float64]:
         """Shares of parcels that go to waste, shape (parcels, years)."""
-        return np.maximum(self.dug[self.model.ore.bench] - self.direct.sum(axis=0) - self.stocked, 0.0)
+        sent = self.direct.sum(axis=0) + self.stocked.sum(axis=0)
+        return np.maximum(self.dug[self.model.ore.bench] - sent, 0.0)
 
     @cached_property
     def of_benches(self) -> NDArray[np.float64]:
@@ -61,11 +62,23 @@ class Flows:
         flows = model.problem.priced(self.dug[:, :, None] * model.benches.amounts[:, None, :])
         for number, name in enumerate(model.benches.names):
             if name in ore.amounts:
-                np.add.at(flows[:, :, number], ore.bench, np.einsum("kp,kpt->pt", ore.amounts[name], self.fed))
-        handled = model.handling[:, None] * self.reclaimed.sum(axis=0)
-        gained = np.einsum("kpt,kpt->pt", model.gains[:, :, : self.years], self.fed) - handled
+                np.add.at(flows[:, :, number], ore.bench, self.processed(name).sum(axis=0))
+        gained = np.einsum("kpt,kpt->pt", model.gains[:, :, : self.years], self.direct)
+        gained += np.einsum("skpt,skpt->pt", model.reclaim_gains[..., : self.years], self.reclaimed)
+        gained -= np.einsum("sp,spt->pt", model.stacking, self.stocked)
         np.add.at(flows[:, :, model.benches.names.index(CASH)], ore.bench, gained)
         return flows
+
+    def processed(self, name: str) -> NDArray[np.float64]:
+        """Returns what processing adds to an amount, shape (processes, parcels, years)."""
+        model = self.model
+        again = np.einsum("skp,skpt->kpt", model.reclaimed_of(name), self.reclaimed)
+        return np.asarray(model.ore.of(name)[:, :, None] * self.direct + again)
+
+    def lying(self, number: int) -> NDArray[np.float64]:
+        """Returns the tonnes of feed on a stockpile at the end of each year, shape (years,)."""
+        moved = self.stocked[number] - self.reclaimed[number].sum(axis=0)
+        return np.asarray(np.cumsum(self.model.ore.feed @ moved))
 
     @property
     def years(self) -> int:
@@ -73,11 +86,11 @@ class Flows:
 
     def used(self, name: str) -> NDArray[np.float64]:
         """Returns what flows of a limited amount in each year, shape (years,)."""
-        return np.asarray(self.model.dug(name) @ self.dug + np.einsum("kp,kpt->t", self.model.ore.of(name), self.fed))
+        return np.asarray(self.model.dug(name) @ self.dug + self.processed(name).sum(axis=(0, 1)))
 
     def used_in(self, name: str, process: int) -> NDArray[np.float64]:
         """Returns what a process takes of an amount in each year, shape (years,)."""
-        return np.asarray(np.einsum("p,pt->t", self.model.ore.of(name)[process], self.fed[process]))
+        return np.asarray(self.processed(name)[process].sum(axis=0))
 
     @property
     def earned(self) -> NDArray[np.float64]:
@@ -114,8 +127,8 @@ class Flows:
 
 def none_of(model: FlowModel, dug: NDArray[np.float64]) -> Flows:
     """Returns flows in which all that is mined is waste."""
-    shape = (model.ore.processes, len(model.ore), model.years)
-    return Flows(model, dug, np.zeros(shape), np.zeros(shape[1:]), np.zeros(shape))
+    shape, count = (model.ore.processes, len(model.ore), model.years), len(model.stockpiles)
+    return Flows(model, dug, np.zeros(shape), np.zeros((count, *shape[1:])), np.zeros((count, *shape)))
 
 
 def best(model: FlowModel, dug: NDArray[np.float64]) -> Flows:
@@ -133,9 +146,9 @@ def best(model: FlowModel, dug: NDArray[np.float64]) -> Flows:
         return none_of(model, dug)
     found = programme.solved()
     empty = none_of(model, dug)
-    empty.direct[model.direct.process, model.direct.parcel] = found.direct
-    empty.reclaimed[model.reclaimed.process, model.reclaimed.parcel] = found.reclaimed
-    empty.stocked[model.stocked] = found.stocked
+    empty.direct[model.direct.index] = found.direct
+    empty.reclaimed[model.reclaimed.index] = found.reclaimed
+    empty.stocked[model.stocked.index] = found.stocked
     return replace(within(empty), prices=found.prices)
 
 
@@ -146,13 +159,13 @@ def within(flows: Flows) -> Flows:
         np.where(part > SLIGHT, part, 0.0) for part in (flows.direct, flows.stocked, flows.reclaimed)
     )
     direct *= share_of(dug, direct.sum(axis=0))
-    stocked = np.minimum(stocked, np.maximum(dug - direct.sum(axis=0), 0.0))
-    stock = np.zeros(len(dug))
+    stocked *= share_of(np.maximum(dug - direct.sum(axis=0), 0.0), stocked.sum(axis=0))
+    stock = np.zeros(stocked.shape[:2])
     found = replace(flows, direct=direct, stocked=stocked, reclaimed=reclaimed)
     for year in range(flows.years):
-        reclaimed[:, :, year] *= share_of(stock, reclaimed[:, :, year].sum(axis=0))
+        reclaimed[..., year] *= share_of(stock, reclaimed[..., year].sum(axis=1))[:, None]
         keep_maxima(found, year)
-        stock = np.maximum(stock + stocked[:, year] - reclaimed[:, :, year].sum(axis=0), 0.0)
+        stock = np.maximum(stock + stocked[..., year] - reclaimed[..., year].sum(axis=1), 0.0)
     return found
 
 
@@ -169,12 +182,13 @@ def keep_maxima(flows: Flows, year: int) -> None:
         amounts = ore.of(name)
         if not amounts.any() or (amounts < 0).any():
             continue
-        fed = (amounts * (flows.direct[:, :, year] + flows.reclaimed[:, :, year])).sum()
+        again = model.reclaimed_of(name) * flows.reclaimed[..., year]
+        fed = (amounts * flows.direct[:, :, year]).sum() + again.sum()
         free = max(float(most - model.dug(name) @ flows.dug[:, year]), 0.0)
         if fed > free:
             takes = (amounts > 0).any(axis=1)
             flows.direct[takes, :, year] *= free / fed
-            flows.reclaimed[takes, :, year] *= free / fed
+            flows.reclaimed[:, takes, :, year] *= free / fed
 
 
 def richest_first(model: FlowModel, dug: NDArray[np.float64], prices: Optional[Prices] = None) -> Flows:
@@ -183,7 +197,7 @@ def richest_first(model: FlowModel, dug: NDArray[np.float64], prices: Optional[P
     Nothing is stockpiled. With prices the gain is less those of the maxima, as the linear programme weighs it.
     """
     flows, feed = none_of(model, dug), model.ore.feed
-    process, parcel = model.direct.process, model.direct.parcel
+    process, parcel = model.direct.index
     names = [name for name in model.problem.limits.most if model.ore.of(name).any()]
     takes = np.array([model.direct.of(model.ore.of(name)) for name in names]).reshape(len(names), len(process))
     of_years = dict(zip(model.problem.limits.most, model.problem.limits.of_years(model.years).T))

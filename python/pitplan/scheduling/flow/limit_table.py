@@ -11,7 +11,7 @@ from numpy.typing import NDArray
 from .flows import Flows
 from .ore import FEED
 from .parcels import feed_grades, grade_name
-from .programme import ADVANCE, MAX, MIN
+from .programme import ADVANCE, MAX, MIN, STOCK
 
 if TYPE_CHECKING:
     from pitplan.scheduling.pushback_schedule import YearlySchedule
@@ -41,12 +41,12 @@ def limit_table(schedule: YearlySchedule) -> pd.DataFrame:
 
 
 def names_of(schedule: YearlySchedule) -> list[str]:
-    """The limits: amounts, head grades, and the vertical advance of each pushback."""
+    """The limits: amounts, head grades, the vertical advance of each pushback, and the capacity of stockpiles."""
     limits = schedule.problem.limits
     found = list(dict.fromkeys([*limits.most, *limits.least]))
     if np.isfinite(limits.vertical_advance_rate):
         found += [f"{ADVANCE}{number}" for number in np.unique(schedule.benches.pushback)]
-    return found
+    return [*found, *(f"{STOCK}{it.name}" for it in schedule.model.stockpiles if it.capacity is not None)]
 
 
 def rows_of(schedule: YearlySchedule, method: str, name: str) -> pd.DataFrame:
@@ -72,9 +72,19 @@ def amounts_of(schedule: YearlySchedule, flows: Flows, name: str) -> tuple[Float
     if name.startswith(ADVANCE):
         mine = schedule.benches.pushback == int(name.removeprefix(ADVANCE))
         return flows.dug[mine].sum(axis=0), nothing, np.full(years, limits.vertical_advance_rate)
+    if name.startswith(STOCK):
+        return of_stockpile(schedule, flows, name)
     most = limits.of_years(max(years, 1))[:years, list(limits.most).index(name)] if name in limits.most else nothing
     least = limits.least_of_years(years)[name] if name in limits.least else nothing
     return flows.used(name), least, most
+
+
+def of_stockpile(schedule: YearlySchedule, flows: Flows, name: str) -> tuple[Floats, Floats, Floats]:
+    """Returns the tonnes of feed on a stockpile at the end of each year, no minimum, and its capacity. The rule places nothing there."""
+    number = [f"{STOCK}{it.name}" for it in schedule.model.stockpiles].index(name)
+    capacity, nothing = schedule.model.stockpiles[number].capacity, np.full(flows.years, np.nan)
+    lies = flows.lying(number) if flows.model.stockpiles else np.zeros(flows.years)
+    return lies, nothing, np.full(flows.years, capacity, dtype=float)
 
 
 def grades_of(schedule: YearlySchedule) -> dict[str, tuple[int, float, float]]:

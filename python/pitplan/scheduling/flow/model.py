@@ -1,14 +1,14 @@
-"""The material flow of pushbacks as a problem: benches, parcels of ore, limits, and the stockpile."""
+"""The material flow of pushbacks as a problem: benches, parcels of ore, limits, and stockpiles."""
 
 from __future__ import annotations
 
 from dataclasses import dataclass, replace
 from functools import cached_property
-from typing import Optional
 
 import numpy as np
 from numpy.typing import NDArray
 
+from pitplan.config.stockpiles import Stockpile
 from pitplan.pits.best_worst_case import year_discounts
 from pitplan.pushbacks.bench_table import ROCK, PushbackBenches
 from pitplan.scheduling.bench_sequencing import Limits, Problem
@@ -18,17 +18,26 @@ from .ore import Ore
 
 @dataclass(frozen=True)
 class Uses:
-    """Pairs of a process and a parcel that it may take; both int arrays, shape (pairs,)."""
+    """Places and parcels that go together: process and parcel, stockpile and parcel, or stockpile, process and parcel.
 
-    process: NDArray[np.int64]
-    parcel: NDArray[np.int64]
+    Attributes
+    ----------
+    index : tuple of int arrays, each of shape (uses,)
+        The numbers of the places, and last that of the parcel.
+    """
+
+    index: tuple[NDArray[np.int64], ...]
 
     def __len__(self) -> int:
-        return len(self.process)
+        return len(self.index[-1])
+
+    @property
+    def parcel(self) -> NDArray[np.int64]:
+        return self.index[-1]
 
     def of(self, values: NDArray[np.float64]) -> NDArray[np.float64]:
-        """Returns the values of the pairs, from an array of shape (processes, parcels, ..)."""
-        return values[self.process, self.parcel]
+        """Returns the values of the uses, from an array of shape (places, .., parcels, ..)."""
+        return np.asarray(values[self.index])
 
 
 @dataclass(frozen=True)
@@ -43,14 +52,13 @@ class FlowModel:
         The parcels.
     years : int
         How many years there are.
-    reclaim_cost : float, optional
-        What it costs to reclaim a tonne of feed from the stockpile; None: there is no stockpile.
+    stockpiles : tuple of Stockpile
     """
 
     problem: Problem
     ore: Ore
     years: int
-    reclaim_cost: Optional[float] = None
+    stockpiles: tuple[Stockpile, ...] = ()
 
     @property
     def benches(self) -> PushbackBenches:
@@ -67,38 +75,56 @@ class FlowModel:
         return self.ore.gains(self.problem.money, self.years)
 
     @cached_property
-    def handling(self) -> NDArray[np.float64]:
-        """What it costs to reclaim each whole parcel, shape (parcels,)."""
-        return self.ore.feed * (self.reclaim_cost or 0.0)
+    def reclaims(self) -> tuple[Ore, ...]:
+        """The ore as each stockpile gives it back."""
+        return tuple(self.ore.reclaimed(it, self.problem.money.net_prices) for it in self.stockpiles)
+
+    @cached_property
+    def reclaim_gains(self) -> NDArray[np.float64]:
+        """Gain of whole parcels that are reclaimed, not discounted, shape (stockpiles, processes, parcels, years)."""
+        found = [ore.gains(self.problem.money, self.years) for ore in self.reclaims]
+        return np.array(found).reshape(len(found), *self.gains.shape)
+
+    def reclaimed_of(self, name: str) -> NDArray[np.float64]:
+        """Returns what whole parcels add to an amount if they are reclaimed, shape (stockpiles, processes, parcels)."""
+        return np.array([ore.of(name) for ore in self.reclaims]).reshape(len(self.reclaims), *self.ore.gain.shape)
+
+    @cached_property
+    def stacking(self) -> NDArray[np.float64]:
+        """What it costs to place each whole parcel on each stockpile, shape (stockpiles, parcels)."""
+        costs = np.array([it.stacking_cost for it in self.stockpiles])
+        return costs[:, None] * self.ore.feed
 
     @cached_property
     def direct(self) -> Uses:
-        """The pairs of process and parcel by direct feed: those that gain in some year, or that a limit may ask for."""
-        return self.pairs(self.gains.max(axis=2, initial=-np.inf) > 0)
+        """Process and parcel of direct feed that gains in some year, or that a limit may ask for."""
+        return Uses(np.nonzero(self.useful(self.gains)))
 
     @cached_property
     def reclaimed(self) -> Uses:
-        """The same from the stockpile; none without one."""
-        if self.reclaim_cost is None:
-            return Uses(np.zeros(0, dtype=np.int64), np.zeros(0, dtype=np.int64))
-        return self.pairs((self.gains - self.handling[None, :, None]).max(axis=2, initial=-np.inf) > 0)
+        """Stockpile, process and parcel, likewise."""
+        accepted = [
+            self.ore.accepted_by(number)[None] & self.useful(gains) for number, gains in enumerate(self.reclaim_gains)
+        ]
+        return Uses(np.nonzero(np.array(accepted, dtype=bool).reshape(self.reclaim_gains.shape[:3])))
 
-    def pairs(self, pays: NDArray[np.bool_]) -> Uses:
-        """Returns the pairs that pay; where a limit may ask for ore that does not, all that yield anything."""
-        if self.asks_ore:
-            pays = pays | (self.ore.gain != 0)
-        process, parcel = np.nonzero(pays)
-        return Uses(process, parcel)
+    @cached_property
+    def stocked(self) -> Uses:
+        """Stockpile and parcel that some process may take from there."""
+        found = np.zeros((len(self.stockpiles), len(self.ore)), dtype=bool)
+        stockpile, _, parcel = self.reclaimed.index
+        found[stockpile, parcel] = True
+        return Uses(np.nonzero(found))
+
+    def useful(self, gains: NDArray[np.float64]) -> NDArray[np.bool_]:
+        """Returns whether each process takes each parcel: if it gains in some year, or if a limit may ask for ore that does not."""
+        pays = gains.max(axis=2, initial=-np.inf) > 0
+        return pays | (self.ore.gain != 0) if self.asks_ore else pays
 
     @property
     def asks_ore(self) -> bool:
         """Whether a limit may ask for ore that does not pay by itself: a minimum, or a limit on a grade."""
         return bool(self.problem.limits.least) or any((self.ore.of(name) < 0).any() for name in self.limits)
-
-    @cached_property
-    def stocked(self) -> NDArray[np.int64]:
-        """The parcels that may be stockpiled, rising."""
-        return np.unique(self.reclaimed.parcel)
 
     @property
     def limits(self) -> list[str]:

@@ -2,11 +2,13 @@
 
 from __future__ import annotations
 
-from dataclasses import dataclass
+from dataclasses import dataclass, replace
+from typing import Optional
 
 import numpy as np
 from numpy.typing import NDArray
 
+from pitplan.config.stockpiles import Stockpile
 from pitplan.economics.period_costs import YearlyMoney
 
 FEED = "feed_tonnes"
@@ -26,12 +28,15 @@ class Ore:
         Revenue less the cost of processing and selling of a whole unit at the base price, in the currency.
     amounts : dict of str to array, shape (processes, units)
         What a whole unit adds to an amount where it is processed: feed_tonnes, feed_tonnes_PROCESS, recovered_METAL, and limited sums and grades.
+    accepted : bool array, shape (stockpiles, units), optional
+        Whether each stockpile accepts a unit; None: all do.
     """
 
     bench: NDArray[np.int64]
     bin: NDArray[np.int64]
     gain: NDArray[np.float64]
     amounts: dict[str, NDArray[np.float64]]
+    accepted: Optional[NDArray[np.bool_]] = None
 
     def __len__(self) -> int:
         return len(self.bench)
@@ -57,10 +62,27 @@ class Ore:
             found += self.of(name)[:, :, None] * premium
         return found
 
+    def accepted_by(self, stockpile: int) -> NDArray[np.bool_]:
+        """Returns whether a stockpile, by number, accepts each unit."""
+        return np.ones(len(self), dtype=bool) if self.accepted is None else self.accepted[stockpile]
+
+    def reclaimed(self, stockpile: Stockpile, net_prices: dict[str, float]) -> Ore:
+        """Returns the ore as a stockpile gives it back: reclaiming costs, and less metal may be recovered."""
+        gain, amounts = self.gain - stockpile.reclaim_cost * self.feed, dict(self.amounts)
+        for metal, share in stockpile.recovery.items():
+            name = f"recovered_{metal}"
+            gain = gain - (1 - share) * net_prices[name] * self.of(name)
+            amounts[name] = share * self.of(name)
+        return replace(self, gain=gain, amounts=amounts)
+
     def merged(self, parcel: NDArray[np.int64], bench: NDArray[np.int64], bins: NDArray[np.int64]) -> Ore:
-        """Returns the sums over units by their parcel; `bench` and `bins` are those of the parcels."""
+        """Returns the sums over units by their parcel, all of which the same stockpiles accept; `bench` and `bins` are those of the parcels."""
 
         def sums(values: NDArray[np.float64]) -> NDArray[np.float64]:
             return np.stack([np.bincount(parcel, row, minlength=len(bench)) for row in values])
 
-        return Ore(bench, bins, sums(self.gain), {name: sums(values) for name, values in self.amounts.items()})
+        accepted, amounts = None, {name: sums(values) for name, values in self.amounts.items()}
+        if self.accepted is not None:
+            accepted = np.zeros((len(self.accepted), len(bench)), dtype=bool)
+            accepted[:, parcel] = self.accepted
+        return Ore(bench, bins, sums(self.gain), amounts, accepted)

@@ -11,6 +11,7 @@ from numpy.typing import NDArray
 from pitplan.config.feed_grades import FeedGrade
 from pitplan.config.schedule import FEED as OF_FEED, TOTAL, ScheduleRules
 from pitplan.economics import period_costs
+from pitplan.economics.acceptance import accepted_by
 from pitplan.economics.value_bins import BINS, edges_of
 from pitplan.plan import MILLION, Plan
 from pitplan.pushbacks import bench_table
@@ -26,8 +27,6 @@ from .programme import MAX, Prices
 # A limit on a grade divides ore into so many parts of even feed, by that grade, so that parcels can be blended.
 GRADE_PARTS = 3
 GRADE = "grade_"
-# How the only process of a project is called in tables.
-MILL = "mill"
 
 
 @dataclass(frozen=True)
@@ -151,7 +150,13 @@ def ore_of(plan: Plan, rules: ScheduleRules, cells: NDArray[np.int64], bench: ND
         amounts[f"recovered_{name}"] = takes * np.stack([way.metal[name][cells] for way in ways])
     amounts |= sums_of(plan, rules, cells, takes) | grades_of(plan, cells, takes)
     gain = np.stack([(way.revenue[cells] - way.cost[cells]) / MILLION for way in ways])
-    return Ore(bench, np.ones(len(cells), dtype=np.int64), gain, amounts)
+    return Ore(bench, np.ones(len(cells), dtype=np.int64), gain, amounts, accepted_of(plan, rules, cells))
+
+
+def accepted_of(plan: Plan, rules: ScheduleRules, cells: NDArray[np.int64]) -> Optional[NDArray[np.bool_]]:
+    """Returns whether each stockpile accepts each cell, shape (stockpiles, cells); None without stockpiles."""
+    masks = [accepted_by(it.accepts, plan.table, plan.project) for it in rules.stockpiles]
+    return np.stack([plan.grid.spread(mask)[cells] for mask in masks]) if masks else None
 
 
 def alone(values: NDArray[np.float64], process: int) -> NDArray[np.float64]:
@@ -204,7 +209,7 @@ def feed_grades(plan: Plan) -> list[tuple[int, FeedGrade]]:
 def kinds_of(
     blocks: Ore, per_tonne: NDArray[np.float64], edges: list[NDArray[np.float64]], part: NDArray[np.int64]
 ) -> NDArray[np.int64]:
-    """Returns the bin of each block, from 1, by its best process, the processes that may take it, its value per tonne, rising, and limited grades.
+    """Returns the bin of each block, from 1, by its best process, the places that may take it, its value per tonne, rising, and limited grades.
 
     Parameters
     ----------
@@ -217,7 +222,8 @@ def kinds_of(
         The part of each block by limited grades.
     """
     best = per_tonne.argmax(axis=0)
-    takers = (blocks.of(FEED) > 0).T @ (2 ** np.arange(blocks.processes))
+    may = blocks.of(FEED) > 0 if blocks.accepted is None else np.vstack([blocks.of(FEED) > 0, blocks.accepted])
+    takers = may.T @ (2 ** np.arange(len(may)))
     value = np.zeros(len(blocks), dtype=np.int64)
     for process, between in enumerate(edges):
         some = np.flatnonzero(best == process)

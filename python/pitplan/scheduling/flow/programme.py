@@ -1,8 +1,8 @@
 """The linear programme of material flow.
 
 Unknowns, each by year: the share of a bench that is mined by the end of the year; the share of a parcel that a process takes as it is mined,
-that goes to the stockpile, that lies there at the end of the year, and that a process takes from there; and, if years cost anything, whether the
-mine runs. What a parcel sends nowhere is waste. The stockpile gives each parcel back as it was laid.
+that goes to a stockpile, that lies there at the end of the year, and that a process takes from there; and, if years cost anything, whether the
+mine runs. What a parcel sends nowhere is waste. A stockpile gives each parcel back as it was placed.
 """
 
 from __future__ import annotations
@@ -24,7 +24,7 @@ from .model import FlowModel
 from .rows import by_end, furthest, order_rows
 
 MAX, MIN, RUNNING = "max", "min", "running"
-ADVANCE = "vertical_advance_"
+ADVANCE, STOCK = "vertical_advance_", "stockpile_"
 # A share of a minimum that may lack by the solver's tolerance alone.
 LACKING = 1e-6
 # By name of the limit and side the price of a unit in each year, discounted: shape (years,).
@@ -66,8 +66,8 @@ class FlowOptimum:
     ----------
     cumulative : array, shape (benches, years)
         The share of each bench that is mined by the end of each year.
-    direct, stocked, reclaimed : array, shape (pairs or parcels, years)
-        Shares of parcels by the pairs of `FlowModel.direct`, the parcels of `FlowModel.stocked`, and the pairs of `FlowModel.reclaimed`.
+    direct, stocked, reclaimed : array, shape (uses, years)
+        Shares of parcels by the uses of `FlowModel.direct`, `FlowModel.stocked` and `FlowModel.reclaimed`.
     running : array, shape (years,)
         How far the mine runs in each year; 1 if years cost nothing.
     value : float
@@ -101,13 +101,13 @@ class FlowProgramme:
 
     @cached_property
     def sizes(self) -> list[int]:
-        """The number of unknowns: of mining, direct feed, to the stockpile, in it and from it."""
+        """The number of unknowns: of mining, direct feed, to the stockpiles, in them and from them."""
         model, stocked = self.model, len(self.model.stocked)
         counts = [0 if self.dug is not None else len(model.benches), len(model.direct)]
         return [count * self.years for count in (*counts, stocked, stocked, len(model.reclaimed))]
 
     def row(self, *parts: Optional[csr_matrix]) -> csr_matrix:
-        """Returns rows of all unknowns from rows of those of mining, direct feed, to, in and from the stockpile."""
+        """Returns rows of all unknowns from rows of those of mining, direct feed, to, in and from the stockpiles."""
         height = next(part.shape[0] for part in parts if part is not None)
         wide = [csr_matrix((height, size)) if part is None else part for part, size in zip(parts, self.sizes)]
         return csr_matrix(hstack(wide, format="csr"))
@@ -116,14 +116,13 @@ class FlowProgramme:
     def gain(self) -> NDArray[np.float64]:
         """What each unknown adds to the value, discounted."""
         model = self.model
-        present = model.gains * model.discounts
-        again = (model.gains - model.handling[None, :, None]) * model.discounts
         mined = by_end(model.mining_cash).ravel() if self.dug is None else np.zeros(0)
         parts = [
             mined,
-            model.direct.of(present).ravel(),
-            np.zeros(sum(self.sizes[2:4])),
-            model.reclaimed.of(again).ravel(),
+            (model.direct.of(model.gains) * model.discounts).ravel(),
+            (-model.stocked.of(model.stacking)[:, None] * model.discounts).ravel(),
+            np.zeros(self.sizes[3]),
+            (model.reclaimed.of(model.reclaim_gains) * model.discounts).ravel(),
         ]
         return np.concatenate(parts)
 
@@ -145,7 +144,7 @@ class FlowProgramme:
         """No more of a parcel is sent anywhere in a year than is mined of it."""
         model, count = self.model, len(self.model.ore)
         takes = incidence(model.direct.parcel, count)
-        stocked = incidence(model.stocked, count)
+        stocked = incidence(model.stocked.parcel, count)
         if self.dug is not None:
             most = self.dug[model.ore.bench].ravel()
             return self.row(None, kron(takes, self.each_year), kron(stocked, self.each_year), None, None), most
@@ -154,13 +153,14 @@ class FlowProgramme:
         return self.row(*parts), np.zeros(count * self.years)
 
     def stock_rows(self) -> Iterator[tuple[csr_matrix, NDArray[np.float64]]]:
-        """What lies in the stockpile is what lay there and came, less what was reclaimed; no more is reclaimed than lay there a year before."""
+        """What lies on a stockpile is what lay there and came, less what was reclaimed; no more is reclaimed than lay there a year before."""
         model, count = self.model, len(self.model.stocked)
         if not count:
             return
-        place = np.full(len(model.ore), -1)
-        place[model.stocked] = np.arange(count)
-        leaves = kron(incidence(place[model.reclaimed.parcel], count), self.each_year)
+        place = np.full((len(model.stockpiles), len(model.ore)), -1)
+        place[model.stocked.index] = np.arange(count)
+        stockpile, _, parcel = model.reclaimed.index
+        leaves = kron(incidence(place[stockpile, parcel], count), self.each_year)
         each, before = eye(count), eye(self.years, k=-1)
         nothing = np.zeros(count * self.years)
         yield self.row(None, None, -kron(each, self.each_year), kron(each, self.step), leaves), nothing
@@ -168,7 +168,7 @@ class FlowProgramme:
 
     @cached_property
     def limits(self) -> list[Limit]:
-        """All limits of years; without those of mining if it is given."""
+        """All limits of years, with the capacities of stockpiles; without those of mining if it is given."""
         model, limits = self.model, self.model.problem.limits
         most, least = limits.of_years(self.years).T, limits.least_of_years(self.years)
         found = [Limit(name, MAX, self.used(name), amount) for name, amount in zip(limits.most, most)]
@@ -181,16 +181,15 @@ class FlowProgramme:
             ]
         elif np.isfinite(limits.vertical_advance_rate):
             found += [self.advance(pushback) for pushback in np.unique(model.benches.pushback)]
-        return found
+        return [*found, *self.capacities_of_stockpiles()]
 
     def used(self, name: str) -> csr_matrix:
         """Returns what each unknown adds to an amount in each year, shape (years, unknowns)."""
         model = self.model
         mined = None if self.dug is not None else kron(csr_matrix(model.dug(name)[None]), self.step)
         amounts = model.ore.of(name)
-        direct, again = (
-            kron(csr_matrix(uses.of(amounts)[None]), self.each_year) for uses in (model.direct, model.reclaimed)
-        )
+        direct = kron(csr_matrix(model.direct.of(amounts)[None]), self.each_year)
+        again = kron(csr_matrix(model.reclaimed.of(model.reclaimed_of(name))[None]), self.each_year)
         return self.row(mined, direct, None, None, again)
 
     def advance(self, pushback: int) -> Limit:
@@ -198,6 +197,18 @@ class FlowProgramme:
         mined = kron(csr_matrix((self.model.benches.pushback == pushback)[None].astype(float)), self.step)
         most = np.full(self.years, self.model.problem.limits.vertical_advance_rate)
         return Limit(f"{ADVANCE}{pushback}", MAX, self.row(mined, None, None, None, None), most)
+
+    def capacities_of_stockpiles(self) -> Iterator[Limit]:
+        """The limits of what lies on each stockpile at the end of each year, in tonnes of feed."""
+        model = self.model
+        stockpile, parcel = model.stocked.index
+        for number, it in enumerate(model.stockpiles):
+            if it.capacity is not None:
+                feed = np.where(stockpile == number, model.ore.feed[parcel], 0.0)
+                lies = kron(csr_matrix(feed[None]), self.each_year)
+                yield Limit(
+                    f"{STOCK}{it.name}", MAX, self.row(None, None, None, lies, None), np.full(self.years, it.capacity)
+                )
 
     @cached_property
     def costs(self) -> NDArray[np.float64]:
@@ -230,7 +241,11 @@ class FlowProgramme:
     @property
     def bounding(self) -> list[Limit]:
         """The maxima that show whether the mine runs in a year."""
-        return [it for it in self.limits if it.side == MAX and np.isfinite(it.amount).all() and it.amount.any()]
+        return [
+            it
+            for it in self.limits
+            if it.side == MAX and np.isfinite(it.amount).all() and it.amount.any() and not it.name.startswith(STOCK)
+        ]
 
     def with_running_years(self, programme: Programme) -> Programme:
         """Returns the programme with an unknown for each year: how far the mine runs, at least as far as any limit is used and as it runs in the

@@ -97,7 +97,7 @@ def by_rule(model: FlowModel, pace: Pace, years: Optional[int]) -> tuple[Flows, 
     """
     found = list(pace.schedules(years))
     longest = max(shares.shape[1] for _, shares in found)
-    model = replace(model, years=longest, reclaim_cost=None)
+    model = replace(model, years=longest, stockpiles=())
     pacing = Pacing(model)
     lead, shares = max(found, key=lambda pair: pacing.value(padded(pair[1], longest)))
     flows = richest_first(model, padded(shares, longest))

@@ -12,37 +12,52 @@ import pandas as pd
 from numpy.typing import NDArray
 
 from pitplan.config.economics import GRADE_UNITS
+from pitplan.config.places import MILL, PIT, WASTE
+from pitplan.config.stockpiles import Stockpile
 from pitplan.pits import shell_tables
 from pitplan.plan import Plan, shown_name
 
 from .cutoffs import cutoffs
 from .flows import Flows
-from .parcels import MILL, column_of
+from .parcels import column_of
 
 if TYPE_CHECKING:
     from pitplan.scheduling.pushback_schedule import YearlySchedule
 
-PIT, STOCKPILE, WASTE = "pit", "stockpile", "waste"
+# A stockpile of less than this share of all that was placed there is empty.
+EMPTY = 1e-9
 
 
 @dataclass(frozen=True)
 class Move:
-    """A flow from a source to a destination: shares of parcels by year, shape (parcels, years), and the process that takes it, if any."""
+    """A flow from a source to a destination.
+
+    Attributes
+    ----------
+    source, destination : str
+    shares : array, shape (parcels, years)
+        Shares of parcels.
+    process : int, optional
+        The process that takes it.
+    stockpile : Stockpile, optional
+        The stockpile that it goes to or comes from.
+    """
 
     source: str
     destination: str
     shares: NDArray[np.float64]
     process: Optional[int] = None
+    stockpile: Optional[Stockpile] = None
 
 
 def moves_of(flows: Flows, names: list[str]) -> Iterator[Move]:
     """Yields the flows of ore; `names` are the processes."""
     for number, name in enumerate(names):
         yield Move(PIT, name or MILL, flows.direct[number], number)
-    if flows.model.reclaim_cost is not None:
-        yield Move(PIT, STOCKPILE, flows.stocked)
+    for place, it in enumerate(flows.model.stockpiles):
+        yield Move(PIT, it.name, flows.stocked[place], None, it)
         for number, name in enumerate(names):
-            yield Move(STOCKPILE, name or MILL, flows.reclaimed[number], number)
+            yield Move(it.name, name or MILL, flows.reclaimed[place, number], number, it)
     yield Move(PIT, WASTE, flows.waste)
 
 
@@ -113,8 +128,8 @@ def flow_table(schedule: YearlySchedule) -> pd.DataFrame:
     """Returns one row per method, year, lot, source and destination with a flow.
 
     Columns: method, year, pushback, bench (elevation), bin, rock type and class if the table has them, source, destination, total_tonnes,
-    feed_tonnes, contained_METAL in what goes to a process, recovered_METAL, and cash_flow: revenue less the costs of processing, selling and
-    reclaiming, at the year's prices.
+    feed_tonnes and contained_METAL in what goes to a process or a stockpile, recovered_METAL, and cash_flow: revenue less the costs of
+    processing, selling, stacking and reclaiming, at the year's prices.
     """
     lots = Lots(schedule)
     found = [of_method(schedule, method, lots) for method in schedule.flows]
@@ -161,17 +176,28 @@ def written(flows: Flows, move: Move, lots: Lots, rows: NDArray[np.int64], at: N
             "total_tonnes": sums["total_tonnes"] * share,
         }
     )
+    moved = 0.0 if move.destination == WASTE else share
+    for name in ("feed_tonnes", *(f"contained_{metal.name}" for metal in plan.project.metals)):
+        found[name] = sums[name] * moved
     fed = 0.0 if move.process is None else share
-    found["feed_tonnes"] = sums["feed_tonnes"] * fed
-    for metal in plan.project.metals:
-        found[f"contained_{metal.name}"] = sums[f"contained_{metal.name}"] * fed
     names = [f"recovered_{metal.name}" for metal in plan.project.metals]
     for name in names:
-        found[name] = 0.0 if move.process is None else sums[f"{name} {move.process}"] * share
-    found["cash_flow"] = 0.0 if move.process is None else sums[f"gain {move.process}"] * share
-    if move.source == STOCKPILE:
-        found["cash_flow"] -= found["feed_tonnes"] * (flows.model.reclaim_cost or 0.0)
-    premiums = flows.model.problem.money.premium(tuple(names), flows.years)[year]
+        found[name] = 0.0 if move.process is None else sums[f"{name} {move.process}"] * fed
+    found["cash_flow"] = 0.0 if move.process is None else sums[f"gain {move.process}"] * fed
+    return handled(found, flows, move, names)
+
+
+def handled(found: pd.DataFrame, flows: Flows, move: Move, names: list[str]) -> pd.DataFrame:
+    """Returns the rows of a move after what a stockpile costs, and at the prices of the year; `names` are the recovered metals."""
+    money, stockpile = flows.model.problem.money, move.stockpile
+    if stockpile is not None:
+        for metal, share in stockpile.recovery.items():
+            name = f"recovered_{metal}"
+            found["cash_flow"] -= found[name] * (1 - share) * money.net_prices[name]
+            found[name] *= share
+        cost = stockpile.stacking_cost if move.process is None else stockpile.reclaim_cost
+        found["cash_flow"] -= found["feed_tonnes"] * cost
+    premiums = money.premium(tuple(names), flows.years)[found["year"] - 1]
     found["cash_flow"] += (found[names].to_numpy() * premiums).sum(axis=1)
     return found
 
@@ -179,7 +205,7 @@ def written(flows: Flows, move: Move, lots: Lots, rows: NDArray[np.int64], at: N
 def feed_table(schedule: YearlySchedule) -> pd.DataFrame:
     """Returns one row per method, year and process.
 
-    Columns: method, year, process, feed_tonnes, reclaimed_tonnes (of these from the stockpile), head_grade_METAL, contained_METAL,
+    Columns: method, year, process, feed_tonnes, reclaimed_tonnes (of these from stockpiles), head_grade_METAL, contained_METAL,
     recovered_METAL, and cutoff: the net value per tonne of feed from which on ore is processed; empty for the rule.
     """
     metals, flows = schedule.pushbacks.plan.project.metals, schedule.material_flows
@@ -193,7 +219,7 @@ def feed_table(schedule: YearlySchedule) -> pd.DataFrame:
     ]
     index = pd.MultiIndex.from_tuples(keys, names=["method", "year", "destination"])
     sums = flows.groupby(["method", "year", "destination"])[amounts].sum().reindex(index, fill_value=0.0)
-    again = flows[flows["source"] == STOCKPILE].groupby(["method", "year", "destination"])["feed_tonnes"].sum()
+    again = flows[flows["source"] != PIT].groupby(["method", "year", "destination"])["feed_tonnes"].sum()
     sums.insert(1, "reclaimed_tonnes", again.reindex(index, fill_value=0.0))
     for place, metal in enumerate(metals):
         unit = float(GRADE_UNITS[metal.unit])
@@ -211,21 +237,45 @@ def cutoff_column(schedule: YearlySchedule, keys: list[tuple[str, int, str]]) ->
 
 
 def stockpile_table(schedule: YearlySchedule) -> pd.DataFrame:
-    """Returns one row per method and year: opening_tonnes, in_tonnes, out_tonnes and closing_tonnes of in-situ material in the stockpile."""
-    found, flows = [], schedule.material_flows
-    for method, of_method in schedule.flows.items():
-        years = pd.RangeIndex(1, of_method.years + 1, name="year")
-        rows = flows[flows["method"] == method]
-        stocked, out = (
-            rows[rows[side] == STOCKPILE].groupby("year")["total_tonnes"].sum().reindex(years, fill_value=0.0)
-            for side in ("destination", "source")
-        )
-        closing = (stocked - out).cumsum()
-        table = pd.DataFrame({"in_tonnes": stocked, "out_tonnes": out, "closing_tonnes": closing})
-        table.insert(0, "opening_tonnes", closing.shift(1, fill_value=0.0))
-        table.insert(0, "method", method)
-        found.append(table.reset_index()[["method", "year", *table.columns[1:]]])
+    """Returns one row per method, stockpile and year.
+
+    Columns: method, stockpile, year; opening_tonnes, in_tonnes, out_tonnes and closing_tonnes of feed; and of what lies there at the end of the
+    year grade_METAL, in the unit of the metal's column, empty if nothing does.
+    """
+    flows = schedule.material_flows
+    found = [
+        balance_of(schedule, method, it.name, flows[flows["method"] == method])
+        for method in schedule.flows
+        for it in schedule.model.stockpiles
+    ]
     return pd.concat(found, ignore_index=True)
+
+
+def balance_of(schedule: YearlySchedule, method: str, name: str, flows: pd.DataFrame) -> pd.DataFrame:
+    years = pd.RangeIndex(1, schedule.flows[method].years + 1, name="year")
+    metals = schedule.pushbacks.plan.project.metals
+    amounts = ["feed_tonnes", *(f"contained_{metal.name}" for metal in metals)]
+    placed, out = (
+        flows[flows[side] == name].groupby("year")[amounts].sum().reindex(years, fill_value=0.0)
+        for side in ("destination", "source")
+    )
+    lies = (placed - out).cumsum()
+    # What the sums of floats leave is nothing.
+    lies = lies.where(lies["feed_tonnes"] > EMPTY * placed["feed_tonnes"].sum(), 0.0)
+    closing = lies["feed_tonnes"]
+    columns = {
+        "opening_tonnes": closing.shift(1, fill_value=0.0),
+        "in_tonnes": placed["feed_tonnes"],
+        "out_tonnes": out["feed_tonnes"],
+        "closing_tonnes": closing,
+    }
+    for metal in metals:
+        content = lies[f"contained_{metal.name}"].to_numpy() / float(GRADE_UNITS[metal.unit])
+        columns[f"grade_{metal.name}"] = shell_tables.ratio(content, closing.to_numpy())
+    table = pd.DataFrame(columns, index=years)
+    table.insert(0, "stockpile", name)
+    table.insert(0, "method", method)
+    return table.reset_index()[["method", "stockpile", "year", *columns]]
 
 
 def bound_table(schedule: YearlySchedule) -> pd.DataFrame:
