@@ -15,11 +15,12 @@ from pitplan.config.stockpiles import Stockpile
 from pitplan.economics.value_bins import edges_of
 from pitplan.scheduling.bench_sequencing import Limits
 from pitplan.scheduling.flow import scheduler
-from pitplan.scheduling.flow.bound import upper_bound
+from pitplan.scheduling.flow.bound import Lagrangian, upper_bound
 from pitplan.scheduling.flow.cutoffs import cutoffs
 from pitplan.scheduling.flow.flows import best
 from pitplan.scheduling.flow.model import FlowModel
 from pitplan.scheduling.flow.ore import Ore
+from pitplan.scheduling.flow.parcels import Material, by_choice
 from pitplan.scheduling.flow.programme import FlowProgramme
 
 
@@ -168,6 +169,26 @@ def test_whatever_each_block_does_earns_no_more_than_the_bound(pits, limits, sev
     complete = complete_optimum(blocks)
     assert complete <= upper_bound(model, blocks.ore, optimum.prices) + slack
     assert scheduler.from_optimum(model, optimum).value <= complete + slack
+
+
+@examples(10)
+@given(mines, limits, processes, stockpiles)
+def test_parcels_of_blocks_that_choose_alike_lose_nothing(pits, limits, several, piles):
+    """At the prices from which the choices follow they earn what the single blocks do; and no more blocks are in a parcel than choose alike."""
+    model = model_of(mine_of(pits, 0), several, limits, 3, piles)
+    blocks, nothing = model.ore, np.zeros(len(model.ore), dtype=np.int64)
+    prices = FlowProgramme(model).solved().prices
+    relaxation = Lagrangian(model, prices)
+    found = by_choice(Material(model.benches, nothing, nothing, blocks, blocks, {}), relaxation.choices[1])
+    finer = replace(model, ore=found.parcels)
+    assert Lagrangian(finer, prices).value == pytest.approx(relaxation.value, abs=slack_of(model))
+    assert len(np.unique(np.column_stack([blocks.bench, relaxation.choices[1]]), axis=0)) <= len(found.parcels)
+    assert found.parcels.feed.sum() == pytest.approx(blocks.feed.sum())
+    # Bins rise with the mean value per tonne, by best process.
+    best, feed = blocks.gain.argmax(axis=0), np.bincount(found.blocks.bin, blocks.feed)
+    mean = np.bincount(found.blocks.bin, blocks.gain.max(axis=0)) / np.where(feed > 0, feed, 1.0)
+    for process in np.unique(best):
+        assert (np.diff(mean[np.unique(found.blocks.bin[best == process])]) >= -1e-9).all()
 
 
 @examples(10)

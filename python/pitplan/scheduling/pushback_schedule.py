@@ -36,8 +36,8 @@ from .methods import LP, MILP, RULE
 
 # The linear programme may take this part of the rule's years more.
 MORE_YEARS = 0.2
-# If the bound is above the optimum of parcels by more than this share, parcels are made finer once.
-FINE = 0.002
+# While the bound is above the optimum of parcels by more than this share, parcels are made finer, so often at most.
+FINE, REFINEMENTS = 0.002, 3
 
 
 @dataclass(frozen=True)
@@ -193,12 +193,7 @@ def make(pushbacks: Pushbacks, progress: Progress = silent) -> YearlySchedule:
 
 def better(schedule: YearlySchedule, rules: ScheduleRules, progress: Progress) -> Iterator[YearlySchedule]:
     """Yields the schedule with one result of the programmes after the other. Raises KeyboardInterrupt if one is interrupted."""
-    schedule = relaxed(schedule, progress)
-    if schedule.flows:
-        yield schedule
-    assert schedule.optimum is not None and schedule.upper_bound is not None
-    if schedule.upper_bound - schedule.optimum.value > FINE * abs(schedule.upper_bound):
-        schedule = relaxed(in_finer_bins(schedule, rules), progress)
+    for schedule in relaxations(schedule, rules, progress):
         if schedule.flows:
             yield schedule
     model, optimum = schedule.model, schedule.optimum
@@ -226,6 +221,23 @@ def better(schedule: YearlySchedule, rules: ScheduleRules, progress: Progress) -
         yield schedule
 
 
+def relaxations(schedule: YearlySchedule, rules: ScheduleRules, progress: Progress) -> Iterator[YearlySchedule]:
+    """Yields the schedule with the optimum of the linear programme and the upper bound, then with those of finer parcels while it pays."""
+    schedule = relaxed(schedule, progress)
+    yield schedule
+    for _ in range(REFINEMENTS):
+        assert schedule.optimum is not None and schedule.upper_bound is not None
+        if schedule.upper_bound - schedule.optimum.value <= FINE * abs(schedule.upper_bound):
+            break
+        finer = relaxed(in_finer_bins(schedule, rules), progress)
+        assert finer.optimum is not None
+        if finer.optimum.value <= schedule.optimum.value:
+            yield replace(schedule, upper_bound=finer.upper_bound, prices=finer.prices)
+            break
+        schedule = finer
+        yield schedule
+
+
 def relaxed(schedule: YearlySchedule, progress: Progress) -> YearlySchedule:
     """Returns the schedule with the optimum of the linear programme and the upper bound, unless it has a lower one. Raises PlanError, with the
     minimums that lack, if no schedule meets them."""
@@ -243,9 +255,10 @@ def relaxed(schedule: YearlySchedule, progress: Progress) -> YearlySchedule:
 
 
 def in_finer_bins(schedule: YearlySchedule, rules: ScheduleRules) -> YearlySchedule:
-    """Returns the schedule with parcels by the cut-offs of the linear programme, and the rule's flows of these."""
+    """Returns the schedule with parcels of blocks that choose alike at the prices of the linear programme, and the rule's flows of these."""
     assert schedule.optimum is not None
-    material = parcels.at_prices(schedule.material, rules, schedule.model, schedule.optimum.prices)
+    relaxation = bound.Lagrangian(replace(schedule.model, ore=schedule.material.blocks), schedule.optimum.prices)
+    material = parcels.by_choice(schedule.material, relaxation.choices[1])
     model = replace(schedule.model, ore=material.parcels)
     flows = {RULE: scheduler.by_rule(model, pace_of(schedule), rules.years)[0]}
     return replace(schedule, material=material, model=model, flows=flows if schedule.flows else {})

@@ -45,14 +45,23 @@ class Lagrangian:
         return found
 
     @cached_property
+    def choices(self) -> tuple[NDArray[np.float64], NDArray[np.int64]]:
+        """What each unit of ore earns beyond waste by the year in which it is mined, and where: 0 is waste, then follow the processes, then the
+        stockpiles; both of shape (units, years)."""
+        model, ore = self.model, self.model.ore
+        earned = [np.zeros((len(ore), model.years)), *self.priced(ore.amounts, model.gains * model.discounts)]
+        for number in range(len(model.stockpiles)):
+            earned.append(np.where(ore.accepted_by(number)[:, None], self.waiting(number), -np.inf))
+        best, place = earned[0], np.zeros((len(ore), model.years), dtype=np.int64)
+        for number, other in enumerate(earned[1:], 1):
+            place[other > best] = number
+            best = np.maximum(best, other)
+        return best, place
+
+    @property
     def worths(self) -> NDArray[np.float64]:
         """What each unit of ore earns beyond waste, by the year in which it is mined, shape (units, years)."""
-        model, ore = self.model, self.model.ore
-        best = np.maximum(self.priced(ore.amounts, model.gains * model.discounts).max(axis=0, initial=0.0), 0.0)
-        for number in range(len(model.stockpiles)):
-            some = np.flatnonzero(ore.accepted_by(number))
-            best[some] = np.maximum(best[some], self.waiting(number)[some])
-        return np.asarray(best)
+        return self.choices[0]
 
     def waiting(self, number: int) -> NDArray[np.float64]:
         """What each unit earns that goes to a stockpile in each year, until the best later year or to the end, shape (units, years)."""

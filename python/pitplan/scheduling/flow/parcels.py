@@ -20,9 +20,7 @@ from pitplan.pushbacks.nested import Pushbacks
 from pitplan.scheduling.bench_sequencing import Limits
 from pitplan.scheduling.limits import SUM
 
-from .model import FlowModel
 from .ore import FEED, Ore
-from .programme import MAX, Prices
 
 # A limit on a grade divides ore into so many parts of even feed, by that grade, so that parcels can be blended.
 GRADE_PARTS = 3
@@ -44,7 +42,7 @@ class Material:
     blocks, parcels : Ore
         The ore block by block, and in parcels.
     edges : dict of str to array
-        By process the net values per tonne of feed between its bins, in the currency.
+        By process the net values per tonne of feed between its bins, in the currency; none if blocks that choose alike are in a bin.
     """
 
     benches: PushbackBenches
@@ -72,46 +70,38 @@ def of_pushbacks(pushbacks: Pushbacks, rules: ScheduleRules) -> Material:
     return in_parcels(Material(mined_alone(pushbacks, assigned, rules), cells, kind, blocks, blocks, edges), kind)
 
 
-def at_prices(material: Material, rules: ScheduleRules, model: FlowModel, prices: Prices) -> Material:
-    """Returns the same material with the cut-offs of the years, by the prices of the linear programme, as further edges of bins.
+def by_choice(material: Material, choices: NDArray[np.int64]) -> Material:
+    """Returns the same material with the blocks of a bench that choose alike as a parcel.
 
-    Within such a bin blocks go to the same destinations in most years, so that parcels lose less of what single blocks can earn. If head grades
-    are limited, the value of a block is less their prices, in the mean of the years, and the cut-offs are all edges.
+    At the prices of the limits from which the choices follow, parcels lose nothing of what single blocks can earn, so the optimum of the linear
+    programme over them is near the upper bound (Boland, Dumitrescu, Froyland and Gleixner 2009: LP-based disaggregation approaches to solving
+    the open pit mining production scheduling problem with block processing selectivity, Computers & Operations Research 36(4)).
+
+    Parameters
+    ----------
+    material : Material
+    choices : int array, shape (blocks, years)
+        Where each block goes, by the year in which it is mined.
     """
-    blocks, count = material.blocks, rules.bins or BINS
-    nothing = np.zeros(model.years)
-    present = {name: prices.get((name, MAX), nothing) / model.discounts for name in blocks.amounts}
-    graded = [name for name in blocks.amounts if name.startswith(GRADE)]
-    reduced = blocks.gain - sum((present[name].mean() * blocks.amounts[name] for name in graded), 0.0)
-    edges = {
-        name: cutoff_edges(present[FEED] + (present[f"{FEED}_{name}"] if name else 0.0), count)
-        for name in material.edges
-    }
-    if not graded:
-        edges = {name: np.union1d(edges[name], before) for name, before in material.edges.items()}
-    above = np.array([blocks.amounts[name].sum(axis=0) > 0 for name in graded], dtype=np.int64).reshape(-1, len(blocks))
-    part = above.T @ (2 ** np.arange(len(graded)))
-    return in_parcels(material, kinds_of(blocks, per_tonne_of(blocks, reduced), list(edges.values()), part), edges)
+    blocks = material.blocks
+    per_tonne = per_tonne_of(blocks, blocks.gain)
+    best, worth = per_tonne.argmax(axis=0), per_tonne.max(axis=0)
+    kind = np.unique(np.column_stack([best, takers_of(blocks), choices]), axis=0, return_inverse=True)[1].ravel()
+    # Bins rise with the mean value per tonne of their blocks, by best process.
+    mean = np.bincount(kind, worth * blocks.feed) / np.bincount(kind, blocks.feed)
+    process = np.zeros(len(mean), dtype=np.int64)
+    process[kind] = best
+    place = np.empty(len(mean), dtype=np.int64)
+    place[np.lexsort((mean, process))] = np.arange(1, len(mean) + 1)
+    return replace(in_parcels(material, place[kind]), edges={})
 
 
-def cutoff_edges(cutoffs: NDArray[np.float64], count: int) -> NDArray[np.float64]:
-    """Returns at most count - 1 of the cut-offs of years, evenly among those that differ."""
-    found = np.unique(np.round(cutoffs[cutoffs > 0], 9))
-    if len(found) < count:
-        return found
-    return (
-        np.unique(found[np.linspace(0, len(found) - 1, count - 1).round().astype(np.int64)]) if count > 1 else found[:0]
-    )
-
-
-def in_parcels(
-    material: Material, kind: NDArray[np.int64], edges: Optional[dict[str, NDArray[np.float64]]] = None
-) -> Material:
+def in_parcels(material: Material, kind: NDArray[np.int64]) -> Material:
     """Returns the material with the blocks of a bench and a bin as a parcel."""
     blocks, kinds = replace(material.blocks, bin=kind), int(kind.max(initial=0))
     used, parcel = np.unique(blocks.bench * (kinds + 1) + kind, return_inverse=True)
     parcels = blocks.merged(parcel, used // (kinds + 1), used % (kinds + 1))
-    return replace(material, parcel=parcel, blocks=blocks, parcels=parcels, edges=edges or material.edges)
+    return replace(material, parcel=parcel, blocks=blocks, parcels=parcels)
 
 
 def per_tonne_of(blocks: Ore, values: NDArray[np.float64]) -> NDArray[np.float64]:
@@ -222,14 +212,18 @@ def kinds_of(
         The part of each block by limited grades.
     """
     best = per_tonne.argmax(axis=0)
-    may = blocks.of(FEED) > 0 if blocks.accepted is None else np.vstack([blocks.of(FEED) > 0, blocks.accepted])
-    takers = may.T @ (2 ** np.arange(len(may)))
     value = np.zeros(len(blocks), dtype=np.int64)
     for process, between in enumerate(edges):
         some = np.flatnonzero(best == process)
         value[some] = np.searchsorted(between, per_tonne[process, some])
-    key = np.stack([best, takers, value, part], axis=1)
+    key = np.stack([best, takers_of(blocks), value, part], axis=1)
     return np.unique(key, axis=0, return_inverse=True)[1].ravel().astype(np.int64) + 1
+
+
+def takers_of(blocks: Ore) -> NDArray[np.int64]:
+    """Returns a number for the set of processes and stockpiles that may take each block."""
+    may = blocks.of(FEED) > 0 if blocks.accepted is None else np.vstack([blocks.of(FEED) > 0, blocks.accepted])
+    return np.asarray(may.T @ (2 ** np.arange(len(may))), dtype=np.int64)
 
 
 def grade_parts(blocks: Ore) -> NDArray[np.int64]:
