@@ -149,10 +149,13 @@ class Pacing:
         values = moves.values
         years, count = self.model.years, len(points)
         best, then = np.zeros(count), np.zeros((years, count), dtype=np.int64)
+        # Moves are by rising first point, so that those from a point are next to each other.
+        starts = np.flatnonzero(np.diff(moves.first, prepend=-1))
+        begins = moves.first[starts]
         for year in range(years - 1, -1, -1):
             gained = values[year] + best[moves.last]
             top = np.full(count, -np.inf)
-            np.maximum.at(top, moves.first, gained)
+            top[begins] = np.maximum.reduceat(gained, starts)
             at = np.flatnonzero(gained >= top[moves.first])
             chosen = np.arange(count)
             chosen[moves.first[at[::-1]]] = moves.last[at[::-1]]
