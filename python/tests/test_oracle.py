@@ -102,8 +102,9 @@ def test_a_plan_is_the_oracles(tmp_path, seed):
     (pitplan.write_pushbacks if with_pushbacks else pitplan.write_shells)(tmp_path / "project.toml", tmp_path / "out")
     folder = tmp_path / "out" / "tables"
     demand_blocks(mine, factors, shells, folder / "blocks.csv")
-    demand_rows(tables.shells(mine, factors, shells), rows_of(folder / "shells.csv"))
-    demand_years(tables.years(mine, factors, shells), rows_of(folder / "years.csv"))
+    expected = tables.Shells(mine, factors, shells)
+    demand_rows(expected.rows(), rows_of(folder / "shells.csv"))
+    demand_years(expected.years(), rows_of(folder / "years.csv"))
     if with_pushbacks:
         demand_rows(tables.pushbacks(mine, shells), rows_of(folder / "pushbacks.csv"))
 
@@ -120,7 +121,7 @@ def test_a_pit_with_its_constraints_and_without_is_the_oracles(tmp_path, seed):
     pitplan.write_pit(tmp_path / "project.toml", folder=tmp_path / "out")
     rows = rows_of(tmp_path / "out" / "tables" / "pits.csv")
     assert [row["fixed_blocks"] for row in rows] == ["kept", "free"]
-    demand_rows([tables.shells(mine, factors, shells)[-1] for shells in (kept, free)], rows)
+    demand_rows([tables.Shells(mine, factors, shells).row(len(factors)) for shells in (kept, free)], rows)
 
 
 @pytest.mark.parametrize("seed", range(20))

@@ -2,7 +2,9 @@
 
 from __future__ import annotations
 
+from dataclasses import dataclass
 from fractions import Fraction
+from functools import cached_property
 from typing import Any, Optional
 
 from .destinations import Amounts, Ore
@@ -41,43 +43,62 @@ def totals(mine: Mine, places: set[Place], factor: Fraction = Fraction(1)) -> Ro
     return row
 
 
-def cases(mine: Mine, factors: list[Fraction], pits: list[set[Place]], number: int, ore: Ore) -> dict[str, list[Year]]:
-    """The years of the shell of a number, from 1, in each case."""
-    pit, rules = pits[number - 1], mine.project["shells"].get("specified")
-    pieces = {"best": pieces_of(mine, pits[:number], ore), "worst": pieces_of(mine, [pit], ore)}
-    if rules:
-        smaller = [pits[factors.index(it)] for it in map(Fraction, rules["pushbacks"]) if it < factors[number - 1]]
-        pieces["specified"] = pieces_of(mine, [*smaller, pit], ore, rules.get("bench_lag", 0))
-    return {case: best_years(mine, it, ore) for case, it in pieces.items()}
+@dataclass
+class Shells:
+    """Nested shells of a mine by rising revenue factor; the years of each are found once for both tables."""
 
+    mine: Mine
+    factors: list[Fraction]
+    pits: list[set[Place]]
 
-def shells(mine: Mine, factors: list[Fraction], pits: list[set[Place]]) -> list[Row]:
-    """A row for each shell."""
-    found, ore = [], Ore(mine, pits[-1])
-    for number, (factor, pit) in enumerate(zip(factors, pits), 1):
-        of_cases = cases(mine, factors, pits, number, ore)
+    @cached_property
+    def ore(self) -> Ore:
+        return Ore(self.mine, self.pits[-1])
+
+    def cases(self, number: int) -> dict[str, list[Year]]:
+        """The years of the shell of a number, from 1, in each case."""
+        if number not in self.found:
+            self.found[number] = {case: best_years(self.mine, it, self.ore) for case, it in self.pieces(number).items()}
+        return self.found[number]
+
+    @cached_property
+    def found(self) -> dict[int, dict[str, list[Year]]]:
+        return {}
+
+    def pieces(self, number: int) -> dict[str, list[Amounts]]:
+        """What is mined one after the other in each case."""
+        mine, pit, rules = self.mine, self.pits[number - 1], self.mine.project["shells"].get("specified")
+        pieces = {"best": pieces_of(mine, self.pits[:number], self.ore), "worst": pieces_of(mine, [pit], self.ore)}
+        if rules:
+            last, pushbacks = self.factors[number - 1], map(Fraction, rules["pushbacks"])
+            smaller = [self.pits[self.factors.index(it)] for it in pushbacks if it < last]
+            pieces["specified"] = pieces_of(mine, [*smaller, pit], self.ore, rules.get("bench_lag", 0))
+        return pieces
+
+    def row(self, number: int) -> Row:
+        """The row of the shell of a number, from 1, in shells.csv."""
+        mine, factor, pit = self.mine, self.factors[number - 1], self.pits[number - 1]
+        of_cases = self.cases(number)
         row = {"revenue_factor": float(factor)} | totals(mine, pit, factor)
         row |= {f"npv_{case}": npv(mine, years) for case, years in of_cases.items()}
         row["years"] = float(len(of_cases["best"]) - 1 + of_cases["best"][-1].length)
         row["value_at_revenue_factor"] = float(sum(value_at(mine, place, factor) for place in pit))
-        row["processed_at_revenue_factor"] = float(
-            sum(mine.blocks[it].feed for it in pit if is_processed(mine, it, factor))
-        )
-        found.append(row)
-    return found
+        processed = sum(mine.blocks[it].feed for it in pit if is_processed(mine, it, factor))
+        return row | {"processed_at_revenue_factor": float(processed)}
 
+    def rows(self) -> list[Row]:
+        return [self.row(number) for number in range(1, 1 + len(self.pits))]
 
-def years(mine: Mine, factors: list[Fraction], pits: list[set[Place]]) -> dict[tuple[str, float, int], Row]:
-    """The rows of years.csv of each shell with material, by case, factor and year."""
-    found: dict[tuple[str, float, int], Row] = {}
-    ore = Ore(mine, pits[-1])
-    for number, (factor, pit) in enumerate(zip(factors, pits), 1):
-        if not amounts_of(mine, pit).get(TOTAL):
-            continue
-        for case, of_case in cases(mine, factors, pits, number, ore).items():
-            for year, row in enumerate(earned(mine, of_case), 1):
-                found[case, float(factor), year] = dict(row)
-    return found
+    def years(self) -> dict[tuple[str, float, int], Row]:
+        """The rows of years.csv of each shell with material, by case, factor and year."""
+        found: dict[tuple[str, float, int], Row] = {}
+        for number, (factor, pit) in enumerate(zip(self.factors, self.pits), 1):
+            if not amounts_of(self.mine, pit).get(TOTAL):
+                continue
+            for case, of_case in self.cases(number).items():
+                for year, row in enumerate(earned(self.mine, of_case), 1):
+                    found[case, float(factor), year] = dict(row)
+        return found
 
 
 def pushbacks(mine: Mine, pits: list[set[Place]]) -> list[Row]:
@@ -90,4 +111,4 @@ def pushbacks(mine: Mine, pits: list[set[Place]]) -> list[Row]:
     return found
 
 
-__all__ = ["Amounts", "Row", "pushbacks", "shells", "totals", "years"]
+__all__ = ["Amounts", "Row", "Shells", "pushbacks", "totals"]
