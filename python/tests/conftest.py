@@ -1,5 +1,6 @@
 """What the tests share: small projects and tables, written where a test may write."""
 
+import gc
 import io
 import os
 import shutil
@@ -91,6 +92,8 @@ def plan_folder(tmp_path):
 def pytest_configure(config):
     """Most tests have small hills at the edge of their models; those of warnings catch them."""
     config.addinivalue_line("filterwarnings", "ignore::pitplan.errors.PlanWarning")
+    # Each third round of the collector walks all objects of all modules and tests: at Python's own thresholds a sixth of the time.
+    gc.set_threshold(20_000, 20, 100)
 
 
 def files_in(folder):
