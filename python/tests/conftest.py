@@ -144,6 +144,25 @@ def without_figures():
 
 
 @pytest.fixture(scope="session", autouse=True)
+def without_workbooks():
+    """Schedules write an empty workbook, since cells take as long as the schedule of a small hill; yields what writes them."""
+    from pitplan.export import xlsx
+
+    write = xlsx.write
+    with pytest.MonkeyPatch.context() as patch:
+        patch.setattr(xlsx, "write", lambda path, sheets: path.write_bytes(b"workbook"))
+        yield write
+
+
+@pytest.fixture
+def with_workbooks(without_workbooks, monkeypatch):
+    """Workbooks have their tables, as for a planner."""
+    from pitplan.export import xlsx
+
+    monkeypatch.setattr(xlsx, "write", without_workbooks)
+
+
+@pytest.fixture(scope="session", autouse=True)
 def highs_here():
     """HiGHS solves integer programmes in the process of the tests, which takes a tenth of the time."""
     from pitplan.scheduling import highs_process

@@ -245,7 +245,7 @@ def test_vtu_has_a_cell_a_block_of_rock_where_the_block_lies(plan_folder):
         assert vtk_to_numpy(mesh.GetCellData().GetArray(name)).tolist() == blocks[name].tolist()
 
 
-def test_a_workbook_has_all_tables_of_the_folder(solved):
+def test_a_workbook_has_all_tables_of_the_folder(solved, with_workbooks):
     openpyxl = pytest.importorskip("openpyxl")
     _, folder = solved
     book = openpyxl.load_workbook(pitplan.write_export(folder, "xlsx"))

@@ -67,7 +67,7 @@ def test_csv_files_keep_the_text(plan_folder, capsys):
         assert "=1+2" in {row["rock"] for row in csv.DictReader(written)}
 
 
-def test_a_workbook_has_them_as_texts(tmp_path):
+def test_a_workbook_has_them_as_texts(tmp_path, with_workbooks):
     openpyxl = pytest.importorskip("openpyxl")
     texts = [*BEGIN, "#N/A", "#REF!", "plain"]
     xlsx.write(tmp_path / "book.xlsx", {"texts": pd.DataFrame({"=head": texts, "npv": range(len(texts))})})

@@ -9,10 +9,12 @@ import pandas as pd
 import pytest
 from conftest import PROJECT, rows
 from helpers.pushbacks import PUSHBACKS, UPRIGHT, pillars, with_pushbacks
+from helpers.verified import UNVERIFIED
 
 import pitplan
 from pitplan import PlanError, load, verify
 from pitplan.cli import main
+from pitplan.export import xlsx
 from pitplan.results.folder import read_record
 from pitplan.scheduling.flow import programme
 
@@ -145,8 +147,8 @@ def test_the_size_of_the_programme_is_told_before_it_is_solved(plan_folder, caps
 
 
 @pytest.fixture(scope="module")
-def written(tmp_path_factory):
-    """A hill in three pushbacks under several limits."""
+def written(tmp_path_factory, without_workbooks):
+    """A hill in three pushbacks under several limits, with the workbook."""
     place = tmp_path_factory.mktemp("scheduled")
     table = rows(
         11,
@@ -159,7 +161,9 @@ def written(tmp_path_factory):
     table.to_csv(place / "blocks.csv", index=False)
     words = "[schedule]\nmining_capacity = 700\nvertical_advance_rate = 2\nramp_up = [0.5, 1]\nmax_metal_per_year = { copper = 2 }\n"
     (place / "project.toml").write_text(with_pushbacks("count = 3", PROJECT) + words)
-    pitplan.write_schedule(place / "project.toml")
+    with pytest.MonkeyPatch.context() as patch:
+        patch.setattr(xlsx, "write", without_workbooks)
+        pitplan.write_schedule(place / "project.toml")
     return place
 
 
@@ -374,7 +378,7 @@ def test_great_amounts_are_right_too(plan_folder):
 def test_blocks_of_half_a_tonne_are_dug_and_counted(plan_folder):
     """Three tonnes in all, of which every half is a block of its own."""
     project = load(plan_folder(pillars(tonnes=lambda i, j, k: 0.5), PUSHBACKS))
-    table, folder = pitplan.write_schedule(project).set_index("method"), project.folder / "schedule"
+    table, folder = pitplan.write_schedule(project, writing=UNVERIFIED).set_index("method"), project.folder / "schedule"
     assert table["tonnes"].tolist() == [3.0] * len(table) and table["unmined_tonnes"].tolist() == [0.0] * len(table)
     assert pd.read_csv(folder / "tables/pushbacks.csv")["blocks"].tolist() == [2, 2, 2] and wrong(folder) == set()
 

@@ -5,11 +5,13 @@ import os
 
 from conftest import PROJECT, rows
 
-from pitplan import verify
+from pitplan import Writing, verify
 from pitplan.commands.answers import Answered, write_tables
 from pitplan.core.layout import FOLDERS, SOLVER
 from pitplan.solver import mine_files
 
+# For runs whose folder the test verifies itself: the same rules need not run twice.
+UNVERIFIED = Writing(verifies=False)
 TEXT = (
     PROJECT.replace(
         "mining_cost = 2\n", "mining_cost = { R = 2, S = 2.5 }\nmining_cost_per_bench = 0.25\ndecimals = 2\n"
