@@ -53,9 +53,9 @@ def figures_in(folder):
     ],
 )
 def test_a_run_without_figures_removes_those_of_an_earlier_run(mine, command, name, drawn, headings):
-    """The figures of shells are drawn with the schedule."""
+    """The figures of shells are drawn with the schedule of pushbacks."""
     folder = mine.parent / "plan" / name
-    with nullcontext() if name else blank_figures():
+    with nullcontext() if name == "schedule" else blank_figures("write"):
         first = command(mine, writing=ONCE)
     page, record = (folder / "report.html").read_text(), json.loads((folder / "plan.json").read_text())
     assert figures_in(folder) == {*drawn.values()} < {*record["files"]} and record["figures"] is True

@@ -14,7 +14,7 @@ from pitplan import PlanError
 from pitplan.blockmodel.grid import Grid
 from pitplan.config.figures import FigureRules
 from pitplan.figures import map_marks, plans_sections, pushbacks, scenarios
-from pitplan.figures.style import ALSO, also_as, panels
+from pitplan.figures.style import ALSO, also_as, finish, panels
 
 METALS = '[[metals]]\nname = "gold"\ncolumn = "au"\nunit = "gram_per_tonne"\nprice = 60\nrecovery = 0.9\n[slopes]\n'
 
@@ -252,20 +252,23 @@ def test_figures_are_written_as_pdf_and_svg_too(project, with_figures, monkeypat
 
 
 def test_a_figure_has_the_same_bytes_each_time_in_each_format(project, tmp_path):
+    """The floor of a pit has an image, lines, texts, a colour bar and marks."""
     plan = pitplan.Plan.from_project(project(""))
     scene_of = plans_sections.scene_of(plan, plan.shells().solution, 1.0)
     written = []
     for name in ("one", "two"):
         (tmp_path / name).mkdir()
+        figure = Figure(figsize=(5, 4), constrained_layout=True)
+        plans_sections.plot_floor(scene_of, figure.subplots())
         with also_as(("pdf", "svg")):
-            plans_sections.write_sections(scene_of, tmp_path / name / "sections.png")
+            finish(figure, tmp_path / name / "floor.png")
         written.append({path.suffix: path.read_bytes() for path in (tmp_path / name).iterdir()})
     assert written[0] == written[1]
     assert written[0][".png"].startswith(b"\x89PNG") and written[0][".pdf"].startswith(b"%PDF-")
     assert b"<svg" in written[0][".svg"][:500]
 
 
-def test_pushbacks_are_drawn_where_the_project_asks_for(project, monkeypatch, with_figures):
+def test_pushbacks_are_drawn_where_the_project_asks_for(project, with_blank_figures, monkeypatch):
     shown = []
     for name in ("write_plans", "write_sections"):
         monkeypatch.setattr(pushbacks, name, lambda scene, path: (shown.append(scene), path.touch()))

@@ -81,10 +81,9 @@ def written(tmp_path_factory):
     table.to_csv(place / "blocks.csv", index=False)
     text = PROJECT.replace("[slopes]\n", GOLD).replace("[economics]", '[economics]\ncurrency = "EUR"') + MORE
     (place / "project.toml").write_text(text)
-    for write in (pitplan.write_sensitivity, pitplan.write_schedule):
-        write(place / "project.toml", writing=pitplan.Writing(figures=True))
     with blank_figures():
-        pitplan.write_shells(place / "project.toml", writing=pitplan.Writing(figures=True))
+        for write in (pitplan.write_sensitivity, pitplan.write_schedule, pitplan.write_shells):
+            write(place / "project.toml", writing=pitplan.Writing(figures=True))
     return place
 
 
