@@ -5,6 +5,7 @@ import pandas as pd
 import pytest
 from conftest import PROJECT, rows
 from helpers.processes import WITH, deposit
+from helpers.verified import UNVERIFIED
 
 import pitplan
 from pitplan import PlanError
@@ -39,7 +40,7 @@ def test_blocks_that_a_leach_accepts_by_hand(plan_folder, text, leached):
         3, 1, 1, cu=lambda i, j, k: [0.18, 0.21, 0.2][i], rock=lambda i, j, k: "RSR"[i], region=lambda i, j, k: "132"[i]
     )
     path = plan_folder(table.assign(must=1), PROJECT + MUST, *WITH, accepting(text))
-    pitplan.write_shells(path)
+    pitplan.write_shells(path, writing=UNVERIFIED)
     blocks, folder = blocks_of(path)
     assert blocks.index[blocks["process"] == "leach"].tolist() == leached
     assert blocks.index[blocks["revenue_leach"] > 0].tolist() == leached
@@ -60,7 +61,7 @@ def test_schedules_keep_to_what_processes_accept(plan_folder):
     more = "[pushbacks]\ncount = 2\n"
     changes = [*WITH, ("mining_cost = 2\n", "mining_cost = 0.3\n"), accepting('{ rock_type = "S", cu = { max = 2 } }')]
     path = plan_folder(deposit(), PROJECT + more, *changes)
-    pitplan.write_schedule(path, folder=path.parent / "plan")
+    pitplan.write_schedule(path, folder=path.parent / "plan", writing=UNVERIFIED)
     flows = pd.read_csv(path.parent / "plan" / "tables/flows.csv")
     leached = flows[flows["destination"] == "leach"]
     assert len(leached) and set(leached["rock"]) == {"S"}

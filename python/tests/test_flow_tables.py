@@ -7,6 +7,7 @@ import pandas as pd
 import pytest
 from conftest import PROJECT, rows
 from helpers.pushbacks import UPRIGHT, with_pushbacks
+from helpers.verified import UNVERIFIED
 
 import pitplan
 from pitplan import PlanError, load, verify
@@ -209,7 +210,7 @@ def test_tonnages_great_and_small_are_right_too(tmp_path, tonnes):
     """Of a million tonnes a block the solver leaves more open than the files' last digit; of one, a tonne is reclaimed at most."""
     text = TEXT.replace("processing_capacity = 100", f"processing_capacity = {tonnes}")
     project = written_to(tmp_path, STOCKED, text, tonnes=lambda i, j, k: tonnes)
-    pitplan.write_schedule(project)
+    pitplan.write_schedule(project, writing=UNVERIFIED)
     piles = pd.read_csv(project.folder / "schedule" / "tables/stockpiles.csv")
     assert 0 < piles["out_tonnes"].sum() / tonnes <= 1 + 1e-6 and wrong(project.folder / "schedule") == set()
 
@@ -219,7 +220,7 @@ def test_thousandths_of_tonnes_that_are_worth_much_are_right_too(tmp_path):
     text = TEXT.replace("processing_capacity = 100", "processing_capacity = 33")
     text = text.replace("price = 8000", "price = 80_000_000")
     project = written_to(tmp_path, STOCKED, text, tonnes=lambda i, j, k: 100 / 3)
-    pitplan.write_schedule(project)
+    pitplan.write_schedule(project, writing=UNVERIFIED)
     assert wrong(project.folder / "schedule") == set()
 
 
@@ -242,7 +243,7 @@ def hill(plan_folder, words, processes=""):
 
 
 def npvs(path):
-    table = pitplan.write_schedule(path).set_index("method")
+    table = pitplan.write_schedule(path, writing=UNVERIFIED).set_index("method")
     assert wrong(path.parent / "plan" / "schedule") == set()
     return table["npv"].to_dict() | {"upper_bound": table["upper_bound"]["lp"]}
 
@@ -297,7 +298,7 @@ def test_minimum_total_material_is_kept(plan_folder, milp):
 
     text = PUSHBACKS.replace("mining_capacity = 200", "mining_capacity = 400")
     path = plan_folder(pillars(), f"{text}[schedule]\nyears = 2\nminimum = {{ total = 290 }}\n{milp}")
-    table = pitplan.write_schedule(path).set_index("method")
+    table = pitplan.write_schedule(path, writing=UNVERIFIED).set_index("method")
     years = pd.read_csv(path.parent / "plan" / "schedule" / "tables/years.csv").set_index("case")
     assert (
         list(table.index) == (["lp", "milp"] if milp else ["lp"]) and wrong(path.parent / "plan" / "schedule") == set()
@@ -316,10 +317,10 @@ def test_a_minimum_that_no_trial_meets_is_left_to_the_integer_programme(plan_fol
 
     monkeypatch.setattr(scheduler, "from_optimum", none)
     with pytest.raises(PlanError, match=r"project.toml: \[schedule\] minimum: no schedule .* set \[schedule\] milp"):
-        pitplan.write_schedule(hill(plan_folder, words))
+        pitplan.write_schedule(hill(plan_folder, words), writing=UNVERIFIED)
     path = hill(plan_folder, f"{words}milp = {{ gap = 0.05, seconds = 60 }}\n")
     assert (
-        pitplan.write_schedule(path)["method"].tolist() == ["milp"]
+        pitplan.write_schedule(path, writing=UNVERIFIED)["method"].tolist() == ["milp"]
         and wrong(path.parent / "plan" / "schedule") == set()
     )
 

@@ -8,6 +8,7 @@ import pandas as pd
 import pytest
 from conftest import PROJECT, rows
 from helpers.turned import turned
+from helpers.verified import UNVERIFIED
 
 import pitplan
 import planaudit
@@ -99,7 +100,7 @@ def ore_hill():
 
 def test_an_answer_is_verified_and_a_wrong_road_is_found(plan_folder):
     path = hauled(plan_folder, ore_hill())
-    pitplan.write_shells(path)
+    pitplan.write_shells(path, writing=UNVERIFIED)
     folder = path.parent / "plan"
     assert [rule.name for rule in planaudit.verify(folder) if rule.name == "haulage"] == ["haulage"]
     blocks = pd.read_csv(folder / "tables/blocks.csv")

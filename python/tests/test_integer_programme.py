@@ -12,6 +12,7 @@ from helpers.benches import THREE, benches_of, demand_diggable, problem_of, rand
 from helpers.programmes import integer_optimum, limits, small
 from helpers.pushbacks import PUSHBACKS, pillars, with_pushbacks
 from helpers.random_tests import examples
+from helpers.verified import UNVERIFIED
 from hypothesis import given, strategies as st
 from scipy.sparse import csr_matrix
 
@@ -93,7 +94,7 @@ def test_a_programme_that_goes_on_when_its_time_is_up_is_ended(highs_apart, monk
 
 def test_it_is_written_as_a_way_of_its_own(plan_folder):
     project = load(plan_folder(pillars(), PUSHBACKS + "[schedule]\nmilp = { gap = 0.001, seconds = 60 }\n"))
-    table = pitplan.write_schedule(project).set_index("method")
+    table = pitplan.write_schedule(project, writing=UNVERIFIED).set_index("method")
     value = 2600 / 1.1 + 1400 / 1.21 + 600 / 1.331
     assert table.index.tolist() == ["rule", "lp", "milp"] and table["npv"]["milp"] == pytest.approx(value, rel=1e-4)
     folder = project.folder / "schedule"

@@ -4,6 +4,7 @@ import pandas as pd
 import pytest
 from conftest import PROJECT, rows
 from helpers.processes import deposit
+from helpers.verified import UNVERIFIED, wrong
 
 import pitplan
 
@@ -16,9 +17,12 @@ def limits_of(folder):
 
 @pytest.fixture
 def scheduled(plan_folder):
+    """Schedules a project, and demands that its folder is right; gives the folder."""
+
     def write(table, more="", *changes):
         path = plan_folder(table, PROJECT + SCHEDULE + more, *changes)
-        pitplan.write_schedule(path, folder=path.parent / "plan")
+        pitplan.write_schedule(path, folder=path.parent / "plan", writing=UNVERIFIED)
+        assert wrong(path.parent / "plan") == set()
         return path.parent / "plan"
 
     return write
@@ -81,25 +85,26 @@ def test_a_binding_head_grade_has_a_price_by_hand(scheduled):
     )
 
 
-@pytest.mark.parametrize("column", ["used", "minimum", "maximum", "utilisation", "shadow_price"])
-def test_a_changed_number_is_found(scheduled, column):
+def test_a_changed_number_is_found(scheduled):
+    """In each column of numbers."""
     changes = [("mining_cost = 2\n", "mining_cost = 0.3\n"), ("processing_capacity = 100", "processing_capacity = 400")]
     folder = scheduled(deposit(), "minimum = { feed = 1 }\nmining_capacity = 20000\n[[periods]]\n", *changes)
-    assert not [rule for rule in pitplan.verify(folder) if rule.differences]
     path = folder / "tables/limits.csv"
     table = pd.read_csv(path)
-    at = table.index[table[column].notna() & (table["limit"] == "feed_tonnes")][0]
-    table.loc[at, column] += 0.01
-    table.to_csv(path, index=False)
-    (rule,) = [rule for rule in pitplan.verify(folder) if rule.differences]
-    assert rule.name == "schedule limits" and "limits.csv: lp, year" in rule.differences[0]
+    for column in ("used", "minimum", "maximum", "utilisation", "shadow_price"):
+        bent = table.copy()
+        at = table.index[table[column].notna() & (table["limit"] == "feed_tonnes")][0]
+        bent.loc[at, column] += 0.01
+        bent.to_csv(path, index=False)
+        (rule,) = [rule for rule in pitplan.verify(folder) if rule.differences]
+        assert rule.name == "schedule limits" and "limits.csv: lp, year" in rule.differences[0], column
 
 
 def test_a_missing_row_is_found(scheduled):
     folder = scheduled(rows(1, 1, 1, cu=lambda i, j, k: 0.8))
     path = folder / "tables/limits.csv"
     pd.read_csv(path).iloc[1:].to_csv(path, index=False)
-    assert "schedule limits" in {rule.name for rule in pitplan.verify(folder) if rule.differences}
+    assert "schedule limits" in wrong(folder)
 
 
 def test_a_share_of_a_material_in_the_feed_is_a_head_grade_of_a_calculated_column(scheduled):
@@ -112,4 +117,3 @@ def test_a_share_of_a_material_in_the_feed_is_a_head_grade_of_a_calculated_colum
     found = limits_of(folder).loc["lp"]
     assert found.loc["grade_is_s_max"]["used"].tolist() == pytest.approx([0.4])
     assert found.loc["feed_tonnes"]["used"].tolist() == pytest.approx([50 + 50 * 2 / 3])
-    assert not [rule for rule in pitplan.verify(folder) if rule.differences]

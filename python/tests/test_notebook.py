@@ -12,6 +12,7 @@ import pytest
 from conftest import ROOT
 from helpers.constraints import FIXED_SECTION, ores_and_fixed, with_section
 from helpers.scenarios import COLUMNS, PRICES, UPRIGHT, pillar
+from helpers.verified import UNVERIFIED
 from matplotlib.figure import Figure
 
 import pitplan
@@ -126,7 +127,7 @@ def test_scenarios_are_given_as_frames(plan_folder):
     """Three blocks above each other: at 8000 a tonne one of three models pays at 0.5 and 1.0, at 12,000 two do at 1.0."""
     pytest.importorskip("distributed", reason="needs the Debian package python3-distributed")
     path = plan_folder(pillar(), PRICES, UPRIGHT)
-    found = pitplan.write_scenarios(path, request=Request(workers=1))
+    found = pitplan.write_scenarios(path, request=Request(workers=1), writing=UNVERIFIED)
     assert found.folder == path.parent / "plan" / "scenarios" and found.start is None
     assert "6 solved (status 0)" in found.notes
     assert found.probability["probability_1.00"].tolist() == [0.5] * 3

@@ -10,6 +10,7 @@ from conftest import PROJECT, rows
 from helpers import block_commands as blocks
 from helpers.processes import WITH, deposit
 from helpers.pushbacks import pillars
+from helpers.verified import UNVERIFIED, wrong
 
 import pitplan
 from pitplan import PlanError
@@ -101,11 +102,14 @@ SCHEDULE = "[pushbacks]\ncount = 2\n[schedule]\nyears = 9\nmining_capacity = 900
 
 @pytest.fixture
 def scheduled(plan_folder):
+    """Schedules a project, and demands that its folder is right; gives the folder."""
+
     def write(*texts, more=""):
         plain = PROJECT.replace("mining_cost = 2\n", "mining_cost = 0.3\n")
         plain = plain.replace("capacity = 100\n", "capacity = 400\nmining_capacity = 2000\n")
         path = plan_folder(deposit(), plain + SCHEDULE + more + "".join(f"[[periods]]\n{it}\n" for it in texts))
-        pitplan.write_schedule(path, folder=path.parent / "plan")
+        pitplan.write_schedule(path, folder=path.parent / "plan", writing=UNVERIFIED)
+        assert wrong(path.parent / "plan") == set()
         return path.parent / "plan"
 
     return write
@@ -124,7 +128,6 @@ def test_a_schedule_keeps_the_limits_of_years_and_pays_their_costs(scheduled):
     assert 100 < found["feed_tonnes"].loc[2] <= 300 + 1e-6 and found["total_tonnes"].max() <= 9000 + 1e-6
     assert found["feed_tonnes"].loc[3] >= 150 - 1e-4
     assert found["fixed_cost"].tolist()[:2] == [50.0, 0.0] and found["capex"].tolist()[:3] == [0, 40, 0]
-    assert not [rule for rule in pitplan.verify(folder) if rule.differences]
 
 
 def test_periods_that_are_as_the_other_sections_change_nothing(scheduled):
@@ -154,15 +157,15 @@ def test_more_capacity_in_a_year_never_lowers_the_bound(scheduled):
     assert bounds == sorted(bounds)
 
 
-@pytest.mark.parametrize("rule", ["limits", "prices"])
-def test_periods_that_are_passed_over_are_found(scheduled, rule):
+def test_periods_that_are_passed_over_are_found(scheduled):
     folder = scheduled("processing_capacity = 100", "processing_capacity = 300\nprices = { copper = 8800 }")
-    text = (folder / "project-as-run.toml").read_text()
-    old, new = {"limits": ("processing_capacity = 300", "processing_capacity = 200"), "prices": ("8800", "8900")}[rule]
-    assert old in text
-    (folder / "project-as-run.toml").write_text(text.replace(old, new))
-    wrong = {it.name for it in pitplan.verify(folder) if it.differences}
-    assert {"limits": "schedule limits", "prices": "material flow"}[rule] in wrong
+    path = folder / "project-as-run.toml"
+    text = path.read_text()
+    other_capacity = ("processing_capacity = 300", "processing_capacity = 200")
+    for (old, new), rule in ((other_capacity, "schedule limits"), (("8800", "8900"), "material flow")):
+        assert old in text
+        path.write_text(text.replace(old, new))
+        assert rule in wrong(folder)
 
 
 def test_limits_of_years_by_hand():
@@ -198,7 +201,7 @@ def test_a_sensitivity_changes_prices_and_capacities_of_periods(plan_folder):
 def test_a_sensitivity_of_a_project_with_periods_is_verified(plan_folder):
     text = periods("processing_capacity = 50\nprices = { copper = 9000 }", "processing_capacity = 150")
     path = plan_folder(column(), text + '[sensitivity]\nparameters = ["price", "capacity"]\nchanges = [-0.1, 0.1]\n')
-    pitplan.write_sensitivity(path)
+    pitplan.write_sensitivity(path, writing=UNVERIFIED)
     assert not [rule for rule in pitplan.verify(path.parent / "plan" / "sensitivity") if rule.differences]
 
 
@@ -277,7 +280,6 @@ def test_a_schedule_by_block_by_hand(plan_folder):
     assert years["fixed_cost"].tolist() == [5, 0, 0] and years["capex"].tolist() == [0, 0, 7]
     plain, _ = blocks.scheduled(plan_folder)
     assert row["npv"] < plain["npv"] and row["npv"] <= row["upper_bound"] + 1e-6
-    assert blocks.wrong(folder) == set()
 
 
 def test_minimums_of_periods_by_block(plan_folder):
@@ -286,7 +288,6 @@ def test_minimums_of_periods_by_block(plan_folder):
     row, folder = blocks.scheduled(plan_folder, words, text=blocks.WIDE)
     years = of_blocks(folder)
     assert years["feed_tonnes"].tolist() == [200, 100] and row["npv"] <= row["upper_bound"] + 1e-6
-    assert blocks.wrong(folder) == set()
     text = (folder / "project-as-run.toml").read_text()
     (folder / "project-as-run.toml").write_text(text.replace("feed = 100", "feed = 101"))
     assert "block limits" in blocks.wrong(folder)

@@ -8,6 +8,7 @@ import pytest
 from conftest import PROJECT, rows
 from helpers.pushbacks import GRADES, UPRIGHT, blocks_of, pillars, with_pushbacks, wrong
 from helpers.random_tests import examples
+from helpers.verified import UNVERIFIED
 from hypothesis import given, strategies as st
 
 import pitplan
@@ -134,7 +135,7 @@ def test_rows_without_rock_join_no_pieces(plan_folder):
     """Two blocks of ore whose cones meet where the table has rows of no tonnes."""
     table = rows(7, 1, 2, cu=lambda i, j, k: 6 * ((i, k) in ((1, 0), (4, 0))), tonnes=lambda i, j, k: 100 * (k == 0))
     project = load(plan_folder(table, with_pushbacks("revenue_factors = [1.0]", PROJECT)))
-    found = pitplan.write_pushbacks(project)
+    found = pitplan.write_pushbacks(project, writing=UNVERIFIED)
     assert found[["blocks", "pieces"]].values.tolist() == [[2, 2]]
     assert wrong(project.folder / "pushbacks") == {}
 

@@ -6,6 +6,7 @@ import numpy as np
 import pandas as pd
 import pytest
 from conftest import PROJECT, rows
+from helpers.verified import UNVERIFIED
 
 import pitplan
 from pitplan import PlanError, crop, verify
@@ -131,7 +132,7 @@ def wrong(path):
 
 def test_the_second_look_agrees(plan_folder, few, without_figures):
     path = plan_folder(deposit(), PROJECT, ANGLES)
-    pitplan.write_shells(path)
+    pitplan.write_shells(path, writing=UNVERIFIED)
     assert wrong(path) == {}
     assert "reach" in {rule.name for rule in verify(path.parent / "plan")}
     assert len(pd.read_csv(path.parent / "plan" / "tables/blocks.csv")) < 1000
@@ -188,5 +189,5 @@ def test_rows_that_are_put_together_and_cells_without_rows(plan_folder, monkeypa
     monkeypatch.setattr(pitplan.blockmodel.grid, "MOST_BLOCKS", 1500)
     table = deposit()
     path = plan_folder(table[~table["name"].isin(["b20-2-0", "b9-8-6"])], PROJECT, ANGLES, change)
-    pitplan.write_shells(path)
+    pitplan.write_shells(path, writing=UNVERIFIED)
     assert wrong(path) == {} and "reach" in {rule.name for rule in verify(path.parent / "plan")}

@@ -11,6 +11,7 @@ from helpers.block_commands import YEARLY, scheduled
 from helpers.block_scenarios import prepared as prepared_by_block, solved_in_turn as solved_by_block
 from helpers.pushbacks import UPRIGHT, pillars, with_pushbacks, wrong
 from helpers.scenarios import COLUMNS, UPRIGHT as UPRIGHT_CHANGE, prepared, solved_in_turn
+from helpers.verified import UNVERIFIED
 
 import pitplan
 from pitplan import PlanError, verify
@@ -263,10 +264,10 @@ def test_pits_and_pushbacks_have_mineralised_waste(plan_folder):
     )
     text = with_pushbacks("revenue_factors = [0.5, 1.0]", UPRIGHT.replace(*CLASS))
     path = plan_folder(table, text + '[constraints]\nmust_mine = "must"\n')
-    pitplan.write_pit(path)
+    pitplan.write_pit(path, writing=UNVERIFIED)
     pits = pd.read_csv(path.parent / "plan/pit/tables/pits.csv")
     assert pits[MINERALISED].tolist() == [200, 200]
-    pitplan.write_pushbacks(path)
+    pitplan.write_pushbacks(path, writing=UNVERIFIED)
     tables = path.parent / "plan/pushbacks/tables"
     pushbacks, shells = pd.read_csv(tables / "pushbacks.csv"), pd.read_csv(tables / "shells.csv")
     assert pushbacks["revenue_factor"].tolist() == shells["revenue_factor"].tolist() == [0.5]
@@ -298,7 +299,7 @@ def test_scenarios_keep_to_the_classes(plan_folder):
     (note,) = [note for note in shared.record["notes"] if "treated as waste" in note]
     assert "100 t that would pay for processing at the largest grades and prices of all scenarios" in note
     solved_in_turn(shared)
-    pitplan.gather(shared.folder)
+    pitplan.gather(shared.folder, writing=UNVERIFIED)
     told = pd.read_csv(shared.folder / "tables/scenarios.csv").set_index(["scenario", "revenue_factor"])
     assert told[MINERALISED].tolist() == [0, 100, 100, 0, 0, 100]
     assert set(told["undiscounted_cash_flow"]) == {12_000 - 1600}

@@ -9,6 +9,7 @@ import pandas as pd
 import pytest
 from conftest import PROJECT, rows
 from helpers.random_tests import examples
+from helpers.verified import UNVERIFIED
 from hypothesis import HealthCheck, given, strategies as st
 
 import pitplan
@@ -202,7 +203,7 @@ def test_all_together_with_missing_blocks(plan_folder, tmp_path, solver):
     table = table[~((table["x"] < 20) & (table["y"] > 20) & (table["z"] < 20))].reset_index(drop=True)
     text = of_processes_text(5, 3, "per_revenue_factor", SETS + MINED, both, ANY_SIZE)
     shared = demand_plans_of_their_own(plan_folder(table, text), table, grades_of(table), solver)
-    pitplan.gather(shared.folder)
+    pitplan.gather(shared.folder, writing=UNVERIFIED)
     assert len(shared.frame) == 18
     said = {rule.name: rule.differences for rule in verify(shared.folder)}
     assert {"reblocked", "as mined", "values", "fixed", "absent"} <= set(said) and not any(said.values())
@@ -223,7 +224,7 @@ def test_rows_of_models_are_those_of_the_table_before_reblocking(plan_folder, ch
     path = plan_folder(table, of_processes_text(11, 2, "per_revenue_factor", MODELS, change, ANY_SIZE))
     write_models(path, table)
     shared = demand_plans_of_their_own(path, table, grades_of(table))
-    pitplan.gather(shared.folder)
+    pitplan.gather(shared.folder, writing=UNVERIFIED)
     assert not [rule.name for rule in verify(shared.folder) if rule.differences]
 
 
@@ -379,7 +380,7 @@ def test_schedules_by_block_of_reblocked_and_mined_models_are_right(plan_folder,
         assert all((found.flows[name] == own.flows[name]).all() for name in (*found.flows, *own.flows))
     for job in shared.jobs:
         assert worker.solve(str(shared.folder), job.number).why == ""
-    pitplan.gather(shared.folder)
+    pitplan.gather(shared.folder, writing=UNVERIFIED)
     said = {rule.name: rule.differences for rule in verify_folder(shared.folder)}
     assert {"reblocked", "as mined", "block value", "one schedule"} <= set(said) and not any(said.values())
 

@@ -7,6 +7,7 @@ import numpy as np
 import pandas as pd
 import pytest
 from conftest import PROJECT, rows
+from helpers.verified import UNVERIFIED
 
 import pitplan
 from pitplan import PlanError, verify
@@ -122,7 +123,7 @@ def wrong(path):
 @pytest.mark.parametrize("text", [f"offsets = {[list(step) for step in LEANING]}", BENCH])
 def test_the_second_look_agrees(plan_folder, text):
     path = plan_folder(deposit(), PROJECT, walls(text))
-    pitplan.write_shells(path)
+    pitplan.write_shells(path, writing=UNVERIFIED)
     assert wrong(path) == set()
     assert (pd.read_csv(path.parent / "plan" / "tables/shells.csv")["blocks"] > 5).all()
 

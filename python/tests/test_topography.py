@@ -6,7 +6,7 @@ import pytest
 from conftest import PROJECT, rows
 from helpers.surveys import drawing, layer, tiff
 from helpers.turned import turned
-from helpers.verified import looked_at
+from helpers.verified import UNVERIFIED, looked_at
 from hypothesis import given, strategies as st
 from scipy.interpolate import LinearNDInterpolator
 
@@ -404,7 +404,7 @@ def test_a_model_too_large_for_the_program(plan_folder, tmp_path, monkeypatch):
     table = rows(24, 20, 9, cu=lambda i, j, k: ore.get((i, j, k), 0))
     plane(tmp_path, lambda x, y: 75, [(-900, -900), (900, -900), (0, 2000)])
     path = plan_folder(table, PROJECT, CUT)
-    pitplan.write_shells(path)
+    pitplan.write_shells(path, writing=UNVERIFIED)
     plan = pitplan.Plan.from_project(path)
     assert plan.left_out > 1000 and plan.table["tonnes"].isin([0, 50, 100]).all()
     assert not wrong(path.parent / "plan")

@@ -9,7 +9,7 @@ import pytest
 from conftest import rows
 from helpers.random_tests import examples
 from helpers.scenarios import COLUMNS, MODELS, PRICES, UPRIGHT, hill, pillar, prepared, solved_in_turn, write_models
-from helpers.verified import TEXT
+from helpers.verified import TEXT, UNVERIFIED
 from helpers.verified_scenarios import SETS, answer_of, bend, simulated
 from hypothesis import HealthCheck, given, strategies as st
 
@@ -234,7 +234,7 @@ def test_models_of_a_folder_are_read_by_id_and_by_place(plan_folder):
     write_models(path, by_place=model[["x", "y", "z", "cu"]].sample(frac=1, random_state=2))
     folder = prepared(path).folder
     solved_in_turn(prepared(path))
-    pitplan.gather(folder)
+    pitplan.gather(folder, writing=UNVERIFIED)
     assert wrong(folder) == set()
     models = read(folder, folder)
     assert [models.grades(scenario.model)[:, 0].tolist() for scenario in models.scenarios] == [
@@ -309,7 +309,7 @@ def test_ten_scenarios_of_more_are_looked_at_evenly(plan_folder):
     sets = "".join(f"[[scenarios.prices]]\ncopper = {price}\n" for price in (8000, 9000, 10_000, 12_000))
     shared = prepared(plan_folder(pillar(), COLUMNS + sets, UPRIGHT))
     solved_in_turn(shared)
-    pitplan.gather(shared.folder)
+    pitplan.gather(shared.folder, writing=UNVERIFIED)
     sample = Verification(read(shared.folder, shared.folder)).sample
     assert [scenario.number for scenario in sample] == [1, 2, 3, 5, 6, 7, 8, 10, 11, 12]
     assert all(
@@ -325,7 +325,7 @@ def test_sets_of_prices_that_name_other_metals_are_kept_apart(plan_folder):
     sets = "[[scenarios.prices]]\ncopper = 8000\n[[scenarios.prices]]\ncopper = 8000\ngold = 90\n"
     shared = prepared(plan_folder(simulated(), TEXT + '[scenarios]\ncolumns = { copper = "cu_*" }\n' + sets))
     solved_in_turn(shared)
-    pitplan.gather(shared.folder)
+    pitplan.gather(shared.folder, writing=UNVERIFIED)
     assert wrong(shared.folder) == set()
 
 
@@ -351,7 +351,7 @@ def test_a_density_and_ground_without_rows_are_looked_at(plan_folder):
     rock = 'density = "dens"\nvolume = "vol"\nmissing_blocks = { tonnes = 90, rock_type = "R", domain = "1" }\nfile ='
     shared = prepared(plan_folder(table[table["name"] != "b0-0-1"], COLUMNS, UPRIGHT, ("file =", rock)))
     solved_in_turn(shared)
-    pitplan.gather(shared.folder)
+    pitplan.gather(shared.folder, writing=UNVERIFIED)
     assert wrong(shared.folder) == set()
     assert pd.read_csv(shared.folder / "tables/scenarios.csv")["value_at_revenue_factor"][0] == 1400 + 20 + 199
 
@@ -414,7 +414,7 @@ def test_random_scenarios_are_right(plan_folder, seed, cutoff, deeper):
             path, **{f"m{number}": table[["x", "y", "z"]].assign(**grades).sample(frac=1, random_state=number)}
         )
     solved_in_turn(prepared(path))
-    pitplan.gather(prepared(path).folder)
+    pitplan.gather(prepared(path).folder, writing=UNVERIFIED)
     assert wrong(path.parent / "plan") == set()
 
 
@@ -437,7 +437,7 @@ def test_blocks_that_come_in_at_factor_1_are_dug(plan_folder):
     changes = [UPRIGHT, ("price = 8000", "price = 8_000_000"), ("[0.5, 1.0, 1.5]", "[0.001, 0.002, 1.0]")]
     shared = prepared(plan_folder(pillar(), COLUMNS, *changes))
     solved_in_turn(shared)
-    pitplan.gather(shared.folder)
+    pitplan.gather(shared.folder, writing=UNVERIFIED)
     assert wrong(shared.folder) == set()
     assert pd.read_csv(shared.folder / "tables/probability.csv")["probability_0.001"].tolist() == pytest.approx(
         [1 / 3] * 3, abs=1e-6
@@ -453,7 +453,7 @@ def test_ore_that_pays_nothing_once_it_is_rounded_is_none(plan_folder):
         plan_folder(table, COLUMNS, UPRIGHT, ("price = 8000", "price = 8000.000001"), ("mining_cost = 2", more))
     )
     solved_in_turn(shared)
-    pitplan.gather(shared.folder)
+    pitplan.gather(shared.folder, writing=UNVERIFIED)
     assert wrong(shared.folder) == set()
     # 90,000 t of copper; a tonne costs 10 to process, and to mine 2.5 and 3 in blocks whose tops are 10 and 20 m below that of the model.
     worth = pd.read_csv(shared.folder / "tables/scenarios.csv").set_index("revenue_factor")["undiscounted_cash_flow"]
@@ -464,7 +464,7 @@ def test_quantiles_of_one_model_are_its_own_amounts(plan_folder):
     """At revenue factor 1.00 its pit has three blocks of 100 t and is worth 4400."""
     shared = prepared(plan_folder(pillar().drop(columns=["sim_2", "sim_3"]), COLUMNS, UPRIGHT))
     solved_in_turn(shared)
-    pitplan.gather(shared.folder)
+    pitplan.gather(shared.folder, writing=UNVERIFIED)
     assert wrong(shared.folder) == set()
     row = pd.read_csv(shared.folder / "tables/quantiles.csv").set_index("revenue_factor").loc[1.0]
     parts = ("mean", "least", "quantile_0.1", "quantile_0.5", "quantile_0.9", "greatest")

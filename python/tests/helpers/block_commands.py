@@ -7,6 +7,7 @@ from pitplan import load, verify
 
 from .processes import WITH
 from .pushbacks import UPRIGHT, pillars
+from .verified import UNVERIFIED
 
 # The mill takes the ore of one pillar a year, and the shovels a pillar.
 YEARLY = UPRIGHT.replace(
@@ -29,8 +30,11 @@ def named_mill():
 
 
 def scheduled(plan_folder, words="", text=YEARLY, table=None):
+    """Schedules a project by block, and demands that its folder is right; gives the row of the schedule, and the folder."""
     project = load(plan_folder(pillars() if table is None else table, text + words))
-    return pitplan.write_block_schedule(project).iloc[0], project.folder / "block_schedule"
+    row, folder = pitplan.write_block_schedule(project, writing=UNVERIFIED).iloc[0], project.folder / "block_schedule"
+    assert wrong(folder) == set()
+    return row, folder
 
 
 def wrong(folder):
