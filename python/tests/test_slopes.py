@@ -16,6 +16,7 @@ from pitplan import PlanError
 from pitplan.config.slopes import Slopes, Wall
 from pitplan.slopes import cone_templates, slope_patterns
 from pitplan.solver import mine_files
+from planaudit.ground import slopes as audited
 
 CUBE, FLAT = (10.0, 10.0, 10.0), (20.0, 20.0, 15.0)
 
@@ -372,3 +373,20 @@ def test_what_all_cones_have_are_the_steps_that_each_has():
     ]
     met = cone_templates.meet([cone_templates.of_steps(steps) for steps in lists])
     assert {tuple(step) for step in cone_templates.steps_of(met).tolist()} == {(0, 0, 1), (1, 1, 1), (0, -1, 1)}
+
+
+@pytest.mark.parametrize("seed", range(6))
+def test_the_greatest_of_cells_above_is_that_of_loops_in_the_audit(seed):
+    """Runs may lead beyond the model, where cells count as 0."""
+    rng = np.random.default_rng(seed)
+    levels, rows, columns = rng.integers(1, 8, 3).tolist()
+    above = rng.integers(0, 200, (levels, rows, columns)).astype(np.uint8)
+    runs = []
+    for _ in range(4):
+        north, west, wide = rng.integers(-9, 10), rng.integers(-9, 10), rng.integers(0, 9)
+        runs.append(audited.Run(int(north), int(west), int(west + wide)))
+    found = audited.greatest(above, runs)
+    for level, row, column in np.ndindex(above.shape):
+        places = {(row + it.north, column + east) for it in runs for east in range(it.west, it.east + 1)}
+        cells = [above[level, r, c] for r, c in places if 0 <= r < rows and 0 <= c < columns]
+        assert found[level, row, column] == max(cells, default=0)

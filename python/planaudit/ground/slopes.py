@@ -6,7 +6,7 @@ import math
 from dataclasses import dataclass
 
 import numpy as np
-from scipy.ndimage import maximum_filter1d
+import pandas as pd
 from scipy.spatial import ConvexHull, QhullError
 
 from planaudit.inputs.answer import NOTHING, UNDUG, Answer
@@ -66,30 +66,39 @@ def runs(inside: np.ndarray) -> list[Run]:
     far, found = len(inside) // 2, []
     for north, row in enumerate(inside):
         edges = np.flatnonzero(np.diff(np.concatenate([[0], row.astype(np.int8), [0]])))
-        found += [Run(north - far, west - far, east - 1 - far) for west, east in zip(edges[::2], edges[1::2])]
+        found += [Run(north - far, west - far, east - 1 - far) for west, east in edges.reshape(-1, 2).tolist()]
     return found
 
 
-def latest(above: np.ndarray, run: Run) -> np.ndarray:
-    """Returns for each cell the largest value in a run of cells above it; cells outside the model count as 0."""
+def ranks_of(dug: np.ndarray) -> np.ndarray:
+    """Returns the rank of each value among all, from 0 for NOTHING, as the smallest type that holds it."""
+    values = np.sort(pd.unique(np.append(dug.ravel(), NOTHING)))
+    return np.searchsorted(values, dug).astype(np.min_scalar_type(len(values)))
+
+
+def greatest(above: np.ndarray, inside: list[Run]) -> np.ndarray:
+    """Returns for each cell the largest value in runs of cells above it; cells outside the model count as 0."""
     levels, rows, columns = above.shape
-    found = np.zeros(above.shape, dtype=above.dtype)
-    to = slice(max(0, -run.north), rows + min(0, -run.north))
-    of = slice(max(0, run.north), rows + min(0, run.north))
-    if to.start >= to.stop:
-        return found
-    wide, margin = run.east - run.west + 1, max(abs(run.west), abs(run.east)) + 1
-    # np.pad takes longer than the filter on small levels.
-    padded = np.zeros((levels, to.stop - to.start, columns + 2 * margin), dtype=above.dtype)
-    padded[:, :, margin : margin + columns] = above[:, of]
-    first = margin + run.west + wide // 2
-    found[:, to] = maximum_filter1d(padded, wide, axis=2, mode="constant", cval=0)[:, :, first : first + columns]
+    deep = max(abs(run.north) for run in inside)
+    far = max(max(abs(run.west), abs(run.east)) for run in inside)
+    padded = np.zeros((levels, rows + 2 * deep, columns + 2 * far), dtype=above.dtype)
+    padded[:, deep : deep + rows, far : far + columns] = above
+    # The largest value of one, two, four .. cells from each on, two of which cover a run.
+    powers, found = [padded], np.zeros_like(above)
+    while 2 ** len(powers) <= max(run.east - run.west + 1 for run in inside):
+        half = 2 ** (len(powers) - 1)
+        powers.append(np.maximum(powers[-1][:, :, :-half], powers[-1][:, :, half:]))
+    for run in inside:
+        number = (run.east - run.west + 1).bit_length() - 1
+        lines = powers[number][:, deep + run.north : deep + run.north + rows]
+        for first in {run.west, run.east - 2**number + 1}:
+            np.maximum(found, lines[:, :, far + first : far + first + columns], out=found)
     return found
 
 
 def verify(answer: Answer) -> Rule:
     """Verifies that no shell leaves a block with tonnes, or unknown ground, in the whole cone of a block that it mines."""
-    dug, entry = answer.dug, answer.entries
+    dug, entry, ranks = answer.dug, answer.entries, ranks_of(answer.dug)
     wrong = np.zeros(answer.shape, dtype=bool)
     for number, wall in enumerate(answer.project.slopes.domains):
         mine = (entry == number) & (dug != UNDUG) & (dug != NOTHING)
@@ -107,8 +116,7 @@ def verify(answer: Answer) -> Rule:
                 slice(max(0, it.start - reach * (axis > 0)), it.stop + reach * (axis > 0))
                 for axis, it in enumerate(below)
             )
-            part = dug[:-up][wide]
-            standing = np.maximum.reduce([latest(part, run) for run in inside]) > dug[up:][wide]
+            standing = greatest(ranks[:-up][wide], inside) > ranks[up:][wide]
             wrong[up:][wide] |= standing & mine[up:][wide]
     return rule("walls", holds(answer), *told(answer, wrong))
 
@@ -164,13 +172,13 @@ def needed_by(answer: Answer, blocks: np.ndarray) -> np.ndarray:
     entries = answer.entries
     walls, turn = answer.project.slopes.domains, answer.azimuth
     cones = [[runs(cone(wall, answer.size, up, turn)) for up in range(1, answer.levels(wall) + 1)] for wall in walls]
+    back = [[[Run(-it.north, -it.east, -it.west) for it in inside] for inside in of_wall] for of_wall in cones]
     for level in range(answer.shape[0] - 1, 0, -1):
-        for number, of_wall in enumerate(cones):
+        for number, of_wall in enumerate(back):
             mine = found[level] & (entries[level] == number)
             for up, inside in enumerate(of_wall[:level] if mine.any() else [], 1):
-                for run in inside:
-                    back = Run(-run.north, -run.east, -run.west)
-                    found[level - up] |= latest(mine[None].astype(np.int8), back)[0] > 0
+                if inside:
+                    found[level - up] |= greatest(mine[None].astype(np.uint8), inside)[0] > 0
     return found
 
 
