@@ -2,7 +2,10 @@
 
 from __future__ import annotations
 
+import math
+from collections.abc import Callable, Mapping
 from dataclasses import dataclass
+from typing import Any
 
 # The most differences of a rule that are reported.
 TOLD = 10
@@ -31,3 +34,15 @@ class Rule:
 
 def rule(name: str, holds: str, differences: list[str], count: int | None = None) -> Rule:
     return Rule(name, holds, tuple(differences[:TOLD]), len(differences) if count is None else count)
+
+
+def unlike(
+    where: str, said: Mapping[str, Any], due: Mapping[str, float], slack: Callable[[str, float], float]
+) -> list[str]:
+    """Returns the amounts that differ by more than `slack` gives for a name and an amount; nan is equal to nan."""
+    found = []
+    for name, amount in due.items():
+        there = float(said[name])
+        if not (abs(there - amount) <= slack(name, amount) or math.isnan(there) and math.isnan(amount)):
+            found.append(f"{where}: {name} {there:.12g} for {amount:.12g}")
+    return found

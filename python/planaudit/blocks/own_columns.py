@@ -19,10 +19,9 @@ def unlike(answer: Answer) -> tuple[list[str], int]:
         if name not in answer.own:
             return [f"the file of blocks has no column {name}"], 1
         said, due = answer.own[name].to_numpy(), answer.rows[name].to_numpy()
-        if due.dtype == object:
-            off = np.flatnonzero(said != due)
-        else:
-            off = np.flatnonzero(~np.isclose(said, due, rtol=DIGITS, atol=0.0))
+        off = np.flatnonzero(said != due)
+        if due.dtype != object:
+            off = off[~np.isclose(said[off], due[off], rtol=DIGITS, atol=0.0)]
         differences += [f"{answer.called(row)}: {name} {said[row]} for {due[row]}" for row in off[:TOLD]]
         count += len(off)
     return differences, count

@@ -2,9 +2,6 @@
 
 from __future__ import annotations
 
-import numpy as np
-import pandas as pd
-
 from planaudit.inputs.project import Project
 from planaudit.money.prices import converted
 
@@ -29,22 +26,6 @@ def years_of_prices(project: Project) -> int:
     """Returns the number of years until prices stay as they are."""
     listed = max((len(metal.prices) for metal in project.metals), default=0)
     return max(1, listed, sum(period.years for period in project.shells.periods))
-
-
-def more_by_prices(project: Project, rows: pd.DataFrame) -> np.ndarray:
-    """Returns the gain of each row, which has a year and metals, by the prices of its year."""
-    more = np.zeros(len(rows))
-    for year in rows["year"].unique():
-        mine = (rows["year"] == year).to_numpy()
-        for name, premium in premiums(project, int(year)).items():
-            more[mine] += premium * rows[name].to_numpy()[mine]
-    return more
-
-
-def most_premium(project: Project) -> float:
-    """Returns the sum over metals of the largest absolute gain per unit in any year."""
-    years = range(1, 1 + years_of_prices(project))
-    return sum(max(abs(premiums(project, year)[name]) for year in years) for name in premiums(project, 1))
 
 
 def fixed_cost(project: Project, year: int) -> float:

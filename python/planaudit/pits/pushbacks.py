@@ -9,7 +9,7 @@ from planaudit.ground import slopes as walls
 from planaudit.inputs.answer import Answer
 from planaudit.pits import mineralised, pushback_widths, sums
 from planaudit.revenue_factors import BASE_PRICE, factor_text, factor_texts
-from planaudit.rules import TOLD, Rule, rule
+from planaudit.rules import TOLD, Rule, rule, unlike
 
 CENT = 0.01
 
@@ -90,51 +90,25 @@ def verify_sums(answer: Answer) -> Rule:
     """Verifies blocks, tonnes, grades, ratios, metal and cash flow of each pushback."""
     assert answer.pushbacks is not None
     differences: list[str] = []
-    pushback, ore = answer.said["pushback"].to_numpy(), answer.ore
-    for number, said in answer.pushbacks.iterrows():
-        mine, up_to = pushback == number, (pushback > 0) & (pushback <= number)
-        lost = answer.worths[sums.within(answer, float(said["revenue_factor"]))].sum() - answer.worths[up_to].sum()
-        later = (
-            {"deferred_value": 0.0, "value_lost_to_width": lost}
-            if number == answer.pushbacks.index[-1]
-            else {"deferred_value": lost, "value_lost_to_width": 0.0}
-        )
-        for name, amount in later.items():
-            if not np.isclose(said[name], amount, rtol=1e-9, atol=CENT):
-                differences.append(f"pushback {number}: {name} {said[name]:.10g} for {amount:.10g}")
+    pushback, count = answer.said["pushback"].to_numpy(), len(answer.pushbacks)
+    group = np.where((pushback > 0) & (pushback <= count), pushback - 1, count)
+    whole, more = sums.added(answer, group, count), np.bincount(group, answer.worths - answer.earned, count + 1)
+    until = whole[sums.CASH].cumsum()
+    for number, said in zip(answer.pushbacks.index.tolist(), answer.pushbacks.to_dict("records")):
+        place = min(max(int(number), 1), count) - 1
+        lost = float(answer.worths[sums.within(answer, said["revenue_factor"])].sum() - until[place])
+        is_last = number == answer.pushbacks.index[-1]
+        due = {"deferred_value": 0.0 if is_last else lost, "value_lost_to_width": lost if is_last else 0.0}
         if answer.project.pushbacks and answer.project.pushbacks.mining_cost_added:
-            added, told = float((answer.worths - answer.earned)[mine].sum()), said.get("mining_cost_added", np.nan)
-            if not abs(told - added) <= 1e-9 * abs(added) + CENT:
-                differences.append(f"pushback {number}: mining_cost_added {told:.10g} for {added:.10g}")
-        gross = float(np.abs(answer.worths[mine]).sum())
-        for name, amount in of_blocks(answer, mine, mine & ore).items():
-            slack = 0.6 * sums.smallest(name) + (1e-12 * gross if name == "undiscounted_cash_flow" else 0.0)
-            if not np.isclose(said[name], amount, rtol=1e-9, atol=slack, equal_nan=True):
-                differences.append(f"pushback {number}: {name} {said[name]:.10g} for {amount:.10g}")
+            due["mining_cost_added"] = float(more[place])
+            said = {"mining_cost_added": np.nan, **said}
+        where, mine = f"pushback {number}", pushback == number
+        differences += unlike(where, said, due, lambda _, amount: 1e-9 * abs(amount) + CENT)
+        own = sums.with_ratios({name: float(amounts[place]) for name, amounts in whole.items()})
+        gross = own.pop(sums.GROSS)
+        differences += unlike(where, said, own | mineralised.tonnes_in(answer, mine), sums.slack_of(gross))
     return rule(
         "pushbacks",
         "blocks, tonnes, grades, strip ratios, metal and cash flow of each pushback are the sums over its blocks",
         differences,
     )
-
-
-def of_blocks(answer: Answer, mine: np.ndarray, ore: np.ndarray) -> dict[str, float]:
-    """Returns the sums over the blocks of a pushback; `ore` marks those that are processed."""
-    tonnes = answer.tonnes
-    of_ore, of_all, in_situ = answer.feed[ore].sum(), tonnes[mine].sum(), tonnes[ore].sum()
-    found = {
-        "blocks": np.count_nonzero(tonnes[mine] > 0),
-        "tonnes": of_all,
-        "feed_tonnes": of_ore,
-        "in_situ_ore_tonnes": in_situ,
-        "waste_tonnes": tonnes[mine & ~answer.ore].sum(),
-        **mineralised.tonnes_in(answer, mine),
-        "strip_ratio": (of_all - in_situ) / in_situ if in_situ else np.nan,
-        "undiscounted_cash_flow": answer.worths[mine].sum(),
-    }
-    found |= {name: feed[mine].sum() for name, feed in answer.feeds.items()}
-    for metal in answer.project.metals:
-        content = answer.undiluted[ore] @ answer.rows[metal.column].to_numpy()[ore]
-        found[f"head_grade_{metal.name}"] = content / of_ore if of_ore else np.nan
-        found[f"recovered_{metal.name}"] = answer.quantities[metal.name][ore].sum()
-    return {name: float(amount) for name, amount in found.items()}

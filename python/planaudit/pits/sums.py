@@ -2,6 +2,8 @@
 
 from __future__ import annotations
 
+import math
+from collections.abc import Callable
 from decimal import Decimal
 
 import numpy as np
@@ -9,28 +11,33 @@ import numpy as np
 from planaudit.inputs.answer import Answer
 from planaudit.pits import mineralised
 from planaudit.revenue_factors import BASE_PRICE, PER_MILLE, factor_text, per_mille
-from planaudit.rules import TOLD, Rule, rule
+from planaudit.rules import TOLD, Rule, rule, unlike
 
+CASH, GROSS = "undiscounted_cash_flow", "gross"
 # The limits up to which floats and int64 hold every whole number.
 EXACT_WHOLE, MOST_WHOLE = 2**53, 2**63
 
 
 def verify(answer: Answer) -> Rule:
     """Verifies tonnes, grades, ratios, metal and cash flow of each shell."""
-    differences: list[str] = []
-    for factor in answer.shells.index:
-        # A difference of large gains and costs has their absolute error.
-        gross = float(np.abs(answer.worths[within(answer, float(factor))]).sum())
-        for name, amount in sums(answer, float(factor)).items():
-            said = float(answer.shells[name][factor])
-            slack = 0.6 * smallest(name) + (1e-12 * gross if name == "undiscounted_cash_flow" else 0.0)
-            if not np.isclose(said, amount, rtol=1e-9, atol=slack, equal_nan=True):
-                differences.append(f"revenue factor {factor_text(factor)}: {name} {said:.10g} for {amount:.10g}")
+    said = dict(zip(answer.shells.index, answer.shells.to_dict("records")))
+    differences = []
+    for factor, due in zip(answer.shells.index, of_shells(answer)):
+        differences += unlike(f"revenue factor {factor_text(factor)}", said[factor], due, slack_of(due.pop(GROSS)))
     return rule(
         "shells",
         "blocks, tonnes, grades, strip ratios, metal and cash flow of each shell are the sums over its blocks",
         differences,
     )
+
+
+def slack_of(gross: float) -> Callable[[str, float], float]:
+    """Returns the tolerance of an amount in shells.csv; a difference of large gains and costs has the error of these."""
+
+    def slack(name: str, amount: float) -> float:
+        return 0.6 * smallest(name) + 1e-9 * abs(amount) + (1e-12 * gross if name == CASH else 0.0)
+
+    return slack
 
 
 def smallest(name: str) -> float:
@@ -44,28 +51,49 @@ def within(answer: Answer, factor: float) -> np.ndarray:
     return (first > 0) & (first <= factor)
 
 
-def sums(answer: Answer, factor: float) -> dict[str, float]:
-    inside = within(answer, factor)
-    ore, tonnes = inside & answer.ore, answer.tonnes
-    processed = answer.said["process_revenue_factor"].to_numpy()
-    of_ore, of_all, in_situ = answer.feed[ore].sum(), tonnes[inside].sum(), tonnes[ore].sum()
-    found = {
-        "blocks": np.count_nonzero(inside & (tonnes > 0)),
-        "tonnes": of_all,
-        "feed_tonnes": of_ore,
-        "in_situ_ore_tonnes": in_situ,
-        "waste_tonnes": tonnes[inside & ~answer.ore].sum(),
-        **mineralised.tonnes_in(answer, inside, factor),
-        "strip_ratio": (of_all - in_situ) / in_situ if in_situ else np.nan,
-        "processed_at_revenue_factor": answer.feed[(processed > 0) & (processed <= factor)].sum(),
-        "undiscounted_cash_flow": answer.worths[inside].sum(),
-    }
-    found |= {name: feed[inside].sum() for name, feed in answer.feeds.items()}
+def of_shells(answer: Answer) -> list[dict[str, float]]:
+    """Returns the amounts of each shell of `answer.shells`, and its absolute cash flow as GROSS."""
+    factors, feed = answer.shells.index.to_numpy(dtype=float), answer.feed
+    first, processed = (answer.said[name].to_numpy() for name in ("revenue_factor", "process_revenue_factor"))
+    rising = np.sort(factors)
+    found = {name: amounts.cumsum() for name, amounts in added(answer, number_in(rising, first), len(rising)).items()}
+    later = number_in(rising, processed)
+    found["processed_at_revenue_factor"] = np.bincount(later, feed, len(rising) + 1)[: len(rising)].cumsum()
+    place = {factor: number for number, factor in enumerate(rising.tolist())}
+    return [
+        with_ratios({name: float(amounts[place[factor]]) for name, amounts in found.items()})
+        | mineralised.tonnes_in(answer, within(answer, factor), factor)
+        for factor in factors.tolist()
+    ]
+
+
+def number_in(rising: np.ndarray, factor: np.ndarray) -> np.ndarray:
+    """Returns for each block the number of the first of rising factors that is not below its own; for a factor of 0 their number."""
+    return np.where(factor > 0, np.searchsorted(rising, factor), len(rising))
+
+
+def added(answer: Answer, group: np.ndarray, count: int) -> dict[str, np.ndarray]:
+    """Returns the sums over the blocks of each group, by the number of the group from 0; blocks of other numbers are passed over."""
+    ore, tonnes, worths = answer.ore, answer.tonnes, answer.worths
+
+    def summed(amounts: np.ndarray) -> np.ndarray:
+        return np.bincount(group, amounts, count + 1)[:count]
+
+    found = {"blocks": tonnes > 0, "tonnes": tonnes, "feed_tonnes": np.where(ore, answer.feed, 0.0)}
+    found |= {"in_situ_ore_tonnes": np.where(ore, tonnes, 0.0), "waste_tonnes": np.where(ore, 0.0, tonnes)}
+    found |= {CASH: worths, GROSS: np.abs(worths), **answer.feeds}
+    undiluted = np.where(ore, answer.undiluted, 0.0)
     for metal in answer.project.metals:
-        content = answer.undiluted[ore] @ answer.rows[metal.column].to_numpy()[ore]
-        found[f"head_grade_{metal.name}"] = content / of_ore if of_ore else np.nan
-        found[f"recovered_{metal.name}"] = answer.quantities[metal.name][ore].sum()
-    return {name: float(amount) for name, amount in found.items()}
+        found[f"head_grade_{metal.name}"] = undiluted * answer.rows[metal.column].to_numpy()
+        found[f"recovered_{metal.name}"] = np.where(ore, answer.quantities[metal.name], 0.0)
+    return {name: summed(amounts) for name, amounts in found.items()}
+
+
+def with_ratios(found: dict[str, float]) -> dict[str, float]:
+    """Returns sums with the strip ratio, and head grades in place of the contents of ore."""
+    feed, in_situ = found["feed_tonnes"], found["in_situ_ore_tonnes"]
+    grades = {name: it / feed if feed else math.nan for name, it in found.items() if name.startswith("head_grade_")}
+    return found | grades | {"strip_ratio": (found["tonnes"] - in_situ) / in_situ if in_situ else math.nan}
 
 
 def verify_worth(answer: Answer) -> Rule:

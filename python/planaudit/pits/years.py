@@ -13,7 +13,7 @@ from planaudit.money.yearly_flows import Amounts
 from planaudit.pits.capacities import capacities_by_year, mining_by_year
 from planaudit.pits.cases import BEST, CENT, Benches, Pit, cases_of, pits_of
 from planaudit.revenue_factors import factor_text
-from planaudit.rules import Rule, rule
+from planaudit.rules import Rule, rule, unlike
 
 # By case and revenue factor.
 Pits = dict[tuple[str, float], Pit]
@@ -90,11 +90,13 @@ def verify_npv(answer: Answer, pits: Pits) -> Rule:
     differences: list[str] = []
     for factor in answer.shells.index:
         best = pits[BEST, float(factor)]
-        amounts = {f"npv_{case}": pits[case, float(factor)].npv for case in cases_of(answer.project)}
-        for name, amount in {**amounts, "years": best.life}.items():
-            said = float(answer.shells[name][factor])
-            if not abs(said - amount) <= (1e-5 if name == "years" else best.slack) + 1e-9 * abs(amount):
-                differences.append(f"revenue factor {factor_text(factor)}: {name} {said:.12g} for {amount:.12g}")
+        due = {f"npv_{case}": pits[case, float(factor)].npv for case in cases_of(answer.project)} | {"years": best.life}
+        said = {name: answer.shells[name][factor] for name in due}
+
+        def slack(name: str, amount: float, of_npv: float = best.slack) -> float:
+            return (1e-5 if name == "years" else of_npv) + 1e-9 * abs(amount)
+
+        differences += unlike(f"revenue factor {factor_text(factor)}", said, due, slack)
     return rule("years", "the NPVs follow from them", differences)
 
 

@@ -23,7 +23,7 @@ from planaudit.inputs.answer import Answer
 from planaudit.inputs.kept_arrays import read_arrays
 from planaudit.inputs.tables import TABLES
 from planaudit.money.weighing import at_price
-from planaudit.rules import TOLD, Rule, rule
+from planaudit.rules import TOLD, Rule, rule, unlike
 from planaudit.schedules.best_ore import most_earned
 from planaudit.schedules.discounts import discount
 from planaudit.schedules.limits import limits_of
@@ -128,18 +128,18 @@ class Schedules:
 
     def values(self) -> list[Rule]:
         """Verifies amounts and NPV of every schedule, by its scenario, and the tables with them."""
-        folder, own, dug = self.whole.folder, [], []
-        total, rows = pd.DataFrame(), dict[int, Row]()
+        folder, dug = self.whole.folder, []
+        own, total, rows = list[str](), pd.DataFrame(), dict[int, Row]()
         for scenario in folder.scenarios:
             kept = Kept.of(scenario.file) if scenario.file.is_file() else None
             held = self.held(scenario, (self.one.year > 0) | (kept is not None and kept.year > 0))
             total = held if total.empty else total + held
             if kept is not None:
                 rows[scenario.number] = kept.row
-                own += [f"{scenario.label}: {said}" for said in self.unlike(held, kept)]
+                own += self.differences(scenario.label, held, kept)
             dug.append(self.dug(held))
         mean = total / len(dug)
-        own += [f"the common schedule, as planned: {said}" for said in self.unlike(mean, self.one)]
+        own += self.differences("the common schedule, as planned", mean, self.one)
         planned = np.bincount(self.one.year, mean[ORE] * self.one.share, minlength=1)[1:]
         tables = Tables(self, dug, planned, rows)
         words = f"{len(folder.answered):,} schedules and the common one, at mean block values, keep limits, "
@@ -164,12 +164,12 @@ class Schedules:
             whole_columns[name][is_dug] = amounts
         return pd.DataFrame(whole_columns)
 
-    def unlike(self, held: pd.DataFrame, kept: Kept) -> Iterator[str]:
+    def differences(self, label: str, held: pd.DataFrame, kept: Kept) -> Iterator[str]:
         """Yields differences of a schedule: limits, upper bound, amounts and NPV."""
         whole = (ROCK, "mining")
         milled = pd.DataFrame({name: held[name] if name in whole else held[name] * kept.share for name in held})
         sums = milled.groupby(kept.year).sum().drop(index=0, errors="ignore")
-        yield from self.above_limits(sums)
+        yield from (f"{label}: {said}" for said in self.above_limits(sums))
         cash = sums["gain"] - sums["mining"]
         value, bound = (
             float(sum(amount * discount(self.ground, int(year)) for year, amount in cash.items())),
@@ -182,11 +182,13 @@ class Schedules:
             "optimality_gap": (bound - value) / abs(bound) if bound else 0.0,
         }
         expected |= {name: sums[name].sum() for name in sums if name == ORE or name.startswith("recovered_")}
-        for name, amount in expected.items():
-            if abs(kept.row[name] - amount) > (SLIGHT if name == "optimality_gap" else CENT) + 1e-9 * abs(amount):
-                yield f"{name} {kept.row[name]:.12g} for {amount:.12g}"
+
+        def slack(name: str, amount: float) -> float:
+            return (SLIGHT if name == "optimality_gap" else CENT) + 1e-9 * abs(amount)
+
+        yield from unlike(label, kept.row, expected, slack)
         if value > bound + CENT + 1e-9 * abs(bound):
-            yield f"value {value:.12g} is above bound {bound:.12g}"
+            yield f"{label}: value {value:.12g} is above bound {bound:.12g}"
 
     def above_limits(self, sums: pd.DataFrame) -> Iterator[str]:
         """Yields the years of a schedule that exceed a limit."""
@@ -301,9 +303,7 @@ class Tables:
         if self.rows["scenario"].tolist() != [scenario.number for scenario in self.scenarios]:
             return [f"{TABLE}: has rows of scenarios {self.rows['scenario'].tolist()[:TOLD]} and so on"]
         rows = self.rows.set_index("scenario")
-        found = [
-            f"{TABLE}: {it.label}: {said}" for it in self.scenarios for said in self.unlike_row(rows.loc[it.number], it)
-        ]
+        found = [said for it in self.scenarios for said in self.unlike_row(rows.loc[it.number], it)]
         for scenario in self.scenarios:
             years = self.years[self.years["scenario"] == scenario.number]
             heads: dict[str, str | float] = {
@@ -330,12 +330,12 @@ class Tables:
         own = self.kept.get(scenario.number, {})
         expected |= own or dict.fromkeys(("npv", "upper_bound", "optimality_gap"), math.nan)
         if (row["status"] == "solved") != bool(own) or row["realisation"] != scenario.model.name:
-            yield f"status {row['status']!r} of model {row['realisation']}"
-        for name, amount in expected.items():
-            if not np.isclose(
-                row[name], amount, rtol=1e-9, atol=1e-9 if name == "optimality_gap" else CENT, equal_nan=True
-            ):
-                yield f"{name} {row[name]:.12g} for {amount:.12g}"
+            yield f"{TABLE}: {scenario.label}: status {row['status']!r} of model {row['realisation']}"
+
+        def slack(name: str, amount: float) -> float:
+            return (1e-9 if name == "optimality_gap" else CENT) + 1e-9 * abs(amount)
+
+        yield from unlike(f"{TABLE}: {scenario.label}", row, expected, slack)
 
     def unlike_blocks(self) -> list[str]:
         """Returns differences of years and shares of blocks from the common schedule."""
@@ -364,7 +364,7 @@ class Tables:
             said = {
                 name: {word: float(mine[f"{name}_{word}"].iloc[0]) for word in spread(rows[name])} for name in VALUES
             }
-            found += [f"{QUANTILES}: {prices}: {difference}" for difference in unlike_spreads(said, rows)]
+            found += unlike_spreads(f"{QUANTILES}: {prices}", said, rows)
         return found
 
     def unlike_record(self) -> Iterator[str]:
@@ -382,20 +382,14 @@ class Tables:
             f"{RECORD}: {name} {told[name]} for {value}" for name, value in expected.items() if told[name] != value
         )
         known = float(solved["upper_bound"].mean() - solved["common_npv"].mean())
-        amounts = {
-            "npv_as_planned": one["npv"],
-            "upper_bound_as_planned": one["upper_bound"],
-            "perfect_information": known,
-        }
-        for name, amount in amounts.items():
-            if not abs(told[name] - amount) <= CENT + 1e-8 * abs(one["upper_bound"]):
-                yield f"{RECORD}: {name} {told[name]:.12g} for {amount:.12g}"
-        yield from (f"{RECORD}: {difference}" for difference in unlike_spreads(told, solved))
+        due = {"npv_as_planned": one["npv"], "upper_bound_as_planned": one["upper_bound"]}
+        due |= {"perfect_information": known}
+        yield from unlike(RECORD, told, due, lambda *_: CENT + 1e-8 * abs(one["upper_bound"]))
+        yield from unlike_spreads(RECORD, told, solved)
 
 
-def unlike_spreads(said: dict[str, Any], rows: pd.DataFrame) -> Iterator[str]:
+def unlike_spreads(where: str, said: dict[str, Any], rows: pd.DataFrame) -> Iterator[str]:
     """Yields differences of the statistics of NPVs, bounds and the common schedule."""
     for name in VALUES:
-        for word, amount in spread(rows[name]).items():
-            if not abs(said[name][word] - amount) <= CENT + 1e-9 * abs(amount):
-                yield f"{name}_{word} {said[name][word]:.12g} for {amount:.12g}"
+        told, due = ({f"{name}_{word}": it for word, it in of.items()} for of in (said[name], spread(rows[name])))
+        yield from unlike(where, told, due, lambda _, amount: CENT + 1e-9 * abs(amount))

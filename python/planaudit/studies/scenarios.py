@@ -25,7 +25,7 @@ from planaudit.inputs.tables import TABLES
 from planaudit.money.weighing import weighed
 from planaudit.pits import mineralised
 from planaudit.revenue_factors import factor_text, factor_texts
-from planaudit.rules import TOLD, Rule, rule
+from planaudit.rules import TOLD, Rule, rule, unlike
 from planaudit.studies import cases
 from planaudit.studies.realisations import QUANTILES, SCENARIOS, Scenario, Simulated, Told, read
 from planaudit.studies.spreads import spread
@@ -308,13 +308,10 @@ def unlike_quantiles(folder: Simulated, tables: list[tuple[Scenario, pd.DataFram
 def unlike_spread(rows: pd.DataFrame, models: list[Any], what: str) -> list[str]:
     if len(rows) != 1 or rows["realisations"].iloc[0] != len(models):
         return [f"{what}: has {len(rows)} rows, and there are {len(models)} realisations"]
-    found = []
+    found: list[str] = []
     more = [name for name in models[0].index if name.startswith("recovered_") or name == mineralised.NAME]
     for name in [*AMOUNTS, *more]:
-        expected = spread(model[name] for model in models)
-        slack = 1e-9 * max(abs(expected["least"]), abs(expected["greatest"]))
-        for word, amount in expected.items():
-            said = float(rows[f"{name}_{word}"].iloc[0])
-            if not abs(said - amount) <= slack + 1e-9 * abs(amount):
-                found.append(f"{what}: {name}_{word} {said:.10g} for {amount:.10g}")
+        due = {f"{name}_{word}": amount for word, amount in spread(model[name] for model in models).items()}
+        greatest = max(abs(amount) for amount in due.values())
+        found += unlike(what, rows.iloc[0], due, lambda _, amount: 1e-9 * (greatest + abs(amount)))
     return found
