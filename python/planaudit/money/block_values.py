@@ -7,7 +7,7 @@ from bisect import bisect
 from dataclasses import dataclass, field, replace
 from decimal import ROUND_HALF_EVEN, Decimal
 from fractions import Fraction
-from typing import Optional
+from typing import Any, Optional
 
 import numpy as np
 
@@ -199,7 +199,7 @@ class Exactly:
     depths: list[Decimal]
     roads: list[float]
     factors: list[tuple[float, float]]
-    weighed: dict[tuple, Amounts] = field(default_factory=dict)
+    weighed: dict[tuple[Any, ...], Amounts] = field(default_factory=dict)
 
     @staticmethod
     def of(answer: Answer) -> "Exactly":
@@ -225,12 +225,13 @@ class Exactly:
 
     def amounts(self, row: int) -> Amounts:
         """Returns mining cost, revenue and processing cost of a block."""
-        place = Place(self.level[row], self.roads[row], *self.factors[row])
         grades = tuple(grades[row] for grades in self.grades)
-        numbers = (self.tonnes[row], self.codes[row], place, grades)
-        if numbers not in self.weighed:
-            self.weighed[numbers] = self.of_numbers(self.tonnes[row], self.codes[row], place, *grades)
-        return self.weighed[numbers]
+        at = (self.level[row], self.roads[row], *self.factors[row])
+        numbers = (self.tonnes[row], self.codes[row], at, grades)
+        found = self.weighed.get(numbers)
+        if found is None:
+            found = self.weighed[numbers] = self.of_numbers(self.tonnes[row], self.codes[row], Place(*at), *grades)
+        return found
 
     def of_numbers(self, rock: float, codes: tuple[str, str], place: Place, *grades: float) -> Amounts:
         """Returns the amounts of a block with given tonnes, codes, place and grades."""

@@ -4,6 +4,7 @@ from __future__ import annotations
 
 from collections.abc import Callable, Iterator
 from dataclasses import dataclass
+from functools import cached_property
 from typing import Optional
 
 import numpy as np
@@ -54,8 +55,15 @@ class LimitTable:
         """The shadow price of a limit in a year, in the money of the year."""
         if self.prices is None:
             return np.nan
-        rows = self.prices[(self.prices["limit"] == name) & (self.prices["year"] == year)].set_index("side")["price"]
-        return float(rows.get("max", 0.0) - rows.get("min", 0.0)) / discount(self.answer, year)
+        most, least = (self.by_side.get((name, year, side), 0.0) for side in ("max", "min"))
+        return (most - least) / discount(self.answer, year)
+
+    @cached_property
+    def by_side(self) -> dict[tuple[str, int, str], float]:
+        """The prices of bound.csv by limit, year and side."""
+        assert self.prices is not None
+        keys = zip(*(self.prices[name].tolist() for name in ("limit", "year", "side")))
+        return dict(zip(keys, self.prices["price"].tolist()))
 
     def unlike(self, method: str, rows: pd.DataFrame, used: Used, last: int) -> Iterator[str]:
         """Yields differences of the rows of a method, whose last year is given."""
