@@ -51,9 +51,17 @@ def verify(written: Path, folder: Optional[Path] = None) -> list[Rule]:
     Raises
     ------
     AuditError
-        If the folder has no results, or the table has changed since.
+        If the folder has no results, a table of it lacks a column, or the planner's table has changed since.
     """
     answer = answers.read(written, folder)
+    try:
+        return rules_of(answer)
+    except KeyError as error:
+        raise AuditError(f"{written}: a table has no column {error}: run pitplan again") from error
+
+
+def rules_of(answer: Answer) -> list[Rule]:
+    """Returns the rules of the results of a plan. Raises KeyError if a table lacks a column, and AuditError as `by_record`."""
     more = [reblocked.verify(answer)] if answer.parts is not None else []
     more += [hashes.verify(answer)] if "inputs" in answer.record else []
     more += depletion.verify_cuts(answer)

@@ -255,6 +255,24 @@ def test_shells_that_are_missing_or_too_many_are_named(copied):
             verify(copied)
 
 
+@pytest.mark.parametrize(
+    ("file", "column"),
+    [
+        ("shells.csv", "tonnes"),
+        ("shells.csv", "npv_best"),
+        ("shells.csv", "value_at_revenue_factor"),
+        ("years.csv", "feed_tonnes"),
+    ],
+)
+def test_a_column_that_is_missing_is_named(copied, capsys, file, column):
+    path = copied / "tables" / file
+    pd.read_csv(path, dtype=str, keep_default_na=False).drop(columns=column).to_csv(path, index=False)
+    assert main(["verify", str(copied)]) == 1
+    assert capsys.readouterr().err.splitlines()[-1] == (
+        f"pitplan: {copied}: a table has no column '{column}': run pitplan again"
+    )
+
+
 def plus_one(table, column):
     return table.assign(**{column: table[column] + 1})
 
