@@ -82,7 +82,9 @@ def written(tmp_path_factory):
 
 
 def own(table, header):
-    """The columns of a file without the planner's own, which come first in blocks.csv, and before the source in flows.csv."""
+    """The columns of a file without the planner's own, which come first in blocks.csv, before the source in flows.csv, and before the cut-off."""
+    if table.file == "cutoffs.csv":
+        return header[: header.index("process") + 1] + header[header.index("cutoff") :]
     if table.file == "flows.csv":
         return header[: header.index("bin") + 1] + header[header.index("source") :]
     return header[header.index("mining_cost") :] if table.file == "blocks.csv" else header
@@ -99,7 +101,7 @@ def test_each_column_that_is_written_is_in_the_schema_and_each_of_the_schema_is_
         missing = always - {table.find(name).name for name in names}
         assert missing <= ({"process_revenue_factor"} if "sensitivity" in path.parts else set()), path
         found.setdefault(table.file, set()).update(table.find(name) for name in names)
-    by_block = {"sum_NAME", "head_grade_COLUMN", "share_PROCESS", "blocks"}
+    by_block = {"sum_NAME", "head_grade_COLUMN", "share_PROCESS", "blocks", "equivalent_METAL"}
     for file in (
         "blocks.csv",
         "shells.csv",
@@ -109,6 +111,7 @@ def test_each_column_that_is_written_is_in_the_schema_and_each_of_the_schema_is_
         "schedule.csv",
         "flows.csv",
         "feed.csv",
+        "cutoffs.csv",
         "stockpiles.csv",
         "sensitivity.csv",
     ):

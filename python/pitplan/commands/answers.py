@@ -115,7 +115,8 @@ def tables_of(answered: Answered) -> list[str]:
     found += [names.BLOCK_SCHEDULE, names.BOUND] if answered.blocks else []
     found += [names.METHODS] if answered.schedule or answered.blocks else []
     if answered.schedule:
-        found += [names.MATERIAL_FLOWS, names.FEED, names.LIMITS, *([names.BOUND] if answered.schedule.optimum else [])]
+        found += [names.MATERIAL_FLOWS, names.FEED, names.CUTOFFS, names.LIMITS]
+        found += [names.BOUND] if answered.schedule.optimum else []
         found += [names.STOCKPILES] if answered.schedule.is_stocked else []
     return found
 
@@ -140,8 +141,9 @@ def sheets_of(answered: Answered, table: pd.DataFrame, years: pd.DataFrame) -> d
 def flow_tables(schedule: YearlySchedule) -> dict[str, pd.DataFrame]:
     """The tables of material flow, by the names of their files."""
     from pitplan.scheduling.flow import tables
+    from pitplan.scheduling.flow.cutoff_table import cutoff_table
 
-    found = {"feed": tables.feed_table(schedule), "flows": schedule.material_flows}
+    found = {"feed": tables.feed_table(schedule), "flows": schedule.material_flows, "cutoffs": cutoff_table(schedule)}
     return found | ({"stockpiles": tables.stockpile_table(schedule)} if schedule.is_stocked else {})
 
 

@@ -200,6 +200,12 @@ MATERIAL_FLOWS = Table(
         ),
     ),
 )
+CUTOFF = Column(
+    "cutoff",
+    Unit("currency per t", 6, 2),
+    "net value per tonne of feed from which on ore is processed; empty for the rule",
+    "cut-off",
+)
 FEEDS = Table(
     "feed.csv",
     "of a schedule of pushbacks: a row per method, year and process",
@@ -209,12 +215,7 @@ FEEDS = Table(
         FEED,
         Column("reclaimed_tonnes", TONNES, "of these from stockpiles", "from stockpile"),
         *(HEAD_GRADE, CONTAINED, RECOVERED),
-        Column(
-            "cutoff",
-            Unit("currency per t", 6, 2),
-            "net value per tonne of feed from which on ore is processed; empty for the rule",
-            "cut-off",
-        ),
+        CUTOFF,
     ),
 )
 STOCKPILES = Table(
@@ -229,6 +230,38 @@ STOCKPILES = Table(
         Column("out_tonnes", TONNES, "reclaimed in the year", "out"),
         Column("closing_tonnes", TONNES, "at the end of the year", "closing"),
         Column("grade_METAL", GRADE, "mean of what lies there at the end of the year; empty if nothing does", "METAL"),
+    ),
+)
+CUTOFFS = Table(
+    "cutoffs.csv",
+    "of a schedule of pushbacks: a row per method, year, process and rock type that it takes",
+    (
+        *(METHOD, YEAR),
+        Column("process", TEXT, "`mill` if the project names none", "process"),
+        CUTOFF,
+        Column("metal", TEXT, "the first metal that is recovered, of which the grades are equivalents", "metal"),
+        Column(
+            "cutoff_grade",
+            GRADE,
+            "head grade that earns processing cost and `cutoff`, at the prices of the year",
+            "cut-off grade",
+        ),
+        Column(
+            "marginal_grade", GRADE, "head grade that earns the processing cost, at the base price", "marginal grade"
+        ),
+        Column(
+            "break_even_grade",
+            GRADE,
+            "head grade that earns processing and mining cost, at the base price",
+            "break-even grade",
+        ),
+        Column(
+            "equivalent_METAL",
+            Unit("grade of `metal` per unit of grade", 6, 4),
+            "what a unit of the metal's grade is worth in the year; empty if a recovery depends on the grade",
+            "equivalent METAL",
+            "with several metals",
+        ),
     ),
 )
 LIMITED = Unit("that of the amount", 6, 2)
@@ -381,7 +414,7 @@ BLOCK_TABLE = Table(
     digits=0,
 )
 TABLES: tuple[Table, ...] = (BLOCK_TABLE, SHELLS, YEARLY, PITS, PUSHBACKS, SCHEDULE, METHODS, SENSITIVITY)
-TABLES += (MATERIAL_FLOWS, FEEDS, STOCKPILES, LIMITS)
+TABLES += (MATERIAL_FLOWS, FEEDS, CUTOFFS, STOCKPILES, LIMITS)
 TABLES += (MULTIPLIERS, PROBABILITY, SCENARIOS, QUANTILES, COMMON, COMMON_YEARS, SCHEDULES, BLOCK_QUANTILES)
 
 

@@ -14,7 +14,18 @@ from planaudit.revenue_factors import factor_texts, in_thousandths
 # Prefixes of columns with empty fields if the amount is not defined: a ratio to no ore, the width of an empty pushback, a bound that was not
 # computed, or columns of other cases.
 MAY_LACK = (
-    *("strip_ratio", "head_grade_", "grade_", "cutoff", "min_width", "upper_bound", "optimality_gap"),
+    *(
+        "strip_ratio",
+        "head_grade_",
+        "grade_",
+        "cutoff",
+        "marginal_grade",
+        "break_even_grade",
+        "equivalent_",
+        "min_width",
+        "upper_bound",
+        "optimality_gap",
+    ),
     *("sum_", "kept_", "skin_value", "used", "minimum", "maximum", "utilisation", "shadow_price"),
 )
 # Exact numbers stay texts.

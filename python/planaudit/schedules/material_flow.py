@@ -15,7 +15,7 @@ from planaudit.inputs.project import GRADE_UNITS, Stockpile
 from planaudit.inputs.tables import read_table
 from planaudit.money.period_costs import premiums
 from planaudit.rules import TOLD, Rule, rule
-from planaudit.schedules import stockpiles
+from planaudit.schedules import cutoff_table, stockpiles
 from planaudit.schedules.lots import MILL, BlockAmounts
 
 PIT, WASTE = "pit", "waste"
@@ -186,7 +186,7 @@ def called(row: Any) -> str:
 
 
 def verify(flow: MaterialFlow, schedule: pd.DataFrame, misplaced: list[str]) -> Rule:
-    """Verifies the amounts of all rows, the conservation of each lot, stockpiles, and feed.csv and stockpiles.csv.
+    """Verifies the amounts of all rows, the conservation of each lot, stockpiles, and feed.csv, stockpiles.csv and cutoffs.csv.
 
     Parameters
     ----------
@@ -197,7 +197,8 @@ def verify(flow: MaterialFlow, schedule: pd.DataFrame, misplaced: list[str]) -> 
         Differences found in reading.
     """
     found = [*misplaced, *unlike_amounts(flow), *untaken(flow), *unlike_mined(flow, schedule)]
-    found += [*stockpiles.differences(flow), *unlike_feed(flow)]
+    said = read_table(flow.answer.folder / "tables/feed.csv", ["method", "process"])
+    found += [*stockpiles.differences(flow), *unlike_feed(flow, said), *cutoff_table.differences(flow.answer, said)]
     holds = "each tonne that is mined goes to a process, to a stockpile or to waste once, with the metal and cash flow of its blocks"
     return rule("material flow", holds, found[:TOLD], len(found))
 
@@ -229,9 +230,8 @@ def unlike_mined(flow: MaterialFlow, schedule: pd.DataFrame) -> Iterator[str]:
         yield f"flows.csv: {', '.join(map(str, at))}: {row['sum']:.10g} t leave the pit for {row['due']:.10g} mined"
 
 
-def unlike_feed(flow: MaterialFlow) -> Iterator[str]:
+def unlike_feed(flow: MaterialFlow, said: pd.DataFrame) -> Iterator[str]:
     """Yields rows of feed.csv that are not the sums of their flows."""
-    said = read_table(flow.answer.folder / "tables/feed.csv", ["method", "process"])
     keys, metals = ["method", "year", "process"], flow.answer.project.metals
     rows = flow.rows[flow.process >= 0].rename(columns={"destination": "process"})
     names = ["feed_tonnes", *(f"{kind}_{metal.name}" for kind in ("contained", "recovered") for metal in metals)]

@@ -1,0 +1,81 @@
+"""The table cutoffs.csv: cut-offs of a schedule as head grades, next to the marginal and the break-even cut-off."""
+
+from __future__ import annotations
+
+from collections.abc import Iterator
+from typing import TYPE_CHECKING, Any
+
+import numpy as np
+import pandas as pd
+
+from pitplan.config.places import MILL
+from pitplan.economics.cutoff_grades import RockCosts
+from pitplan.plan import shown_name
+
+from .cutoffs import cutoffs
+
+if TYPE_CHECKING:
+    from pitplan.scheduling.pushback_schedule import YearlySchedule
+
+
+def cutoff_table(schedule: YearlySchedule) -> pd.DataFrame:
+    """Returns one row per method, year, process and rock type that the process takes.
+
+    Columns: `cutoff`, the net value per tonne of feed from which on ore is processed, empty for the rule; `metal`, the first one that is
+    recovered, or with several the metal whose equivalent grade the cut-off is; `cutoff_grade`, the head grade that earns processing cost
+    and cut-off at the prices of the year; `marginal_grade` and `break_even_grade`, the head grades that earn the processing cost, and that and the
+    mining cost, at the base price; `equivalent_METAL`, what a unit of a metal's grade is worth in units of the first, in the year.
+    """
+    names, plan = schedule.names, schedule.pushbacks.plan
+    rocks = [
+        RockCosts(alone, rock)
+        for process, alone in enumerate(plan.project.by_process)
+        for rock in rocks_of(schedule, process)
+    ]
+    process = [k for k in range(len(names)) for _ in rocks_of(schedule, k)]
+    rows = [
+        row
+        for method, flows in schedule.flows.items()
+        for year in range(flows.years)
+        for row in rows_of(schedule, (method, year), list(zip(process, rocks)))
+    ]
+    return pd.DataFrame(rows, columns=columns_of(schedule))
+
+
+def columns_of(schedule: YearlySchedule) -> list[str]:
+    project = schedule.pushbacks.plan.project
+    rock = [shown_name(project.table.rock_type)] if project.table.rock_type else []
+    grades = ["cutoff_grade", "marginal_grade", "break_even_grade"]
+    equivalents = [f"equivalent_{metal.name}" for metal in project.metals] if len(project.metals) > 1 else []
+    return ["method", "year", "process", *rock, "cutoff", "metal", *grades, *equivalents]
+
+
+def rocks_of(schedule: YearlySchedule, process: int) -> list[str]:
+    """Returns the codes of the rock types of the pushbacks that yield anything in a process; one empty code without rock types."""
+    plan = schedule.pushbacks.plan
+    inside = (schedule.pushbacks.pushback > 0) & (plan.values.tonnes > 0)
+    taken = inside & (plan.values.by_process[process].revenue > 0)
+    if plan.project.table.rock_type is None:
+        return [""] if taken.any() else []
+    return sorted(plan.table[plan.project.table.rock_type].astype(str)[taken[plan.grid.rows]].unique())
+
+
+def rows_of(
+    schedule: YearlySchedule, at: tuple[str, int], rocks: list[tuple[int, RockCosts]]
+) -> Iterator[dict[str, Any]]:
+    """Yields the rows of a method and a year, numbered from 0."""
+    (method, year), project = at, schedule.pushbacks.plan.project
+    found, money = cutoffs(schedule.flows[method], schedule.names), schedule.problem.money
+    metals = [metal.name for metal in project.metals]
+    premium = money.premium(tuple(f"recovered_{name}" for name in metals), year + 1)[year]
+    premiums = dict(zip(metals, premium.tolist()))
+    for process, costs in rocks:
+        name, first = schedule.names[process], costs.metals[0]
+        cutoff = np.nan if found is None else float(found[name][year])
+        row = {"method": method, "year": year + 1, "process": name or MILL, "cutoff": cutoff, "metal": first.name}
+        if project.table.rock_type:
+            row[shown_name(project.table.rock_type)] = costs.rock
+        row["cutoff_grade"] = costs.head_grade(first, costs.processing + cutoff, premiums[first.name])
+        row["marginal_grade"] = costs.head_grade(first, costs.processing)
+        row["break_even_grade"] = costs.head_grade(first, costs.processing + costs.mining)
+        yield row | {f"equivalent_{it.name}": costs.equivalent(it, premiums) for it in costs.metals}
