@@ -178,13 +178,13 @@ def write_tables(answered: Answered, stage: Path) -> tuple[pd.DataFrame, pd.Data
 
 def write_schedule_tables(schedule: YearlySchedule, plan: Plan, stage: Path) -> None:
     """Writes schedule.csv, methods.csv, schedule.json, limits.csv, bound.csv and the tables of material flow."""
-    from pitplan.scheduling import pushback_schedule
+    from pitplan.scheduling import pushback_record, pushback_schedule
     from pitplan.scheduling.flow.limit_table import limit_table
     from pitplan.scheduling.flow.tables import bound_table
 
     write_csv(shown(pushback_schedule.table(schedule)), stage / names.SCHEDULE, plan.project)
     write_csv(shown(pushback_schedule.methods(schedule)), stage / names.METHODS, plan.project)
-    write_json(stage / names.SCHEDULE_RECORD, pushback_schedule.record(schedule))
+    write_json(stage / names.SCHEDULE_RECORD, pushback_record.record(schedule))
     for name, table in flow_tables(schedule).items():
         shown(table).to_csv(stage / layout.TABLES / f"{name}.csv", index=False)
     shown(limit_table(schedule)).to_csv(stage / names.LIMITS, index=False)

@@ -10,7 +10,7 @@ import pandas as pd
 from pitplan.core.optional_packages import load_library
 from pitplan.export import xlsx
 from pitplan.pushbacks import nested
-from pitplan.scheduling import pushback_schedule
+from pitplan.scheduling import pushback_record, pushback_schedule
 from pitplan.solver import problem
 
 from .answers import Answered, write_answer
@@ -53,7 +53,7 @@ def write_schedule(project: Source, folder: Optional[Place] = None, writing: Wri
     with begun(project, target, writing, nested.ending(project)) as run:
         pushbacks = nested.divide(run.mine.plan, run.mine, writing.progress)
         schedule = pushback_schedule.make(pushbacks, writing.progress)
-        run.record["notes"] += [*pushbacks.notes, *pushback_schedule.notes(schedule)]
+        run.record["notes"] += [*pushbacks.notes, *pushback_record.notes(schedule)]
         write_answer(Answered(pushbacks.plan, pushbacks.solution, pushbacks, schedule), run)
     return pushback_schedule.methods(schedule)
 

@@ -15,101 +15,51 @@ from typing import Optional
 from .column_types import (
     AMOUNT,
     COUNT,
-    EXACT_MONEY,
     FACTOR,
     GIVEN,
     GRADE,
-    METAL,
     METRES,
     MONEY,
     NUMBER,
-    PRICE,
-    RATIO,
     SHARE,
     TEXT,
     TONNES,
-    WHOLE_YEARS,
     YEARS,
     Column,
     Table,
     Unit,
 )
-from .conventions import DISCOUNTING, OUTLINE
-
-SEVERAL = "with several processes"
-RF = Column("revenue_factor", FACTOR, "that of the shell", "revenue factor")
-METHOD = Column("method", TEXT, "`rule`, `lp`, `milp` or `block`", "method")
-YEAR = Column("year", NUMBER, "from 1", "year")
-PUSHBACK = Column("pushback", NUMBER, "from 1", "pushback")
-BENCH = Column("bench", METRES, "elevation of its centroids")
-BLOCKS = Column("blocks", COUNT, "blocks with tonnes", "blocks")
-TOTAL = Column("tonnes", TONNES, "total material", "total")
-FEED = Column("feed_tonnes", TONNES, "mill feed: diluted and after ore loss", "ore")
-FEED_OF = Column("feed_tonnes_PROCESS", TONNES, "mill feed of a process", "PROCESS", SEVERAL)
-HEAD_GRADE = Column("head_grade_METAL", GRADE, "head grade of the mill feed; empty without feed", "METAL")
-RECOVERED = Column("recovered_METAL", METAL, "recovered metal", "METAL")
-CASH = Column("undiscounted_cash_flow", MONEY, "at the base price", "undiscounted cash flow")
-NPV = Column("npv", MONEY, "sum of `discounted_cash_flow` in `years.csv`", "NPV")
-BOUND = Column("upper_bound", MONEY, "upper bound on the NPV of any such schedule; empty without one", "upper bound")
-GAP = Column("optimality_gap", SHARE, "what the NPV stays below the bound, as a share of the bound", "gap")
-DISCOUNTS = Column(DISCOUNTING, TEXT, "`end_of_year`, `mid_year` or `continuous`")
-WIDTH = "with a minimum mining width"
-OUTLINES = Column(OUTLINE, TEXT, "`shell`: the shells before widening; `pushback`: the pushbacks", when=WIDTH)
-TONNAGES = (
-    BLOCKS,
-    TOTAL,
+from .common_columns import (
+    AT_FACTOR,
+    BENCH,
+    BEST,
+    BOUND,
+    CASH,
+    DISCOUNTS,
+    EARNED,
+    EXACT,
     FEED,
-    Column("in_situ_ore_tonnes", TONNES, "ore in the ground", "in-situ ore"),
-    Column("waste_tonnes", TONNES, "total material less in-situ ore", "waste"),
-    Column(
-        "mineralised_waste_tonnes",
-        TONNES,
-        "of the waste: material that would pay but is waste by its resource class",
-        "mineralised waste",
-        "with `[table] class`",
-    ),
-    Column("strip_ratio", RATIO, "waste to in-situ ore; empty without ore", "strip ratio"),
-)
-AT_FACTOR = Column("processed_at_revenue_factor", TONNES, "mill feed at the prices of the revenue factor")
-EXACT = Column(
-    "value_at_revenue_factor", EXACT_MONEY, "exact value at the prices of the revenue factor, as the solver returns it"
-)
-# What a pit holds, and what it earns with years.
-PIT = (*TONNAGES, AT_FACTOR, FEED_OF, HEAD_GRADE, RECOVERED)
-BEST = Column("npv_best", MONEY, "NPV of the best case: shell by shell", "NPV best", places=1)
-LIFE = Column("years", YEARS, "life of the best case", "years")
-WORST = Column("npv_worst", MONEY, "NPV of the worst case: bench by bench", "NPV worst", places=1)
-SPECIFIED = Column(
-    "npv_specified",
-    MONEY,
-    "NPV of the specified case: by the given pushbacks",
-    "NPV specified",
-    "with `[shells.specified]`",
-    places=1,
-)
-EARNED = (replace(CASH, places=1), BEST, LIFE, WORST, SPECIFIED, EXACT)
-SPENT = (
-    Column("fixed_cost", MONEY, "period cost of the year", "fixed cost", "with period costs"),
-    Column("capex", MONEY, "spent at the start of the year", "capex", "with period costs"),
-)
-FLOWS = (
-    Column("cash_flow", MONEY, "at the prices of the year", "cash flow"),
-    Column("discounted_cash_flow", MONEY, "to the start of year 1", "discounted cash flow"),
-)
-MINED = Column("total_tonnes", TONNES, "total material", "total")
-HEADS = (
-    Column("scenario", NUMBER, "from 1"),
-    Column("realisation", TEXT, "name of its file or columns"),
-    Column("price_METAL", PRICE, "price in the deck", when="if a deck names the metal"),
-)
-SCHEDULED = (
-    replace(LIFE, unit=WHOLE_YEARS, holds="until the last block is mined"),
-    replace(BLOCKS, when="by block"),
-    TOTAL,
-    FEED,
-    Column("unmined_tonnes", TONNES, "total material that is not mined", "unmined", "by pushback"),
+    FEED_OF,
+    FLOWS,
+    GAP,
+    HEADS,
+    LIFE,
+    METHOD,
+    MINED,
+    NPV,
+    OUTLINES,
+    PIT,
+    PUSHBACK,
     RECOVERED,
+    RF,
+    SCHEDULED,
+    SEVERAL,
+    SPECIFIED,
+    SPENT,
+    WORST,
+    YEAR,
 )
+from .flow_columns import BIN, CUTOFFS, FEEDS, LIMITS, MATERIAL_FLOWS, STOCKPILES
 
 SHELLS = Table("shells.csv", "a row per revenue factor", (RF, *PIT, *EARNED, OUTLINES, DISCOUNTS))
 PITS = Table(
@@ -178,110 +128,6 @@ SCHEDULE = Table(
     "a row per method, bench and year",
     (METHOD, YEAR, PUSHBACK, BENCH, Column("share", SHARE, "of the bench"), MINED, FEED, FEED_OF, RECOVERED)
     + (*FLOWS, DISCOUNTS),
-)
-CONTAINED = Column("contained_METAL", METAL, "metal in the feed", "contained METAL")
-BIN = Column("bin", COUNT, "value bin of ore: by process, from the poorest; 0: no ore")
-MATERIAL_FLOWS = Table(
-    "flows.csv",
-    "of a schedule of pushbacks: a row per method, year, lot of a bench, source and destination",
-    (
-        *(METHOD, YEAR, PUSHBACK, BENCH, BIN),
-        Column("source", TEXT, "`pit` or a stockpile", "source"),
-        Column(
-            "destination", TEXT, "a process (`mill` if the project names none), a stockpile or `waste`", "destination"
-        ),
-        replace(MINED, holds="in-situ tonnes that flow"),
-        replace(FEED, holds="mill feed, if a process or a stockpile takes them"),
-        CONTAINED,
-        RECOVERED,
-        replace(
-            FLOWS[0],
-            holds="revenue less the costs of processing, selling, stacking and reclaiming, at the prices of the year",
-        ),
-    ),
-)
-CUTOFF = Column(
-    "cutoff",
-    Unit("currency per t", 6, 2),
-    "net value per tonne of feed from which on ore is processed; empty for the rule",
-    "cut-off",
-)
-FEEDS = Table(
-    "feed.csv",
-    "of a schedule of pushbacks: a row per method, year and process",
-    (
-        *(METHOD, YEAR),
-        Column("process", TEXT, "`mill` if the project names none", "process"),
-        FEED,
-        Column("reclaimed_tonnes", TONNES, "of these from stockpiles", "from stockpile"),
-        *(HEAD_GRADE, CONTAINED, RECOVERED),
-        CUTOFF,
-    ),
-)
-STOCKPILES = Table(
-    "stockpiles.csv",
-    "with `[[schedule.stockpiles]]`: a row per method, stockpile and year, in tonnes of feed",
-    (
-        METHOD,
-        Column("stockpile", TEXT, "its name", "stockpile"),
-        YEAR,
-        Column("opening_tonnes", TONNES, "at the start of the year", "opening"),
-        Column("in_tonnes", TONNES, "placed in the year", "in"),
-        Column("out_tonnes", TONNES, "reclaimed in the year", "out"),
-        Column("closing_tonnes", TONNES, "at the end of the year", "closing"),
-        Column("grade_METAL", GRADE, "mean of what lies there at the end of the year; empty if nothing does", "METAL"),
-    ),
-)
-CUTOFFS = Table(
-    "cutoffs.csv",
-    "of a schedule of pushbacks: a row per method, year, process and rock type that it takes",
-    (
-        *(METHOD, YEAR),
-        Column("process", TEXT, "`mill` if the project names none", "process"),
-        CUTOFF,
-        Column("metal", TEXT, "the first metal that is recovered, of which the grades are equivalents", "metal"),
-        Column(
-            "cutoff_grade",
-            GRADE,
-            "head grade that earns processing cost and `cutoff`, at the prices of the year",
-            "cut-off grade",
-        ),
-        Column(
-            "marginal_grade", GRADE, "head grade that earns the processing cost, at the base price", "marginal grade"
-        ),
-        Column(
-            "break_even_grade",
-            GRADE,
-            "head grade that earns processing and mining cost, at the base price",
-            "break-even grade",
-        ),
-        Column(
-            "equivalent_METAL",
-            Unit("grade of `metal` per unit of grade", 6, 4),
-            "what a unit of the metal's grade is worth in the year; empty if a recovery depends on the grade",
-            "equivalent METAL",
-            "with several metals",
-        ),
-    ),
-)
-LIMITED = Unit("that of the amount", 6, 2)
-LIMITS = Table(
-    "limits.csv",
-    "of a schedule of pushbacks: a row per method, year and limit",
-    (
-        *(METHOD, YEAR),
-        Column("limit", TEXT, "the amount, as in `bound.csv`", "limit"),
-        Column("used", LIMITED, "of the amount; of a limit on a head grade the grade", "used"),
-        Column("minimum", LIMITED, "of the year; empty without one", "minimum"),
-        Column("maximum", LIMITED, "of the year; empty without one", "maximum"),
-        Column("utilisation", SHARE, "share of the maximum that is used; empty for head grades", "utilisation"),
-        Column(
-            "shadow_price",
-            Unit("currency per unit", 6, 2),
-            "money of the year that a unit more of the limit would earn in the linear programme; below 0 for a minimum",
-            "shadow price",
-        ),
-    ),
 )
 METHODS = Table("methods.csv", "a row per method", (METHOD, NPV, BOUND, GAP, *SCHEDULED, DISCOUNTS))
 MULTIPLIERS = Table(

@@ -1,0 +1,113 @@
+"""The columns of the tables of material flow: flows.csv, feed.csv, stockpiles.csv, cutoffs.csv and limits.csv."""
+
+from __future__ import annotations
+
+from dataclasses import replace
+
+from .column_types import COUNT, GRADE, METAL, SHARE, TEXT, TONNES, Column, Table, Unit
+from .common_columns import BENCH, FEED, FLOWS, HEAD_GRADE, METHOD, MINED, PUSHBACK, RECOVERED, YEAR
+
+CONTAINED = Column("contained_METAL", METAL, "metal in the feed", "contained METAL")
+BIN = Column("bin", COUNT, "value bin of ore: by process, from the poorest; 0: no ore")
+MATERIAL_FLOWS = Table(
+    "flows.csv",
+    "of a schedule of pushbacks: a row per method, year, lot of a bench, source and destination",
+    (
+        *(METHOD, YEAR, PUSHBACK, BENCH, BIN),
+        Column("source", TEXT, "`pit` or a stockpile", "source"),
+        Column(
+            "destination", TEXT, "a process (`mill` if the project names none), a stockpile or `waste`", "destination"
+        ),
+        replace(MINED, holds="in-situ tonnes that flow"),
+        replace(FEED, holds="mill feed, if a process or a stockpile takes them"),
+        CONTAINED,
+        RECOVERED,
+        replace(
+            FLOWS[0],
+            holds="revenue less the costs of processing, selling, stacking and reclaiming, at the prices of the year",
+        ),
+    ),
+)
+CUTOFF = Column(
+    "cutoff",
+    Unit("currency per t", 6, 2),
+    "net value per tonne of feed from which on ore is processed; empty for the rule",
+    "cut-off",
+)
+FEEDS = Table(
+    "feed.csv",
+    "of a schedule of pushbacks: a row per method, year and process",
+    (
+        *(METHOD, YEAR),
+        Column("process", TEXT, "`mill` if the project names none", "process"),
+        FEED,
+        Column("reclaimed_tonnes", TONNES, "of these from stockpiles", "from stockpile"),
+        *(HEAD_GRADE, CONTAINED, RECOVERED),
+        CUTOFF,
+    ),
+)
+STOCKPILES = Table(
+    "stockpiles.csv",
+    "with `[[schedule.stockpiles]]`: a row per method, stockpile and year, in tonnes of feed",
+    (
+        METHOD,
+        Column("stockpile", TEXT, "its name", "stockpile"),
+        YEAR,
+        Column("opening_tonnes", TONNES, "at the start of the year", "opening"),
+        Column("in_tonnes", TONNES, "placed in the year", "in"),
+        Column("out_tonnes", TONNES, "reclaimed in the year", "out"),
+        Column("closing_tonnes", TONNES, "at the end of the year", "closing"),
+        Column("grade_METAL", GRADE, "mean of what lies there at the end of the year; empty if nothing does", "METAL"),
+    ),
+)
+CUTOFFS = Table(
+    "cutoffs.csv",
+    "of a schedule of pushbacks: a row per method, year, process and rock type that it takes",
+    (
+        *(METHOD, YEAR),
+        Column("process", TEXT, "`mill` if the project names none", "process"),
+        CUTOFF,
+        Column("metal", TEXT, "the first metal that is recovered, of which the grades are equivalents", "metal"),
+        Column(
+            "cutoff_grade",
+            GRADE,
+            "head grade that earns processing cost and `cutoff`, at the prices of the year",
+            "cut-off grade",
+        ),
+        Column(
+            "marginal_grade", GRADE, "head grade that earns the processing cost, at the base price", "marginal grade"
+        ),
+        Column(
+            "break_even_grade",
+            GRADE,
+            "head grade that earns processing and mining cost, at the base price",
+            "break-even grade",
+        ),
+        Column(
+            "equivalent_METAL",
+            Unit("grade of `metal` per unit of grade", 6, 4),
+            "what a unit of the metal's grade is worth in the year; empty if a recovery depends on the grade",
+            "equivalent METAL",
+            "with several metals",
+        ),
+    ),
+)
+LIMITED = Unit("that of the amount", 6, 2)
+LIMITS = Table(
+    "limits.csv",
+    "of a schedule of pushbacks: a row per method, year and limit",
+    (
+        *(METHOD, YEAR),
+        Column("limit", TEXT, "the amount, as in `bound.csv`", "limit"),
+        Column("used", LIMITED, "of the amount; of a limit on a head grade the grade", "used"),
+        Column("minimum", LIMITED, "of the year; empty without one", "minimum"),
+        Column("maximum", LIMITED, "of the year; empty without one", "maximum"),
+        Column("utilisation", SHARE, "share of the maximum that is used; empty for head grades", "utilisation"),
+        Column(
+            "shadow_price",
+            Unit("currency per unit", 6, 2),
+            "money of the year that a unit more of the limit would earn in the linear programme; below 0 for a minimum",
+            "shadow price",
+        ),
+    ),
+)
