@@ -1,4 +1,4 @@
-//! Compressed rows as they grow: one row after the other, and within a row one target after the other.
+//! Builds compressed rows row by row, and each row target by target.
 ghost use Rattle.std.specs.Prelude.{◌≡◌, ℕ, ◌+◌, ◌-◌, ◌^◌, ◌<◌, ◌≤◌, [], ◌∷◌, ◌++◌, length, map, drop, get_or, IfOk, IfErr};
 ghost use Rattle.pit_model.specs.Graph.{first_of};
 ghost use Rattle.csr.specs.Rows.{BeginFrom};
@@ -7,8 +7,8 @@ use crate::rows::Csr;
 use std::alloc::{AllocError, Global};
 use std::marker::Model;
 
-/// Arcs that are added row by row. The rows of the blocks below `blocks` are closed; the row of block `blocks` is open, and takes
-/// what is added.
+/// Arcs that are added row by row. The rows of the blocks below `blocks` are closed; the row of block `blocks` is open and receives
+/// the next targets.
 #[derive(Drop)]
 pub struct CsrBuilder {
     /// Where the row of each block begins, up to the open one.
@@ -42,7 +42,11 @@ fn begin_rows(offsets: &mut Vec<u32>, place: u32, count: usize) -> Result<(), Al
 }
 
 impl CsrBuilder {
-    /// No arcs; the row of block 0 is open.
+    /// Returns a builder without arcs; the row of block 0 is open.
+    ///
+    /// # Errors
+    ///
+    /// If memory runs out.
     pub fn new(alloc: Global) -> Result<CsrBuilder, AllocError>
         ensures blocks { IfOk result (λ r. r.blocks ≡ 0) }
         ensures pairs { IfOk result (λ r. r.pairs ≡ []) }
@@ -55,10 +59,11 @@ impl CsrBuilder {
         })
     }
 
-    /// Closes the rows of all blocks before this one, and opens its own.
+    /// Closes the rows of all blocks below this one, and opens its row.
     ///
     /// # Errors
-    /// Out of memory; fewer rows are then closed.
+    ///
+    /// If memory runs out; fewer rows are then closed.
     pub fn open_row(&mut self, block: u32) -> Result<(), AllocError>
         requires few { length self.old.pairs < 2 ^ 32 }
         requires order { self.old.blocks ≤ block }
@@ -76,7 +81,8 @@ impl CsrBuilder {
     /// Adds an arc from the block of the open row.
     ///
     /// # Errors
-    /// Out of memory; nothing is then added.
+    ///
+    /// If memory runs out; nothing is then added.
     pub fn push(&mut self, target: u32) -> Result<(), AllocError>
         ensures added { IfOk result (λ _. self.new.pairs ≡ self.old.pairs ++ (self.old.blocks, target) ∷ []) }
         ensures refused { IfErr result (λ _. self.new.pairs ≡ self.old.pairs) }
@@ -86,14 +92,14 @@ impl CsrBuilder {
         Ok(())
     }
 
-    /// The number of arcs.
+    /// Returns the number of arcs.
     pub fn len(&self) -> usize
         ensures { result ≡ length self.now.pairs }
     {
         self.targets.len()
     }
 
-    /// The targets of the arcs from place `begin` on.
+    /// Returns the targets of the arcs from place `begin` on.
     pub fn targets_from(&self, begin: usize) -> &[u32]
         requires { begin ≤ length self.now.pairs }
         ensures { result.now ≡ map (λ q. q.1) (drop begin self.now.pairs) }
@@ -102,7 +108,11 @@ impl CsrBuilder {
         &self.targets[begin..end]
     }
 
-    /// Closes the rows of all `blocks` blocks. It copies nothing.
+    /// Closes the rows of all `blocks` blocks. Copies nothing.
+    ///
+    /// # Errors
+    ///
+    /// If memory runs out.
     pub fn finish(self, blocks: u32) -> Result<Csr, AllocError>
         requires few { length self.pairs < 2 ^ 32 }
         requires order { self.blocks ≤ blocks }

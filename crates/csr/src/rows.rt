@@ -31,7 +31,7 @@ impl Model for Csr {
 }
 
 impl Csr {
-    /// The rows of these arrays.
+    /// Returns the rows of these arrays.
     pub(crate) fn from_closed(offsets: Vec<u32>, targets: Vec<u32>) -> Csr
         requires { IsCsr (length offsets.items - 1) (length targets.items) offsets.items }
         ensures blocks { result.blocks ≡ length offsets.items - 1 }
@@ -40,7 +40,11 @@ impl Csr {
         Csr { offsets, targets }
     }
 
-    /// A copy of rows that are lent.
+    /// Copies borrowed rows.
+    ///
+    /// # Errors
+    ///
+    /// If memory runs out.
     pub fn from_view(alloc: Global, rows: CsrView<'_>) -> Result<Csr, AllocError>
         requires { AreRows (length rows.offsets.now - 1) rows }
         ensures blocks { IfOk result (λ r. r.blocks ≡ length rows.entry.offsets.now - 1) }
@@ -52,7 +56,11 @@ impl Csr {
         ))
     }
 
-    /// The rows of `blocks` blocks with these arcs, whose first blocks do not fall.
+    /// Returns the rows of `blocks` blocks with these arcs, which are sorted by their first block.
+    ///
+    /// # Errors
+    ///
+    /// If memory runs out.
     pub fn from_pairs(alloc: Global, blocks: u32, pairs: &[(u32, u32)]) -> Result<Csr, AllocError>
         requires few { length pairs.now < 2 ^ 32 }
         requires order { (k l : ℕ) → k ≤ l → l < length pairs.now → first_of pairs.now k ≤ first_of pairs.now l }
@@ -68,7 +76,7 @@ impl Csr {
         rows.finish(blocks)
     }
 
-    /// The same rows, lent.
+    /// Borrows the rows.
     pub fn view(&self) -> CsrView<'_>
         ensures rows { AreRows self.now.blocks result }
         ensures pairs { pairs_in result ≡ self.now.pairs }
@@ -79,19 +87,19 @@ impl Csr {
         }
     }
 
-    /// Where the rows take their memory from.
+    /// Returns the allocator of the rows.
     pub fn alloc(&self) -> Global {
         *self.targets.allocator()
     }
 
-    /// The number of arcs.
+    /// Returns the number of arcs.
     pub fn len(&self) -> usize
         ensures { result ≡ length self.now.pairs }
     {
         self.targets.len()
     }
 
-    /// The places of a block's arcs, which follow one another.
+    /// Returns the range of places of a block's arcs.
     pub fn row(&self, u: u32) -> Range<u32>
         requires { u < self.now.blocks }
         ensures order { result.start ≤ result.end }
@@ -101,7 +109,7 @@ impl Csr {
         self.offsets[u as usize]..self.offsets[u as usize + 1]
     }
 
-    /// The target of an arc.
+    /// Returns the target of arc `k`.
     pub fn target(&self, k: u32) -> u32
         requires { k < length self.now.pairs }
         ensures { result ≡ second_of self.now.pairs k }
@@ -109,7 +117,11 @@ impl Csr {
         self.targets[k as usize]
     }
 
-    /// Copies the arcs out of the rows, in their order.
+    /// Copies the arcs into a list, in order.
+    ///
+    /// # Errors
+    ///
+    /// If memory runs out.
     pub fn to_pairs(&self, alloc: Global) -> Result<Vec<(u32, u32)>, AllocError>
         requires { self.now.blocks < 2 ^ 32 }
         ensures { IfOk result (λ v. v.items ≡ self.now.pairs) }

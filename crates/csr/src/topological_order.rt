@@ -93,7 +93,12 @@ fn topological_order(rows: CsrView<'_>, left: &mut [u32], order: &mut [u32]) -> 
     tail
 }
 
-/// Returns the in-degree that each block is left with when no more blocks can be processed.
+/// Returns the in-degree of each block after all blocks without remaining predecessors were processed in topological order. Blocks
+/// on a cycle, and blocks that depend on them, keep an in-degree above 0.
+///
+/// # Errors
+///
+/// If memory runs out.
 pub fn in_degrees_left(alloc: Global, n: u32, rows: &Csr) -> Result<Vec<u32>, AllocError>
     requires few { length rows.now.pairs < 2 ^ 32 }
     requires blocks { rows.now.blocks ≡ n }
@@ -107,7 +112,7 @@ pub fn in_degrees_left(alloc: Global, n: u32, rows: &Csr) -> Result<Vec<u32>, Al
     Ok(left)
 }
 
-/// Returns the least block with an in-degree above 0.
+/// Returns the least block with an in-degree above 0, if any.
 pub fn first_left(left: &[u32]) -> Option<u32>
     requires few { length left.now < 2 ^ 32 }
     ensures some { IfSome result (λ u. IsLeast (left_over left.now) u) }

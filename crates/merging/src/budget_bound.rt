@@ -1,4 +1,5 @@
-//! Whether a budget of mergers is so large that no run uses it up. Then the order of the mergers is free.
+//! Tests whether a budget is at least the bound on the number of mergers. Then no run uses it up, and mergers may come in any
+//! order.
 ghost use Rattle.std.specs.Prelude.{◌≡◌, ◌^◌, ◌≤ℤ◌, ◌<ℤ◌, pos, MatchBool};
 ghost use Rattle.pit_model.specs.Existence.{most_mergers};
 ghost use Rattle.pit_model.specs.Limits.{most_worth};
@@ -6,7 +7,7 @@ ghost use Rattle.pit_model.specs.Rank.{positive_part, positive_worth};
 
 use mine_graph::Instance;
 
-/// The value where it is above 0, else 0.
+/// Returns the value if it is above 0, otherwise 0.
 #[tactic(auto, unfolding(pit_model::specs::Rank::positive_part))]
 fn positive_part(value: i128) -> i128
     ensures part { result ≡ positive_part value }
@@ -16,7 +17,7 @@ fn positive_part(value: i128) -> i128
     if value > 0 { value } else { 0 }
 }
 
-/// The sum of the values above 0, in millionths where the values are.
+/// Returns the sum of the values above 0, in millionths.
 fn positive_worth(instance: &Instance) -> i128
     ensures worth { result ≡ positive_worth instance.now }
     ensures least { pos 0 ≤ℤ result }
@@ -30,7 +31,8 @@ fn positive_worth(instance: &Instance) -> i128
     worth
 }
 
-/// P * (n + 1) + n, P the sum of the values above 0: no run has more mergers.
+/// Returns the bound on the number of mergers of a run: P * (n + 1) + n, with P the sum of the values above 0 and n the number of
+/// blocks.
 fn most_mergers(instance: &Instance) -> i128
     ensures { result ≡ most_mergers instance.now }
 {
@@ -39,7 +41,7 @@ fn most_mergers(instance: &Instance) -> i128
     positive_worth(instance) * (blocks + 1) + blocks
 }
 
-/// Whether the budget is at least what bounds the mergers of each run.
+/// Returns whether the budget is at least the bound on the number of mergers.
 pub(crate) fn is_enough(instance: &Instance, budget: u64) -> bool
     ensures { MatchBool result (most_mergers instance.now ≤ℤ pos budget) (pos budget <ℤ most_mergers instance.now) }
 {

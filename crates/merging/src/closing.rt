@@ -1,5 +1,5 @@
-//! The closing loop: a merger over the first merger arc, until none is left. It ends every solve without a budget, so that
-//! whatever an order of mergers left over, the tree that is answered has no merger arc.
+//! The closing loop: merges over the first merger arc until none is left. Every solve without a budget ends with it, so the
+//! resulting tree has no merger arc, after mergers in any order.
 ghost use Rattle.std.specs.Prelude.{◌≡◌, false, ℕ, IfOk, IfErr};
 ghost use Rattle.faults.specs.Refused.{no_memory};
 ghost use Rattle.pit_model.specs.Tree.{is_merger};
@@ -7,7 +7,7 @@ ghost use Rattle.pit_model.specs.Tree.{is_merger};
 use faults::Fault;
 use norm_tree::NormTree;
 
-/// Merges until no merger arc is left. Each merger lowers the tree's rank, so they end.
+/// Merges until no merger arc is left. This ends, since each merger lowers the tree's rank.
 fn merge_all(tree: &mut NormTree)
     ensures mine { tree.new.mine ≡ tree.old.mine }
     ensures none_left { (k : ℕ) → is_merger tree.new.mine tree.new.tree k ≡ false }
@@ -19,7 +19,11 @@ fn merge_all(tree: &mut NormTree)
     }
 }
 
-/// Merges until no merger arc is left. An index is made only where there is one. Refused for want of memory alone.
+/// Merges until no merger arc is left. Makes an index only if there is a merger arc.
+///
+/// # Errors
+///
+/// If memory runs out.
 pub fn merge_remaining(tree: NormTree) -> Result<NormTree, Fault>
     ensures mine { IfOk result (λ t. t.mine ≡ tree.mine) }
     ensures none_left { IfOk result (λ t. (k : ℕ) → is_merger t.mine t.tree k ≡ false) }

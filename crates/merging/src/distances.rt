@@ -1,9 +1,9 @@
-//! How far each block is from a weak one while every block is a root: the least number of pairs that lead there from a strong
-//! block, and 0 for a weak one.
+//! The distance of each block from the weak blocks of a tree in which every block is a root: the least number of arcs that lead
+//! from a strong block to a weak one, and 0 for a weak block.
 //!
-//! A strong block is one pair farther than the nearest block that it needs. Two passes over the strong blocks, along their numbers
-//! and back, make that so wherever blocks are numbered from the top of a mine down, or up; in any other order a distance may be too
-//! small, and no pair leads to a block that is nearer by more than one. Distances are a hint and prove nothing.
+//! A strong block is one arc farther than its nearest predecessor. Two passes over the strong blocks, up and down their numbers,
+//! give exact distances if blocks are numbered from the top of a mine down or from its bottom up. In any other order a distance may
+//! be too small. Distances only steer the order of mergers; no proof depends on them.
 ghost use Rattle.std.specs.Prelude.{◌≡◌, ◌<◌, ◌≤◌, ◌+◌, length, IfOk};
 ghost use Rattle.merging.specs.Order.{AreBelow};
 
@@ -12,7 +12,7 @@ use norm_tree::BareTree;
 use std::alloc::{AllocError, Global};
 use std::ops::Range;
 
-/// The least distance of the blocks that are needed by the pairs of a row, and `most` where there are none.
+/// Returns the least distance of the predecessors in a row, or `most` if the row is empty.
 fn nearest(graph: &Graph, distances: &[u32], row: Range<u32>, most: u32) -> u32
     requires blocks { length distances.now ≡ graph.now.blocks }
     requires inside { row.end ≤ length graph.now.pairs }
@@ -30,7 +30,7 @@ fn nearest(graph: &Graph, distances: &[u32], row: Range<u32>, most: u32) -> u32
     least
 }
 
-/// Puts a strong block one pair farther than the nearest that it needs, where it is nearer than that.
+/// Sets the distance of a strong block to one more than that of its nearest predecessor, if it was smaller.
 fn move_away(graph: &Graph, distances: &mut [u32], block: u32)
     requires blocks { length distances.old ≡ graph.now.blocks }
     requires block { block < graph.now.blocks }
@@ -46,7 +46,7 @@ fn move_away(graph: &Graph, distances: &mut [u32], block: u32)
     }
 }
 
-/// 1 for each strong block, and 0 for each other one.
+/// Returns 1 for each strong block, and 0 for each other block.
 fn strong_or_not(alloc: Global, tree: &BareTree) -> Result<Vec<u32>, AllocError>
     ensures blocks { IfOk result (λ v. length v.items ≡ tree.now.mine.blocks) }
     ensures below { IfOk result (λ v. AreBelow v.items (tree.now.mine.blocks + 2)) }
@@ -62,7 +62,7 @@ fn strong_or_not(alloc: Global, tree: &BareTree) -> Result<Vec<u32>, AllocError>
     Ok(distances)
 }
 
-/// The distances at a tree in which every block is a root; blocks + 1 where no weak block can be reached.
+/// Returns the distances in a tree in which every block is a root; the number of blocks plus 1 if no weak block can be reached.
 pub fn distances_of(alloc: Global, tree: &BareTree) -> Result<Vec<u32>, AllocError>
     ensures blocks { IfOk result (λ v. length v.items ≡ tree.now.mine.blocks) }
     ensures below { IfOk result (λ v. AreBelow v.items (tree.now.mine.blocks + 2)) }

@@ -1,12 +1,12 @@
-//! The first run: the merger over the arc with the least number, again and again, as often as the budget allows.
-//! `lowest_label` merges in another order, where no budget says which mergers are made.
+//! The first run: merges over the merger arc with the least number, as often as the budget allows. `lowest_label` merges in another
+//! order, for solves without a budget.
 ghost use Rattle.std.specs.Prelude.{◌≡◌};
 ghost use Rattle.pit_model.specs.Tree.{opening};
 ghost use Rattle.pit_model.specs.FirstRun.{first_run};
 
 use norm_tree::NormTree;
 
-/// Makes the mergers of the first run, at most as many as the budget.
+/// Makes the mergers of the first run, at most `budget` of them.
 pub fn make_first_mergers(tree: &mut NormTree, budget: u64)
     requires { tree.old.tree ≡ opening tree.old.mine }
     ensures mine { tree.new.mine ≡ tree.old.mine }

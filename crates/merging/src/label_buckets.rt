@@ -1,4 +1,5 @@
-//! The strong roots that wait for their turn, by label: a first-in-first-out list for each label, through one link a block.
+//! The strong roots that wait to be processed, in buckets by label: a first-in-first-out list for each label, with one link for
+//! each block.
 ghost use Rattle.std.specs.Prelude.{◌≡◌, ◌<◌, ◌≤◌, ◌^◌, ◌+◌, length, replicate, None, IfOk, IfErr, IfSome};
 ghost use Rattle.pit_model.specs.Size.{most_blocks};
 ghost use Rattle.faults.specs.Refused.{no_memory};
@@ -30,7 +31,7 @@ impl Model for LabelBuckets {
     ghost invariant = { λ w. AreWaiting w.first.items w.last.items w.next.items };
 }
 
-/// Puts a root behind the others of its label.
+/// Appends a root to the list of its label.
 fn put(
     first: &mut [Option<u32>],
     last: &mut [Option<u32>],
@@ -52,7 +53,7 @@ fn put(
     next[root as usize] = None;
 }
 
-/// Takes the first root of a label, if one waits.
+/// Removes the first root of a label, if there is one.
 fn take(
     first: &mut [Option<u32>],
     last: &mut [Option<u32>],
@@ -72,7 +73,7 @@ fn take(
     Some(root)
 }
 
-/// The lowest label from `from` on with which a root waits.
+/// Returns the lowest label, from `from` on, whose list is not empty.
 fn lowest_from(first: &[Option<u32>], from: u32) -> Option<u32>
     requires { length first.now < 2 ^ 32 }
     ensures { IfSome result (λ l. l < length first.now) }
@@ -85,7 +86,7 @@ fn lowest_from(first: &[Option<u32>], from: u32) -> Option<u32>
     None
 }
 
-/// So many places with no root in any.
+/// Returns `places` empty entries.
 fn no_roots(alloc: Global, places: usize) -> Result<Vec<Option<u32>>, AllocError>
     requires { places < 2 ^ 32 }
     ensures { IfOk result (λ v. v.items ≡ replicate places None) }
@@ -94,7 +95,11 @@ fn no_roots(alloc: Global, places: usize) -> Result<Vec<Option<u32>>, AllocError
 }
 
 impl LabelBuckets {
-    /// No root waits yet. Refused for want of memory alone.
+    /// Returns empty buckets.
+    ///
+    /// # Errors
+    ///
+    /// If memory runs out.
     pub fn new(alloc: Global, blocks: u32) -> Result<LabelBuckets, Fault>
         requires { blocks ≤ most_blocks }
         ensures blocks { IfOk result (λ w. w ≡ blocks) }
@@ -109,7 +114,7 @@ impl LabelBuckets {
         })
     }
 
-    /// No root waits any more.
+    /// Empties all buckets.
     pub fn clear(&mut self)
         ensures { self.new ≡ self.old }
     {
@@ -118,7 +123,7 @@ impl LabelBuckets {
         self.lowest = 0;
     }
 
-    /// Lets a root wait behind the others of its label.
+    /// Appends a root to the bucket of its label.
     pub fn push(&mut self, label: u32, root: u32)
         requires label { label < self.old + 2 }
         requires root { root < self.old }
@@ -128,7 +133,7 @@ impl LabelBuckets {
         self.lowest = self.lowest.min(label);
     }
 
-    /// The root that came first of those with the lowest label, with that label; it waits no longer.
+    /// Removes and returns the first root of the lowest label, with that label.
     pub fn pop(&mut self) -> Option<(u32, u32)>
         ensures blocks { self.new ≡ self.old }
         ensures label { IfSome result (λ r. r.0 < self.old + 2) }

@@ -1,5 +1,6 @@
-//! Solves an instance without sharing the tree: by one thread, or by its parts at once. It merges until no merger arc is left,
-//! and gives the certificate of the tree, or the pit alone, or says that the budget of mergers is used up.
+//! Solves an instance with a tree that no other thread shares: on one thread, or by connected components on several threads. Merges
+//! until no merger arc is left, and returns the certificate of the tree or the pit alone, or reports that the budget of mergers is
+//! used up.
 #![tactic(auto)]
 
 mod budget_bound;

@@ -1,4 +1,4 @@
-//! Lifts the answers of parts to the whole: pits and flows are written under the block and arc numbers of the whole.
+//! Lifts the answers of connected components to the whole mine: writes pits and flows under the block and arc numbers of the whole.
 ghost use Rattle.std.specs.Prelude.{◌≡◌, ◌<◌, ℕ, Bool, false, length, get_or, IfOk, IfErr};
 ghost use Rattle.faults.specs.Refused.{no_memory};
 ghost use Rattle.pit_model.specs.Mine.{arcs, members};
@@ -13,7 +13,7 @@ use mine_graph::{Graph, Instance, marked_numbers};
 use optimality::Certificate;
 use std::alloc::{AllocError, Global};
 
-/// Marks the blocks of a part's pit.
+/// Marks the blocks of a component's pit.
 pub(crate) fn mark_pit(blocks: &[u32], pit: &[u32], marks: &mut [bool])
     requires pit { (i : ℕ) → i < length pit.now → get_or pit.now i 0 < length blocks.now }
     requires blocks { (u : ℕ) → u < length blocks.now → get_or blocks.now u 0 < length marks.old }
@@ -24,7 +24,7 @@ pub(crate) fn mark_pit(blocks: &[u32], pit: &[u32], marks: &mut [bool])
     }
 }
 
-/// Writes the amount on each pair of a part where the pair stands in the whole.
+/// Writes the flow of a component at the numbers of its arcs in the whole graph.
 pub(crate) fn carry_flow(
     whole: &Graph,
     blocks: &[u32],
@@ -51,7 +51,7 @@ pub(crate) fn carry_flow(
     }
 }
 
-/// Writes the answer of one part.
+/// Writes the solution of one component.
 fn place_part(instance: &Instance, part: &SolvedPart, marks: &mut [bool], flow: &mut [i128])
     requires part { (set : ℕ → Bool) × IsPart (graph_of_instance instance.now) set part.now.blocks.items (graph_of_instance part.now.mine) }
     requires answer { IsCertificateOf part.now.mine part.now.certificate }
@@ -72,7 +72,7 @@ fn place_part(instance: &Instance, part: &SolvedPart, marks: &mut [bool], flow: 
     );
 }
 
-/// Writes the answer of each part.
+/// Writes the solution of each component.
 fn place_parts(instance: &Instance, parts: &[SolvedPart], marks: &mut [bool], flow: &mut [i128])
     requires solved { AreSolved instance.now parts.now }
     requires marks { length marks.old ≡ instance.now.blocks }
@@ -86,7 +86,7 @@ fn place_parts(instance: &Instance, parts: &[SolvedPart], marks: &mut [bool], fl
     }
 }
 
-/// The certificate of the whole: the pits and the flows of its parts, by the numbers of the whole.
+/// Returns the certificate of the whole mine: pits and flows of its components, by the numbers of the whole.
 pub(crate) fn join_parts(
     alloc: Global,
     instance: &Instance,

@@ -1,9 +1,9 @@
-//! The order of mergers by lowest label (Hochbaum 2008; Chandran and Hochbaum 2009). It proposes arcs and proves nothing:
-//! the tree decides each merger, and what the order leaves over the closing loop of `single` finds.
+//! The order of mergers by lowest label (Hochbaum 2008; Chandran and Hochbaum 2009). It only proposes arcs: the tree decides each
+//! merger, and the closing loop finds any merger arc that is left.
 //!
-//! A label is a lower bound on how far a block is from the weak ones. At first it is that distance.
-//! A turn takes a strong root of the lowest label and looks, in its branch, for a pair to a block one label lower. Where
-//! it finds one the branches merge; else the blocks of that label in the branch get the next one.
+//! A label is a lower bound on the distance of a block from the weak blocks; at first it is that distance. A turn takes a strong
+//! root of the lowest label and searches its branch for an arc to a block one label lower. If it finds one, the branches merge.
+//! Otherwise the blocks of that label in the branch get the next label.
 ghost use Rattle.std.specs.Prelude.{◌≡◌, ◌<◌, ◌≤◌, ◌+◌, length, IfOk, IfErr, IfSome};
 ghost use Rattle.std.specs.List.{All};
 ghost use Rattle.pit_model.specs.Size.{most_blocks};
@@ -21,7 +21,7 @@ use std::alloc::{AllocError, Global};
 use std::marker::Model;
 use std::ops::Range;
 
-/// What a turn did: it merged over this arc, it gave blocks the next label, or nothing, and no turn is left.
+/// The result of a turn: merged over this arc, raised the labels of blocks, or no turn is left.
 enum Turn {
     Merged(u32),
     Raised,
@@ -53,7 +53,7 @@ impl Model for LowestLabel {
     ghost invariant = { λ o. AreOrdered (length o.labels.items) o.labels.items o.arcs.items o.counts.items o.branch.items o.found × (o.waiting ≡ length o.labels.items) };
 }
 
-/// The first arc of each block.
+/// Returns the first arc of each block.
 fn first_arcs(alloc: Global, graph: &Graph) -> Result<Vec<u32>, AllocError>
     ensures { IfOk result (λ v. length v.items ≡ graph.now.blocks) }
 {
@@ -71,7 +71,7 @@ struct Level<'a> {
     label: u32,
 }
 
-/// The first pair in a range of numbers that leads to a block with this label.
+/// Returns the first arc of a range that leads to a block with this label.
 fn first_to(graph: &Graph, arcs: Range<u32>, level: Level<'_>) -> Option<u32>
     requires labels { length level.labels.now ≡ graph.now.blocks }
     requires arcs { arcs.end ≤ length graph.now.pairs }
@@ -86,8 +86,7 @@ fn first_to(graph: &Graph, arcs: Range<u32>, level: Level<'_>) -> Option<u32>
     None
 }
 
-/// Adds the children of a block that have this label to the branch, of which so many blocks are found; it answers how many
-/// are then.
+/// Appends the children of a block that have this label to the `count` blocks found so far, and returns their number then.
 fn add_children(
     forest: &Forest,
     block: u32,
@@ -121,7 +120,7 @@ fn add_children(
     found
 }
 
-/// How many blocks have each label.
+/// Returns the number of blocks with each label.
 fn counts_of(alloc: Global, labels: &[u32]) -> Result<Vec<u32>, AllocError>
     requires few { length labels.now ≤ most_blocks }
     requires in_range { AreBelow labels.now (length labels.now + 2) }
@@ -135,7 +134,11 @@ fn counts_of(alloc: Global, labels: &[u32]) -> Result<Vec<u32>, AllocError>
 }
 
 impl LowestLabel {
-    /// Each block has its distance as a label, and none waits. Refused for want of memory alone.
+    /// Returns the order with the distance of each block as its label, and no root waiting.
+    ///
+    /// # Errors
+    ///
+    /// If memory runs out.
     fn opening(alloc: Global, tree: &BareTree) -> Result<LowestLabel, Fault>
         ensures blocks { IfOk result (λ o. o ≡ tree.now.mine.blocks) }
         ensures no_memory { IfErr result (λ e. e ≡ no_memory) }
@@ -153,7 +156,11 @@ impl LowestLabel {
         })
     }
 
-    /// The order at a tree: the strong roots wait. Refused for want of memory alone.
+    /// Returns the order for a tree: its strong roots wait.
+    ///
+    /// # Errors
+    ///
+    /// If memory runs out.
     pub fn new(alloc: Global, tree: &BareTree) -> Result<LowestLabel, Fault>
         ensures blocks { IfOk result (λ o. o ≡ tree.now.mine.blocks) }
         ensures no_memory { IfErr result (λ e. e ≡ no_memory) }
@@ -166,7 +173,7 @@ impl LowestLabel {
         Ok(order)
     }
 
-    /// Lets a block wait where it is a strong root.
+    /// Lets a block wait if it is a strong root.
     fn wait(&mut self, tree: &BareTree, block: u32)
         requires same { self.old ≡ tree.now.mine.blocks }
         requires block { block < self.old }
@@ -182,7 +189,7 @@ impl LowestLabel {
         self.waiting.push(label, block);
     }
 
-    /// Gives a block another label.
+    /// Changes the label of a block.
     fn relabel(&mut self, block: u32, label: u32)
         requires block { block < self.old }
         requires label { label < self.old + 2 }
@@ -194,7 +201,7 @@ impl LowestLabel {
         self.labels[block as usize] = label;
     }
 
-    /// The first pair of a block, from its kept arc on, that leads to a block with this label.
+    /// Returns the first arc of a block, from its current arc on, that leads to a block with this label.
     fn scan(&mut self, graph: &Graph, block: u32, label: u32) -> Option<u32>
         requires same { self.old ≡ graph.now.blocks }
         requires block { block < self.old }
@@ -211,7 +218,7 @@ impl LowestLabel {
         arc
     }
 
-    /// The branch that is looked through begins with its root.
+    /// Starts the search of a branch at its root.
     fn begin(&mut self, root: u32)
         requires { root < self.old }
         ensures { self.new ≡ self.old }
@@ -220,7 +227,7 @@ impl LowestLabel {
         self.found = 1;
     }
 
-    /// The block that was found at a place, if so many were found.
+    /// Returns the block found at a place of the search, if there is one.
     fn found_at(&self, place: usize) -> Option<u32>
         ensures { IfSome result (λ u. u < self.now) }
     {
@@ -231,7 +238,7 @@ impl LowestLabel {
         }
     }
 
-    /// Adds the children of a block that have this label to those that were found.
+    /// Appends the children of a block that have this label to the blocks found.
     fn find_children(&mut self, forest: &Forest, block: u32, label: u32)
         requires same { self.old ≡ size forest.now }
         requires block { block < self.old }
@@ -244,7 +251,7 @@ impl LowestLabel {
         self.found = add_children(forest, block, level, &mut self.branch, self.found);
     }
 
-    /// Looks through the branch of a root, along the blocks with its label, for a pair to a block one label lower.
+    /// Searches the branch of a root, along blocks with its label, for an arc to a block one label lower.
     fn look(&mut self, tree: &BareTree, root: u32, label: u32) -> Option<u32>
         requires same { self.old ≡ tree.now.mine.blocks }
         requires root { root < self.old }
@@ -264,7 +271,7 @@ impl LowestLabel {
         None
     }
 
-    /// Gives the blocks that were found the next label, and lets their root wait for a turn with it.
+    /// Raises the labels of the blocks found by one, and lets their root wait.
     fn raise(&mut self, graph: &Graph, root: u32, label: u32)
         requires same { self.old ≡ graph.now.blocks }
         requires root { root < self.old }
@@ -284,8 +291,8 @@ impl LowestLabel {
         self.waiting.push(label + 1, root);
     }
 
-    /// Lets the strong roots of a tree wait, but for those that `finish` named, and no other block. Labels stay: they are lower
-    /// bounds also where values grew.
+    /// Lets exactly the strong roots of a tree wait, except those that `finish` named. Labels stay, since increased values keep
+    /// them lower bounds.
     pub fn wait_anew(&mut self, tree: &BareTree)
         requires same { self.old ≡ tree.now.mine.blocks }
         ensures { self.new ≡ self.old }
@@ -300,7 +307,7 @@ impl LowestLabel {
         }
     }
 
-    /// No turn looks at these blocks any more: they get a label that none is one lower than.
+    /// Excludes these blocks from all later turns, by a label that no other label is one below.
     pub fn finish(&mut self, blocks: &[u32])
         requires { All (λ u. u < self.old) blocks.now }
         ensures { self.new ≡ self.old }
@@ -322,7 +329,7 @@ impl LowestLabel {
         }
     }
 
-    /// Merges over the arc, and lets the strong roots that its path then has wait.
+    /// Merges over the arc, and lets the strong roots of its path wait.
     fn merge(&mut self, tree: &mut BareTree, arc: u32) -> Turn
         requires same { self.old ≡ tree.old.mine.blocks }
         ensures same { self.new ≡ self.old }
@@ -336,8 +343,8 @@ impl LowestLabel {
         Turn::Merged(arc)
     }
 
-    /// One turn. The last is where no block is one label lower than the lowest strong root: then no strong branch reaches a
-    /// weak block.
+    /// Takes one turn. The last turn is when no block is one label lower than the lowest strong root: then no strong branch reaches
+    /// a weak block.
     fn turn(&mut self, tree: &mut BareTree) -> Turn
         requires same { self.old ≡ tree.old.mine.blocks }
         ensures same { self.new ≡ self.old }
@@ -363,10 +370,10 @@ impl LowestLabel {
     }
 }
 
-/// So many turns no run takes: a bound that the loop ends by, whatever the order does.
+/// A bound on the number of turns that no run reaches. The loop ends by it in every order.
 const MOST_TURNS: u64 = 1 << 63;
 
-/// Takes turns until the last.
+/// Takes turns until the last. This is the merge loop.
 pub(crate) fn take_turns(order: &mut LowestLabel, tree: &mut BareTree)
     requires same { order.old ≡ tree.old.mine.blocks }
     ensures same { order.new ≡ order.old }
@@ -380,7 +387,11 @@ pub(crate) fn take_turns(order: &mut LowestLabel, tree: &mut BareTree)
     }
 }
 
-/// Makes mergers by lowest label. Refused for want of memory alone, and then it made none.
+/// Merges by lowest label.
+///
+/// # Errors
+///
+/// If memory runs out; the tree is then unchanged.
 pub fn merge_by_lowest_label(alloc: Global, tree: &mut BareTree) -> Result<(), Fault>
     ensures mine { tree.new.mine ≡ tree.old.mine }
     ensures refused { IfErr result (λ e. (e ≡ no_memory) × (tree.new ≡ tree.old)) }
@@ -390,7 +401,11 @@ pub fn merge_by_lowest_label(alloc: Global, tree: &mut BareTree) -> Result<(), F
     Ok(())
 }
 
-/// Makes mergers by lowest label, and answers over which arcs, in their order. Refused for want of memory alone.
+/// Merges by lowest label and returns the arcs in order.
+///
+/// # Errors
+///
+/// If memory runs out.
 pub(crate) fn mergers_by_lowest_label(alloc: Global, tree: &mut BareTree) -> Result<Vec<u32>, Fault>
     ensures { IfErr result (λ e. e ≡ no_memory) }
 {

@@ -15,7 +15,7 @@ use norm_tree::{BareTree, NormTree};
 use std::alloc::Global;
 use std::marker::Model;
 
-/// A mine with the tree of its last solve. To a contract it is the mine.
+/// A mine with the tree of its last solve. Contracts see it as the mine.
 #[derive(Drop)]
 pub struct ParametricSolver {
     tree: BareTree,
@@ -36,7 +36,11 @@ impl Model for ParametricSolver {
 }
 
 impl ParametricSolver {
-    /// A mine, in memory of its own, that is not solved yet. Refused for want of memory alone.
+    /// Copies a mine, which is not solved yet.
+    ///
+    /// # Errors
+    ///
+    /// If memory runs out.
     pub fn new(alloc: Global, instance: &Instance) -> Result<ParametricSolver, Fault>
         ensures mine { IfOk result (λ r. r ≡ instance.now) }
         ensures refused { IfErr result (λ e. e ≡ no_memory) }
@@ -51,14 +55,14 @@ impl ParametricSolver {
         })
     }
 
-    /// The mine as it is now.
+    /// Returns the mine with its current values.
     pub fn instance(&self) -> &Instance
         ensures { result.now ≡ self.now }
     {
         self.tree.instance()
     }
 
-    /// Increases the value of a block, within the limit of a value. It allocates nothing.
+    /// Increases the value of a block, within the limit of a value. Allocates nothing.
     pub fn increase_value(&mut self, block: u32, amount: i128)
         requires below { block < self.old.blocks }
         requires least { pos 0 ≤ℤ amount }
@@ -69,9 +73,12 @@ impl ParametricSolver {
         self.tree.increase_value(block, amount);
     }
 
-    /// The same mine, solved, and its pit, rising. Refused for want of memory alone.
+    /// Solves the mine, and returns it with the blocks of its minimal pit, rising. Later solves skip these blocks, since values
+    /// only increase and so the pit only grows.
     ///
-    /// The pit stays in that of each later solve, since values only grow: so the order is done with its blocks.
+    /// # Errors
+    ///
+    /// If memory runs out.
     pub fn solved(self) -> Result<(ParametricSolver, Vec<u32>), Fault>
         ensures mine { IfOk result (λ r. r.0 ≡ self) }
         ensures shown { IfOk result (λ r. ShowsPit self r.1.items) }

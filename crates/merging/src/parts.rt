@@ -1,7 +1,6 @@
-//! Each part of an instance that no pair joins to another is solved by itself, several at once. What the parts answer is
-//! written where their blocks and pairs stand in the whole: each condition of a certificate speaks of one block and its
-//! pairs, so the certificates of the parts are together one of the whole (Picard 1976: a closed set of a graph is one of each
-//! of its parts).
+//! Solves each connected component of an instance by itself, several at a time. Each condition of a certificate concerns one block
+//! and its arcs, so the certificates of the components together are one of the whole mine (Picard 1976: a closed set of a graph is
+//! one of each of its components).
 ghost use Rattle.std.specs.Prelude.{◌≡◌, ◌<◌, ℕ, false, pos, length, get_or, IfOk, IfErr, IfSome, MatchResult};
 ghost use Rattle.std.specs.List.{All, AllZip};
 ghost use Rattle.faults.specs.Refused.{no_memory};
@@ -22,7 +21,7 @@ use std::alloc::{AllocError, Global};
 use std::sync::Arc;
 use std::thread::Threads;
 
-/// The values of some blocks.
+/// Returns the values of some blocks.
 pub(crate) fn values_at(
     alloc: Global,
     instance: &Instance,
@@ -39,7 +38,7 @@ pub(crate) fn values_at(
     Ok(values)
 }
 
-/// The part as an instance, with its certificate.
+/// Solves a component as an instance, with its certificate.
 fn solve_part(alloc: Global, instance: &Instance, part: Part) -> Result<SolvedPart, Fault>
     requires { IsPartOf instance.now part }
     ensures { MatchResult result (IsSolvedPart instance.now part) (λ e. e ≡ no_memory) }
@@ -57,7 +56,7 @@ fn solve_part(alloc: Global, instance: &Instance, part: Part) -> Result<SolvedPa
     })
 }
 
-/// The parts, each solved, over as many threads as there are processors.
+/// Solves each component, on as many threads as there are processors.
 fn solve_each<R: Threads + Sync>(
     rt: &R,
     alloc: Global,
@@ -80,18 +79,18 @@ fn solve_each<R: Threads + Sync>(
     solved
 }
 
-/// More parts than this are solved as one mine, where they have fewer than so many blocks on average: each part is an instance
-/// of its own, which takes more memory than what so few blocks need.
+/// More components than this are solved as one mine if they have fewer than `FEW_BLOCKS` blocks on average: the instance of a component
+/// takes more memory than so few blocks need.
 const MANY_PARTS: u32 = 1 << 16;
 
 const FEW_BLOCKS: u32 = 16;
 
-/// Whether so many parts of a mine of so many blocks are to be solved one by one.
+/// Returns whether the components of a mine are solved one by one.
 fn are_worth_parting(parts: u32, blocks: u32) -> bool {
     parts >= 2 && (parts <= MANY_PARTS || parts <= blocks / FEW_BLOCKS)
 }
 
-/// The certificates of the parts, joined; None where the mine is to be solved as one.
+/// Returns the joined certificates of the components, or `None` if the mine is solved as one.
 fn join_of_parts<R: Threads + Sync>(
     rt: &R,
     alloc: Global,
@@ -114,8 +113,11 @@ fn join_of_parts<R: Threads + Sync>(
     Ok(Some(join_parts(alloc, instance, &solved)?))
 }
 
-/// The smallest closed set of greatest worth, with its certificate, by its parts: each class of blocks that pairs join is
-/// solved by itself, several at once in threads. Refused for want of memory alone, also that of a single part.
+/// Finds the minimal pit with its certificate by connected components, which threads solve at the same time.
+///
+/// # Errors
+///
+/// If memory runs out, also that of one component.
 pub fn solve_parts<R: Threads + Sync>(
     rt: &R,
     alloc: Global,
@@ -130,8 +132,11 @@ pub fn solve_parts<R: Threads + Sync>(
     }
 }
 
-/// The smallest closed set of greatest worth by its parts. Of an instance that is solved as one no flow is made.
-/// Refused for want of memory alone, also that of a single part.
+/// Finds the minimal pit by connected components. An instance that is solved as one gets no flow.
+///
+/// # Errors
+///
+/// If memory runs out, also that of one component.
 pub fn pit_by_parts<R: Threads + Sync>(
     rt: &R,
     alloc: Global,

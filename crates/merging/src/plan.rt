@@ -1,9 +1,8 @@
-//! A plan for workers at one tree: few mergers that lead from the opening tree to a solved one. One thread solves the mine on a
-//! tree of its own, and then once more by the links of the solved tree alone. That takes fewer mergers, and they turn far
-//! fewer blocks from strong to weak and back. No link joins two branches of the solved tree, so the mergers in one of them
-//! change nothing in another.
+//! A plan for workers on a shared tree: few mergers that lead from the opening tree to a solved one. One thread solves the mine on
+//! its own tree, and then again on the links of the solved tree alone. This takes fewer mergers, which turn far fewer blocks from
+//! strong to weak and back. No link joins two branches of the solved tree, so mergers in one branch change nothing in another.
 //!
-//! A plan is a hint and proves nothing: what is asked for is decided at the shared tree.
+//! A plan is a hint; no proof depends on it. Every proposed arc is decided on the shared tree.
 ghost use Rattle.std.specs.Prelude.{◌≡◌, ◌<◌, ◌≤◌, ℕ, length, get_or, IfOk, IfErr};
 ghost use Rattle.faults.specs.Refused.{no_memory};
 ghost use Rattle.pit_model.specs.Mine.{arcs};
@@ -16,14 +15,14 @@ use norm_tree::BareTree;
 use std::alloc::{AllocError, Global};
 use std::sync::Arc;
 
-/// A planned merger: its arc, and the branch of the solved tree in which both blocks of the arc lie.
+/// A planned merger: its arc, and the branch of the solved tree that contains both blocks of the arc.
 #[derive(Clone, Copy)]
 pub struct Planned {
     pub arc: u32,
     pub branch: u32,
 }
 
-/// Planned mergers, in their order, and how many branches the solved tree has.
+/// Planned mergers in order, and the number of branches of the solved tree.
 #[derive(Drop)]
 pub struct Plan {
     pub mergers: Vec<Planned>,
@@ -39,7 +38,7 @@ struct Links {
     count: u32,
 }
 
-/// Whether the tree has a link along the arc.
+/// Returns whether the tree has a link along the arc.
 fn is_linked(tree: &BareTree, arc: u32) -> bool
     requires { arc < arcs tree.now.mine }
 {
@@ -48,7 +47,7 @@ fn is_linked(tree: &BareTree, arc: u32) -> bool
     tree.parent(from) == Some(to) || tree.parent(to) == Some(from)
 }
 
-/// A mark for each arc: whether the tree has a link along it.
+/// Returns for each arc whether the tree has a link along it.
 fn link_marks(alloc: Global, tree: &BareTree) -> Result<Vec<bool>, AllocError>
     ensures { IfOk result (λ v. length v.items ≡ arcs tree.now.mine) }
 {
@@ -57,7 +56,7 @@ fn link_marks(alloc: Global, tree: &BareTree) -> Result<Vec<bool>, AllocError>
         .collect(alloc)
 }
 
-/// The pairs with these numbers, by rows.
+/// Returns the arcs with these numbers, as rows.
 fn pairs_at(alloc: Global, graph: &Graph, arcs: &[u32]) -> Result<Csr, AllocError>
     requires below { (i : ℕ) → i < length arcs.now → get_or arcs.now i 0 < length graph.now.pairs }
     requires rising { (i j : ℕ) → i < j → j < length arcs.now → get_or arcs.now i 0 < get_or arcs.now j 0 }
@@ -76,7 +75,7 @@ fn pairs_at(alloc: Global, graph: &Graph, arcs: &[u32]) -> Result<Csr, AllocErro
     Ok(needs.finish(graph.n())?)
 }
 
-/// The graph of the same blocks with the pairs of these numbers alone.
+/// Returns the graph of the same blocks with only these arcs.
 fn graph_of_arcs(alloc: Global, graph: &Graph, arcs: &[u32]) -> Result<Graph, Fault>
     requires below { (i : ℕ) → i < length arcs.now → get_or arcs.now i 0 < length graph.now.pairs }
     requires rising { (i j : ℕ) → i < j → j < length arcs.now → get_or arcs.now i 0 < get_or arcs.now j 0 }
@@ -91,7 +90,7 @@ fn graph_of_arcs(alloc: Global, graph: &Graph, arcs: &[u32]) -> Result<Graph, Fa
     Ok(links)
 }
 
-/// The links of a tree.
+/// Returns the links of a tree.
 fn links_of(alloc: Global, tree: &BareTree) -> Result<Links, Fault>
     ensures blocks { IfOk result (λ l. l.graph.value.blocks ≡ tree.now.mine.blocks) }
     ensures refused { IfErr result (λ e. e ≡ no_memory) }
@@ -109,7 +108,7 @@ fn links_of(alloc: Global, tree: &BareTree) -> Result<Links, Fault>
     })
 }
 
-/// The merger over a link, by the numbers of the whole; None where no link has that number.
+/// Returns the merger over a link, by the numbers of the whole graph, or `None` if no link has that number.
 fn merger_over(graph: &Graph, links: &Links, link: u32) -> Option<Planned> {
     let &arc = links.arcs.get(link as usize)?;
     if arc >= graph.arcs() {
@@ -119,7 +118,7 @@ fn merger_over(graph: &Graph, links: &Links, link: u32) -> Option<Planned> {
     Some(Planned { arc, branch })
 }
 
-/// The mergers over the arcs of these links.
+/// Returns the mergers over these links.
 fn plan_of(alloc: Global, graph: &Graph, links: &Links, order: &[u32]) -> Result<Plan, AllocError> {
     let mergers = order
         .iter()
@@ -131,7 +130,7 @@ fn plan_of(alloc: Global, graph: &Graph, links: &Links, order: &[u32]) -> Result
     })
 }
 
-/// The links of a solved tree of the instance.
+/// Returns the links of a solved tree of the instance.
 fn solved_links(alloc: Global, instance: &Instance) -> Result<Links, Fault>
     ensures blocks { IfOk result (λ l. l.graph.value.blocks ≡ instance.now.blocks) }
     ensures refused { IfErr result (λ e. e ≡ no_memory) }
@@ -141,7 +140,7 @@ fn solved_links(alloc: Global, instance: &Instance) -> Result<Links, Fault>
     links_of(alloc, &tree)
 }
 
-/// The links over which the instance is solved once more, by these alone, in the order of its mergers.
+/// Solves the instance again with only these links as arcs, and returns the links in the order of mergers.
 fn merged_links(alloc: Global, instance: &Instance, links: &Links) -> Result<Vec<u32>, Fault>
     requires { links.now.graph.value.blocks ≡ instance.now.blocks }
     ensures { IfErr result (λ e. e ≡ no_memory) }
@@ -152,7 +151,11 @@ fn merged_links(alloc: Global, instance: &Instance, links: &Links) -> Result<Vec
     Ok(order)
 }
 
-/// Few mergers, in their order, that lead from the opening tree to a solved one. Refused for want of memory alone.
+/// Plans few mergers that lead from the opening tree to a solved one, in order.
+///
+/// # Errors
+///
+/// If memory runs out.
 pub fn plan_mergers(alloc: Global, instance: &Instance) -> Result<Plan, Fault>
     ensures { IfErr result (λ e. e ≡ no_memory) }
 {

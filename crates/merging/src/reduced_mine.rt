@@ -1,5 +1,5 @@
-//! The reduced mine of a mine with fixed blocks, the open blocks as an instance of its own, and the lift of its pit and certificate to
-//! the whole.
+//! The reduced mine: the blocks that fixed blocks leave open, as an instance, and the lift of its pit and certificate to the whole
+//! mine.
 ghost use Rattle.std.specs.Prelude.{◌≡◌, ◌<◌, ◌≤◌, ◌^◌, ℕ, Bool, true, false, length, get_or, IfOk, IfErr};
 ghost use Rattle.faults.specs.Refused.{no_memory};
 ghost use Rattle.pit_model.specs.Fixed.{IsFixedRest, fixed_of, graph_of_mine};
@@ -25,7 +25,7 @@ pub struct ReducedMine {
     pub mine: Instance,
 }
 
-/// A mark for each block: whether it must be dug.
+/// Returns for each block whether it is in the forced closure.
 fn dug_marks(alloc: Global, fixed: &Fixed, n: u32) -> Result<Vec<bool>, AllocError>
     ensures count { IfOk result (λ v. length v.items ≡ n) }
     ensures marks { IfOk result (λ v. (u : ℕ) → u < n → has v.items u ≡ forced_closure fixed.now u) }
@@ -33,8 +33,11 @@ fn dug_marks(alloc: Global, fixed: &Fixed, n: u32) -> Result<Vec<bool>, AllocErr
     (0..n).map(|u| fixed.must_dig(u)).collect(alloc)
 }
 
-/// The blocks that must be dug with those that were found among the open ones, by the numbers of the whole, rising. Refused for
-/// want of memory alone.
+/// Returns the forced closure joined with the blocks found in the reduced mine, by their numbers in the whole mine, rising.
+///
+/// # Errors
+///
+/// If memory runs out.
 pub fn join_pit(
     alloc: Global,
     n: u32,
@@ -54,7 +57,11 @@ pub fn join_pit(
 }
 
 impl ReducedMine {
-    /// The open blocks of a mine as an instance of its own. Refused for want of memory alone.
+    /// Returns the open blocks of a mine as an instance.
+    ///
+    /// # Errors
+    ///
+    /// If memory runs out.
     pub fn of(alloc: Global, mine: &Instance, fixed: &Fixed) -> Result<ReducedMine, Fault>
         requires { IsFixedOf (graph_of_mine mine.now) fixed.now }
         ensures rest { IfOk result (IsRestIn mine.now fixed.now) }
@@ -72,8 +79,12 @@ impl ReducedMine {
         })
     }
 
-    /// A certificate of the rest by the numbers of the whole: with what must be dug, and with no flow on a pair of a block that
-    /// is not open. Refused for want of memory alone.
+    /// Lifts a certificate of the reduced mine to the whole mine: adds the forced closure, and no flow on an arc of a block that is
+    /// not open.
+    ///
+    /// # Errors
+    ///
+    /// If memory runs out.
     pub fn certificate(
         &self,
         alloc: Global,

@@ -1,4 +1,4 @@
-//! One thread's replay of a journal: each entry is decided again, in its order, and is to have the verdict that it has.
+//! Replays a journal on one thread: decides each entry again, in order, and compares the verdicts.
 ghost use Rattle.std.specs.Prelude.{◌≡◌, ◌<◌, ◌+◌, ◌^◌, IsTrue, IfOk, IfErr, IfSome, IsSome, IsNone};
 ghost use Rattle.faults.specs.Refused.{no_memory};
 ghost use Rattle.pit_model.specs.Tree.{is_merger, opening};
@@ -12,20 +12,20 @@ use norm_tree::{NormTree, lawful_verdict};
 use pit_model::{Entry, Verdict};
 use std::alloc::Global;
 
-/// How the replay of a journal ends.
+/// The result of replaying a journal.
 #[derive(Debug, Drop)]
 pub enum Replayed {
     /// Each verdict is lawful and no merger arc is left: the pit, rising.
     Pit(Vec<u32>),
-    /// The entry of this number, counted from 1, is the first without its lawful verdict.
+    /// The number of the first entry whose verdict is not lawful, counted from 1.
     Differs(u64),
-    /// Each verdict is lawful, the budget of so many mergers is used up, and a merger arc is left.
+    /// Each verdict is lawful, the budget of this many mergers is used up, and a merger arc is left.
     Exhausted(u64),
-    /// Each verdict is lawful, and a merger arc is left after so many mergers, which the budget allows to be merged.
+    /// Each verdict is lawful, and after this many mergers the budget allows another and a merger arc is left.
     Open(u64),
 }
 
-/// Does again what an entry with its lawful verdict did, after so many mergers; gives how many they are then.
+/// Repeats what an entry with its lawful verdict did after `made` mergers, and returns the number of mergers after it.
 fn redo(tree: &mut NormTree, made: u64, entry: Entry) -> u64
     requires few { made + 1 < 2 ^ 64 }
     requires merger { IsTrue (is_applied entry.verdict) → IsTrue (is_merger tree.old.mine tree.old.tree entry.arc) }
@@ -43,7 +43,7 @@ fn redo(tree: &mut NormTree, made: u64, entry: Entry) -> u64
     }
 }
 
-/// Decides an entry again, after so many mergers: how many they are then, where the entry has its lawful verdict, else None.
+/// Decides an entry again after `made` mergers. Returns the number of mergers after it, or `None` if its verdict is not lawful.
 fn decide_again(tree: &mut NormTree, budget: Option<u64>, made: u64, entry: Entry) -> Option<u64>
     requires { made + 1 < 2 ^ 64 }
     ensures mine { tree.new.mine ≡ tree.old.mine }
@@ -58,8 +58,8 @@ fn decide_again(tree: &mut NormTree, budget: Option<u64>, made: u64, entry: Entr
     Some(redo(tree, made, entry))
 }
 
-/// Decides the entries again, as long as each has its lawful verdict: how many mergers were made, or the number of the first
-/// entry, counted from 1, that has another verdict.
+/// Decides the entries again until one has a verdict that is not lawful. Returns the number of mergers, or the number of that
+/// entry, counted from 1.
 fn follow(tree: &mut NormTree, budget: Option<u64>, entries: &[Entry]) -> Result<u64, u64>
     requires { tree.old.tree ≡ opening tree.old.mine }
     ensures mine { tree.new.mine ≡ tree.old.mine }
@@ -78,7 +78,11 @@ fn follow(tree: &mut NormTree, budget: Option<u64>, entries: &[Entry]) -> Result
     Ok(made)
 }
 
-/// What is said of a tree after so many mergers under a budget: its pit, or why none is told. Refused for want of memory alone.
+/// Returns the result for a tree after `made` mergers of a budget.
+///
+/// # Errors
+///
+/// If memory runs out.
 fn end_at(tree: &NormTree, budget: Option<u64>, made: u64) -> Result<Replayed, Fault>
     ensures end { IfOk result (EndsAt tree.now budget made) }
     ensures refused { IfErr result (λ e. e ≡ no_memory) }
@@ -93,8 +97,12 @@ fn end_at(tree: &NormTree, budget: Option<u64>, made: u64) -> Result<Replayed, F
     }
 }
 
-/// Replays the journal of a run under a budget, from the opening tree of the instance on, by one thread. Which of the four
-/// ends it has is told by the entries alone. Refused for want of memory alone.
+/// Replays the journal of a run with a budget on one thread, from the opening tree of the instance. The entries alone determine
+/// which of the four results it has.
+///
+/// # Errors
+///
+/// If memory runs out.
 pub fn replay(
     alloc: Global,
     instance: &Instance,

@@ -1,4 +1,4 @@
-//! One thread solves the whole instance.
+//! Solves the whole instance on one thread.
 ghost use Rattle.std.specs.Prelude.{◌≡◌, ℕ, false, Some, None, IfOk, IfErr};
 ghost use Rattle.faults.specs.Refused.{no_memory};
 ghost use Rattle.pit_model.specs.FirstRun.{first_run};
@@ -19,7 +19,7 @@ use optimality::{Certificate, of_tree};
 use pit_model::budget_suffices;
 use std::alloc::Global;
 
-/// The tree with no merger arc left, by mergers in whatever order.
+/// Returns a tree with no merger arc left, by mergers in any order.
 fn solved_tree(alloc: Global, instance: &Instance) -> Result<NormTree, Fault>
     ensures mine { IfOk result (λ t. t.mine ≡ instance.now) }
     ensures none_left { IfOk result (λ t. (k : ℕ) → is_merger t.mine t.tree k ≡ false) }
@@ -30,7 +30,7 @@ fn solved_tree(alloc: Global, instance: &Instance) -> Result<NormTree, Fault>
     merge_remaining(NormTree::from_bare(bare)?)
 }
 
-/// The certificate in a tree with no merger arc left. Refused for want of memory alone.
+/// Returns the certificate of a tree with no merger arc left.
 fn certificate_in(alloc: Global, tree: &NormTree) -> Result<Certificate, Fault>
     requires none_left { (k : ℕ) → is_merger tree.now.mine tree.now.tree k ≡ false }
     ensures answer { IfOk result (IsCertificateOf tree.now.mine) }
@@ -42,7 +42,11 @@ fn certificate_in(alloc: Global, tree: &NormTree) -> Result<Certificate, Fault>
     }
 }
 
-/// The pit with its certificate. Refused for want of memory alone.
+/// Finds the minimal pit with its certificate.
+///
+/// # Errors
+///
+/// If memory runs out.
 pub(crate) fn solve_certificate(alloc: Global, instance: &Instance) -> Result<Certificate, Fault>
     ensures answer { IfOk result (IsCertificateOf instance.now) }
     ensures refused { IfErr result (λ e. e ≡ no_memory) }
@@ -51,7 +55,11 @@ pub(crate) fn solve_certificate(alloc: Global, instance: &Instance) -> Result<Ce
     certificate_in(alloc, &tree)
 }
 
-/// The pit alone: the flow that shows it stays in the tree. Refused for want of memory alone.
+/// Finds the minimal pit alone, rising. The flow that proves it optimal stays in the tree.
+///
+/// # Errors
+///
+/// If memory runs out.
 pub fn solve_pit(alloc: Global, instance: &Instance) -> Result<Vec<u32>, Fault>
     ensures shown { IfOk result (λ pit. ShowsPit instance.now pit.items) }
     ensures refused { IfErr result (λ e. e ≡ no_memory) }
@@ -61,7 +69,7 @@ pub fn solve_pit(alloc: Global, instance: &Instance) -> Result<Vec<u32>, Fault>
     tree.pit()
 }
 
-/// The pit, by mergers in whatever order.
+/// Solves without a budget, by mergers in any order.
 fn solve_freely(alloc: Global, instance: &Instance) -> Result<Outcome, Fault>
     ensures solved { IfOk result (IsSolvedAlone instance.now None) }
     ensures refused { IfErr result (λ e. e ≡ no_memory) }
@@ -69,7 +77,7 @@ fn solve_freely(alloc: Global, instance: &Instance) -> Result<Outcome, Fault>
     Ok(Outcome::Pit(solve_certificate(alloc, instance)?))
 }
 
-/// The tree after the mergers of the first run, at most as many as the budget.
+/// Returns the tree after the mergers of the first run, at most `budget` of them.
 fn first_tree(alloc: Global, instance: &Instance, budget: u64) -> Result<NormTree, Fault>
     ensures mine { IfOk result (λ t. t.mine ≡ instance.now) }
     ensures run { IfOk result (λ t. t.tree ≡ first_run t.mine budget) }
@@ -80,7 +88,7 @@ fn first_tree(alloc: Global, instance: &Instance, budget: u64) -> Result<NormTre
     Ok(tree)
 }
 
-/// What the tree of the first run answers.
+/// Returns the outcome for the tree of the first run.
 fn answer_of(alloc: Global, tree: &NormTree, budget: u64) -> Result<Outcome, Fault>
     requires run { tree.now.tree ≡ first_run tree.now.mine budget }
     ensures solved { IfOk result (IsSolvedAlone tree.now.mine (Some budget)) }
@@ -92,7 +100,7 @@ fn answer_of(alloc: Global, tree: &NormTree, budget: u64) -> Result<Outcome, Fau
     }
 }
 
-/// The pit, where the mergers of the first run end within the budget.
+/// Solves by the first run, within the budget.
 fn solve_by_first_run(alloc: Global, instance: &Instance, budget: u64) -> Result<Outcome, Fault>
     ensures solved { IfOk result (IsSolvedAlone instance.now (Some budget)) }
     ensures refused { IfErr result (λ e. e ≡ no_memory) }
@@ -101,7 +109,7 @@ fn solve_by_first_run(alloc: Global, instance: &Instance, budget: u64) -> Result
     answer_of(alloc, &tree, budget)
 }
 
-/// The same. Where no run uses the budget up, the order of the mergers is free.
+/// Solves within the budget. If no run uses the budget up, mergers come in any order.
 fn solve_within(alloc: Global, instance: &Instance, budget: u64) -> Result<Outcome, Fault>
     ensures solved { IfOk result (IsSolvedAlone instance.now (Some budget)) }
     ensures refused { IfErr result (λ e. e ≡ no_memory) }
@@ -115,9 +123,12 @@ fn solve_within(alloc: Global, instance: &Instance, budget: u64) -> Result<Outco
     }
 }
 
-/// The smallest closed set of greatest worth, with its certificate. With a budget the mergers are those of the first run,
-/// each over the merger arc with the least number, and `Exhausted` comes exactly where a merger arc is left after as many
-/// as the budget. Refused for want of memory alone.
+/// Finds the minimal pit with its certificate on one thread. With a budget the mergers are those of the first run, each over the
+/// merger arc with the least number, and the outcome is `Exhausted` if and only if a merger arc is left after `budget` mergers.
+///
+/// # Errors
+///
+/// If memory runs out.
 pub fn solve_single(
     alloc: Global,
     instance: &Instance,

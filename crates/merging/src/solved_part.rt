@@ -1,4 +1,4 @@
-//! A part of an instance with its own answer.
+//! A connected component of an instance with its solution.
 
 use mine_graph::Instance;
 use optimality::Certificate;

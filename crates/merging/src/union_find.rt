@@ -1,7 +1,7 @@
-//! Guesses by union-find over a few pairs of each block whether all blocks are one connected component. It is a hint that no proof
-//! depends on: the pit of a mine is the same whether the mine is solved whole or by components.
+//! Guesses by union-find (Galler and Fischer 1964) over a few arcs of each block whether all blocks are one connected component. It
+//! is a hint that no proof depends on: the pit is the same whether the mine is solved whole or by components.
 //!
-//! Sets of joined blocks are trees of parent links (Galler and Fischer 1964).
+//! Sets of joined blocks are trees of parent links.
 ghost use Rattle.std.specs.Prelude.{◌≡◌, ◌<◌, length, IfOk};
 ghost use Rattle.std.specs.List.{range_with_len};
 ghost use Rattle.merging.specs.Order.{AreBelow};
@@ -9,7 +9,7 @@ ghost use Rattle.merging.specs.Order.{AreBelow};
 use mine_graph::{Graph, all_numbers};
 use std::alloc::{AllocError, Global};
 
-/// How many pairs of each block are looked at, at most. Where blocks need those above them and around, four join all.
+/// The most arcs of each block that are tried. If blocks depend on those above and around them, four join all.
 const ROUNDS: u32 = 4;
 
 /// Returns the root of a block's tree, and halves the path to it.
@@ -33,7 +33,7 @@ fn find_root(parents: &mut [u32], block: u32) -> u32
     block
 }
 
-/// Joins the sets of two blocks; it answers whether they were two.
+/// Joins the sets of two blocks, and returns whether they were two sets.
 fn join(parents: &mut [u32], one: u32, other: u32) -> bool
     requires below { AreBelow parents.old (length parents.old) }
     requires one { one < length parents.old }
@@ -47,7 +47,7 @@ fn join(parents: &mut [u32], one: u32, other: u32) -> bool
     one != other
 }
 
-/// Joins each block with what its pair at a place of its row leads to, where it has so many; it answers how many sets went.
+/// Joins each block with the target of its arc at a place of its row, if it has one, and returns the number of sets removed.
 fn join_at(graph: &Graph, parents: &mut [u32], place: u32) -> u32
     requires count { length parents.old ≡ graph.now.blocks }
     requires below { AreBelow parents.old (length parents.old) }
@@ -66,7 +66,7 @@ fn join_at(graph: &Graph, parents: &mut [u32], place: u32) -> u32
     gone
 }
 
-/// Whether a few pairs of each block join all blocks.
+/// Returns whether a few arcs of each block join all blocks.
 pub fn is_one_part(alloc: Global, graph: &Graph) -> Result<bool, AllocError> {
     let mut parents = all_numbers(alloc, graph.n())?;
     let mut sets = graph.n();

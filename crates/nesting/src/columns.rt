@@ -29,7 +29,7 @@ impl Model for Columns {
     ghost invariant = { λ c. ArePrices c.revenues.items c.costs.items };
 }
 
-/// What a revenue and a cost are worth at a factor.
+/// Returns the value of a block with this revenue and cost at a factor.
 fn price(factor: u32, revenue: i128, cost: i128) -> i128
     requires factor { factor ≤ 100000 }
     requires revenue { (pos 0 ≤ℤ revenue) × (revenue ≤ℤ pos (10 ^ 18)) }
@@ -53,7 +53,7 @@ fn amounts_at(alloc: Global, amounts: &[i128], blocks: &[u32]) -> Result<Vec<i12
 }
 
 impl Columns {
-    /// These revenues and costs.
+    /// Returns columns of these revenues and costs, in millionths.
     pub fn new(revenues: Vec<i128>, costs: Vec<i128>) -> Columns
         requires { ArePrices revenues.items costs.items }
         ensures revenues { result.revenues ≡ revenues.items }
@@ -62,7 +62,7 @@ impl Columns {
         Columns::with_counters(revenues, costs, Counters::none())
     }
 
-    /// The same with these counters, which count over the instances that are made of them.
+    /// Returns columns of these revenues and costs, with counters for the instances that are made of them.
     pub fn with_counters(revenues: Vec<i128>, costs: Vec<i128>, counters: Counters) -> Columns
         requires { ArePrices revenues.items costs.items }
         ensures revenues { result.revenues ≡ revenues.items }
@@ -75,26 +75,26 @@ impl Columns {
         }
     }
 
-    /// What counts over the instances of these columns. No clause speaks of it.
+    /// Returns the counters of the instances of these columns. No clause concerns them.
     pub(crate) fn counters(&self) -> &Counters {
         &self.counters
     }
 
-    /// What is true of each pair of columns.
+    /// States the invariant: as many revenues as costs, each within the limits.
     pub fn law(&self)
         ensures { ArePrices self.now.revenues self.now.costs }
     {
         let _ = &self.revenues;
     }
 
-    /// The number of rows.
+    /// Returns the number of rows.
     pub fn len(&self) -> u32
         ensures { result ≡ length self.now.revenues }
     {
         self.revenues.len() as u32
     }
 
-    /// The value of a block at a factor in per mille, in billionths.
+    /// Returns the value of block `u` at a factor in per mille, in billionths: `factor * revenue - 1000 * cost`.
     pub fn value(&self, u: u32, factor: u32) -> i128
         requires block { u < length self.now.revenues }
         requires factor { factor ≤ 100000 }
@@ -104,7 +104,11 @@ impl Columns {
         price(factor, self.revenues[u as usize], self.costs[u as usize])
     }
 
-    /// The values of a list of blocks at a factor in per mille, in billionths. Refused for want of memory alone.
+    /// Returns the values of a list of blocks at a factor in per mille, in billionths.
+    ///
+    /// # Errors
+    ///
+    /// If memory runs out.
     pub(crate) fn values(
         &self,
         alloc: Global,
@@ -122,7 +126,11 @@ impl Columns {
         Ok(values)
     }
 
-    /// The rows of some blocks, as columns of their own. Refused for want of memory alone.
+    /// Returns the rows of some blocks as columns.
+    ///
+    /// # Errors
+    ///
+    /// If memory runs out.
     pub(crate) fn at(&self, alloc: Global, blocks: &[u32]) -> Result<Columns, AllocError>
         requires few { length blocks.now ≤ most_blocks }
         requires blocks { All (λ u. u < length self.now.revenues) blocks.now }
@@ -139,7 +147,7 @@ impl Columns {
         })
     }
 
-    /// The summed value of a list of blocks at a factor in per mille, in billionths.
+    /// Returns the sum of the values of a list of blocks at a factor in per mille, in billionths.
     pub(crate) fn worth(&self, blocks: &[u32], factor: u32) -> i128
         requires few { length blocks.now ≤ most_blocks }
         requires blocks { All (λ u. u < length self.now.revenues) blocks.now }

@@ -1,4 +1,4 @@
-//! Price factors in per mille, rising.
+//! Revenue factors in per mille, rising.
 ghost use Rattle.std.specs.Prelude.{◌≡◌, ◌<◌, ℕ, map, length, Some, IfOk, IfErr, IfSome, IfNone};
 ghost use Rattle.pit_model.specs.Shells.{AreFactors, factor_of};
 ghost use Rattle.nesting.specs.FactorList.{IsFirstItemFault};
@@ -7,7 +7,7 @@ use crate::items::check_item;
 use faults::Fault;
 use std::marker::Model;
 
-/// Factors in per mille, each greater than the one before, from 0 to 100,000 and at most 1,000 of them.
+/// At most 1,000 revenue factors in per mille, 0 to 100,000, each greater than the one before.
 #[derive(Drop)]
 pub struct Factors {
     list: Vec<u32>,
@@ -40,8 +40,11 @@ fn first_fault(list: &[u32]) -> Option<Fault>
 }
 
 impl Factors {
-    /// The factors of a list. Refused by the first item that is above 100,000 or the one too many (4), or not greater than
-    /// the one before (19). It takes no memory.
+    /// Returns the factors of a list. Allocates nothing.
+    ///
+    /// # Errors
+    ///
+    /// The first item that is above 100,000 or beyond the thousandth (4), or not greater than the item before (19).
     pub fn new(list: Vec<u32>) -> Result<Factors, Fault>
         ensures list { IfOk result (λ f. f ≡ list.items) }
         ensures refused { IfErr result (IsFirstItemFault (map (λ factor. Some factor) list.items)) }
@@ -52,7 +55,7 @@ impl Factors {
         }
     }
 
-    /// The factors of a list whose items were checked.
+    /// Returns the factors of a list whose items were checked by `check_item`.
     pub fn from_checked(list: Vec<u32>) -> Factors
         requires { AreFactors list.items }
         ensures { result ≡ list.items }
@@ -60,21 +63,21 @@ impl Factors {
         Factors { list }
     }
 
-    /// What is true of each list of factors.
+    /// States the invariant: the factors rise and are within the limits.
     pub fn law(&self)
         ensures { AreFactors self.now }
     {
         let _ = &self.list;
     }
 
-    /// How many factors there are.
+    /// Returns the number of factors.
     pub fn len(&self) -> usize
         ensures { result ≡ length self.now }
     {
         self.list.len()
     }
 
-    /// The factor with that number, from 0, in per mille.
+    /// Returns factor number `k`, counted from 0, in per mille.
     pub fn get(&self, k: usize) -> u32
         requires { k < length self.now }
         ensures { result ≡ factor_of self.now k }

@@ -1,5 +1,5 @@
-//! Shells that grow from factor to factor: a factor is solved on the rest alone, the blocks outside the shell before, and
-//! what is found there is joined with that shell (toward each direction pits nest by factor: Lerchs and Grossmann 1965).
+//! Shells that grow from factor to factor: each factor is solved on the reduced mine, the blocks outside the shell before, and what
+//! is found there is joined with that shell. In each direction pits nest by factor (Lerchs and Grossmann 1965).
 ghost use Rattle.std.specs.Prelude.{◌≡◌, ◌<◌, ◌≤◌, ◌⊎◌, ℕ, suc, true, Bool, List, length, get_or, IfOk, IfErr};
 ghost use Rattle.std.specs.List.{range_with_len};
 ghost use Rattle.faults.specs.Refused.{no_memory};
@@ -20,8 +20,8 @@ use pit_search::{PitSolver, find_pit_without_fixed_blocks};
 use std::alloc::{AllocError, Global};
 use std::sync::Arc;
 
-/// The shell so far, by a mark for each block; and the rest: the blocks outside it, rising, with the graph of the pairs
-/// among them, renumbered in that order.
+/// The shell so far, as a mark for each block, and the blocks outside it, rising, with the graph of the arcs among them, renumbered
+/// in that order.
 #[derive(Drop)]
 pub struct Growing {
     pub marks: Vec<bool>,
@@ -29,7 +29,11 @@ pub struct Growing {
     pub graph: Arc<Graph>,
 }
 
-/// Nothing is taken yet, and all blocks are left. The graph itself is not copied. Refused for want of memory alone.
+/// Returns the empty shell, with all blocks outside it. Shares the graph.
+///
+/// # Errors
+///
+/// If memory runs out.
 pub fn start(alloc: Global, graph: &Arc<Graph>) -> Result<Growing, AllocError>
     ensures { IfOk result (λ g. (direction : AnyDirection) (prices : Prices) (factors : List ℕ) → IsGrown direction (deposit_of prices graph.now.value) factors 0 g.marks.items g.blocks.items g.graph.value) }
 {
@@ -45,7 +49,7 @@ pub fn start(alloc: Global, graph: &Arc<Graph>) -> Result<Growing, AllocError>
     })
 }
 
-/// The rest as an instance at a factor.
+/// Returns the blocks outside the shell as an instance at a factor.
 pub fn rest_instance(
     alloc: Global,
     columns: &Columns,
@@ -65,7 +69,7 @@ pub fn rest_instance(
     Ok(rest)
 }
 
-/// Marks the blocks of the rest that were found, by their numbers there.
+/// Marks the blocks that were found, given by their numbers in the reduced mine.
 pub fn mark(marks: &mut [bool], blocks: &[u32], found: &[u32])
     requires blocks { (i : ℕ) → i < length blocks.now → get_or blocks.now i 0 < length marks.old }
     requires found { (j : ℕ) → j < length found.now → get_or found.now j 0 < length blocks.now }
@@ -79,8 +83,11 @@ pub fn mark(marks: &mut [bool], blocks: &[u32], found: &[u32])
     }
 }
 
-/// Joins the shell with what was found on the rest, and takes it off the rest. Where nothing was found, nothing is copied.
-/// Refused for want of memory alone.
+/// Joins the shell with the blocks that were found, and removes these from the reduced mine. Copies nothing if none was found.
+///
+/// # Errors
+///
+/// If memory runs out.
 fn join(alloc: Global, graph: &Graph, growing: &mut Growing, found: &[u32]) -> Result<(), Fault>
     requires size { length growing.old.marks.items ≡ graph.now.blocks }
     requires outside { (prices : Prices) → IsOutside (deposit_of prices graph.now) (marked growing.old.marks.items) growing.old.blocks.items growing.old.graph.value }
@@ -103,11 +110,11 @@ fn join(alloc: Global, graph: &Graph, growing: &mut Growing, found: &[u32]) -> R
     Ok(())
 }
 
-/// The shell of the next factor: what is found on the rest, joined with the shell before.
+/// Returns the shell of the next factor: what is found in the reduced mine, joined with the shell before.
 ///
 /// # Errors
 ///
-/// If memory runs out, or as the solver refuses the instance that is searched for the rest.
+/// If memory runs out, or as the solver refuses the reduced mine.
 pub fn next_shell<S: PitSolver>(
     solver: &S,
     alloc: Global,

@@ -17,8 +17,12 @@ fn at_item(refusal: Refusal, item: usize) -> Fault
     Fault::at_line(Source::Factors, refusal, item as u64)
 }
 
-/// The factor of the item behind so many others, given the factor before it and its own number, None where it is no whole
-/// one; or else what is wrong with it.
+/// Checks the item after `count` others of a list, given the factor before it and its number, `None` if it is not a whole number.
+/// Returns the factor.
+///
+/// # Errors
+///
+/// Not a whole number (5), above the limit or one item too many (4), or not greater than the item before (19).
 #[tactic(auto, unfolding(crate::specs::FactorList::item_fault_after))]
 pub fn check_item(count: usize, before: Option<u32>, number: Option<u64>) -> Result<u32, Fault>
     requires { count < 2 ^ 63 }

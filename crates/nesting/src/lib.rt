@@ -1,5 +1,5 @@
-//! Nested pits of a mine by price factor, however a pit is found: each is solved on what the shell before leaves, and joined with
-//! that.
+//! Nested pit shells of a mine by revenue factor, with any solver of instances. Each shell is found on the blocks that the shell
+//! before leaves, and joined with that shell.
 #![tactic(auto)]
 
 mod columns;

@@ -1,4 +1,4 @@
-//! The shells of a mine: the pit at each factor, one within the next, however a pit is found.
+//! The shells of a mine: the pit at each factor, one within the next, with any solver.
 ghost use Rattle.std.specs.Prelude.{◌≡◌, ◌<◌, length, IfOk, IfErr};
 ghost use Rattle.faults.specs.Refused.{no_memory};
 ghost use Rattle.pit_model.specs.Shells.{AreShells};
@@ -14,12 +14,12 @@ use pit_model::{Direction, Shell};
 use pit_search::PitSolver;
 use std::alloc::Global;
 
-/// The shell of each factor, in their order: each is found on what the shell before leaves, and joined with that shell. A budget
-/// of mergers counts for each factor.
+/// Returns the shell of each factor, in order. Each is found on the blocks outside the shell before, and joined with that shell. A
+/// budget of mergers counts for each factor.
 ///
 /// # Errors
 ///
-/// If memory runs out, or as the solver refuses the instance that is searched for some factor's rest.
+/// If memory runs out, or as the solver refuses the reduced mine of a factor.
 pub fn shells_by_rests<S: PitSolver>(
     solver: &S,
     alloc: Global,
@@ -46,7 +46,11 @@ pub fn shells_by_rests<S: PitSolver>(
     Ok(list)
 }
 
-/// The shell of each factor, in their order: the least ones by one tree, where that is asked for. Refused for want of memory alone.
+/// Returns the shell of each factor, in order; if asked for, the minimal shells come from one tree.
+///
+/// # Errors
+///
+/// If memory runs out.
 fn inner_shells<S: PitSolver>(
     solver: &S,
     alloc: Global,
@@ -66,8 +70,11 @@ fn inner_shells<S: PitSolver>(
     }
 }
 
-/// The shell of each factor, in their order: the last is found first, and the others among its blocks. Refused for want of memory
-/// alone.
+/// Returns the shell of each factor, in order. Finds the last first, and the others among its blocks.
+///
+/// # Errors
+///
+/// If memory runs out.
 fn shells_within_last<S: PitSolver>(
     solver: &S,
     alloc: Global,
@@ -91,8 +98,8 @@ fn shells_within_last<S: PitSolver>(
     lift_shells(alloc, plan, &outer, &inner)
 }
 
-/// The shell of each factor, in their order, by a solver without a budget: the last is found first, and the others among its
-/// blocks. Where `one_tree` is set, this thread takes the least of these others from one tree, without the solver.
+/// Returns the shell of each factor, in order, by a solver without a budget. Finds the last first, and the others among its blocks.
+/// If `one_tree` is set, this thread takes the other minimal shells from one tree, without the solver.
 ///
 /// # Errors
 ///

@@ -1,5 +1,5 @@
-//! The outermost shell as a deposit of its own. All shells lie within that of the greatest factor (Lerchs and Grossmann
-//! 1965), and it is closed: so where no budget counts mergers, it is found first, and the others among its blocks alone.
+//! The outermost shell as a deposit. All shells lie within the shell of the greatest factor (Lerchs and Grossmann 1965), which is
+//! closed. So without a budget it is found first, and the others among its blocks.
 ghost use Rattle.std.specs.Prelude.{◌≡◌, ◌<◌, ◌≤◌, ℕ, not, map, length, get_or, IfOk, IfErr};
 ghost use Rattle.faults.specs.Refused.{no_memory};
 ghost use Rattle.pit_model.specs.Deposit.{mine_at};
@@ -24,8 +24,8 @@ use pit_search::{PitSolver, find_pit_without_fixed_blocks};
 use std::alloc::{AllocError, Global};
 use std::sync::Arc;
 
-/// The blocks of the pit at a factor, rising, with their revenues and costs and the graph of the pairs among them,
-/// renumbered in that order.
+/// The blocks of the pit at a factor, rising, with their revenues and costs and the graph of the arcs among them, renumbered in
+/// that order.
 #[derive(Drop)]
 pub struct Outermost {
     pub blocks: Vec<u32>,
@@ -41,7 +41,7 @@ fn opposite(alloc: Global, marks: &[bool]) -> Result<Vec<bool>, AllocError>
 }
 
 impl Outermost {
-    /// The part as the mine of a plan, with these factors toward a direction.
+    /// Returns the plan of this deposit's shells at these factors, in a direction.
     pub fn plan<'a>(&'a self, factors: &'a Factors, direction: Direction) -> ShellPlan<'a>
         ensures columns { result.columns.now ≡ self.now.columns }
         ensures graph { result.graph.now ≡ self.now.graph }
@@ -56,7 +56,11 @@ impl Outermost {
         }
     }
 
-    /// The pit that was found of a plan's mine at a factor, as a deposit of its own. Refused for want of memory alone.
+    /// Returns the pit of a plan's mine at a factor as a deposit.
+    ///
+    /// # Errors
+    ///
+    /// If memory runs out.
     fn of(alloc: Global, plan: &ShellPlan<'_>, factor: u32, pit: &[u32]) -> Result<Outermost, Fault>
         requires rows { HasRows plan.now }
         requires pit { ListsPit plan.now.direction (mine_at (deposit_in plan.now) factor) no_blocks_fixed pit.now }
@@ -80,7 +84,11 @@ impl Outermost {
     }
 }
 
-/// The pit at a factor, as a deposit of its own. Refused for want of memory alone.
+/// Finds the pit at a factor and returns it as a deposit.
+///
+/// # Errors
+///
+/// If memory runs out.
 pub fn outermost_shell<S: PitSolver>(
     solver: &S,
     alloc: Global,
@@ -99,7 +107,7 @@ pub fn outermost_shell<S: PitSolver>(
     Outermost::of(alloc, plan, factor, &found.blocks)
 }
 
-/// A shell by the numbers that its blocks have in a list.
+/// Renumbers the blocks of a shell by a list.
 fn lift_shell(alloc: Global, n: u32, blocks: &[u32], shell: &Shell) -> Result<Shell, AllocError>
     requires few { n ≤ most_blocks }
     requires blocks { (i : ℕ) → i < length blocks.now → get_or blocks.now i 0 < n }
@@ -116,7 +124,7 @@ fn lift_shell(alloc: Global, n: u32, blocks: &[u32], shell: &Shell) -> Result<Sh
     })
 }
 
-/// Shells by the numbers that their blocks have in a list.
+/// Renumbers the blocks of shells by a list.
 fn lift_each(
     alloc: Global,
     n: u32,
@@ -135,7 +143,11 @@ fn lift_each(
     Ok(lifted)
 }
 
-/// The shells of a plan, by those among the blocks of its outermost one. Refused for want of memory alone.
+/// Returns the shells of a plan, given those among the blocks of its outermost shell.
+///
+/// # Errors
+///
+/// If memory runs out.
 pub fn lift_shells(
     alloc: Global,
     plan: &ShellPlan<'_>,

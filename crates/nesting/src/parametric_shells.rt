@@ -27,7 +27,7 @@ pub struct ParametricState {
     pub marks: Vec<bool>,
 }
 
-/// What a block gains from one factor to another.
+/// Returns what a block's value increases by from one factor to another.
 fn gain(columns: &Columns, block: u32, from: u32, to: u32) -> i128
     requires block { block < length columns.now.revenues }
     requires rising { from ≤ to }
@@ -40,7 +40,7 @@ fn gain(columns: &Columns, block: u32, from: u32, to: u32) -> i128
     columns.value(block, to) - columns.value(block, from)
 }
 
-/// Lets the values of the blocks without a mark rise from one factor to another.
+/// Increases the values of the blocks without a mark from one factor to another.
 fn rise(mine: &mut ParametricSolver, columns: &Columns, marks: &[bool], from: u32, to: u32)
     requires rows { length columns.now.revenues ≡ mine.old.blocks }
     requires marks { length marks.now ≡ mine.old.blocks }
@@ -61,7 +61,11 @@ fn rise(mine: &mut ParametricSolver, columns: &Columns, marks: &[bool], from: u3
     }
 }
 
-/// Solves the mine that has risen to a factor, and answers the factor's shell. Refused for want of memory alone.
+/// Solves the mine, whose values are those of a factor, and returns the factor's shell.
+///
+/// # Errors
+///
+/// If memory runs out.
 fn solve(
     alloc: Global,
     columns: &Columns,
@@ -84,7 +88,7 @@ fn solve(
     ))
 }
 
-/// The shell of the first factor, and the mine in which it was found.
+/// Returns the shell of the first factor, and the solved mine.
 fn first_shell(alloc: Global, plan: &ShellPlan<'_>) -> Result<(ParametricState, Shell), Fault>
     requires rows { HasRows plan.now }
     requires some { 0 < length plan.now.factors.now }
@@ -105,7 +109,7 @@ fn first_shell(alloc: Global, plan: &ShellPlan<'_>) -> Result<(ParametricState, 
     )
 }
 
-/// The shell of the factor after that with a number, by the mine in which the shell of the latter was found.
+/// Returns the shell of the factor after number `k`, from the mine that was solved at factor `k`.
 fn next_shell(
     alloc: Global,
     plan: &ShellPlan<'_>,
@@ -129,7 +133,11 @@ fn next_shell(
     solve(alloc, plan.columns, to, mine)
 }
 
-/// The least shell of each factor, in their order, by one thread. Refused for want of memory alone.
+/// Returns the minimal shell of each factor, in order, on one thread.
+///
+/// # Errors
+///
+/// If memory runs out.
 pub fn parametric_shells(alloc: Global, plan: &ShellPlan<'_>) -> Result<Vec<Shell>, Fault>
     requires rows { HasRows plan.now }
     requires some { 0 < length plan.now.factors.now }

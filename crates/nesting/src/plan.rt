@@ -1,4 +1,4 @@
-//! What a mine's shells are found from, in one value.
+//! The input of a computation of shells.
 ghost use Rattle.std.specs.Prelude.{◌≡◌, ◌<◌, ◌≤◌, ◌-◌, length};
 ghost use Rattle.pit_model.specs.Shells.{factor_of};
 
@@ -8,7 +8,7 @@ use mine_graph::Graph;
 use pit_model::Direction;
 use std::sync::Arc;
 
-/// A mine with the revenues and the costs of its blocks, and the factors at which its shells are wanted, toward which direction.
+/// A mine with the revenues and costs of its blocks, and the factors and the direction of the wanted shells.
 #[derive(Clone, Copy)]
 pub struct ShellPlan<'a> {
     pub columns: &'a Columns,
@@ -18,7 +18,7 @@ pub struct ShellPlan<'a> {
 }
 
 impl ShellPlan<'_> {
-    /// The greatest factor, in per mille.
+    /// Returns the greatest factor, in per mille.
     pub fn last_factor(&self) -> u32
         requires { 0 < length self.now.factors.now }
         ensures last { result ≡ factor_of self.now.factors.now (length self.now.factors.now - 1) }

@@ -16,7 +16,11 @@ use pit_search::SequentialSolver;
 use std::alloc::Global;
 use std::sync::Arc;
 
-/// The least shell of each factor, in their order. Refused for want of memory alone.
+/// Returns the minimal shell of each factor, in order.
+///
+/// # Errors
+///
+/// If memory runs out.
 pub fn shells_sequential(
     alloc: Global,
     columns: &Columns,

@@ -1,4 +1,4 @@
-//! The whole mine at a factor, and which of its blocks a pit holds.
+//! The whole mine at a factor, and marks for the blocks of a pit.
 ghost use Rattle.std.specs.Prelude.{◌≡◌, ◌<◌, ◌≤◌, ℕ, Bool, length, IfOk, IfErr};
 ghost use Rattle.std.specs.List.{All};
 ghost use Rattle.faults.specs.Refused.{no_memory};
@@ -13,7 +13,11 @@ use mine_graph::{Graph, Instance, all_numbers};
 use std::alloc::{AllocError, Global};
 use std::sync::Arc;
 
-/// The mine at a factor. Refused for want of memory alone.
+/// Returns the mine at a factor.
+///
+/// # Errors
+///
+/// If memory runs out.
 pub fn mine_at(
     alloc: Global,
     columns: &Columns,
@@ -31,7 +35,7 @@ pub fn mine_at(
     Ok(Instance::with_counters(Arc::try_clone(graph)?, values, columns.counters().share()))
 }
 
-/// A mark for each block of a rising list.
+/// Returns for each block whether it is on a rising list.
 pub fn mark_blocks(alloc: Global, blocks: u32, pit: &[u32]) -> Result<Vec<bool>, AllocError>
     requires { All (λ u. u < blocks) pit.now }
     ensures size { IfOk result (λ v. length v.items ≡ blocks) }

@@ -1,4 +1,4 @@
-//! The flow of a tree by arc, gathered from its links: that of the link over the arc, and none where there is no link.
+//! The flow of a tree by arc: the flow of the link over the arc, or 0 if there is no link.
 ghost use Rattle.std.specs.Prelude.{◌≡◌, ◌<◌, IfOk, IfErr, map};
 ghost use Rattle.std.specs.List.{range_with_len};
 ghost use Rattle.faults.specs.Refused.{no_memory};
@@ -10,7 +10,7 @@ use faults::Fault;
 use std::alloc::Global;
 
 impl BareTree {
-    /// The flow on an arc.
+    /// Returns the flow on an arc.
     fn flow_on(&self, arc: u32) -> i128
         requires { arc < arcs self.now.mine }
         ensures { result ≡ flow self.now.tree arc }
@@ -35,7 +35,11 @@ impl BareTree {
         Ok((0..m).map(|arc| self.flow_on(arc)).collect(alloc)?)
     }
 
-    /// The flow by arc, in millionths, in memory of this allocator.
+    /// Returns the flow by arc, in millionths, allocated by `alloc`.
+    ///
+    /// # Errors
+    ///
+    /// If memory runs out.
     pub(crate) fn flow_in(&self, alloc: Global) -> Result<Vec<i128>, Fault>
         ensures ok { IfOk result (λ v. v.items ≡ self.now.tree.flows) }
         ensures no_memory { IfErr result (λ e. e ≡ no_memory) }
@@ -44,7 +48,11 @@ impl BareTree {
         self.flows(alloc)
     }
 
-    /// The flow by arc, in millionths.
+    /// Returns the flow by arc, in millionths.
+    ///
+    /// # Errors
+    ///
+    /// If memory runs out.
     pub fn flow(&self) -> Result<Vec<i128>, Fault>
         ensures ok { IfOk result (λ v. v.items ≡ self.now.tree.flows) }
         ensures no_memory { IfErr result (λ e. e ≡ no_memory) }

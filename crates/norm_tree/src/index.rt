@@ -1,5 +1,5 @@
-//! What finds the first merger arc by labels: a mark on each strong block that needs a weak one. Others may be marked too, since
-//! a mark stays when its block turns weak, or what it needs turns strong; it is taken off once a look has passed it by.
+//! Finds the first merger arc by labels: marks each strong block with a weak predecessor. A mark may be out of date, since it
+//! remains when its block turns weak or the predecessor turns strong. A search removes the marks that it passes.
 ghost use Rattle.std.specs.Prelude.{◌≡◌, ℕ, ◌<◌, ◌≤◌, ◌==◌, true, false, length, get_or, set, IsTrue, IfOk, IfErr, IfSome, IsNone, not};
 ghost use Rattle.pit_model.specs.Size.{most_blocks};
 ghost use Rattle.faults.specs.Refused.{no_memory};
@@ -32,7 +32,7 @@ fn mark_strong(strong: &[bool], marks: &mut Marks)
     }
 }
 
-/// Marks the strong blocks that need a block.
+/// Marks the strong successors of a block.
 fn mark_users(graph: &Graph, strong: &[bool], block: u32, marks: &mut Marks)
     requires labelled { length strong.now ≡ graph.now.blocks }
     requires room { length marks.old ≡ graph.now.blocks }
@@ -51,7 +51,7 @@ fn mark_users(graph: &Graph, strong: &[bool], block: u32, marks: &mut Marks)
     }
 }
 
-/// The first pair by which a block needs a weak one.
+/// Returns the first arc from a block to a weak one.
 fn first_weak_need(graph: &Graph, strong: &[bool], block: u32) -> Option<u32>
     requires labelled { length strong.now ≡ graph.now.blocks }
     requires inside { block < graph.now.blocks }
@@ -71,7 +71,7 @@ fn first_weak_need(graph: &Graph, strong: &[bool], block: u32) -> Option<u32>
     None
 }
 
-/// The first pair that leads from a block to a weak one, where the block is strong.
+/// Returns the first arc from a block to a weak one, if the block is strong.
 pub(crate) fn first_open_need(graph: &Graph, strong: &[bool], block: u32) -> Option<u32>
     requires labelled { length strong.now ≡ graph.now.blocks }
     requires inside { block < graph.now.blocks }
@@ -88,7 +88,11 @@ pub(crate) fn first_open_need(graph: &Graph, strong: &[bool], block: u32) -> Opt
 }
 
 impl Index {
-    /// The index of those labels, made in time linear in the blocks. Refused for want of memory alone.
+    /// Returns the index of these labels, in time linear in the blocks.
+    ///
+    /// # Errors
+    ///
+    /// If memory runs out.
     pub(crate) fn of(alloc: Global, graph: &Graph, strong: &[bool]) -> Result<Index, Fault>
         requires { length strong.now ≡ graph.now.blocks }
         ensures indexed { IfOk result (λ i. IsIndexed graph.now strong.now i.marks) }
@@ -100,7 +104,7 @@ impl Index {
         Ok(Index { marks })
     }
 
-    /// Takes in that the label of a block has changed, in time linear in the users of the block where it turned weak.
+    /// Updates the index after a change of a block's label. If the block turned weak, the time is linear in its successors.
     pub(crate) fn take_in(&mut self, graph: &Graph, strong: &[bool], block: u32)
         requires inside { block < graph.now.blocks }
         requires indexed { IsIndexed graph.now (set strong.now block (not (get_or strong.now block false))) self.old.marks }
@@ -113,7 +117,7 @@ impl Index {
         }
     }
 
-    /// The first pair by number that leads from a strong block to a weak one.
+    /// Returns the first arc by number from a strong block to a weak one.
     pub(crate) fn first(&self, graph: &Graph, strong: &[bool]) -> Option<u32>
         requires { IsIndexed graph.now strong.now self.now.marks }
         ensures merger { IfSome result (λ k. IsTrue (is_candidate (with_labels graph.now strong.now) k)) }
@@ -132,7 +136,7 @@ impl Index {
         None
     }
 
-    /// The block from which the first such pair leads; the number of blocks where there is none.
+    /// Returns the block of the first such arc, or the number of blocks if there is no such arc.
     fn first_block(&self, graph: &Graph, strong: &[bool]) -> u32
         requires { IsIndexed graph.now strong.now self.now.marks }
         ensures inside { result ≤ graph.now.blocks }
@@ -145,7 +149,7 @@ impl Index {
         }
     }
 
-    /// Takes off the marks below that block.
+    /// Removes the marks below that block.
     pub(crate) fn settle(&mut self, graph: &Graph, strong: &[bool])
         requires { IsIndexed graph.now strong.now self.old.marks }
         ensures { IsIndexed graph.now strong.now self.new.marks }

@@ -1,4 +1,4 @@
-//! The label of each block, strong or weak, and the first merger arc by them: by an index, or by a look at each strong block.
+//! The label of each block, strong or weak, and the first merger arc by labels: from an index, or by scanning each strong block.
 ghost use Rattle.std.specs.Prelude.{◌≡◌, ℕ, ◌<◌, false, length, set, IsTrue, IfOk, IfErr, IfSome, IsNone};
 ghost use Rattle.faults.specs.Refused.{no_memory};
 ghost use Rattle.norm_tree.specs.Labelled.{is_candidate, label, with_labels};
@@ -15,7 +15,7 @@ use std::sync::Arc;
 pub(crate) struct Labels {
     graph: Arc<Graph>,
     strong: Vec<bool>,
-    /// None where changes of labels are to be cheap, and the first pair is looked for seldom.
+    /// `None` if changes of labels are to be cheap and the first merger arc is searched for rarely.
     index: Option<Index>,
 }
 
@@ -30,7 +30,7 @@ impl Model for Labels {
     ghost invariant = { λ l. (length l.strong.items ≡ l.graph.value.blocks) × IfSome l.index (λ i. IsIndexed l.graph.value l.strong.items i.marks) };
 }
 
-/// The first pair by number that leads from a strong block to a weak one, by a look at the pairs of each strong block.
+/// Returns the first arc by number from a strong block to a weak one, by scanning the arcs of each strong block.
 fn first_open(graph: &Graph, strong: &[bool]) -> Option<u32>
     requires { length strong.now ≡ graph.now.blocks }
     ensures merger { IfSome result (λ k. IsTrue (is_candidate (with_labels graph.now strong.now) k)) }
@@ -47,7 +47,7 @@ fn first_open(graph: &Graph, strong: &[bool]) -> Option<u32>
 }
 
 impl Labels {
-    /// Those labels, without an index. It takes no memory.
+    /// Returns these labels, without an index. Allocates nothing.
     pub(crate) fn of(graph: Arc<Graph>, strong: Vec<bool>) -> Labels
         requires { length strong.items ≡ graph.value.blocks }
         ensures graph { result.graph ≡ graph.value }
@@ -60,7 +60,11 @@ impl Labels {
         }
     }
 
-    /// The same labels with an index, made in time linear in the blocks. Refused for want of memory alone.
+    /// Adds an index to the labels, in time linear in the blocks.
+    ///
+    /// # Errors
+    ///
+    /// If memory runs out.
     pub(crate) fn indexed(self, alloc: Global) -> Result<Labels, Fault>
         ensures same { IfOk result (λ l. l ≡ self) }
         ensures no_memory { IfErr result (λ e. e ≡ no_memory) }
@@ -78,14 +82,14 @@ impl Labels {
         })
     }
 
-    /// One label for each block.
+    /// States the invariant: one label for each block.
     pub(crate) fn law(&self)
         ensures { length self.now.strong ≡ self.now.graph.blocks }
     {
         let _ = &self.strong;
     }
 
-    /// The labels alone, by block.
+    /// Returns the labels by block.
     pub(crate) fn into_strong(self) -> Vec<bool>
         ensures { result.items ≡ self.strong }
     {
@@ -112,7 +116,7 @@ impl Labels {
         &self.strong
     }
 
-    /// Labels a block. With an index it takes time linear in the users of the block, and none where the label is the same.
+    /// Labels a block. With an index the time is linear in the block's successors, and constant if the label is the same.
     pub(crate) fn set(&mut self, block: u32, strong: bool)
         requires { block < self.old.graph.blocks }
         ensures graph { self.new.graph ≡ self.old.graph }
@@ -127,7 +131,7 @@ impl Labels {
         }
     }
 
-    /// Makes the next look for the first such pair short, where there is an index.
+    /// Shortens the next search for the first merger arc, if there is an index.
     pub(crate) fn settle(&mut self)
         ensures { self.new ≡ self.old }
     {
@@ -136,7 +140,7 @@ impl Labels {
         }
     }
 
-    /// The first pair by number that leads from a strong block to a weak one.
+    /// Returns the first arc by number from a strong block to a weak one.
     pub(crate) fn first_merger(&self) -> Option<u32>
         ensures merger { IfSome result (λ k. IsTrue (is_candidate self.now k)) }
         ensures least { IfSome result (λ k. (l : ℕ) → l < k → is_candidate self.now l ≡ false) }

@@ -1,4 +1,4 @@
-//! The normalised tree of the pseudoflow method (Hochbaum 2008), changed by mergers and by rises of a value.
+//! The normalised tree of the pseudoflow method (Hochbaum 2008), changed by mergers and by increases of a block's value.
 #![tactic(auto)]
 
 mod bare;

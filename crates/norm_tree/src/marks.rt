@@ -1,5 +1,5 @@
-//! Marks on blocks, and the next marked block. Each run of 64 blocks has a mark of its own, which is there where one of its
-//! blocks is marked, so that a look passes over runs without one.
+//! Marks on blocks, and a search for the next marked block. Each run of 64 blocks also has a mark, set if one of its blocks is
+//! marked, so that a search skips runs without one.
 ghost use Rattle.std.specs.Prelude.{◌≡◌, ℕ, ◌*◌, ◌+◌, ◌^◌, ◌<◌, ◌≤◌, false, true, length, get_or, IsTrue, IfOk, IfErr, IfSome, IsNone};
 ghost use Rattle.pit_model.specs.Size.{most_blocks};
 ghost use Rattle.faults.specs.Refused.{no_memory};
@@ -30,7 +30,7 @@ impl Model for Marks {
     ghost invariant = { λ m. AreInRuns m.blocks.items m.runs.items };
 }
 
-/// The first marked place from one on, and before another.
+/// Returns the first marked place from `from` on and before `to`.
 fn first_between(marks: &[bool], from: usize, to: usize) -> Option<usize>
     requires { to ≤ length marks.now }
     ensures marked { IfSome result (λ i. (from ≤ i) × (i < to) × IsTrue (get_or marks.now i false)) }
@@ -45,7 +45,7 @@ fn first_between(marks: &[bool], from: usize, to: usize) -> Option<usize>
     None
 }
 
-/// The first marked block of the runs from one on.
+/// Returns the first marked block of the runs from `from` on.
 fn first_of_runs(blocks: &[bool], runs: &[bool], from: usize) -> Option<usize>
     requires { AreInRuns blocks.now runs.now }
     ensures marked { IfSome result (λ u. (64 * from ≤ u) × (u < length blocks.now) × IsTrue (get_or blocks.now u false)) }
@@ -65,7 +65,7 @@ fn first_of_runs(blocks: &[bool], runs: &[bool], from: usize) -> Option<usize>
     None
 }
 
-/// Takes the marks off from one place on, and before another.
+/// Removes the marks from `from` on and before `to`.
 fn clear(marks: &mut [bool], from: usize, to: usize)
     requires order { from ≤ to }
     requires inside { to ≤ length marks.old }
@@ -79,7 +79,7 @@ fn clear(marks: &mut [bool], from: usize, to: usize)
     }
 }
 
-/// Takes the marks off the runs before one, and off their blocks.
+/// Removes the marks of the runs before `to`, and of their blocks.
 fn clear_runs(blocks: &mut [bool], runs: &mut [bool], to: usize)
     requires in_runs { AreInRuns blocks.old runs.old }
     requires inside { 64 * to ≤ length blocks.old }
@@ -97,7 +97,11 @@ fn clear_runs(blocks: &mut [bool], runs: &mut [bool], to: usize)
 }
 
 impl Marks {
-    /// A mark for each of so many blocks, none of them set. Refused for want of memory alone.
+    /// Returns `count` blocks without a mark.
+    ///
+    /// # Errors
+    ///
+    /// If memory runs out.
     pub(crate) fn none(alloc: Global, count: u32) -> Result<Marks, Fault>
         requires few { count ≤ most_blocks }
         ensures count { IfOk result (λ m. length m ≡ count) }
@@ -120,7 +124,7 @@ impl Marks {
         self.runs[block as usize / RUN] = true;
     }
 
-    /// Takes the marks off all blocks below one.
+    /// Removes the marks of all blocks below one.
     pub(crate) fn clear_below(&mut self, block: u32)
         requires { block ≤ length self.old }
         ensures count { length self.new ≡ length self.old }
@@ -132,7 +136,7 @@ impl Marks {
         clear(&mut self.blocks, run * RUN, block as usize);
     }
 
-    /// The least marked block from one on.
+    /// Returns the least marked block from `from` on.
     pub(crate) fn next(&self, from: u32) -> Option<u32>
         ensures marked { IfSome result (λ u. (from ≤ u) × (u < length self.now) × IsTrue (get_or self.now u false)) }
         ensures least { IfSome result (λ u. (v : ℕ) → from ≤ v → v < u → get_or self.now v false ≡ false) }

@@ -9,7 +9,11 @@ use faults::Fault;
 use std::alloc::Global;
 
 impl NormTree {
-    /// The strong blocks, rising, in memory of this allocator.
+    /// Returns the strong blocks, rising, allocated by `alloc`. They are the minimal pit if no merger arc is left.
+    ///
+    /// # Errors
+    ///
+    /// If memory runs out.
     pub fn pit_in(&self, alloc: Global) -> Result<Vec<u32>, Fault>
         ensures strong { IfOk result (λ v. v.items ≡ members self.now.mine.blocks (is_strong self.now.mine self.now.tree)) }
         ensures no_memory { IfErr result (λ e. e ≡ no_memory) }
@@ -18,7 +22,11 @@ impl NormTree {
         Ok((0..n).filter(|&u| self.is_strong(u)).collect(alloc)?)
     }
 
-    /// The strong blocks, rising.
+    /// Returns the strong blocks, rising. They are the minimal pit if no merger arc is left.
+    ///
+    /// # Errors
+    ///
+    /// If memory runs out.
     pub fn pit(&self) -> Result<Vec<u32>, Fault>
         ensures strong { IfOk result (λ v. v.items ≡ members self.now.mine.blocks (is_strong self.now.mine self.now.tree)) }
         ensures no_memory { IfErr result (λ e. e ≡ no_memory) }

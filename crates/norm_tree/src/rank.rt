@@ -1,4 +1,5 @@
-//! The rank of a tree, which each merger lowers: the sum of the positive excesses first, then the number of weak blocks.
+//! The rank of a tree, a potential function that each merger lowers: first the sum of the positive excesses, then the number of
+//! weak blocks.
 ghost use Rattle.std.specs.Prelude.{◌≡◌, ℕ, ◌<◌, ◌≤◌, ℤ, pos, ◌≤ℤ◌, length, get_or};
 ghost use Rattle.pit_model.specs.Size.{most_blocks};
 ghost use Rattle.pit_model.specs.Sum.{total};
@@ -7,7 +8,7 @@ ghost use Rattle.pit_model.specs.Rank.{positive_part, rank, weak_count};
 
 use crate::tree::NormTree;
 
-/// The sum of the positive ones.
+/// Returns the sum of the excesses above 0.
 fn positive_sum(excesses: &[i128]) -> i128
     requires few { length excesses.now ≤ most_blocks }
     requires small { (u : ℕ) → u < length excesses.now → get_or excesses.now u (pos 0) ≤ℤ pos most_worth }
@@ -23,7 +24,7 @@ fn positive_sum(excesses: &[i128]) -> i128
 }
 
 impl NormTree {
-    /// How many blocks are weak.
+    /// Returns the number of weak blocks.
     fn weak_blocks(&self) -> u32
         ensures count { pos result ≡ weak_count self.now.mine self.now.tree }
         ensures bound { result ≤ self.now.mine.blocks }
@@ -37,7 +38,7 @@ impl NormTree {
         weak
     }
 
-    /// The sum of the positive excesses, times one more than the number of blocks, and the number of weak blocks.
+    /// Returns P * (n + 1) + w, with P the sum of the positive excesses, n the number of blocks and w the number of weak ones.
     pub fn rank(&self) -> i128
         ensures { result ≡ rank self.now.mine self.now.tree }
     {
