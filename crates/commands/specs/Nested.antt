@@ -10,12 +10,12 @@ use Rattle.nesting.specs.FactorList.{IsFirstItemFault}
 use Rattle.shells.specs.FactorText.{item_numbers, SpellsFactors}
 use Rattle.shells.specs.ByMode.{EachEndsWithin}
 use Rattle.commands.specs.ShellsRun.{HoldsOfDeposit, IsShellsDone, RefusesShellsRun}
-use Rattle.commands.specs.Solve.{Reading}
+use Rattle.commands.specs.Solve.{Reading, given_by}
 use Rattle.commands.specs.declared.status.Status.{Status}
 use Rattle.commands.specs.declared.options.ShellsOptions.{ShellsOptions}
 use Rattle.commands.specs.Faults.{IsUnopened}
 use Rattle.commands.specs.Opened.{IsFromFront}
-use Rattle.commands.specs.Place.{InputPlace, IsNotRun, FileState, given_by}
+use Rattle.commands.specs.Place.{InputPlace, IsNotRun, FileState}
 
 -- what went through the readers and the writer of a run of `shells`
 pub record ShellsCourse : Type 1 where

@@ -10,7 +10,7 @@ use Rattle.minelib_reader.specs.declared.input.FileReader.{FileReader}
 use Rattle.commands.specs.Check.{IsChecked, RefusesCheck}
 use Rattle.commands.specs.Kept.{KeepsTexts}
 use Rattle.commands.specs.Replay.{ReportsReplay, RefusesReplay}
-use Rattle.commands.specs.Solve.{Files, Reading}
+use Rattle.commands.specs.Solve.{Files, Reading, given_by}
 use Rattle.commands.specs.declared.mine.MineFiles.{MineFiles}
 use Rattle.commands.specs.declared.status.Status.{Status}
 use Rattle.commands.specs.declared.options.CheckOptions.{CheckOptions}
@@ -18,7 +18,7 @@ use Rattle.commands.specs.declared.options.MineNames.{MineNames}
 use Rattle.commands.specs.declared.options.ReplayOptions.{ReplayOptions}
 use Rattle.commands.specs.Faults.{IsUnopened}
 use Rattle.commands.specs.Opened.{AreFromFront, IsFromFront, LacksMine, MineTexts, OpensMine}
-use Rattle.commands.specs.Place.{InputPlace, IsNotRun, FileState, given, given_by}
+use Rattle.commands.specs.Place.{InputPlace, IsNotRun, FileState, given}
 
 -- how a run of `check` ends
 abbrev pub RunsCheck : Files → Reading → Progress → Progress → Result Status Fault → Type 0

@@ -6,7 +6,7 @@ use Rattle.minelib_reader.specs.declared.device.InBytes.{Ghosts as Reader}
 use Rattle.minelib_reader.specs.declared.device.OutBytes.{Ghosts as Writer}
 use Rattle.minelib_reader.specs.declared.input.FileReader.{FileReader}
 use Rattle.minelib_reader.specs.declared.output.StreamWriter.{StreamWriter}
-use Rattle.commands.specs.Solve.{Files, Reading, files_of, reading}
+use Rattle.commands.specs.Solve.{Files, files_of}
 use Rattle.commands.specs.declared.mine.MineFiles.{MineFiles}
 use Rattle.commands.specs.declared.status.Status.{Status}
 use Rattle.commands.specs.declared.inputs.InputFiles.{Ghosts as Opening}
@@ -46,14 +46,9 @@ pub record IsNotRun {F : Type 0} (fault : Fault) (old new : FileState F) (result
   pub unwritten : new.out ≡ old.out
   pub reported : result ≡ Err fault
 
--- what one reader gave in a run that left it so
-abbrev pub given_by : {S : Type 0} → Reader S → S → S → Reading
-given_by reader before after = reading (reader.progress before) (reader.progress after) (reader.IsAtEnd after)
-
 module _ {F Model Prec Fixed Certificate Journal Blocks : Type 0} where
-  -- and what the readers of a mine gave
+  -- what the readers of a mine gave
   abbrev pub given :
       InputPlace F Model Prec Fixed Certificate Journal Blocks → MineFiles (FileReader Model) (FileReader Prec) (FileReader Fixed)
       → MineFiles (FileReader Model) (FileReader Prec) (FileReader Fixed) → Files
-  given place before after = files_of place.model.progress place.model.IsAtEnd place.prec.progress place.prec.IsAtEnd
-      place.fixed.progress place.fixed.IsAtEnd before after
+  given place before after = files_of place.model place.prec place.fixed before after

@@ -1,6 +1,7 @@
 -- What a run of `solve` writes, and what it refuses, over the bytes that went through its readers and its writer.
 use Rattle.std.specs.Prelude.{◌≡◌, ℕ, ◌+◌, ◌^◌, ◌<◌, ◌++◌, ◌⊎◌, Bool, List, Option, Some, None, Result}
 use Rattle.minelib_reader.specs.Device.{Progress, Begins, Writes}
+use Rattle.minelib_reader.specs.declared.device.InBytes.{Ghosts as Reader}
 use Rattle.minelib_reader.specs.Answer.{IsRead}
 use Rattle.faults.specs.Refused.{at_line, clash, no_memory}
 use Rattle.minelib_reader.specs.Upit.{Upit}
@@ -38,6 +39,10 @@ pub record Reading : Type 1 where
 abbrev pub reading : Progress → Progress → Type 0 → Reading
 reading before after ended = record { before = before; after = after; ended = ended }
 
+-- what a reader gave between two of its states
+abbrev pub given_by : {S : Type 0} → Reader S → S → S → Reading
+given_by reader before after = reading (reader.progress before) (reader.progress after) (reader.IsAtEnd after)
+
 -- the reader gave this text, which is all that it had, and no read failed
 abbrev pub Gave : Reading → List ℕ → Type 0
 Gave r text = IsRead r.before r.after r.ended text
@@ -68,19 +73,17 @@ abbrev pub OfChoiceIfAny : OptionalReading → (Reading → Type 0) → Type 0
 OfChoiceIfAny no_reader Holds = Unit {0}
 OfChoiceIfAny c Holds = OfChoice c Holds
 
--- what the readers of a mine gave in a run
+-- what the readers of a mine gave between two of their states
 pub record Files : Type 1 where
   pub model : Reading
   pub prec : Reading
   pub fixed : OptionalReading
 
-abbrev pub files_of :
-    {M P F : Type 0} → (M → Progress) → (M → Type 0) → (P → Progress) → (P → Type 0) → (F → Progress) → (F → Type 0)
-    → MineFiles M P F → MineFiles M P F → Files
-files_of model model_ends prec prec_ends fixed fixed_ends before after = record {
-  model = reading (model before.model) (model after.model) (model_ends after.model);
-  prec = reading (prec before.prec) (prec after.prec) (prec_ends after.prec);
-  fixed = optional_reading fixed fixed_ends before.fixed after.fixed;
+abbrev pub files_of : {M P F : Type 0} → Reader M → Reader P → Reader F → MineFiles M P F → MineFiles M P F → Files
+files_of model prec fixed before after = record {
+  model = given_by model before.model after.model;
+  prec = given_by prec before.prec after.prec;
+  fixed = optional_reading fixed.progress fixed.IsAtEnd before.fixed after.fixed;
 }
 
 -- the readers of a mine, in their order

@@ -1,7 +1,7 @@
-//! The deposit of a run: a table of blocks and the precedence pairs, read in their order, and two of the table's columns.
+//! The deposit of a run of `shells`: a table of blocks and the precedence pairs, read in this order, and two columns of the table.
 ghost use Rattle.std.specs.Prelude.{◌≡◌, ◌<◌, ◌^◌, length, IfOk, IfErr};
 ghost use Rattle.std.specs.Io.KnownBytes.{Keeps};
-ghost use Rattle.commands.specs.Solve.{reading};
+ghost use Rattle.commands.specs.Solve.{given_by};
 ghost use Rattle.commands.specs.Deposit.{HoldsDeposit, RefusesDeposit};
 
 use counters::Phase;
@@ -12,15 +12,18 @@ use shells::{Columns, FromTable};
 use std::alloc::Global;
 use std::sync::Arc;
 
-/// What the blocks yield and cost, and the graph of their pairs.
+/// The revenue and cost of each block, and the precedence graph.
 #[derive(Drop)]
 pub struct Deposit {
     pub columns: Columns,
     pub graph: Arc<Graph>,
 }
 
-/// The deposit of a block model and a precedence file, with the columns of revenue and of cost; else the first fault: of the
-/// two files, then a cycle, then that of the columns.
+/// Reads the deposit of a block model and a precedence file, with the columns of revenue and cost.
+///
+/// # Errors
+///
+/// The first fault of the two files, then a cycle, then that of the columns.
 #[tactic(auto, using(crate::proofs::Keeping::still_kept, crate::proofs::Keeping::still_kept_if_any))]
 pub fn read_deposit<B: InBytes, P: InBytes>(
     alloc: Global,
@@ -32,13 +35,13 @@ pub fn read_deposit<B: InBytes, P: InBytes>(
     requires blocks_countable { (B.progress blocks.old).failures < 2 ^ 63 }
     requires prec_countable { (P.progress prec.old).failures < 2 ^ 63 }
     ensures deposit { IfOk result (λ d. HoldsDeposit
-        (reading (B.progress blocks.old) (B.progress blocks.new) (B.IsAtEnd blocks.new))
-        (reading (P.progress prec.old) (P.progress prec.new) (P.IsAtEnd prec.new))
+        (given_by B.InBytes blocks.old blocks.new)
+        (given_by P.InBytes prec.old prec.new)
         revenue cost d.columns d.graph.value) }
     ensures rows { IfOk result (λ d. length d.columns.revenues ≡ d.graph.value.blocks) }
     ensures refused { IfErr result (λ e. RefusesDeposit e.refusal e
-        (reading (B.progress blocks.old) (B.progress blocks.new) (B.IsAtEnd blocks.new))
-        (reading (P.progress prec.old) (P.progress prec.new) (P.IsAtEnd prec.new))
+        (given_by B.InBytes blocks.old blocks.new)
+        (given_by P.InBytes prec.old prec.new)
         revenue cost) }
     ensures blocks_kept { Keeps (B.known_text blocks.old) (B.known_text blocks.new) }
     ensures prec_kept { Keeps (P.known_text prec.old) (P.known_text prec.new) }

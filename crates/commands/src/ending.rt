@@ -1,4 +1,4 @@
-//! How a call ends: what is told on standard error, and the exit status.
+//! How a command ends: the fault on standard error, and the exit status.
 ghost use Rattle.std.specs.Prelude.{◌≡◌, ◌<◌, ◌^◌};
 ghost use Rattle.commands.specs.Exit.{status_of};
 ghost use Rattle.commands.specs.Ended.{Tells};
@@ -8,7 +8,7 @@ use faults::Fault;
 use minelib_reader::OutBytes;
 use report::write_fault;
 
-/// Tells a fault, where there is one, and answers the exit status.
+/// Writes the text of a fault to `err`, if there is one, and returns the exit status.
 pub fn report_fault<E: OutBytes>(err: &mut E, outcome: &Result<Status, Fault>) -> u8
     requires countable { (E.progress err.old).failures < 2 ^ 63 }
     ensures status { result ≡ status_of outcome.now }

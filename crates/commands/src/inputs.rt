@@ -1,4 +1,4 @@
-//! Where the files are that a call reads.
+//! The file system that a command reads from.
 ghost use Rattle.std.specs.Prelude.{ℕ, List, Option, IfOk, IfErr};
 ghost use Rattle.faults.specs.declared.source.Source.{Source as AnySource};
 ghost use Rattle.faults.specs.declared.source.Source.TheVariants as sources;
@@ -10,8 +10,8 @@ use faults::Fault;
 use minelib_reader::InputStream;
 use std::io::Read;
 
-/// Opens files by their names, each as what it is. Each call leads from a state of the files to a state; what it may lead to is
-/// for each place where files are to say. The streams of two kinds of file are of two types, so that none is taken for another.
+/// Opens input files by name, each as a kind of file. Each kind has a stream type of its own, so none can be taken for another.
+/// Each call leads from one state of the file system to the next; the relations say which transitions an implementation makes.
 pub trait InputFiles {
     type Model: InputStream + Drop;
 
@@ -25,13 +25,17 @@ pub trait InputFiles {
 
     type Blocks: InputStream + Drop;
 
-    /// The file of a name was opened as this source, with this to be read of it, where that is known.
+    /// The file with this name was opened as this source. Its text is this, if known.
     ghost opens: { Self → List ℕ → AnySource → Option (List ℕ) → Self → Type 0 };
 
-    /// It could not be opened as this source.
+    /// The file with this name could not be opened as this source.
     ghost lacks: { Self → List ℕ → AnySource → Self → Type 0 };
 
-    /// Opens a model. As of each file here, one that cannot be opened is a read that failed.
+    /// Opens a model.
+    ///
+    /// # Errors
+    ///
+    /// A failed read (2) of that source, as for every kind of file, or lack of memory (1).
     fn open_model(&mut self, path: &str) -> Result<Self::Model, Fault>
         ensures opened { IfOk result (λ s. opens self.old path.now sources.Model (⟦<Self::Model as Read>⟧.remaining s) self.new) }
         ensures lacked { IfErr result (λ e. IsUnopened sources.Model e × lacks self.old path.now sources.Model self.new) };
@@ -61,7 +65,7 @@ pub trait InputFiles {
         ensures opened { IfOk result (λ s. opens self.old path.now sources.Blocks (⟦<Self::Blocks as Read>⟧.remaining s) self.new) }
         ensures lacked { IfErr result (λ e. IsUnopened sources.Blocks e × lacks self.old path.now sources.Blocks self.new) };
 
-    /// What counts over the runs that read these files. No clause speaks of it.
+    /// Returns the counters of the runs that read these files. No clause concerns them.
     fn counters(&self) -> Counters {
         Counters::none()
     }

@@ -1,6 +1,6 @@
-//! The commands `solve`, `shells`, `check` and `replay`, over any file system and over any readers and writers. A file of each
-//! opens its inputs, reads them, solves, writes and ends its outputs. Also the laws that runs over the same texts end alike, the
-//! mode and the pit that words ask for, and the exit status.
+//! The commands `solve`, `shells`, `check` and `replay`, over any file system (`solve_call` and the like) and over any readers and
+//! writers (`run_solve` and the like). Each has a file that opens the inputs, reads them, solves, writes and ends the outputs. Also
+//! the laws that two runs over the same texts end alike, the parsers of the words of `--mode` and `--pit`, and the exit status.
 #![tactic(auto)]
 
 mod check;
@@ -29,7 +29,7 @@ pub use laws::{
     answer_is_one, check_answers_once, done_texts_have_no_fault, shells_write_one_text,
     solve_passes_check, solve_passes_replay, solve_writes_one_text, texts_have_one_fault,
 };
-pub use mine::{FixedMine, MineFiles, MineReader};
+pub use mine::{FixedMine, MineFiles};
 pub use mode_option::{mode_fault, parse_mode};
 pub use nested::{run_shells, shells_call};
 pub use options::{
@@ -40,4 +40,3 @@ pub use pit_option::{parse_pit, pit_fault};
 pub use replay::{replay_call, run_replay};
 pub use solve::{run_solve, solve_call};
 pub use status::{Status, exit_code};
-pub use writers::SolveWriters;

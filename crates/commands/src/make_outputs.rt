@@ -1,4 +1,4 @@
-//! Which outputs beside standard output a call makes, and which it keeps.
+//! Creates the outputs next to standard output, and keeps or removes each at the end.
 ghost use Rattle.std.specs.Prelude.{◌≡◌, ◌&&◌, ◌||◌, IfOk, IfErr, is_some, is_ok, option_copied};
 ghost use Rattle.faults.specs.declared.source.Source.TheVariants as sources;
 ghost use Rattle.commands.specs.Faults.{IsUnmade};
@@ -20,7 +20,7 @@ pub(crate) type MadeOutputs<F> = (
     Option<<F as OutputFiles>::CertificateOut>,
 );
 
-/// The name of the journal, where one may be written: mode shared alone has a journal, and of the least pit.
+/// Returns the name of the journal if one may be written: only mode shared has one, and only for the least pit.
 fn journal_wanted<'a>(settings: SolveSettings, name: Option<&'a str>) -> Option<&'a str>
     ensures { option_copied result ≡ wanted_journal settings (option_copied name.entry) }
 {
@@ -33,7 +33,7 @@ fn journal_wanted<'a>(settings: SolveSettings, name: Option<&'a str>) -> Option<
     }
 }
 
-/// The name of the certificate, where one may be written: the least pit alone has one.
+/// Returns the name of the certificate if one may be written: only the least pit has one.
 fn certificate_wanted<'a>(pit: Direction, name: Option<&'a str>) -> Option<&'a str>
     ensures { option_copied result ≡ certificate_toward pit (option_copied name.entry) }
 {
@@ -43,7 +43,7 @@ fn certificate_wanted<'a>(pit: Direction, name: Option<&'a str>) -> Option<&'a s
     }
 }
 
-/// Makes the journal, where one is wanted.
+/// Creates the journal, if one is wanted.
 fn make_journal_if_any<F: OutputFiles>(
     files: &mut F,
     path: Option<&str>,
@@ -60,7 +60,7 @@ fn make_journal_if_any<F: OutputFiles>(
     }
 }
 
-/// Makes the certificate, where one is wanted.
+/// Creates the certificate, if one is wanted.
 fn make_certificate_if_any<F: OutputFiles>(
     files: &mut F,
     path: Option<&str>,
@@ -106,7 +106,7 @@ fn end_certificate_if_any<F: OutputFiles>(
     }
 }
 
-/// Makes the outputs that are wanted. Where one is refused, none is left.
+/// Creates the outputs that are wanted. If one is refused, none is left.
 pub(crate) fn make_outputs<F: OutputFiles>(
     files: &mut F,
     options: &SolveOptions<'_>,
@@ -131,7 +131,7 @@ pub(crate) fn make_outputs<F: OutputFiles>(
     }
 }
 
-/// Whether the run ended at its budget.
+/// Returns whether the run used up its budget.
 fn is_exhausted(outcome: &Result<Status, Fault>) -> bool
     ensures { result ≡ ended_at_budget outcome.now }
 {
@@ -141,21 +141,22 @@ fn is_exhausted(outcome: &Result<Status, Fault>) -> bool
     }
 }
 
-/// Whether a journal is kept after a run that ended so: it was done, or ended at its budget.
+/// Returns whether the journal of a run is kept: the run was done, or used up its budget.
 fn keeps_journal(outcome: &Result<Status, Fault>) -> bool
     ensures { result ≡ (is_ok outcome.now || ended_at_budget outcome.now) }
 {
     outcome.is_ok() || is_exhausted(outcome)
 }
 
-/// Whether a certificate is kept: the run was done, and the journal is at its place, where there is one.
+/// Returns whether the certificate of a run is kept: the run was done, and its journal, if there is one, was kept.
 fn keeps_certificate(outcome: &Result<Status, Fault>, journal: &Result<(), Fault>) -> bool
     ensures { result ≡ (is_ok outcome.now && is_ok journal.now) }
 {
     outcome.is_ok() && journal.is_ok()
 }
 
-/// How a call ends: by the first fault of the journal's end, of the certificate's and of the run.
+/// Returns how a call ends: with the fault of the journal's end, otherwise that of the certificate's end, otherwise as the run
+/// ended.
 fn behind(
     journal: Result<(), Fault>,
     certificate: Result<(), Fault>,
@@ -169,7 +170,7 @@ fn behind(
     }
 }
 
-/// Ends the outputs after a run: they are kept where it was done, and the journal also where the budget was used up.
+/// Ends the outputs after a run: keeps them if it was done, and the journal also if the budget is used up.
 pub(crate) fn end_outputs<F: OutputFiles>(
     files: &mut F,
     outputs: MadeOutputs<F>,

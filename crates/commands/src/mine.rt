@@ -1,15 +1,15 @@
-//! The mine of a run: its files, read in their order, the graph of their pairs, and the blocks that are fixed.
+//! The mine of a run: opens its files, reads them in order, and builds the graph and the fixed blocks.
 ghost use Rattle.std.specs.Prelude.{◌<◌, ◌≤◌, ◌^◌, IfOk, IfErr, ◌≡◌, is_some, option_copied};
 ghost use Rattle.pit_model.specs.Fixed.{AreFixable, graph_of_mine};
 ghost use Rattle.mine_graph.specs.FixedBlocks.{IsFixedOf, lists_of};
 ghost use Rattle.minelib_reader.specs.Fixed.{fixed_lists};
 ghost use Rattle.commands.specs.Kept.{KeepsIfAny, KeepsTexts};
-ghost use Rattle.commands.specs.Solve.{optional_reading, files_of, mine_files, fixed_instance_of, Files, GaveFixed, HoldsMine, MayRead, MayReadIfAny, RefusesFixedText, RefusesMine};
+ghost use Rattle.commands.specs.Solve.{optional_reading, files_of, mine_files, fixed_instance_of, GaveFixed, HoldsMine, MayRead, MayReadIfAny, RefusesFixedText, RefusesMine};
 ghost use Rattle.commands.specs.Opened.{known_if_any, texts_of, LacksFixed, LacksMine, OpensFixed, OpensMine};
 
 use crate::inputs::{InputFiles, MineStreams};
 use crate::options::MineNames;
-use counters::{Counters, Phase};
+use counters::Phase;
 use faults::Fault;
 use mine_graph::{Fixed, Graph, Instance};
 use minelib_reader::{InBytes, read_fixed, read_prec_rows, read_upit};
@@ -17,7 +17,7 @@ use std::alloc::Global;
 use std::io::Read;
 use std::sync::Arc;
 
-/// What reads the files of a mine, in the order in which they are read; that of the fixed blocks where there is one.
+/// The streams or readers of a mine's files, in reading order; that of the fixed blocks is optional.
 #[derive(Drop)]
 pub struct MineFiles<M, P, F> {
     pub model: M,
@@ -32,34 +32,7 @@ pub struct FixedMine {
     pub fixed: Fixed,
 }
 
-/// Reads a mine from its readers.
-pub trait MineReader {
-    /// What the readers gave between two states.
-    ghost gave: { Self → Self → Files };
-
-    /// Each reader can count another failure.
-    ghost CanRead: { Self → Type 0 };
-
-    /// What each reader knows of its text stays.
-    ghost Keeps: { Self → Self → Type 0 };
-
-    /// Returns the mine of a model, a precedence file and the file of its fixed blocks, if there is one.
-    ///
-    /// # Errors
-    ///
-    /// The first fault of the files, then a cycle of the arcs (14), then a clash of the fixed blocks (21).
-    fn read_mine(&mut self, alloc: Global) -> Result<FixedMine, Fault>
-        requires { CanRead self.old }
-        ensures mine { IfOk result (λ t. HoldsMine (gave self.old self.new) (fixed_instance_of t)) }
-        ensures fixed { IfOk result (λ t. IsFixedOf (graph_of_mine t.mine) t.fixed) }
-        ensures refused { IfErr result (λ e. RefusesMine e.refusal e (gave self.old self.new)) }
-        ensures kept { Keeps self.old self.new };
-
-    /// Returns the counters of the run that reads from here. No clause speaks of them.
-    fn counters(&self) -> Counters;
-}
-
-/// The blocks forced in and those barred that the file of fixed blocks names; none where there is no such file.
+/// Returns the forced and the barred blocks that the file of fixed blocks names; none if there is no such file.
 #[tactic(auto, using(crate::proofs::Keeping::still_kept, crate::proofs::Keeping::still_kept_if_any))]
 fn read_lists<F: InBytes>(
     alloc: Global,
@@ -78,19 +51,22 @@ fn read_lists<F: InBytes>(
     }
 }
 
-/// The mine of a model, a precedence file and the file of its fixed blocks, where there is one; else the first fault: of the
-/// files, then a cycle of the pairs (14), then a clash of the fixed blocks (21).
+/// Reads the mine of a model, a precedence file and the file of fixed blocks, if there is one.
+///
+/// # Errors
+///
+/// The first fault of the files, then a cycle of the arcs (14), then a clash of the fixed blocks (21).
 #[tactic(auto, using(crate::proofs::Keeping::still_kept, crate::proofs::Keeping::still_kept_if_any))]
-fn read_files<M: InBytes, P: InBytes, F: InBytes>(
+pub(crate) fn read_mine<M: InBytes, P: InBytes, F: InBytes>(
     alloc: Global,
     model: &mut M,
     prec: &mut P,
     fixed: &mut Option<F>,
 ) -> Result<FixedMine, Fault>
     requires { MayRead M.progress P.progress F.progress (mine_files model.old prec.old fixed.old) }
-    ensures mine { IfOk result (λ t. HoldsMine (files_of M.progress M.IsAtEnd P.progress P.IsAtEnd F.progress F.IsAtEnd (mine_files model.old prec.old fixed.old) (mine_files model.new prec.new fixed.new)) (fixed_instance_of t)) }
+    ensures mine { IfOk result (λ t. HoldsMine (files_of M.InBytes P.InBytes F.InBytes (mine_files model.old prec.old fixed.old) (mine_files model.new prec.new fixed.new)) (fixed_instance_of t)) }
     ensures fixed { IfOk result (λ t. IsFixedOf (graph_of_mine t.mine) t.fixed) }
-    ensures refused { IfErr result (λ e. RefusesMine e.refusal e (files_of M.progress M.IsAtEnd P.progress P.IsAtEnd F.progress F.IsAtEnd (mine_files model.old prec.old fixed.old) (mine_files model.new prec.new fixed.new))) }
+    ensures refused { IfErr result (λ e. RefusesMine e.refusal e (files_of M.InBytes P.InBytes F.InBytes (mine_files model.old prec.old fixed.old) (mine_files model.new prec.new fixed.new))) }
     ensures kept { KeepsTexts M.known_text P.known_text F.known_text (mine_files model.old prec.old fixed.old) (mine_files model.new prec.new fixed.new) }
 {
     let counters = model.counters();
@@ -106,23 +82,7 @@ fn read_files<M: InBytes, P: InBytes, F: InBytes>(
     Ok(FixedMine { mine, fixed })
 }
 
-impl<M: InBytes, P: InBytes, F: InBytes> MineReader for MineFiles<M, P, F> {
-    ghost gave = { files_of M.progress M.IsAtEnd P.progress P.IsAtEnd F.progress F.IsAtEnd };
-
-    ghost CanRead = { MayRead M.progress P.progress F.progress };
-
-    ghost Keeps = { KeepsTexts M.known_text P.known_text F.known_text };
-
-    fn read_mine(&mut self, alloc: Global) -> Result<FixedMine, Fault> {
-        read_files(alloc, &mut self.model, &mut self.prec, &mut self.fixed)
-    }
-
-    fn counters(&self) -> Counters {
-        self.model.counters()
-    }
-}
-
-/// Opens the file of fixed blocks, where there is one.
+/// Opens the file of fixed blocks, if there is one.
 fn open_fixed_if_any<F: InputFiles>(
     files: &mut F,
     path: Option<&str>,
@@ -137,7 +97,7 @@ fn open_fixed_if_any<F: InputFiles>(
     }
 }
 
-/// Opens the model, the precedence file and then that of the fixed blocks.
+/// Opens the model, the precedence file and the file of fixed blocks, in this order.
 pub(crate) fn open_mine<F: InputFiles>(
     files: &mut F,
     names: &MineNames<'_>,

@@ -1,15 +1,15 @@
-//! Parses the words of the command line that choose a mode, and says what is wrong with them.
+//! Parses the word of `--mode`.
 ghost use Rattle.std.specs.Prelude.{◌≡◌};
 ghost use Rattle.std.specs.Option.{option_map};
 ghost use Rattle.commands.specs.Modes.{mode_fault_of, mode_named};
 
 use solver::Mode;
 
-/// How many arcs a worker goes over at once.
+/// The number of arcs that a worker takes at a time.
 const CHUNK: u32 = 4096;
 
-/// What is wrong with the word of a mode, given whether there is a budget and whether a journal is wanted: the first line
-/// that applies, for standard error, without its LF. None where nothing is.
+/// Returns the first line, without its LF, that says what is wrong with the word of a mode, given whether there is a budget and
+/// whether a journal is wanted. `None` if nothing is wrong.
 pub fn mode_fault(mode: &str, budget: bool, journal: bool) -> Option<&'static str>
     ensures { option_map (λ line. line.now) result ≡ mode_fault_of mode.now budget journal }
 {
@@ -25,7 +25,7 @@ pub fn mode_fault(mode: &str, budget: bool, journal: bool) -> Option<&'static st
     None
 }
 
-/// The mode of a word in which nothing is wrong. Each mode takes of the number of workers and the budget what it has.
+/// Returns the mode of a right word, with the number of workers and the budget if the mode has them.
 pub fn parse_mode(word: &str, workers: u32, budget: Option<u64>) -> Mode
     ensures { result ≡ mode_named word.now workers budget }
 {

@@ -2,7 +2,7 @@
 ghost use Rattle.std.specs.Prelude.{◌<◌, ◌^◌, IfOk, IfErr};
 ghost use Rattle.shells.specs.ByMode.{EachEndsWithin};
 ghost use Rattle.std.specs.Io.KnownBytes.{Keeps};
-ghost use Rattle.commands.specs.Solve.{reading};
+ghost use Rattle.commands.specs.Solve.{given_by};
 ghost use Rattle.commands.specs.ShellsRun.{HoldsOfDeposit, IsShellsDone, RefusesShellsRun};
 ghost use Rattle.commands.specs.Ended.{Ended};
 ghost use Rattle.commands.specs.Nested.{EndsShells};
@@ -25,12 +25,14 @@ use std::alloc::{AllocGlobal, Global};
 use std::sync::Wait;
 use std::thread::Threads;
 
-/// Reads a block model and then a precedence file, takes the columns of revenue and of cost, and writes the text of the
-/// shells: the pit that is asked for at each factor, whatever the mode.
+/// Reads a block model and then a precedence file, takes the columns of revenue and cost, and writes the text of the shells: at
+/// each factor the pit in the direction `pit`, the same in every mode.
 ///
-/// Refused by the first fault of the files (3 to 14), by that of the columns (15, 16), for want of memory (1), where a read
-/// failed (2), where the budget is used up on some factor's rest (20) and where a worker could not be started (22), all with
-/// nothing written; and where a write failed (18), with a beginning of the text written.
+/// # Errors
+///
+/// The first fault of the files (3 to 14) or of the columns (15, 16), lack of memory (1), a failed read (2), a used-up budget at
+/// some factor (20) and a worker that could not be started (22), all with nothing written; and a failed write (18), with a
+/// beginning of the text written.
 #[tactic(auto, using(crate::proofs::Keeping::still_kept, crate::proofs::Keeping::still_kept_if_any))]
 pub fn run_shells<R: Threads + Wait + Sync, B: InBytes, P: InBytes, W: OutBytes>(
     rt: &R,
@@ -48,16 +50,16 @@ pub fn run_shells<R: Threads + Wait + Sync, B: InBytes, P: InBytes, W: OutBytes>
     requires prec_countable { (P.progress prec.old).failures < 2 ^ 63 }
     requires out_countable { (W.progress out.old).failures < 2 ^ 63 }
     ensures done { IfOk result (IsShellsDone pit
-        (reading (B.progress blocks.old) (B.progress blocks.new) (B.IsAtEnd blocks.new))
-        (reading (P.progress prec.old) (P.progress prec.new) (P.IsAtEnd prec.new))
+        (given_by B.InBytes blocks.old blocks.new)
+        (given_by P.InBytes prec.old prec.new)
         revenue cost factors.now (W.progress out.old) (W.progress out.new)) }
     ensures within { IfOk result (λ _. HoldsOfDeposit
-        (reading (B.progress blocks.old) (B.progress blocks.new) (B.IsAtEnd blocks.new))
-        (reading (P.progress prec.old) (P.progress prec.new) (P.IsAtEnd prec.new))
+        (given_by B.InBytes blocks.old blocks.new)
+        (given_by P.InBytes prec.old prec.new)
         revenue cost (λ deposit. EachEndsWithin mode pit deposit factors.now)) }
     ensures refused { IfErr result (λ e. RefusesShellsRun mode pit e.refusal e
-        (reading (B.progress blocks.old) (B.progress blocks.new) (B.IsAtEnd blocks.new))
-        (reading (P.progress prec.old) (P.progress prec.new) (P.IsAtEnd prec.new))
+        (given_by B.InBytes blocks.old blocks.new)
+        (given_by P.InBytes prec.old prec.new)
         revenue cost factors.now (W.progress out.old) (W.progress out.new)) }
     ensures blocks_kept { Keeps (B.known_text blocks.old) (B.known_text blocks.new) }
     ensures prec_kept { Keeps (P.known_text prec.old) (P.known_text prec.new) }
@@ -78,8 +80,7 @@ pub fn run_shells<R: Threads + Wait + Sync, B: InBytes, P: InBytes, W: OutBytes>
     Ok(Status::Done)
 }
 
-/// Writes the nested pits of the deposit of two files. The factors are read first, before a file is opened. `rt` starts the
-/// workers.
+/// Reads the factors, then opens the files of `shells` and runs it over their readers. `rt` starts the workers.
 fn shells_files<R: AllocGlobal + Threads + Wait + Sync, F: InputFiles, W: OutBytes>(
     rt: &R,
     files: &mut F,
@@ -110,8 +111,8 @@ fn shells_files<R: AllocGlobal + Threads + Wait + Sync, F: InputFiles, W: OutByt
     )
 }
 
-/// The whole call of `shells`: reads the factors, opens the block model and then the precedence file, and writes the nested pits.
-/// A fault is told on standard error, and the exit status is answered.
+/// Runs `shells` over a file system: reads the factors, opens the block model and then the precedence file, and writes the shells.
+/// Reports a fault on `err` and returns the exit status. `rt` starts the workers.
 pub fn shells_call<R: AllocGlobal + Threads + Wait + Sync, F: InputFiles, W: OutBytes, E: OutBytes>(
     rt: &R,
     files: &mut F,

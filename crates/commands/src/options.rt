@@ -1,16 +1,16 @@
-//! What a command is asked for.
+//! The options of the commands.
 
 use pit_model::Direction;
 use solver::Mode;
 
-/// How to solve, and which pit is wanted of those of equal worth.
+/// The mode of a solve, and which pit is wanted of those of equal value.
 #[derive(Clone, Copy, Debug)]
 pub struct SolveSettings {
     pub mode: Mode,
     pub pit: Direction,
 }
 
-/// The files of a mine. That of the fixed blocks is there where some are.
+/// The names of a mine's files; that of the fixed blocks is optional.
 #[derive(Clone, Copy)]
 pub struct MineNames<'a> {
     pub model: &'a str,
@@ -18,8 +18,7 @@ pub struct MineNames<'a> {
     pub fixed: Option<&'a str>,
 }
 
-/// The files of `solve`, how to solve, and for which pit. Those of the certificate and of the journal are there where one is
-/// wanted.
+/// The options of `solve`: the mine, the names of the certificate and the journal if they are wanted, and the settings.
 #[derive(Clone, Copy)]
 pub struct SolveOptions<'a> {
     pub mine: MineNames<'a>,
@@ -28,7 +27,7 @@ pub struct SolveOptions<'a> {
     pub settings: SolveSettings,
 }
 
-/// The files of `shells`, the columns of revenue and cost, the text of the factors, how to solve, and for which pits.
+/// The options of `shells`: its files, the columns of revenue and cost, the text of the factors, and the settings.
 #[derive(Clone, Copy)]
 pub struct ShellsOptions<'a> {
     pub blocks: &'a str,
@@ -39,14 +38,14 @@ pub struct ShellsOptions<'a> {
     pub settings: SolveSettings,
 }
 
-/// The files of `check`.
+/// The options of `check`.
 #[derive(Clone, Copy)]
 pub struct CheckOptions<'a> {
     pub mine: MineNames<'a>,
     pub certificate: &'a str,
 }
 
-/// The files of `replay`.
+/// The options of `replay`.
 #[derive(Clone, Copy)]
 pub struct ReplayOptions<'a> {
     pub mine: MineNames<'a>,

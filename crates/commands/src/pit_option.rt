@@ -1,12 +1,12 @@
-//! Parses the words of the command line that choose a pit, and says what is wrong with them.
+//! Parses the word of `--pit`.
 ghost use Rattle.std.specs.Prelude.{◌≡◌};
 ghost use Rattle.std.specs.Option.{option_map};
 ghost use Rattle.commands.specs.Pits.{pit_fault_of, pit_named};
 
 use pit_model::Direction;
 
-/// What is wrong with the word of a pit, given whether a certificate and whether a journal is wanted: the first line that
-/// applies, for standard error, without its LF. None where nothing is.
+/// Returns the first line, without its LF, that says what is wrong with the word of a pit, given whether a certificate and whether
+/// a journal is wanted. `None` if nothing is wrong.
 pub fn pit_fault(pit: &str, certificate: bool, journal: bool) -> Option<&'static str>
     ensures { option_map (λ line. line.now) result ≡ pit_fault_of pit.now certificate journal }
 {
@@ -19,7 +19,7 @@ pub fn pit_fault(pit: &str, certificate: bool, journal: bool) -> Option<&'static
     None
 }
 
-/// The pit of a word in which nothing is wrong.
+/// Returns the direction of a right word.
 pub fn parse_pit(word: &str) -> Direction
     ensures { result ≡ pit_named word.now }
 {

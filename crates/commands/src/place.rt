@@ -1,11 +1,11 @@
-//! What stands over the streams of a place of files, in the words of clauses.
+//! The readers and writers over the streams of a file system, in the words of clauses.
 ghost use Rattle.commands.specs.Place.{InputPlace, OutputPlace};
 
 use crate::inputs::InputFiles;
 use crate::outputs::OutputFiles;
 use minelib_reader::{FileReader, InBytes, OutBytes, StreamWriter};
 
-/// A place of inputs, with a reader over each stream.
+/// A file system of inputs, with a reader over each stream.
 pub trait Readable: InputFiles {
     ghost place: { InputPlace Self Self.Model Self.Prec Self.Fixed Self.Certificate Self.Journal Self.Blocks };
 }
@@ -22,7 +22,7 @@ impl<F: InputFiles> Readable for F {
     } };
 }
 
-/// A place where outputs are made too, with a writer over each stream.
+/// A file system of inputs and outputs, with a reader or a writer over each stream.
 pub trait Writable: OutputFiles {
     ghost place: { OutputPlace Self Self.JournalOut Self.CertificateOut Self.Model Self.Prec Self.Fixed Self.Certificate Self.Journal Self.Blocks };
 }

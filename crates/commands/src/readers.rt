@@ -1,4 +1,4 @@
-//! What reads the files of a mine, each from its front.
+//! Readers of a mine's files, each at the beginning of its file.
 ghost use Rattle.std.specs.Prelude.{◌≡◌, is_some};
 ghost use Rattle.commands.specs.Solve.{MayRead};
 ghost use Rattle.commands.specs.Opened.{known_if_any, IsFromFront, IsFromFrontIfAny};
@@ -10,7 +10,7 @@ use minelib_reader::{FileReader, InBytes, InputStream};
 /// The readers of a mine's files.
 pub(crate) type MineReaders<M, P, X> = MineFiles<FileReader<M>, FileReader<P>, FileReader<X>>;
 
-/// What reads the file of fixed blocks, where there is one.
+/// Returns a reader of the file of fixed blocks, if there is one.
 fn reader_of<X: InputStream + Drop>(fixed: Option<X>, counters: &Counters) -> Option<FileReader<X>>
     ensures front { IsFromFrontIfAny (⟦<FileReader<X> as InBytes>⟧.progress) (⟦<FileReader<X> as InBytes>⟧.known_text) (known_if_any X.remaining fixed) result }
     ensures named { is_some result ≡ is_some fixed }
@@ -21,7 +21,7 @@ fn reader_of<X: InputStream + Drop>(fixed: Option<X>, counters: &Counters) -> Op
     }
 }
 
-/// What reads the files of a mine, over which counters count.
+/// Returns readers of a mine's files, with shared counters.
 pub(crate) fn readers_of<M: InputStream + Drop, P: InputStream + Drop, X: InputStream + Drop>(
     mine: MineFiles<M, P, X>,
     counters: &Counters,

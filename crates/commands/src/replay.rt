@@ -1,4 +1,4 @@
-//! `replay`: from the bytes of the files of a mine and of a journal to the bytes of the pit, or of what is wrong with the journal.
+//! `replay`: from the bytes of a mine's files and of a journal to the bytes of the pit, or of a report on the journal.
 ghost use Rattle.std.specs.Prelude.{◌≡◌, ◌<◌, ◌^◌, ℕ, Bool, IfOk, IfErr};
 ghost use Rattle.faults.specs.Refused.{write_failed};
 ghost use Rattle.mine_graph.specs.FixedBlocks.{IsFixedOf};
@@ -7,15 +7,16 @@ ghost use Rattle.pit_model.specs.Direction.{ListsPit};
 ghost use Rattle.pit_model.specs.Fixed.{fixed_of, graph_of_mine};
 ghost use Rattle.pit_model.specs.Mine.{members};
 ghost use Rattle.std.specs.Io.KnownBytes.{Keeps};
+ghost use Rattle.commands.specs.Kept.{KeepsTexts};
 ghost use Rattle.commands.specs.Replay.{IsReplayed, IsReplayedOn, ReportsEnd, ReportsReplay, FailsToReport, RefusesJournal, RefusesJournalOn, RefusesReplay, ShowsEnd};
-ghost use Rattle.commands.specs.Solve.{reading, fixed_instance_of, WritesPit};
+ghost use Rattle.commands.specs.Solve.{files_of, mine_files, given_by, fixed_instance_of, MayRead, WritesPit};
 ghost use Rattle.commands.specs.Ended.{Ended};
 ghost use Rattle.commands.specs.Over.{EndsReplayCall};
 ghost use Rattle.commands.specs.Place.{file_state};
 
 use crate::ending::report_fault;
 use crate::inputs::InputFiles;
-use crate::mine::{FixedMine, MineReader, open_mine};
+use crate::mine::{FixedMine, open_mine, read_mine};
 use crate::options::ReplayOptions;
 use crate::place::Readable;
 use crate::readers::readers_of;
@@ -27,12 +28,12 @@ use minelib_reader::{FileReader, InBytes, OutBytes};
 use report::{read_journal, write_difference, write_open, write_pit};
 use std::alloc::Global;
 
-/// How the replay of the journal ends that a reader gives of an instance.
+/// Reads the journal of an instance and replays it.
 #[tactic(auto, using(crate::proofs::Keeping::still_kept, crate::proofs::Keeping::still_kept_if_any))]
 fn replay_on<J: InBytes>(alloc: Global, rest: &Instance, journal: &mut J) -> Result<Replayed, Fault>
     requires countable { (J.progress journal.old).failures < 2 ^ 63 }
-    ensures replayed { IfOk result (IsReplayedOn rest.now (reading (J.progress journal.old) (J.progress journal.new) (J.IsAtEnd journal.new))) }
-    ensures refused { IfErr result (λ e. RefusesJournalOn e.refusal e rest.now (reading (J.progress journal.old) (J.progress journal.new) (J.IsAtEnd journal.new))) }
+    ensures replayed { IfOk result (IsReplayedOn rest.now (given_by J.InBytes journal.old journal.new)) }
+    ensures refused { IfErr result (λ e. RefusesJournalOn e.refusal e rest.now (given_by J.InBytes journal.old journal.new)) }
     ensures kept { Keeps (J.known_text journal.old) (J.known_text journal.new) }
 {
     rest.law();
@@ -40,7 +41,7 @@ fn replay_on<J: InBytes>(alloc: Global, rest: &Instance, journal: &mut J) -> Res
     replay(alloc, rest, said.budget, &said.entries)
 }
 
-/// How the replay of the journal ends that a reader gives of the rest of a mine; a pit by the numbers of the whole.
+/// Reads the journal of the reduced mine and replays it; numbers a pit by the whole mine.
 #[tactic(auto, using(crate::proofs::Keeping::still_kept, crate::proofs::Keeping::still_kept_if_any))]
 fn replay_of<J: InBytes>(
     alloc: Global,
@@ -49,8 +50,8 @@ fn replay_of<J: InBytes>(
 ) -> Result<Replayed, Fault>
     requires countable { (J.progress journal.old).failures < 2 ^ 63 }
     requires fixed { IsFixedOf (graph_of_mine fixed_mine.now.mine) fixed_mine.now.fixed }
-    ensures replayed { IfOk result (IsReplayed (fixed_instance_of fixed_mine.now) (reading (J.progress journal.old) (J.progress journal.new) (J.IsAtEnd journal.new))) }
-    ensures refused { IfErr result (λ e. RefusesJournal e.refusal e (fixed_instance_of fixed_mine.now) (reading (J.progress journal.old) (J.progress journal.new) (J.IsAtEnd journal.new))) }
+    ensures replayed { IfOk result (IsReplayed (fixed_instance_of fixed_mine.now) (given_by J.InBytes journal.old journal.new)) }
+    ensures refused { IfErr result (λ e. RefusesJournal e.refusal e (fixed_instance_of fixed_mine.now) (given_by J.InBytes journal.old journal.new)) }
     ensures kept { Keeps (J.known_text journal.old) (J.known_text journal.new) }
 {
     if fixed_mine.fixed.is_empty() {
@@ -67,7 +68,7 @@ fn replay_of<J: InBytes>(
     }
 }
 
-/// Writes the text of a pit, whichever it is.
+/// Writes the text of a pit, minimal or not.
 fn put_pit<W: OutBytes>(out: &mut W, fixed_mine: &FixedMine, pit: &[u32]) -> Result<(), Fault>
     requires countable { (W.progress out.old).failures < 2 ^ 63 }
     requires listed { (set : ℕ → Bool) × (pit.now ≡ members fixed_mine.now.mine.blocks set) }
@@ -79,7 +80,7 @@ fn put_pit<W: OutBytes>(out: &mut W, fixed_mine: &FixedMine, pit: &[u32]) -> Res
     write_pit(out, fixed_mine.mine.graph().n(), pit, worth)
 }
 
-/// Writes the answer to a replay. A budget that is used up is a fault, and nothing is written.
+/// Writes the result of a replay. A used-up budget is a fault, with nothing written.
 fn put_end<W: OutBytes>(
     out: &mut W,
     fixed_mine: &FixedMine,
@@ -107,42 +108,47 @@ fn put_end<W: OutBytes>(
     }
 }
 
-/// Reads a model, then a precedence file, then the file of fixed blocks, where there is one, then a journal of the rest outside
-/// these blocks, replays the journal by one thread, and writes what it comes to. It is the text of the pit, where each verdict
-/// is lawful and no merger arc is left: the very text that the run wrote which the journal is of. Else the status is `No`: with
-/// the first entry without its lawful verdict, or after how many mergers a merger arc is left that the budget allows.
+/// Reads a model, a precedence file, the file of fixed blocks if there is one, and a journal of the reduced mine, in this order.
+/// Replays the journal on one thread and writes the result.
 ///
-/// Refused by the first fault of the files (3 to 14, 17, 21), for want of memory (1), where a read failed (2), and where the
-/// journal's budget is used up with a merger arc left (20), all with nothing written; and where a write failed (18), with a
-/// beginning of the answer written.
+/// If each verdict is lawful and no merger arc is left, it writes the text of the pit: the text that the journaled run wrote.
+/// Otherwise the status is `No`, and it writes the first entry whose verdict is not lawful, or the number of mergers after which a
+/// merger arc is left that the budget allows.
+///
+/// # Errors
+///
+/// The first fault of the files (3 to 14, 17, 21), lack of memory (1), a failed read (2), and a used-up budget of the journal with
+/// a merger arc left (20), all with nothing written; and a failed write (18), with a beginning of the answer written.
 #[tactic(auto, using(crate::proofs::Keeping::still_kept, crate::proofs::Keeping::still_kept_if_any))]
-pub fn run_replay<I: MineReader, J: InBytes, W: OutBytes>(
+pub fn run_replay<M: InBytes, P: InBytes, F: InBytes, J: InBytes, W: OutBytes>(
     alloc: Global,
-    mine: &mut I,
+    model: &mut M,
+    prec: &mut P,
+    fixed: &mut Option<F>,
     journal: &mut J,
     out: &mut W,
 ) -> Result<Status, Fault>
-    requires read { I.CanRead mine.old }
+    requires read { MayRead M.progress P.progress F.progress (mine_files model.old prec.old fixed.old) }
     requires journal_countable { (J.progress journal.old).failures < 2 ^ 63 }
     requires out_countable { (W.progress out.old).failures < 2 ^ 63 }
     ensures reported { IfOk result (ReportsReplay
-        (I.gave mine.old mine.new)
-        (reading (J.progress journal.old) (J.progress journal.new) (J.IsAtEnd journal.new))
+        (files_of M.InBytes P.InBytes F.InBytes (mine_files model.old prec.old fixed.old) (mine_files model.new prec.new fixed.new))
+        (given_by J.InBytes journal.old journal.new)
         (W.progress out.old) (W.progress out.new)) }
     ensures refused { IfErr result (λ e. RefusesReplay e.refusal e
-        (I.gave mine.old mine.new)
-        (reading (J.progress journal.old) (J.progress journal.new) (J.IsAtEnd journal.new))
+        (files_of M.InBytes P.InBytes F.InBytes (mine_files model.old prec.old fixed.old) (mine_files model.new prec.new fixed.new))
+        (given_by J.InBytes journal.old journal.new)
         (W.progress out.old) (W.progress out.new)) }
-    ensures texts_kept { I.Keeps mine.old mine.new }
+    ensures files_kept { KeepsTexts M.known_text P.known_text F.known_text (mine_files model.old prec.old fixed.old) (mine_files model.new prec.new fixed.new) }
     ensures journal_kept { Keeps (J.known_text journal.old) (J.known_text journal.new) }
 {
-    let fixed_mine = mine.read_mine(alloc)?;
+    let fixed_mine = read_mine(alloc, model, prec, fixed)?;
     fixed_mine.mine.law();
     let end = replay_of(alloc, &fixed_mine, journal)?;
     put_end(out, &fixed_mine, &end)
 }
 
-/// Replays the journal of a file for the mine of others, and writes what it comes to.
+/// Opens the files of `replay` and runs it over their readers.
 fn replay_files<F: InputFiles, W: OutBytes>(
     alloc: Global,
     files: &mut F,
@@ -156,11 +162,18 @@ fn replay_files<F: InputFiles, W: OutBytes>(
     let journal = files.open_journal(options.journal)?;
     let mut mine = readers_of(mine, &files.counters());
     let mut journal = FileReader::new(journal);
-    run_replay(alloc, &mut mine, &mut journal, out)
+    run_replay(
+        alloc,
+        &mut mine.model,
+        &mut mine.prec,
+        &mut mine.fixed,
+        &mut journal,
+        out,
+    )
 }
 
-/// The whole call of `replay`: opens the files of a mine and then the journal, and writes what that comes to. A fault
-/// is told on standard error, and the exit status is answered.
+/// Runs `replay` over a file system: opens the files of a mine and then the journal, and writes the result. Reports a fault on
+/// `err` and returns the exit status.
 pub fn replay_call<F: InputFiles, W: OutBytes, E: OutBytes>(
     alloc: Global,
     files: &mut F,

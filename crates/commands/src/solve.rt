@@ -1,5 +1,5 @@
 //! `solve`: from the bytes of a model, a precedence file and a file of fixed blocks to the bytes of the pit, of the certificate
-//! that shows it, and of the journal of what workers decided.
+//! that proves it optimal, and of the journal of the workers' decisions.
 ghost use Rattle.std.specs.Prelude.{◌≡◌, ◌<◌, ◌^◌, Ok, IfOk, IfErr};
 ghost use Rattle.optimality.specs.Certificate.{IsFixedCertificateOf};
 ghost use Rattle.mine_graph.specs.FixedBlocks.{IsFixedOf};
@@ -10,7 +10,8 @@ ghost use Rattle.commands.specs.Certified.{IsCertified, PutsCertificate};
 ghost use Rattle.commands.specs.Chosen.{chosen, progress_of, IsCountable, OfWriterIfAny, Stays};
 ghost use Rattle.commands.specs.Journaled.{EndOf, IsJournaled, MayJournal, MayPutEntries, PutsEntries, PutsJournal, RefusesEntries};
 ghost use Rattle.commands.specs.Run.{settings_of, EndsJournaled, HoldsOfSearched, MayWrite, RefusesOutcome, RefusesPit, RefusesRun};
-ghost use Rattle.commands.specs.Solve.{fixed_instance_of, IsDone};
+ghost use Rattle.commands.specs.Kept.{KeepsTexts};
+ghost use Rattle.commands.specs.Solve.{files_of, mine_files, fixed_instance_of, IsDone, MayRead};
 ghost use Rattle.solver.specs.Modes.{EndsWithin};
 ghost use Rattle.pit_search.specs.Searched.{IsFound, OfSearched};
 ghost use Rattle.solver.specs.Searched.{EndsFixed};
@@ -20,25 +21,26 @@ ghost use Rattle.commands.specs.Solved.{EndsSolveCall};
 
 use crate::ending::report_fault;
 use crate::make_outputs::{end_outputs, make_outputs};
-use crate::mine::{FixedMine, MineReader, open_mine};
-use crate::options::{SolveOptions, SolveSettings};
+use crate::mine::{FixedMine, open_mine, read_mine};
+use crate::options::SolveOptions;
 use crate::outputs::OutputFiles;
 use crate::place::Writable;
 use crate::readers::readers_of;
 use crate::status::Status;
-use crate::writers::{SolveWriters, output_of, writer_of};
+use crate::writers::{output_of, writer_of};
 use certificate::{Certificate, write};
 use counters::Phase;
 use faults::Fault;
 use merging::Outcome;
-use minelib_reader::OutBytes;
+use minelib_reader::{InBytes, OutBytes};
+use pit_model::Direction;
 use report::{write_journal, write_pit};
 use solver::{Entry, FoundPit, Mode, OpenGate, Search};
 use std::alloc::{AllocGlobal, Global};
 use std::sync::Wait;
 use std::thread::Threads;
 
-/// Writes a certificate of the mine to its writer, where there is one.
+/// Writes a certificate of the mine to its writer, if there is one.
 fn put_certificate<C: OutBytes>(
     out: &mut Option<C>,
     fixed_mine: &FixedMine,
@@ -62,7 +64,7 @@ fn put_certificate<C: OutBytes>(
     }
 }
 
-/// Writes the entries of a journal of the rest of the mine. Its graph is made once more where blocks are fixed.
+/// Writes the entries of a journal of the reduced mine. If blocks are fixed, its graph is made again.
 fn put_entries<J: OutBytes>(
     writer: &mut J,
     fixed_mine: &FixedMine,
@@ -83,7 +85,7 @@ fn put_entries<J: OutBytes>(
     write_journal(writer, &rest.graph, budget, entries)
 }
 
-/// Writes the journal of what was decided to its writer, where there is one.
+/// Writes the journal of a solve to its writer, if there is one.
 fn put_journal<J: OutBytes>(
     out: &mut Option<J>,
     fixed_mine: &FixedMine,
@@ -107,8 +109,7 @@ fn put_journal<J: OutBytes>(
     }
 }
 
-/// How the solve of a mine ended. Where there is a writer for the journal of what was decided, it goes there, also where the
-/// budget is used up.
+/// Solves a mine and writes the journal to its writer, if there is one, also if the budget is used up.
 fn solve_journaled<J: OutBytes, R: Threads + Wait + Sync>(
     search: &Search<'_, R, OpenGate>,
     fixed_mine: &FixedMine,
@@ -126,8 +127,7 @@ fn solve_journaled<J: OutBytes, R: Threads + Wait + Sync>(
     Ok(solved.0)
 }
 
-/// The least pit of a mine. Where there is a writer for the journal, or for the certificate that shows the pit, these go there,
-/// in this order.
+/// Finds the minimal pit of a mine. Writes the journal and then the certificate to their writers, if there are any.
 fn recorded_pit<J: OutBytes, C: OutBytes, R: Threads + Wait + Sync>(
     search: &Search<'_, R, OpenGate>,
     fixed_mine: &FixedMine,
@@ -160,8 +160,8 @@ fn recorded_pit<J: OutBytes, C: OutBytes, R: Threads + Wait + Sync>(
     }
 }
 
-/// The pit that is asked for. Where neither a journal nor a certificate is wanted, the mine's graph is given up while the rest is
-/// solved; for the greatest pit neither is.
+/// Finds the pit of a mine in a direction. If neither a journal nor a certificate is wanted, the mine's graph is released while the
+/// reduced mine is solved; the greatest pit has neither.
 fn solve_mine<J: OutBytes, C: OutBytes, R: Threads + Wait + Sync>(
     search: &Search<'_, R, OpenGate>,
     fixed_mine: FixedMine,
@@ -185,12 +185,13 @@ fn solve_mine<J: OutBytes, C: OutBytes, R: Threads + Wait + Sync>(
     recorded_pit(search, &fixed_mine, journal, certificate)
 }
 
-/// Reads a model, then a precedence file, then the file of fixed blocks, if there is one, and writes the text of the pit, in every
-/// mode: of the smallest closed set of greatest worth, or of the largest, as is asked for, among the closed sets that hold each
-/// block forced in and none that is barred. If there is a writer for the journal, which only mode shared may have, a journal that
-/// ends at the least pit is written before it: `run_replay` comes to the same pit. If there is one for a certificate, the
-/// certificate that shows the pit is written after the journal: `run_check` answers yes to it. Neither may be there for the
-/// greatest pit.
+/// Reads a model, a precedence file and the file of fixed blocks if there is one, in this order, and writes the text of the pit,
+/// the same in every mode. Of the closed sets that contain each forced block and no barred one, the pit is the smallest of maximal
+/// value, or the largest if `pit` is `Greatest`.
+///
+/// If there is a writer for the journal, which only mode shared may have, the journal of the workers' decisions is written first:
+/// `run_replay` ends at the same pit. If there is one for the certificate, the certificate that proves the pit optimal is written
+/// next: `run_check` answers yes to it. The greatest pit has neither.
 ///
 /// # Errors
 ///
@@ -198,95 +199,100 @@ fn solve_mine<J: OutBytes, C: OutBytes, R: Threads + Wait + Sync>(
 /// all with nothing written; a used-up budget (20), with the whole journal written and nothing else; and a failed write (18), with
 /// a beginning of these texts in their order.
 #[tactic(auto, using(crate::proofs::Keeping::still_kept, crate::proofs::Keeping::still_kept_if_any))]
-pub fn run_solve<R: Threads + Wait + Sync, I: MineReader, J: OutBytes, C: OutBytes, W: OutBytes>(
+pub fn run_solve<
+    R: Threads + Wait + Sync,
+    M: InBytes,
+    P: InBytes,
+    F: InBytes,
+    J: OutBytes,
+    C: OutBytes,
+    W: OutBytes,
+>(
     rt: &R,
     alloc: Global,
-    mine: &mut I,
-    outputs: &mut SolveWriters<J, C, W>,
-    settings: &SolveSettings,
+    model: &mut M,
+    prec: &mut P,
+    fixed: &mut Option<F>,
+    journal: &mut Option<J>,
+    certificate: &mut Option<C>,
+    out: &mut W,
+    mode: Mode,
+    pit: Direction,
 ) -> Result<Status, Fault>
-    requires read { I.CanRead mine.old }
-    requires write { MayWrite J.progress C.progress settings.now outputs.old.journal outputs.old.certificate }
-    requires countable { (W.progress outputs.old.pit).failures < 2 ^ 63 }
-    ensures done { IfOk result (IsDone settings.now.pit (I.gave mine.old mine.new) (W.progress outputs.old.pit) (W.progress outputs.new.pit)) }
-    ensures journaled { IfOk result (λ _. OfWriterIfAny (chosen J.progress outputs.old.journal outputs.new.journal) (IsJournaled IsComplete settings.now.mode (I.gave mine.old mine.new))) }
-    ensures certified { IfOk result (λ _. OfWriterIfAny (chosen C.progress outputs.old.certificate outputs.new.certificate) (IsCertified (I.gave mine.old mine.new))) }
-    ensures within { IfOk result (λ _. HoldsOfSearched settings.now.pit (I.gave mine.old mine.new) (EndsWithin settings.now.mode)) }
-    ensures refused { IfErr result (λ e. RefusesRun settings.now e.refusal e (I.gave mine.old mine.new)
-        (chosen J.progress outputs.old.journal outputs.new.journal) (chosen C.progress outputs.old.certificate outputs.new.certificate)
-        (W.progress outputs.old.pit) (W.progress outputs.new.pit)) }
-    ensures texts_kept { I.Keeps mine.old mine.new }
-    ensures journal_stays { Stays outputs.old.journal outputs.new.journal }
-    ensures certificate_stays { Stays outputs.old.certificate outputs.new.certificate }
+    requires read { MayRead M.progress P.progress F.progress (mine_files model.old prec.old fixed.old) }
+    requires write { MayWrite J.progress C.progress (settings_of mode pit) journal.old certificate.old }
+    requires out_countable { (W.progress out.old).failures < 2 ^ 63 }
+    ensures done { IfOk result (IsDone pit
+        (files_of M.InBytes P.InBytes F.InBytes (mine_files model.old prec.old fixed.old) (mine_files model.new prec.new fixed.new))
+        (W.progress out.old) (W.progress out.new)) }
+    ensures journaled { IfOk result (λ _. OfWriterIfAny (chosen J.progress journal.old journal.new) (IsJournaled IsComplete mode
+        (files_of M.InBytes P.InBytes F.InBytes (mine_files model.old prec.old fixed.old) (mine_files model.new prec.new fixed.new)))) }
+    ensures certified { IfOk result (λ _. OfWriterIfAny (chosen C.progress certificate.old certificate.new) (IsCertified
+        (files_of M.InBytes P.InBytes F.InBytes (mine_files model.old prec.old fixed.old) (mine_files model.new prec.new fixed.new)))) }
+    ensures within { IfOk result (λ _. HoldsOfSearched pit
+        (files_of M.InBytes P.InBytes F.InBytes (mine_files model.old prec.old fixed.old) (mine_files model.new prec.new fixed.new))
+        (EndsWithin mode)) }
+    ensures refused { IfErr result (λ e. RefusesRun (settings_of mode pit) e.refusal e
+        (files_of M.InBytes P.InBytes F.InBytes (mine_files model.old prec.old fixed.old) (mine_files model.new prec.new fixed.new))
+        (chosen J.progress journal.old journal.new) (chosen C.progress certificate.old certificate.new)
+        (W.progress out.old) (W.progress out.new)) }
+    ensures files_kept { KeepsTexts M.known_text P.known_text F.known_text (mine_files model.old prec.old fixed.old) (mine_files model.new prec.new fixed.new) }
+    ensures journal_stays { Stays journal.old journal.new }
+    ensures certificate_stays { Stays certificate.old certificate.new }
 {
-    let fixed_mine = mine.read_mine(alloc)?;
+    let fixed_mine = read_mine(alloc, model, prec, fixed)?;
     let n = fixed_mine.mine.graph().n();
     let search = Search {
         rt,
         alloc,
-        mode: settings.mode,
-        direction: settings.pit,
+        mode,
+        direction: pit,
         gate: &OpenGate,
     };
-    let pit = solve_mine(
-        &search,
-        fixed_mine,
-        &mut outputs.journal,
-        &mut outputs.certificate,
-    )?;
-    mine.counters().enter(Phase::Writing);
-    write_pit(&mut outputs.pit, n, &pit.blocks, pit.worth)?;
+    let found = solve_mine(&search, fixed_mine, journal, certificate)?;
+    model.counters().enter(Phase::Writing);
+    write_pit(out, n, &found.blocks, found.worth)?;
     Ok(Status::Done)
 }
 
-/// Solves the mine of its files, and writes its pit to `out`, which is given back, and its journal and certificate to files
-/// where these are wanted. `rt` starts the workers.
-fn solve_files<R: AllocGlobal + Threads + Wait + Sync, F: OutputFiles, W: OutBytes + Drop>(
+/// Runs `solve` over a file system: opens the files of a mine, creates the journal and the certificate if they are wanted, writes
+/// the pit to `out`, and keeps or removes these outputs. Reports a fault on `err` and returns the exit status. `rt` starts the
+/// workers.
+pub fn solve_call<R: AllocGlobal + Threads + Wait + Sync, F: OutputFiles, W: OutBytes, E: OutBytes>(
     rt: &R,
     files: &mut F,
     options: &SolveOptions<'_>,
-    out: W,
-) -> (Result<Status, Fault>, W)
-    requires countable { (W.progress out).failures < 2 ^ 63 }
-    ensures { EndsSolveCall ⟦<F as Writable>⟧.place options.now (file_state files.old (W.progress out)) (file_state files.new (W.progress result.1)) result.0 }
+    out: &mut W,
+    err: &mut E,
+) -> u8
+    requires out_countable { (W.progress out.old).failures < 2 ^ 63 }
+    requires err_countable { (E.progress err.old).failures < 2 ^ 63 }
+    ensures { Ended result (E.progress err.old) (E.progress err.new) (EndsSolveCall ⟦<F as Writable>⟧.place options.now
+        (file_state files.old (W.progress out.old)) (file_state files.new (W.progress out.new))) }
 {
     let mine = match open_mine(files, &options.mine) {
         Ok(mine) => mine,
-        Err(fault) => return (Err(fault), out),
+        Err(fault) => return report_fault(err, &Err(fault)),
     };
     let (journal, certificate) = match make_outputs(files, options, &mine) {
         Ok(made) => made,
-        Err(fault) => return (Err(fault), out),
+        Err(fault) => return report_fault(err, &Err(fault)),
     };
     let mut mine = readers_of(mine, &files.counters());
-    let mut writers = SolveWriters {
-        journal: writer_of(journal),
-        certificate: writer_of(certificate),
-        pit: out,
-    };
-    let outcome = run_solve(rt, rt.alloc(), &mut mine, &mut writers, &options.settings);
-    let SolveWriters {
-        journal,
-        certificate,
-        pit: out,
-    } = writers;
+    let mut journal = writer_of(journal);
+    let mut certificate = writer_of(certificate);
+    let outcome = run_solve(
+        rt,
+        rt.alloc(),
+        &mut mine.model,
+        &mut mine.prec,
+        &mut mine.fixed,
+        &mut journal,
+        &mut certificate,
+        out,
+        options.settings.mode,
+        options.settings.pit,
+    );
     let made = (output_of(journal), output_of(certificate));
-    (end_outputs(files, made, outcome), out)
-}
-
-/// The whole call of `solve`: opens the files of a mine, makes the outputs beside the pit, solves the mine, and writes its pit to
-/// `out`, which is given back. A fault is told on standard error, and the exit status is answered.
-pub fn solve_call<
-    R: AllocGlobal + Threads + Wait + Sync,
-    F: OutputFiles,
-    W: OutBytes + Drop,
-    E: OutBytes,
->(rt: &R, files: &mut F, options: &SolveOptions<'_>, out: W, err: &mut E) -> (u8, W)
-    requires out_countable { (W.progress out).failures < 2 ^ 63 }
-    requires err_countable { (E.progress err.old).failures < 2 ^ 63 }
-    ensures { Ended result.0 (E.progress err.old) (E.progress err.new) (EndsSolveCall ⟦<F as Writable>⟧.place options.now
-        (file_state files.old (W.progress out)) (file_state files.new (W.progress result.1))) }
-{
-    let (outcome, out) = solve_files(rt, files, options, out);
-    (report_fault(err, &outcome), out)
+    report_fault(err, &end_outputs(files, made, outcome))
 }

@@ -1,4 +1,4 @@
-//! How a run ended, and the exit status of that.
+//! How a command ended, and its exit status.
 ghost use Rattle.std.specs.Prelude.{◌≡◌};
 ghost use Rattle.commands.specs.Exit.{status_of};
 
@@ -7,14 +7,14 @@ use faults::{Fault, Refusal};
 /// How a run without a fault ended.
 #[derive(Clone, Copy, Debug, PartialEq, Eq)]
 pub enum Status {
-    /// What was asked for was written.
+    /// The answer was written.
     Done,
     /// The answer is no.
     No,
 }
 
-/// The exit status: 0 where it is done, 4 where the answer is no, 3 where the budget is used up, and 1 at any other fault.
-/// The status 2 is that of a command line that is not understood.
+/// Returns the exit status: 0 if done, 4 if the answer is no, 3 if the budget is used up, and 1 for any other fault. (2 is that of
+/// a wrong command line.)
 pub fn exit_code(outcome: &Result<Status, Fault>) -> u8
     ensures { result ≡ status_of outcome.now }
 {

@@ -17,8 +17,8 @@ use Rattle.commands.specs.Kept.{KeepsIfAny}
 use Rattle.commands.specs.Made.{behind_outputs}
 use Rattle.commands.specs.Opened.{IsFromFront, IsFromFrontIfAny, OpensFixed}
 use Rattle.commands.specs.Chosen.{Chosen}
-use Rattle.commands.specs.Place.{given, given_by, FileState, OutputPlace}
-use Rattle.commands.specs.Solve.{Gave, GaveFixed, IsDone, IsPitText, mine_of, optional_reading}
+use Rattle.commands.specs.Place.{given, FileState, OutputPlace}
+use Rattle.commands.specs.Solve.{Gave, GaveFixed, IsDone, IsPitText, given_by, mine_of, optional_reading}
 use Rattle.commands.specs.Solved.{EndsSolveCall, RunsSolve, SolveCourse, solved, unmade, unopened}
 use Rattle.commands.specs.declared.options.SolveOptions.{SolveOptions}
 use Rattle.commands.specs.declared.status.Status.{Status}

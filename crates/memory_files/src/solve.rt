@@ -27,9 +27,9 @@ pub fn solve_in_memory<R: AllocGlobal + Threads + Wait + Sync>(
 ) -> Ending
     ensures { result.status ≡ 0 → SolvesFiles options.now.settings.pit files.old.files.now options.now.mine result.out.items }
 {
-    let out = MemoryWriter::new(rt.alloc(), room);
+    let mut out = MemoryWriter::new(rt.alloc(), room);
     let mut err = MemoryWriter::new(rt.alloc(), room);
-    let (status, out) = solve_call(rt, files, options, out, &mut err);
+    let status = solve_call(rt, files, options, &mut out, &mut err);
     Ending {
         status,
         out: out.text,

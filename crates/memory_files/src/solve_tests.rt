@@ -2,8 +2,8 @@
 
 use crate::files::{MemoryFile, MemoryFiles, MemoryOutput};
 use commands::{
-    CheckOptions, MineFiles, MineNames, ReplayOptions, SolveOptions, SolveSettings, SolveWriters,
-    check_call, replay_call, run_solve, solve_call,
+    CheckOptions, MineNames, ReplayOptions, SolveOptions, SolveSettings, check_call, replay_call,
+    run_solve, solve_call,
 };
 use faults::Refusal;
 use minelib_reader::{MemoryReader, MemoryWriter};
@@ -88,9 +88,9 @@ fn expect_verified<R: Abort + AllocGlobal + Threads + Wait + Sync>(rt: &R) -> Re
         file("mine.prec", PREC.as_bytes()),
     ];
     let mut files = MemoryFiles::new(alloc, &listed);
-    let out = MemoryWriter::new(alloc, 1000);
+    let mut out = MemoryWriter::new(alloc, 1000);
     let mut err = MemoryWriter::new(alloc, 1000);
-    let (status, out) = solve_call(rt, &mut files, &OPTIONS, out, &mut err);
+    let status = solve_call(rt, &mut files, &OPTIONS, &mut out, &mut err);
     assert_eq!(rt; status, 0);
     assert_eq!(rt; out.text.as_slice(), PIT.as_bytes());
     assert_eq!(rt; files.journal.name.as_slice(), "mine.journal".as_bytes());
@@ -108,23 +108,21 @@ fn outputs_of_a_solve_are_checked_and_replayed(rt: HostRuntime) -> Result<(), Fa
 /// Solves the mine into a writer that takes seven bytes, and compares what it took.
 fn expect_cut<R: Abort + AllocGlobal + Threads + Wait + Sync>(rt: &R) -> Result<(), Fail> {
     let alloc = rt.alloc();
-    let mut mine = MineFiles {
-        model: MemoryReader::new(MODEL.as_bytes()),
-        prec: MemoryReader::new(PREC.as_bytes()),
-        fixed: None::<MemoryReader<'static>>,
-    };
-    let mut outputs = SolveWriters {
-        journal: None::<MemoryWriter>,
-        certificate: None::<MemoryWriter>,
-        pit: MemoryWriter::new(alloc, 7),
-    };
-    let settings = SolveSettings {
-        mode: Mode::Single { budget: None },
-        pit: Direction::Least,
-    };
-    let outcome = run_solve(rt, alloc, &mut mine, &mut outputs, &settings);
+    let mut out = MemoryWriter::new(alloc, 7);
+    let outcome = run_solve(
+        rt,
+        alloc,
+        &mut MemoryReader::new(MODEL.as_bytes()),
+        &mut MemoryReader::new(PREC.as_bytes()),
+        &mut None::<MemoryReader<'static>>,
+        &mut None::<MemoryWriter>,
+        &mut None::<MemoryWriter>,
+        &mut out,
+        Mode::Single { budget: None },
+        Direction::Least,
+    );
     assert!(rt; matches!(&outcome, Err(fault) if matches!(fault.refusal, Refusal::WriteFailed)));
-    assert_eq!(rt; outputs.pit.text.as_slice(), "PIT\nBLO".as_bytes());
+    assert_eq!(rt; out.text.as_slice(), "PIT\nBLO".as_bytes());
     Ok(())
 }
 

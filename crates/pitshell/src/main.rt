@@ -13,16 +13,19 @@ mod watch;
 use clap::error::ErrorKind;
 use command_line::command;
 use commands::{Status, report_fault};
+use counters::Counters;
 use faults::Fault;
 use minelib_reader::StreamWriter;
 use options::{Options, WatchOptions};
-use progress::run_with_progress;
+use progress::{call, call_with_progress, keeps_outputs};
 use std::alloc::AllocError;
 use std::process::ExitCode;
 use std::{env, io};
 use streams::StandIns;
+use system_files::SystemFiles;
+use watch::Times;
 
-/// Tells how a run ended: a fault goes to standard error, and the exit status is answered.
+/// Reports how a run ended: writes a fault to standard error and returns the exit status.
 fn ended(rt: &HostRuntime, outcome: Result<Status, Fault>) -> ExitCode {
     ExitCode::from(report_fault(&mut StreamWriter::new(io::writer(&rt.stderr())), &outcome))
 }
@@ -58,6 +61,14 @@ fn words_of(rt: &HostRuntime) -> Result<Vec<String>, NoWords> {
     }
 }
 
+/// Returns the exit status of a call, or that of a fault, which goes to standard error.
+fn exit_with(rt: &HostRuntime, called: Result<u8, Fault>) -> ExitCode {
+    match called {
+        Ok(status) => ExitCode::from(status),
+        Err(fault) => ended(rt, Err(fault)),
+    }
+}
+
 fn main(rt: HostRuntime) -> ExitCode {
     let _stand_ins = StandIns::new(&rt);
     let words = match words_of(&rt) {
@@ -78,8 +89,12 @@ fn main(rt: HostRuntime) -> ExitCode {
         Some(Err(line)) => return not_understood(&rt, line),
         None => return ExitCode::from(2),
     };
-    match run_with_progress(&rt, &rt, &options, &WatchOptions::of(&matches)) {
-        Ok(status) => ExitCode::from(status),
-        Err(fault) => ended(&rt, Err(fault)),
+    let watch = WatchOptions::of(&matches);
+    if !watch.is_nothing() {
+        return exit_with(&rt, call_with_progress(&rt, &rt, &options, &watch));
     }
+    let mut files = SystemFiles::new(&rt, Counters::none(), None);
+    let status = call(&rt, &rt, &options, &mut files);
+    let kept = files.end(keeps_outputs(status), &Times::none());
+    exit_with(&rt, kept.map(|()| status))
 }

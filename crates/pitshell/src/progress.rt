@@ -1,6 +1,6 @@
-//! A call over the files of the system, with what is told of it beside its answer: lines while it goes on, and the file of what
-//! it did. The answer, the other files and the exit status are those of the call without it, but where the file cannot be made
-//! or not be kept.
+//! Runs a subcommand over the files of the system. With `--progress` or `--stats` it also writes progress lines while the run goes
+//! on, or a file of statistics. The answer, the other files and the exit status are the same without them, unless the file of
+//! statistics cannot be made or kept.
 
 use crate::options::{Options, WatchOptions};
 use crate::output::Output;
@@ -17,8 +17,8 @@ use std::thread::Threads;
 use std::time::{Clock, Duration};
 use std::{io, thread};
 
-/// Does what is asked for over the files of the system, and answers the exit status.
-fn call<R: AllocGlobal + Threads + Wait + Sync>(
+/// Runs the subcommand over the files of the system and returns the exit status.
+pub fn call<R: AllocGlobal + Threads + Wait + Sync>(
     rt: &HostRuntime,
     threads: &R,
     options: &Options<'_>,
@@ -29,7 +29,7 @@ fn call<R: AllocGlobal + Threads + Wait + Sync>(
     let stderr = rt.stderr();
     let mut err = StreamWriter::new(io::writer(&stderr));
     match options {
-        Options::Solve(settings) => solve_call(threads, files, settings, out, &mut err).0,
+        Options::Solve(settings) => solve_call(threads, files, settings, &mut out, &mut err),
         Options::Shells(settings) => shells_call(threads, files, settings, &mut out, &mut err),
         Options::Check(settings) => check_call(alloc, files, settings, &mut out, &mut err),
         Options::Replay(settings) => replay_call(alloc, files, settings, &mut out, &mut err),
@@ -71,12 +71,16 @@ fn stats_of(
 }
 
 /// Whether a call with this exit status keeps its outputs: it was done, or used up its budget.
-fn keeps_outputs(status: u8) -> bool {
+pub fn keeps_outputs(status: u8) -> bool {
     status == 0 || status == 3
 }
 
-/// Does what is asked for, and tells of it as is asked for.
-fn call_with_progress<R: AllocGlobal + Threads + Wait + Clock + Eprint + Sync>(
+/// Runs the subcommand with progress lines or a file of statistics, and returns the exit status.
+///
+/// # Errors
+///
+/// If memory runs out, an output cannot be renamed, or the file of statistics cannot be made or written.
+pub fn call_with_progress<R: AllocGlobal + Threads + Wait + Clock + Eprint + Sync>(
     rt: &HostRuntime,
     threads: &R,
     options: &Options<'_>,
@@ -88,21 +92,4 @@ fn call_with_progress<R: AllocGlobal + Threads + Wait + Clock + Eprint + Sync>(
     let (status, times) = timed_call(rt, threads, options, every, &mut files);
     files.end(keeps_outputs(status), &times)?;
     Ok(status)
-}
-
-/// Does what is asked for, tells of it as is asked for, and answers the exit status. If an output cannot be renamed or the stats
-/// file cannot be written, that is a fault of the call.
-pub fn run_with_progress<R: AllocGlobal + Threads + Wait + Clock + Eprint + Sync>(
-    rt: &HostRuntime,
-    threads: &R,
-    options: &Options<'_>,
-    settings: &WatchOptions<'_>,
-) -> Result<u8, Fault> {
-    if settings.is_nothing() {
-        let mut files = SystemFiles::new(rt, Counters::none(), None);
-        let status = call(rt, threads, options, &mut files);
-        files.end(keeps_outputs(status), &Times::none())?;
-        return Ok(status);
-    }
-    call_with_progress(rt, threads, options, settings)
 }

@@ -1,6 +1,7 @@
 -- Each exit is a case of how the call ends.
 use Rattle.std.proofs.Common.{refl}
 use Rattle.std.proofs.lemmas.Result.{err_from_is_err_and}
+use Rattle.commands.specs.Solve.{mine_files}
 use Rattle.commands.specs.Over.{no_last, no_mine, ran}
 use Rattle.commands.proofs.Calling.{runs_check}
 use Rattle.commands.proofs.Reading.{are_from_front}
@@ -19,10 +20,10 @@ returns-in_err-certificate g c =
 
 pub returns : goal.returns
 returns g c =
-    ran c.open_mine.new.files _ _ c.readers_of-mine.result c.run_check.new.mine c.new-certificate.result c.run_check.new.certificate
+    ran c.open_mine.new.files _ _ c.readers_of-mine.result (mine_files c.run_check.new.model c.run_check.new.prec c.run_check.new.fixed) c.new-certificate.result c.run_check.new.certificate
     c.in_ok-mine.ensures.opened c.in_ok-certificate.ensures.opened
     (are_from_front _ _ _ c.in_ok-mine.mine.fixed c.readers_of-mine.result c.in_ok-mine.ensures.named c.readers_of-mine.ensures.named
     c.readers_of-mine.ensures.model c.readers_of-mine.ensures.prec c.readers_of-mine.ensures.fixed)
     (record { unread = c.new-certificate.ensures.start; known = c.new-certificate.ensures.known })
-    c.run_check.ensures.texts_kept c.run_check.ensures.certificate_kept
+    c.run_check.ensures.files_kept c.run_check.ensures.certificate_kept
     (runs_check _ _ _ _ c.run_check.result c.run_check.ensures.checked c.run_check.ensures.refused)

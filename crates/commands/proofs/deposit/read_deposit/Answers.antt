@@ -7,7 +7,7 @@ use Rattle.minelib_reader.specs.PrecFault.{IsFirstPrecFault}
 use Rattle.faults.specs.declared.source.Source.TheVariants as sources
 use Rattle.mine_graph.specs.Faults.{IsGraphFault}
 use Rattle.pit_model.specs.Graph.{Graph, AreSamePairs}
-use Rattle.commands.specs.Solve.{reading}
+use Rattle.commands.specs.Solve.{given_by}
 use Rattle.commands.specs.Deposit.{GaveTable}
 use Rattle.commands.proofs.Depositing.{blocks_refused, needs_refused, cycle_refused, columns_refused}
 use Rattle.commands.proofs.deposit.read_deposit.Goals as goal
@@ -16,16 +16,16 @@ pub returns-in_err-table-clause-refused : goal.returns-in_err-table-clause-refus
 returns-in_err-table-clause-refused g c =
     let p = err_from_is_err_and c.from_residual.result c.from_residual.ensures.1 in
     let e = c.in_err-table.field-0.0 in
-    let blocks = reading (g.B.InBytes.progress c.args.blocks.now) (g.B.InBytes.progress c.read_blocks.new.reader) (g.B.InBytes.IsAtEnd c.read_blocks.new.reader) in
-    let prec = reading (g.P.InBytes.progress c.args.prec.now) (g.P.InBytes.progress c.args.prec.now) (g.P.InBytes.IsAtEnd c.args.prec.now) in
+    let blocks = given_by g.B.InBytes c.args.blocks.now c.read_blocks.new.reader in
+    let prec = given_by g.P.InBytes c.args.prec.now c.args.prec.now in
     rw (p.1, p.2) (blocks_refused e.refusal e blocks prec c.args.revenue c.args.cost refl refl c.in_err-table.ensures.answers)
 
 pub returns-in_err-needs-clause-refused : goal.returns-in_err-needs-clause-refused
 returns-in_err-needs-clause-refused g c =
     let p = err_from_is_err_and c.from_residual-in_err-needs.result c.from_residual-in_err-needs.ensures.1 in
     let e = c.in_err-needs.field-0.0 in
-    let blocks = reading (g.B.InBytes.progress c.args.blocks.now) (g.B.InBytes.progress c.read_blocks.new.reader) (g.B.InBytes.IsAtEnd c.read_blocks.new.reader) in
-    let prec = reading (g.P.InBytes.progress c.args.prec.now) (g.P.InBytes.progress c.read_prec_rows.new.reader) (g.P.InBytes.IsAtEnd c.read_prec_rows.new.reader) in
+    let blocks = given_by g.B.InBytes c.args.blocks.now c.read_blocks.new.reader in
+    let prec = given_by g.P.InBytes c.args.prec.now c.read_prec_rows.new.reader in
     let t = c.in_ok-table.ensures.answers in
     let refused = subst (λ n. Refuses e.refusal sources.Precedence e prec.before prec.after (ReadsText prec.before prec.after prec.ended (λ behind. IsFirstPrecFault n behind e))) c.len-n.ensures.value c.in_err-needs.ensures.answers in
     rw (p.1, p.2) (needs_refused e.refusal e blocks prec c.args.revenue c.args.cost c.in_ok-table.table t.0 refl t.1 t.2 refused)
@@ -34,8 +34,8 @@ pub returns-in_err-graph-clause-refused : goal.returns-in_err-graph-clause-refus
 returns-in_err-graph-clause-refused g c =
     let p = err_from_is_err_and c.from_residual-in_err-graph.result c.from_residual-in_err-graph.ensures.1 in
     let e = c.in_err-graph.field-0.0 in
-    let blocks = reading (g.B.InBytes.progress c.args.blocks.now) (g.B.InBytes.progress c.read_blocks.new.reader) (g.B.InBytes.IsAtEnd c.read_blocks.new.reader) in
-    let prec = reading (g.P.InBytes.progress c.args.prec.now) (g.P.InBytes.progress c.read_prec_rows.new.reader) (g.P.InBytes.IsAtEnd c.read_prec_rows.new.reader) in
+    let blocks = given_by g.B.InBytes c.args.blocks.now c.read_blocks.new.reader in
+    let prec = given_by g.P.InBytes c.args.prec.now c.read_prec_rows.new.reader in
     let table = c.in_ok-table.table in
     let t = c.in_ok-table.ensures.answers in
     let q = c.in_ok-needs.ensures.answers in
@@ -54,8 +54,8 @@ pub returns-in_err-columns-clause-refused : goal.returns-in_err-columns-clause-r
 returns-in_err-columns-clause-refused g c =
     let p = err_from_is_err_and c.from_residual-in_err-columns.result c.from_residual-in_err-columns.ensures.1 in
     let e = c.in_err-columns.field-0.0 in
-    let blocks = reading (g.B.InBytes.progress c.args.blocks.now) (g.B.InBytes.progress c.read_blocks.new.reader) (g.B.InBytes.IsAtEnd c.read_blocks.new.reader) in
-    let prec = reading (g.P.InBytes.progress c.args.prec.now) (g.P.InBytes.progress c.read_prec_rows.new.reader) (g.P.InBytes.IsAtEnd c.read_prec_rows.new.reader) in
+    let blocks = given_by g.B.InBytes c.args.blocks.now c.read_blocks.new.reader in
+    let prec = given_by g.P.InBytes c.args.prec.now c.read_prec_rows.new.reader in
     let table = c.in_ok-table.table in
     let t = c.in_ok-table.ensures.answers in
     let q = c.in_ok-needs.ensures.answers in
@@ -71,8 +71,8 @@ returns-in_err-columns-clause-refused g c =
 
 pub returns-clause-deposit : goal.returns-clause-deposit
 returns-clause-deposit g c =
-    let blocks = reading (g.B.InBytes.progress c.args.blocks.now) (g.B.InBytes.progress c.read_blocks.new.reader) (g.B.InBytes.IsAtEnd c.read_blocks.new.reader) in
-    let prec = reading (g.P.InBytes.progress c.args.prec.now) (g.P.InBytes.progress c.read_prec_rows.new.reader) (g.P.InBytes.IsAtEnd c.read_prec_rows.new.reader) in
+    let blocks = given_by g.B.InBytes c.args.blocks.now c.read_blocks.new.reader in
+    let prec = given_by g.P.InBytes c.args.prec.now c.read_prec_rows.new.reader in
     let table = c.in_ok-table.table in
     let t = c.in_ok-table.ensures.answers in
     let q = c.in_ok-needs.ensures.answers in

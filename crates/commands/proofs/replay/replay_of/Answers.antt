@@ -10,18 +10,18 @@ use Rattle.merging.specs.Reduced.{ListsJoined}
 use Rattle.merging.proofs.Resting.{none_both}
 use Rattle.pit_search.proofs.Searching.{found_inside, is_rest_of}
 use Rattle.commands.specs.Replay.{IsReplayedOn}
-use Rattle.commands.specs.Solve.{reading, fixed_instance_of}
+use Rattle.commands.specs.Solve.{given_by, fixed_instance_of}
 use Rattle.commands.proofs.Replaying.{open_replayed, pit_replayed, plain_refused, plain_replayed, rest_refused}
 use Rattle.commands.proofs.replay.replay_of.Goals as goal
 
 pub returns-then-is_empty-clause-replayed : goal.returns-then-is_empty-clause-replayed
 returns-then-is_empty-clause-replayed g c =
-    let journal = reading (g.J.InBytes.progress c.args.journal.now) (g.J.InBytes.progress c.replay_on.new.journal) (g.J.InBytes.IsAtEnd c.replay_on.new.journal) in
+    let journal = given_by g.J.InBytes c.args.journal.now c.replay_on.new.journal in
     plain_replayed (fixed_instance_of c.args.fixed_mine.now) journal c.replay_on.result (c.is_empty.ensures.0 c.if-is_empty.true) c.replay_on.ensures.replayed
 
 pub returns-then-is_empty-clause-refused : goal.returns-then-is_empty-clause-refused
 returns-then-is_empty-clause-refused g c =
-    let journal = reading (g.J.InBytes.progress c.args.journal.now) (g.J.InBytes.progress c.replay_on.new.journal) (g.J.InBytes.IsAtEnd c.replay_on.new.journal) in
+    let journal = given_by g.J.InBytes c.args.journal.now c.replay_on.new.journal in
     plain_refused (fixed_instance_of c.args.fixed_mine.now) journal c.replay_on.result (c.is_empty.ensures.0 c.if-is_empty.true) c.replay_on.ensures.refused
 
 pub returns-in_err-end-clause-refused : goal.returns-in_err-end-clause-refused
@@ -31,7 +31,7 @@ returns-in_err-end-clause-refused g c =
     let fixed_mine = fixed_instance_of c.args.fixed_mine.now in
     let fixed = c.args.fixed_mine.now.fixed in
     let rest = c.in_ok-rest.rest in
-    let journal = reading (g.J.InBytes.progress c.args.journal.now) (g.J.InBytes.progress c.replay_on-2.new.journal) (g.J.InBytes.IsAtEnd c.replay_on-2.new.journal) in
+    let journal = given_by g.J.InBytes c.args.journal.now c.replay_on-2.new.journal in
     let some : fixed.lists ≡ no_lists → ⊥ = λ none. true≢false (sym (c.is_empty.ensures.1 none) ∙ c.if-is_empty.false) in
     rw (p.1, p.2) (rest_refused e.refusal e fixed_mine rest.mine journal (is_rest_of fixed_mine.mine fixed rest some c.in_ok-rest.ensures.rest) c.in_err-end.ensures.refused)
 
@@ -46,7 +46,7 @@ join_pit-requires-clause-apart g c = none_both c.args.fixed_mine.now.mine c.args
 pub join_pit-requires-clause-found : goal.join_pit-requires-clause-found
 join_pit-requires-clause-found g c =
     let rest = c.in_ok-rest.rest in
-    let journal = reading (g.J.InBytes.progress c.args.journal.now) (g.J.InBytes.progress c.replay_on-2.new.journal) (g.J.InBytes.IsAtEnd c.replay_on-2.new.journal) in
+    let journal = given_by g.J.InBytes c.args.journal.now c.replay_on-2.new.journal in
     let shown = (subst (IsReplayedOn rest.mine journal) c.in-Pit.is c.in_ok-end.ensures.replayed).ends.1 in
     subst (λ (ys : List ℕ). (i : ℕ) → i < length c.deref-in-Pit-2.result.now → get_or c.deref-in-Pit-2.result.now i 0 < length ys) (sym c.deref-in-Pit.ensures.value)
     (subst (λ (xs : List ℕ). (i : ℕ) → i < length xs → get_or xs i 0 < length rest.blocks.items) (sym c.deref-in-Pit-2.ensures.value)
@@ -59,7 +59,7 @@ returns-in-Pit-clause-replayed g c =
     let rest = c.in_ok-rest.rest in
     let list = c.in_ok-pit-in-Pit.pit in
     let count : c.n-n.result ≡ mine.blocks = c.n-n.ensures ∙ ap (λ (g : Graph). g.blocks) c.deref.ensures ∙ c.graph.ensures.blocks in
-    let journal = reading (g.J.InBytes.progress c.args.journal.now) (g.J.InBytes.progress c.replay_on-2.new.journal) (g.J.InBytes.IsAtEnd c.replay_on-2.new.journal) in
+    let journal = given_by g.J.InBytes c.args.journal.now c.replay_on-2.new.journal in
     let some : fixed.lists ≡ no_lists → ⊥ = λ none. true≢false (sym (c.is_empty.ensures.1 none) ∙ c.if-is_empty.false) in
     pit_replayed mine fixed rest journal c.in-Pit.found list some c.in_ok-rest.ensures.rest (subst (IsReplayedOn rest.mine journal) c.in-Pit.is c.in_ok-end.ensures.replayed)
     (λ set listed. subst (λ n. ListsJoined n fixed rest.blocks.items set list.items) count
@@ -70,7 +70,7 @@ pub returns : goal.returns
 returns g c =
     let fixed = c.args.fixed_mine.now.fixed in
     let rest = c.in_ok-rest.rest in
-    let journal = reading (g.J.InBytes.progress c.args.journal.now) (g.J.InBytes.progress c.replay_on-2.new.journal) (g.J.InBytes.IsAtEnd c.replay_on-2.new.journal) in
+    let journal = given_by g.J.InBytes c.args.journal.now c.replay_on-2.new.journal in
     let some : fixed.lists ≡ no_lists → ⊥ = λ none. true≢false (sym (c.is_empty.ensures.1 none) ∙ c.if-is_empty.false) in
     record {
       replayed = open_replayed (fixed_instance_of c.args.fixed_mine.now) rest.mine journal c.in_ok-end.end (is_rest_of c.args.fixed_mine.now.mine fixed rest some c.in_ok-rest.ensures.rest) c.in_default.not-Pit c.in_ok-end.ensures.replayed;

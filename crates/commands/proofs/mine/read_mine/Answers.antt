@@ -11,20 +11,20 @@ use Rattle.merging.proofs.SolvedPart.{graph_is}
 use Rattle.commands.specs.Solve.{FixedInstance, GaveFixed, GaveFixedMine, files_of, mine_files, fixed_instance_of}
 use Rattle.commands.specs.declared.mine.FixedMine.{FixedMine}
 use Rattle.commands.proofs.Refusing.{model_refused, prec_refused, fixed_refused, pairs_refused, blocks_refused, has_no_clash, memory_refused, still}
-use Rattle.commands.proofs.mine.read_files.Goals as goal
+use Rattle.commands.proofs.mine.read_mine.Goals as goal
 
 pub returns-in_err-model-clause-refused : goal.returns-in_err-model-clause-refused
 returns-in_err-model-clause-refused g c =
     let p = err_from_is_err_and c.from_residual.result c.from_residual.ensures.1 in
     let e = c.in_err-model.field-0.0 in
-    let files = files_of g.M.InBytes.progress g.M.InBytes.IsAtEnd g.P.InBytes.progress g.P.InBytes.IsAtEnd g.F.InBytes.progress g.F.InBytes.IsAtEnd (mine_files c.args.model.now c.args.prec.now c.args.fixed.now) (mine_files c.read_upit.new.reader c.args.prec.now c.args.fixed.now) in
+    let files = files_of g.M.InBytes g.P.InBytes g.F.InBytes (mine_files c.args.model.now c.args.prec.now c.args.fixed.now) (mine_files c.read_upit.new.reader c.args.prec.now c.args.fixed.now) in
     rw (p.1, p.2) (model_refused e.refusal e files refl refl (still g.F.InBytes.progress g.F.InBytes.IsAtEnd c.args.fixed.now) c.in_err-model.ensures.answers)
 
 pub returns-in_err-needs-clause-refused : goal.returns-in_err-needs-clause-refused
 returns-in_err-needs-clause-refused g c =
     let p = err_from_is_err_and c.from_residual-in_err-needs.result c.from_residual-in_err-needs.ensures.1 in
     let e = c.in_err-needs.field-0.0 in
-    let files = files_of g.M.InBytes.progress g.M.InBytes.IsAtEnd g.P.InBytes.progress g.P.InBytes.IsAtEnd g.F.InBytes.progress g.F.InBytes.IsAtEnd (mine_files c.args.model.now c.args.prec.now c.args.fixed.now) (mine_files c.read_upit.new.reader c.read_prec_rows.new.reader c.args.fixed.now) in
+    let files = files_of g.M.InBytes g.P.InBytes g.F.InBytes (mine_files c.args.model.now c.args.prec.now c.args.fixed.now) (mine_files c.read_upit.new.reader c.read_prec_rows.new.reader c.args.fixed.now) in
     let m = c.in_ok-model.ensures.answers in
     rw (p.1, p.2) (prec_refused e.refusal e files (upit c.in_ok-model.model.n c.in_ok-model.model.values.items) m.0 refl (still g.F.InBytes.progress g.F.InBytes.IsAtEnd c.args.fixed.now) m.1 m.2 c.in_err-needs.ensures.answers)
 
@@ -32,7 +32,7 @@ pub returns-in_err-forced-clause-refused : goal.returns-in_err-forced-clause-ref
 returns-in_err-forced-clause-refused g c =
     let p = err_from_is_err_and c.from_residual-in_err-forced.result c.from_residual-in_err-forced.ensures.1 in
     let e = c.in_err-forced.field-0.0 in
-    let files = files_of g.M.InBytes.progress g.M.InBytes.IsAtEnd g.P.InBytes.progress g.P.InBytes.IsAtEnd g.F.InBytes.progress g.F.InBytes.IsAtEnd (mine_files c.args.model.now c.args.prec.now c.args.fixed.now) (mine_files c.read_upit.new.reader c.read_prec_rows.new.reader c.read_lists.new.fixed) in
+    let files = files_of g.M.InBytes g.P.InBytes g.F.InBytes (mine_files c.args.model.now c.args.prec.now c.args.fixed.now) (mine_files c.read_upit.new.reader c.read_prec_rows.new.reader c.read_lists.new.fixed) in
     let m = c.in_ok-model.ensures.answers in
     let q = c.in_ok-needs.ensures.answers in
     rw (p.1, p.2) (fixed_refused e.refusal e files (upit c.in_ok-model.model.n c.in_ok-model.model.values.items) c.in_ok-needs.needs.pairs refl
@@ -43,7 +43,7 @@ pub returns-in_err-graph-clause-refused : goal.returns-in_err-graph-clause-refus
 returns-in_err-graph-clause-refused g c =
     let p = err_from_is_err_and c.from_residual-in_err-graph.result c.from_residual-in_err-graph.ensures.1 in
     let e = c.in_err-graph.field-0.0 in
-    let files = files_of g.M.InBytes.progress g.M.InBytes.IsAtEnd g.P.InBytes.progress g.P.InBytes.IsAtEnd g.F.InBytes.progress g.F.InBytes.IsAtEnd (mine_files c.args.model.now c.args.prec.now c.args.fixed.now) (mine_files c.read_upit.new.reader c.read_prec_rows.new.reader c.read_lists.new.fixed) in
+    let files = files_of g.M.InBytes g.P.InBytes g.F.InBytes (mine_files c.args.model.now c.args.prec.now c.args.fixed.now) (mine_files c.read_upit.new.reader c.read_prec_rows.new.reader c.read_lists.new.fixed) in
     let m = c.in_ok-model.ensures.answers in
     let q = c.in_ok-needs.ensures.answers in
     rw (p.1, p.2) (pairs_refused e.refusal e files (upit c.in_ok-model.model.n c.in_ok-model.model.values.items) c.in_ok-needs.needs.pairs _
@@ -52,7 +52,7 @@ returns-in_err-graph-clause-refused g c =
 
 pub returns-in_err-new-clause-refused : goal.returns-in_err-new-clause-refused
 returns-in_err-new-clause-refused g c =
-    let files = files_of g.M.InBytes.progress g.M.InBytes.IsAtEnd g.P.InBytes.progress g.P.InBytes.IsAtEnd g.F.InBytes.progress g.F.InBytes.IsAtEnd (mine_files c.args.model.now c.args.prec.now c.args.fixed.now) (mine_files c.read_upit.new.reader c.read_prec_rows.new.reader c.read_lists.new.fixed) in
+    let files = files_of g.M.InBytes g.P.InBytes g.F.InBytes (mine_files c.args.model.now c.args.prec.now c.args.fixed.now) (mine_files c.read_upit.new.reader c.read_prec_rows.new.reader c.read_lists.new.fixed) in
     let m = c.in_ok-model.ensures.answers in
     let q = c.in_ok-needs.ensures.answers in
     let p = err_from_is_err_and c.from_residual-in_err-new.result c.from_residual-in_err-new.ensures.1 in
@@ -64,7 +64,7 @@ pub returns-in_err-fixed-clause-refused : goal.returns-in_err-fixed-clause-refus
 returns-in_err-fixed-clause-refused g c =
     let p = err_from_is_err_and c.from_residual-in_err-fixed.result c.from_residual-in_err-fixed.ensures.1 in
     let e = c.in_err-fixed.field-0.0 in
-    let files = files_of g.M.InBytes.progress g.M.InBytes.IsAtEnd g.P.InBytes.progress g.P.InBytes.IsAtEnd g.F.InBytes.progress g.F.InBytes.IsAtEnd (mine_files c.args.model.now c.args.prec.now c.args.fixed.now) (mine_files c.read_upit.new.reader c.read_prec_rows.new.reader c.read_lists.new.fixed) in
+    let files = files_of g.M.InBytes g.P.InBytes g.F.InBytes (mine_files c.args.model.now c.args.prec.now c.args.fixed.now) (mine_files c.read_upit.new.reader c.read_prec_rows.new.reader c.read_lists.new.fixed) in
     let m = c.in_ok-model.ensures.answers in
     let q = c.in_ok-needs.ensures.answers in
     let mine = c.with_counters-mine.result in
@@ -89,7 +89,7 @@ returns-in_err-fixed-clause-refused g c =
 
 pub returns-clause-mine : goal.returns-clause-mine
 returns-clause-mine g c =
-    let files = files_of g.M.InBytes.progress g.M.InBytes.IsAtEnd g.P.InBytes.progress g.P.InBytes.IsAtEnd g.F.InBytes.progress g.F.InBytes.IsAtEnd (mine_files c.args.model.now c.args.prec.now c.args.fixed.now) (mine_files c.read_upit.new.reader c.read_prec_rows.new.reader c.read_lists.new.fixed) in
+    let files = files_of g.M.InBytes g.P.InBytes g.F.InBytes (mine_files c.args.model.now c.args.prec.now c.args.fixed.now) (mine_files c.read_upit.new.reader c.read_prec_rows.new.reader c.read_lists.new.fixed) in
     let m = c.in_ok-model.ensures.answers in
     let q = c.in_ok-needs.ensures.answers in
     let mine = c.with_counters-mine.result in
