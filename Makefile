@@ -1,5 +1,5 @@
 # `make try` runs the program at once, unproved; `make` proves it, builds it and solves the small mine; `make test` runs the gate.
-.PHONY: all try build library dist demo install test style test-program test-plan thorough test-library mutants sweep storm bench setup
+.PHONY: all try build library dist demo docs install test style test-program test-plan thorough test-library mutants sweep storm bench setup
 
 SMALL_MINE = examples/small_mine
 PROGRAM = build/pitshell
@@ -27,6 +27,12 @@ library:
 # What others install, in build/dist: a Debian package, an archive, and wheels of the library and of the planner's layer.
 dist: build library
 	tools/dist.py
+
+# Renews what repeats the help of the program and the columns of tables: man page, completions, FORMATS, stored words of tests.
+docs:
+	test -x $(PROGRAM) || $(MAKE) build
+	tools/make_docs.py
+	tools/columns_page.py
 
 demo:
 	build/pitshell solve --model $(SMALL_MINE)/mine.upit --prec $(SMALL_MINE)/mine.prec > build/pit.txt

@@ -1,4 +1,4 @@
-# Completion of pitshell's subcommands, options and their words, for bash.
+# Completion of pitshell, by tools/make_docs.py, for bash.
 _pitshell() {
     local word=${COMP_WORDS[COMP_CWORD]} before=${COMP_WORDS[COMP_CWORD - 1]} options=""
     COMPREPLY=()
@@ -7,7 +7,7 @@ _pitshell() {
         return
     fi
     case $before in
-    --model | --prec | --fixed | --blocks | --certificate | --journal | --stats)
+    --model | --prec | --fixed | --certificate | --journal | --stats | --blocks)
         compopt -o filenames 2> /dev/null
         mapfile -t COMPREPLY < <(compgen -f -- "$word")
         return
@@ -20,10 +20,10 @@ _pitshell() {
         mapfile -t COMPREPLY < <(compgen -W "least greatest" -- "$word")
         return
         ;;
-    --workers | --budget | --revenue | --cost | --factors | --progress) return ;;
+    --workers | --budget | --progress | --revenue | --cost | --factors) return ;;
     esac
     case ${COMP_WORDS[1]} in
-    solve) options="--model --prec --fixed --mode --workers --budget --pit --journal --certificate --progress --stats --help" ;;
+    solve) options="--model --prec --fixed --mode --workers --budget --pit --certificate --journal --progress --stats --help" ;;
     shells) options="--blocks --prec --revenue --cost --factors --mode --workers --budget --pit --progress --stats --help" ;;
     check) options="--model --prec --fixed --certificate --help" ;;
     replay) options="--model --prec --fixed --journal --help" ;;

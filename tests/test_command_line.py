@@ -110,7 +110,7 @@ def test_help_goes_to_standard_output_and_names_the_statuses(mine: Mine, words: 
     status, out, err = mine.run(*words)
     assert (status, err) == (0, "")
     assert "Usage: pitshell" in out
-    for line in ("0  the answer was written", "2  the command line is not understood", "3  the budget is used up", "4  the answer is no"):
+    for line in ("0  the answer was written", "2  the command line is wrong", "3  the budget is used up", "4  the answer is no"):
         assert line in out
 
 

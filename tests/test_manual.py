@@ -1,6 +1,7 @@
-"""The manual page and the completions name the subcommands and options of the help, and no others; and `make install` puts them in place."""
+"""The manual page, the completions and the table of options repeat the help; and `make install` puts them in place."""
 
 import filecmp
+import os
 import pathlib
 import re
 import shutil
@@ -25,29 +26,9 @@ def options_of(mine: Mine, command: str) -> dict[str, str]:
     return dict(re.findall(r"^ +(?:-h, )?--(\w+)(?: <\w+>)? +(\S.*?)(?: \[default: \w+\])?$", mine.run(command, "--help")[1], re.MULTILINE))
 
 
-def manual_text() -> str:
-    return re.sub(r"\s+", " ", MANUAL.read_text().replace("\\-", "-"))
-
-
-def named(text: str) -> set[str]:
-    """The options that stand in a text."""
-    return set(re.findall(r"--([a-z]\w*)", text)) | set(re.findall(r" -l (\w+)", text))
-
-
-def test_the_manual_has_each_subcommand_and_option_in_the_words_of_the_help(mine: Mine) -> None:
-    text, known = manual_text(), {"help", "version"}
-    for command in commands_of(mine):
-        assert f".SS {command}" in MANUAL.read_text()
-        assert mine.run(command, "--help")[1].partition("\n")[0] in text
-        for option, words in options_of(mine, command).items():
-            assert words in text, option
-            known.add(option)
-    assert named(text) == known
-
-
-def test_the_manual_has_each_status_in_the_words_of_the_help(mine: Mine) -> None:
-    for status, words in re.findall(r"^  (\d)  (.+)$", mine.run("--help")[1], re.MULTILINE):
-        assert f".B {status} {words}" in manual_text()
+def test_what_repeats_the_help_is_made_from_it() -> None:
+    ran = subprocess.run([TOP / "tools" / "make_docs.py", "--check"], capture_output=True, text=True, timeout=120, env={**os.environ, "PITSHELL": str(PROGRAM)})
+    assert (ran.returncode, ran.stdout, ran.stderr) == (0, "", "")
 
 
 @pytest.mark.skipif(not shutil.which("man"), reason="this system has no man")
@@ -57,14 +38,6 @@ def test_the_manual_is_shown_without_a_warning() -> None:
         pytest.skip("this system's man shows nothing")
     assert (ran.returncode, ran.stderr) == (0, "")
     assert "PITSHELL(1)" in ran.stdout
-
-
-@pytest.mark.parametrize("name", ["pitshell.bash", "_pitshell", "pitshell.fish"])
-def test_completions_name_what_the_help_names(mine: Mine, name: str) -> None:
-    text = (COMPLETIONS / name).read_text()
-    commands = commands_of(mine)
-    assert named(text) == {"help", "version"}.union(*(options_of(mine, command) for command in commands))
-    assert all(re.search(rf"\b{command}\b", text) for command in commands)
 
 
 def completed(*words: str) -> set[str]:

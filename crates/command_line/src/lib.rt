@@ -1,4 +1,5 @@
-//! The command line of `pitshell`, as `clap` sees it: its subcommands, their options, and the words of its help.
+//! The command line of `pitshell` for `clap`: its subcommands, their options and the help. `tools/make_docs.py` makes the man page,
+//! the completions and the table of options of that help.
 #![tactic(auto)]
 
 ghost use Rattle.std.specs.Prelude.{◌≡◌, ◌∷◌, [], ◌++◌, codes, IfOk};
@@ -8,13 +9,13 @@ use clap::{Arg, ArgAction, Command, value_parser};
 use std::alloc::{AllocError, Global};
 
 const STATUSES: &str = "Exit status:\n  \
-0  the answer was written, or help was asked for\n  \
-1  a fault, which is written to standard error\n  \
-2  the command line is not understood\n  \
+0  the answer was written, or help was printed\n  \
+1  a fault, which is printed to standard error\n  \
+2  the command line is wrong\n  \
 3  the budget is used up\n  \
 4  the answer is no";
 
-/// An option that takes one value, which help calls by this name.
+/// Returns an option that takes one value, which the help calls `value`.
 fn option<'a>(alloc: Global, name: &'a str, value: &'a str, help: &'a str) -> Arg<'a>
     ensures { IsOption (offered name.now) result }
 {
@@ -25,14 +26,14 @@ fn option<'a>(alloc: Global, name: &'a str, value: &'a str, help: &'a str) -> Ar
         .action(ArgAction::Set)
 }
 
-/// An option that must be given and takes the name of a file.
+/// Returns a required option that takes the name of a file.
 fn file<'a>(alloc: Global, name: &'a str, help: &'a str) -> Arg<'a>
     ensures { IsOption (needed name.now) result }
 {
     option(alloc, name, "FILE", help).required(true)
 }
 
-/// The model of a mine.
+/// Returns `--model`.
 fn model_file<'a>(alloc: Global) -> Arg<'a>
     ensures { IsOption (needed (codes "model")) result }
 {
@@ -43,18 +44,18 @@ fn model_file<'a>(alloc: Global) -> Arg<'a>
     )
 }
 
-/// The pairs of a mine.
+/// Returns `--prec`.
 fn prec_file<'a>(alloc: Global) -> Arg<'a>
     ensures { IsOption (needed (codes "prec")) result }
 {
     file(
         alloc,
         "prec",
-        "Precedence (.prec): the blocks that each block needs",
+        "Precedences (.prec): the predecessors of each block",
     )
 }
 
-/// The fixed blocks of a mine, where some are.
+/// Returns `--fixed`.
 fn fixed_file<'a>(alloc: Global) -> Arg<'a>
     ensures { IsOption (offered (codes "fixed")) result }
 {
@@ -62,11 +63,11 @@ fn fixed_file<'a>(alloc: Global) -> Arg<'a>
         alloc,
         "fixed",
         "FILE",
-        "Fixed blocks (.fixed): those that must be dug and those that may not be",
+        "Fixed blocks (.fixed): the forced and the barred blocks",
     )
 }
 
-/// The files of a mine, in the order in which they are read. Help shows them first.
+/// Adds the files of a mine, in reading order. The help shows them first.
 fn with_mine<'a>(alloc: Global, command: Command<'a>) -> Result<Command<'a>, AllocError>
     ensures { IfOk result (AddsOptions mine_options command.entry) }
 {
@@ -76,35 +77,35 @@ fn with_mine<'a>(alloc: Global, command: Command<'a>) -> Result<Command<'a>, All
         .arg(fixed_file(alloc).display_order(2))
 }
 
-/// `check` with its files.
+/// Returns `check`.
 fn check_command<'a>(alloc: Global) -> Result<Command<'a>, AllocError>
     ensures { IfOk result (HasOptions (codes "check") check_options) }
 {
     let check = Command::new(alloc, "check")
-        .about("Writes yes where a certificate shows the ultimate pit of the mine, and else no")
+        .about("Check that a certificate proves a pit optimal; print yes or no")
         .after_help(STATUSES);
     with_mine(alloc, check)?.arg(file(
         alloc,
         "certificate",
-        "Certificate: the blocks of a pit, and the flow that shows it",
+        "Certificate to check, as written by solve --certificate",
     ))
 }
 
-/// `replay` with its files.
+/// Returns `replay`.
 fn replay_command<'a>(alloc: Global) -> Result<Command<'a>, AllocError>
     ensures { IfOk result (HasOptions (codes "replay") replay_options) }
 {
     let replay = Command::new(alloc, "replay")
-        .about("Writes the ultimate pit that a journal of mode shared leads to, by one thread")
+        .about("Replay a journal of mode shared on one thread; print its ultimate pit")
         .after_help(STATUSES);
     with_mine(alloc, replay)?.arg(file(
         alloc,
         "journal",
-        "Journal: what the workers of a solve decided",
+        "Journal to replay, as written by solve --journal",
     ))
 }
 
-/// An option that must be given and takes the number of an attribute column.
+/// Returns a required option that takes the number of an attribute column.
 fn attribute<'a>(alloc: Global, name: &'a str, help: &'a str) -> Arg<'a>
     ensures { IsOption (needed name.now) result }
 {
@@ -113,7 +114,7 @@ fn attribute<'a>(alloc: Global, name: &'a str, help: &'a str) -> Arg<'a>
         .required(true)
 }
 
-/// The price factors of a table of shells.
+/// Returns `--factors`.
 fn factors_list<'a>(alloc: Global) -> Arg<'a>
     ensures { IsOption (needed (codes "factors")) result }
 {
@@ -121,13 +122,13 @@ fn factors_list<'a>(alloc: Global) -> Arg<'a>
         alloc,
         "factors",
         "LIST",
-        "Price factors in per mille, rising, with commas between: 500,1000",
+        "Revenue factors in per mille, rising, separated by commas (0 to 100000)",
     )
     .required(true)
     .allow_negative_numbers(true)
 }
 
-/// The model of a mine at each price, and its pairs.
+/// Adds the files of `shells`.
 fn with_blocks<'a>(alloc: Global, command: Command<'a>) -> Result<Command<'a>, AllocError>
     ensures { IfOk result (AddsOptions blocks_options command.entry) }
 {
@@ -135,12 +136,12 @@ fn with_blocks<'a>(alloc: Global, command: Command<'a>) -> Result<Command<'a>, A
         .arg(file(
             alloc,
             "blocks",
-            "Block model (.blocks): the place and the attributes of each block",
+            "Block model (.blocks): coordinates and attributes of each block",
         ))?
         .arg(prec_file(alloc))
 }
 
-/// The attribute columns of the money.
+/// Adds the columns of revenue and cost.
 fn with_columns<'a>(alloc: Global, command: Command<'a>) -> Result<Command<'a>, AllocError>
     ensures { IfOk result (AddsOptions column_options command.entry) }
 {
@@ -148,27 +149,27 @@ fn with_columns<'a>(alloc: Global, command: Command<'a>) -> Result<Command<'a>, 
         .arg(attribute(
             alloc,
             "revenue",
-            "Attribute column of the revenue, the first being 0",
+            "Attribute column of the revenue of each block (0 to 63)",
         ))?
         .arg(attribute(
             alloc,
             "cost",
-            "Attribute column of the cost, the first being 0",
+            "Attribute column of the cost of each block (0 to 63)",
         ))
 }
 
-/// `shells` with its files, columns and factors, and how to solve.
+/// Returns `shells`.
 fn shells_command<'a>(alloc: Global) -> Result<Command<'a>, AllocError>
     ensures { IfOk result (HasOptions (codes "shells") shells_options) }
 {
     let shells = Command::new(alloc, "shells")
-        .about("Writes the nested pits: the ultimate pit at each price factor")
+        .about("Print nested pit shells: the ultimate pit at each revenue factor")
         .after_help(STATUSES);
     let shells = with_columns(alloc, with_blocks(alloc, shells)?)?.arg(factors_list(alloc))?;
     with_watch(alloc, with_settings(alloc, shells, 5)?)
 }
 
-/// The word of the mode.
+/// Returns `--mode`.
 fn mode_word<'a>(alloc: Global) -> Arg<'a>
     ensures { IsOption (standing (codes "mode") (codes "single")) result }
 {
@@ -176,12 +177,12 @@ fn mode_word<'a>(alloc: Global) -> Arg<'a>
         alloc,
         "mode",
         "MODE",
-        "single, parts or shared; the answer is the same in each",
+        "single, parts or shared: on one thread, by connected components, or by workers",
     )
     .default_value("single")
 }
 
-/// How many workers there are.
+/// Returns `--workers`.
 fn workers_number<'a>(alloc: Global) -> Arg<'a>
     ensures { IsOption (standing (codes "workers") (codes "4")) result }
 {
@@ -189,13 +190,13 @@ fn workers_number<'a>(alloc: Global) -> Arg<'a>
         alloc,
         "workers",
         "NUMBER",
-        "Workers in mode shared, 1 to 64",
+        "Number of workers in mode shared (1 to 64)",
     )
     .value_parser(value_parser!(u64).range(1..=64))
     .default_value("4")
 }
 
-/// The budget of mergers.
+/// Returns `--budget`.
 fn budget_number<'a>(alloc: Global) -> Arg<'a>
     ensures { IsOption (offered (codes "budget")) result }
 {
@@ -203,12 +204,12 @@ fn budget_number<'a>(alloc: Global) -> Arg<'a>
         alloc,
         "budget",
         "MERGERS",
-        "The most mergers that may be made; not in mode parts",
+        "Stop after MERGERS mergers; not in mode parts",
     )
     .value_parser(value_parser!(u64))
 }
 
-/// The word of the pit.
+/// Returns `--pit`.
 fn pit_word<'a>(alloc: Global) -> Arg<'a>
     ensures { IsOption (standing (codes "pit") (codes "least")) result }
 {
@@ -216,13 +217,13 @@ fn pit_word<'a>(alloc: Global) -> Arg<'a>
         alloc,
         "pit",
         "PIT",
-        "least or greatest: which of the pits of equal worth",
+        "least or greatest: which of the pits of equal value",
     )
     .default_value("least")
 }
 
-/// What is asked for: the word of the mode and that of the pit, which `commands` checks, the number of workers and the budget of
-/// mergers. Help shows them in places from this one on.
+/// Adds `--mode`, `--workers`, `--budget` and `--pit`, at places of the help from `place` on. `commands` checks the words of mode and
+/// pit.
 fn with_settings<'a>(
     alloc: Global,
     command: Command<'a>,
@@ -237,7 +238,7 @@ fn with_settings<'a>(
         .arg(pit_word(alloc).display_order(place.saturating_add(3)))
 }
 
-/// After how many seconds a line tells what the run is at.
+/// Returns `--progress`.
 fn progress_seconds<'a>(alloc: Global) -> Arg<'a>
     ensures { IsOption (offered (codes "progress")) result }
 {
@@ -245,30 +246,30 @@ fn progress_seconds<'a>(alloc: Global) -> Arg<'a>
         alloc,
         "progress",
         "SECONDS",
-        "After so many seconds a line on standard error, each time, 1 to 86400",
+        "Print a progress line to standard error every SECONDS seconds (1 to 86400)",
     )
     .value_parser(value_parser!(u64).range(1..=86_400))
 }
 
-/// An option that may be given and takes the name of a file that is written.
+/// Returns an option that takes the name of an output file.
 fn output<'a>(alloc: Global, name: &'a str, help: &'a str) -> Arg<'a>
     ensures { IsOption (offered name.now) result }
 {
     option(alloc, name, "FILE", help)
 }
 
-/// What is told of a run beside its answer. Help shows it last.
+/// Adds `--progress` and `--stats`. The help shows them last.
 fn with_watch<'a>(alloc: Global, command: Command<'a>) -> Result<Command<'a>, AllocError>
     ensures { IfOk result (AddsOptions watch_options command.entry) }
 {
     command.arg(progress_seconds(alloc))?.arg(output(
         alloc,
         "stats",
-        "Where to write what the run did and how long it took",
+        "Write counts and times of the run to FILE",
     ))
 }
 
-/// What a solve writes beside the pit.
+/// Adds `--certificate` and `--journal`.
 fn with_outputs<'a>(alloc: Global, command: Command<'a>) -> Result<Command<'a>, AllocError>
     ensures { IfOk result (AddsOptions output_options command.entry) }
 {
@@ -276,28 +277,27 @@ fn with_outputs<'a>(alloc: Global, command: Command<'a>) -> Result<Command<'a>, 
         .arg(output(
             alloc,
             "certificate",
-            "Where to write the certificate that shows the pit",
+            "Write a certificate that proves the pit optimal to FILE",
         ))?
         .arg(output(
             alloc,
             "journal",
-            "Where to write what the workers decided; in mode shared alone",
+            "Write the decisions of the workers to FILE; requires --mode shared",
         ))
 }
 
-/// `solve` with its files and what is asked for. The model's option is added behind that of the mode: of two names that are as
-/// close to a mistyped one, the last is suggested.
+/// Returns `solve`. `--model` is added after `--mode`: if two names are equally close to a mistyped one, `clap` suggests the last.
 fn solve_command<'a>(alloc: Global) -> Result<Command<'a>, AllocError>
     ensures { IfOk result (HasOptions (codes "solve") solve_options) }
 {
     let solve = Command::new(alloc, "solve")
-        .about("Writes the smallest closed set of greatest worth: the ultimate pit")
+        .about("Print the ultimate pit: the closed set of maximal value")
         .after_help(STATUSES);
     let solve = with_mine(alloc, with_settings(alloc, solve, 3)?)?;
     with_watch(alloc, with_outputs(alloc, solve)?)
 }
 
-/// With the subcommands that solve.
+/// Adds the subcommands that solve.
 fn with_solves<'a>(alloc: Global, command: Command<'a>) -> Result<Command<'a>, AllocError>
     ensures { IfOk result (λ made. subcommands_in made ≡ subcommands_in command.entry ++ (codes "solve", solve_options) ∷ (codes "shells", shells_options) ∷ []) }
 {
@@ -306,7 +306,7 @@ fn with_solves<'a>(alloc: Global, command: Command<'a>) -> Result<Command<'a>, A
         .subcommand(shells_command(alloc)?)
 }
 
-/// With the subcommands that judge what a solve has written.
+/// Adds the subcommands that check the outputs of a solve.
 fn with_judges<'a>(alloc: Global, command: Command<'a>) -> Result<Command<'a>, AllocError>
     ensures { IfOk result (λ made. subcommands_in made ≡ subcommands_in command.entry ++ (codes "check", check_options) ∷ (codes "replay", replay_options) ∷ []) }
 {
@@ -315,13 +315,17 @@ fn with_judges<'a>(alloc: Global, command: Command<'a>) -> Result<Command<'a>, A
         .subcommand(replay_command(alloc)?)
 }
 
-/// `pitshell` with its subcommands. Its version is the release. Refused for want of memory alone.
+/// Returns `pitshell` with its subcommands. Its version is the release.
+///
+/// # Errors
+///
+/// If memory runs out.
 pub fn command<'a>(alloc: Global) -> Result<Command<'a>, AllocError>
     ensures { IfOk result (λ made. subcommands_in made ≡ (codes "solve", solve_options) ∷ (codes "shells", shells_options) ∷ (codes "check", check_options) ∷ (codes "replay", replay_options) ∷ []) }
 {
     let command = Command::new(alloc, "pitshell")
         .version("0.1.0")
-        .about("Finds the ultimate pit of a mine with a proved solver")
+        .about("Find the ultimate pit of a mine with a proved solver")
         .after_help(STATUSES)
         .subcommand_required(true)
         .arg_required_else_help(false);
