@@ -67,6 +67,7 @@ install:
 test: setup
 	tools/uncited.py
 	tools/named.py
+	tools/prose.py
 	tools/mutants.py --changed
 	$(MAKE) style test-program test-plan
 
