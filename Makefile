@@ -28,11 +28,14 @@ library:
 dist: build library
 	tools/dist.py
 
-# Renews what repeats the help of the program and the columns of tables: man page, completions, FORMATS, stored words of tests.
+# Renews what repeats a command line or the columns of tables: man page of pitshell, completions, FORMATS, stored words of tests.
 docs:
 	test -x $(PROGRAM) || $(MAKE) build
 	tools/make_docs.py
 	tools/columns_page.py
+	tools/pitplan completion bash > completions/pitplan.bash
+	tools/pitplan completion zsh > completions/_pitplan
+	tools/pitplan completion fish > completions/pitplan.fish
 
 demo:
 	build/pitshell solve --model $(SMALL_MINE)/mine.upit --prec $(SMALL_MINE)/mine.prec > build/pit.txt
