@@ -201,8 +201,8 @@ def test_the_report_and_the_workbook_have_the_schedule(copied):
         and "the schedule and its upper bound, the other numbers" in page
     )
     book = pd.read_excel(copied / "tables/schedule.xlsx", sheet_name=None)
-    assert list(book) == ["feed", "flows", "methods", "schedule", "years", "pushbacks", "shells"]
-    for name in ("schedule", "pushbacks", "shells"):
+    assert list(book) == ["feed", "flows", "cutoffs", "methods", "schedule", "years", "pushbacks", "shells"]
+    for name in ("cutoffs", "schedule", "pushbacks", "shells"):
         pd.testing.assert_frame_equal(book[name], pd.read_csv(copied / "tables" / f"{name}.csv"), check_dtype=False)
     years = pd.read_csv(copied / "tables/years.csv")
     pd.testing.assert_frame_equal(
