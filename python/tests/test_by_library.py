@@ -286,8 +286,8 @@ def test_memory_that_is_refused_is_the_program_s_status_of_it():
     ("asked", "status", "said"), [(signal.SIGINT, 130, "pitplan: interrupted"), (signal.SIGTERM, 143, None)]
 )
 def test_a_solve_that_takes_long_is_ended_at_once(plan_folder, asked, status, said):
-    """A single column of blocks, the deeper half ore, takes the library many seconds, and time that grows with the square of its depth."""
-    deep = 40_000
+    """A single column of blocks, the deeper half ore, takes the library seconds, and time that grows with the square of its depth."""
+    deep = 100_000
     table = rows(1, 1, deep, cu=lambda i, j, k: 2 if k < deep // 2 else 0)
     path = plan_folder(
         table, PROJECT, UPRIGHT, ("precedence_benches = 3", "precedence_benches = 1"), ("[0.5, 1.0, 1.5]", "[1.0]")
@@ -299,7 +299,7 @@ def test_a_solve_that_takes_long_is_ended_at_once(plan_folder, asked, status, sa
     told = ""
     while not told.endswith("by the library .."):
         told += ran.stderr.read(1)
-    time.sleep(0.5)
+    time.sleep(0.1)
     began = time.monotonic()
     assert ran.poll() is None
     ran.send_signal(asked)
