@@ -105,6 +105,17 @@ def test_two_stockpiles_keep_what_they_accept_and_hold(piled):
     assert (limits["maximum"] == 60).all() and limits["used"].max() == pytest.approx(60, abs=0.01)
 
 
+def test_the_integer_programme_has_them_too(tmp_path):
+    """It is never worse than the schedule by linear programme, within its gap, nor better than the upper bound."""
+    words = PILES.replace("bins = 2\n", "bins = 2\nmilp = { gap = 0.0, seconds = 60 }\n")
+    found = pitplan.write_schedule(written_to(tmp_path, words)).set_index("method")
+    npv, most = found["npv"], found.loc["milp", "upper_bound"]
+    assert npv["lp"] - 1e-3 <= npv["milp"] <= most + 1e-3
+    folder = tmp_path / "plan" / "schedule"
+    flows = pd.read_csv(folder / "tables/flows.csv").query("method == 'milp'")
+    assert {"poor"} <= set(flows["destination"]) and wrong(folder) == set()
+
+
 @pytest.mark.parametrize(
     ("words", "other", "said"),
     [

@@ -28,6 +28,7 @@ MATERIAL_FLOWS = Table(
         ),
     ),
 )
+PROCESS = Column("process", TEXT, "`mill` if the project names none", "process")
 CUTOFF = Column(
     "cutoff",
     Unit("currency per t", 6, 2),
@@ -39,7 +40,7 @@ FEEDS = Table(
     "of a schedule of pushbacks: a row per method, year and process",
     (
         *(METHOD, YEAR),
-        Column("process", TEXT, "`mill` if the project names none", "process"),
+        PROCESS,
         FEED,
         Column("reclaimed_tonnes", TONNES, "of these from stockpiles", "from stockpile"),
         *(HEAD_GRADE, CONTAINED, RECOVERED),
@@ -65,9 +66,9 @@ CUTOFFS = Table(
     "of a schedule of pushbacks: a row per method, year, process and rock type that it takes",
     (
         *(METHOD, YEAR),
-        Column("process", TEXT, "`mill` if the project names none", "process"),
+        PROCESS,
         CUTOFF,
-        Column("metal", TEXT, "the first metal that is recovered, of which the grades are equivalents", "metal"),
+        Column("metal", TEXT, "the first metal that is recovered; the grades are its equivalent grades", "metal"),
         Column(
             "cutoff_grade",
             GRADE,
