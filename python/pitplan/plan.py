@@ -14,6 +14,7 @@ from numpy.typing import NDArray
 from pitplan.blockmodel import depletion, missing_blocks, plausibility, reader, resource_classes
 from pitplan.blockmodel.grid import Grid
 from pitplan.config.economics import PER_REVENUE_FACTOR
+from pitplan.config.periods import PERIOD, YEAR
 from pitplan.config.project import Project
 from pitplan.config.shells import IN_WORDS
 from pitplan.core.keyed_arrays import hash_of_all
@@ -45,7 +46,8 @@ OWN_COLUMNS = (
         "free_process_revenue_factor",
     ),
     "pushback",
-    "year",
+    YEAR,
+    PERIOD,
     "bin",
     "process",
     *("haul_distance", "haulage_cost", "ore_haulage_cost"),

@@ -71,22 +71,27 @@ def rows(columns, rows_, levels, **more):
     return frame
 
 
-@pytest.fixture
-def plan_folder(tmp_path):
-    """Writes a project and its table into a folder of the test's own; gives the project's path."""
+def plan_in(folder):
+    """Returns what writes a project and its table into a folder and gives the project's path."""
 
     def write(table, text=PROJECT, *changes):
         for old, new in changes:
             assert text.count(old) == 1, f"{old} stands {text.count(old)} times in the project"
             text = text.replace(old, new)
-        (tmp_path / "project.toml").write_text(text)
+        (folder / "project.toml").write_text(text)
         if isinstance(table, str):
-            (tmp_path / "blocks.csv").write_text(table)
+            (folder / "blocks.csv").write_text(table)
         else:
-            table.to_csv(tmp_path / "blocks.csv", index=False)
-        return tmp_path / "project.toml"
+            table.to_csv(folder / "blocks.csv", index=False)
+        return folder / "project.toml"
 
     return write
+
+
+@pytest.fixture
+def plan_folder(tmp_path):
+    """Writes a project and its table into a folder of the test's own; gives the project's path."""
+    return plan_in(tmp_path)
 
 
 def pytest_configure(config):

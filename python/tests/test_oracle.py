@@ -72,7 +72,7 @@ def demand_blocks(mine, factors, shells, path):
 
 
 def demand_years(expected, rows):
-    found = {(row["case"], float(row["revenue_factor"]), int(row["year"])): row for row in rows}
+    found = {(row["case"], float(row["revenue_factor"]), int(row.get("year") or row["period"])): row for row in rows}
     assert found.keys() == expected.keys()
     money = ("fixed_cost", "capex")
     for key, row in found.items():

@@ -2,12 +2,14 @@
 
 from dataclasses import replace
 from decimal import Decimal
+from functools import partial
 
 import pandas as pd
 import pytest
 import tomllib
 from conftest import PROJECT, rows
 from helpers import block_commands as blocks
+from helpers.periods import column, periods, schedule_of, solved
 from helpers.processes import WITH, deposit
 from helpers.pushbacks import pillars
 from helpers.verified import UNVERIFIED, wrong
@@ -17,22 +19,6 @@ from pitplan import PlanError
 from pitplan.config.periods import Calendar, Period
 from pitplan.scheduling.bench_sequencing import Limits
 from pitplan.studies.sensitivity.perturb import varied
-
-
-def column():
-    """400 t of ore with 0.8 t of copper per 100 t, each level of 100 t worth 1000 once it is mined: 2 x 1600 - 1000 - 200 .. by hand."""
-    return rows(1, 1, 4, cu=lambda i, j, k: 0.8)
-
-
-def solved(path):
-    shells = pitplan.write_shells(path).set_index("revenue_factor").loc[1.0]
-    years = pd.read_csv(path.parent / "plan" / "tables/years.csv")
-    is_shown = (years["case"] == "best") & (years["revenue_factor"] == 1.0)
-    return shells, years[is_shown].set_index("year")
-
-
-def periods(*texts):
-    return PROJECT + "".join(f"[[periods]]\n{text}\n" for text in texts)
 
 
 def test_capacities_of_years_by_hand(plan_folder):
@@ -97,22 +83,10 @@ def test_capacities_of_processes_of_years(plan_folder):
     assert years["feed_tonnes_mill"][~first].max() > 20
 
 
-SCHEDULE = "[pushbacks]\ncount = 2\n[schedule]\nyears = 9\nmining_capacity = 9000\n"
-
-
 @pytest.fixture
 def scheduled(plan_folder):
     """Schedules a project, and demands that its folder is right; gives the folder."""
-
-    def write(*texts, more=""):
-        plain = PROJECT.replace("mining_cost = 2\n", "mining_cost = 0.3\n")
-        plain = plain.replace("capacity = 100\n", "capacity = 400\nmining_capacity = 2000\n")
-        path = plan_folder(deposit(), plain + SCHEDULE + more + "".join(f"[[periods]]\n{it}\n" for it in texts))
-        pitplan.write_schedule(path, folder=path.parent / "plan", writing=UNVERIFIED)
-        assert wrong(path.parent / "plan") == set()
-        return path.parent / "plan"
-
-    return write
+    return partial(schedule_of, plan_folder)
 
 
 def test_a_schedule_keeps_the_limits_of_years_and_pays_their_costs(scheduled):
@@ -213,7 +187,7 @@ def test_the_record_reads_back(plan_folder):
     project = pitplan.load(plan_folder(column(), text))
     data = tomllib.loads(project.to_toml(), parse_float=Decimal)
     again = pitplan.Project.from_dict(data, project.path.parent)
-    assert again.shells.calendar == project.shells.calendar and len(again.shells.calendar.of_years) == 3
+    assert again.shells.calendar == project.shells.calendar and len(again.shells.calendar.listed) == 3
 
 
 @pytest.mark.parametrize(

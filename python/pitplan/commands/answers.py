@@ -21,7 +21,7 @@ from pitplan.pushbacks.nested import Pushbacks
 from pitplan.report import html
 from pitplan.results import names
 from pitplan.results.conventions import with_discounting, with_outline
-from pitplan.results.rounding import shown, write_csv
+from pitplan.results.rounding import named, shown, write_csv
 from pitplan.solver import mine_files, problem
 from pitplan.solver.problem import Mine
 from pitplan.solver.program import Solution
@@ -135,7 +135,8 @@ def sheets_of(answered: Answered, table: pd.DataFrame, years: pd.DataFrame) -> d
         "shells": shown(with_outline(table, project)),
     }
     of_flows = {name: shown(table) for name, table in flow_tables(answered.schedule).items()}
-    return of_flows | {name: with_discounting(sheet, project) for name, sheet in sheets.items()}
+    found = of_flows | {name: with_discounting(sheet, project) for name, sheet in sheets.items()}
+    return {name: named(sheet, project) for name, sheet in found.items()}
 
 
 def flow_tables(schedule: YearlySchedule) -> dict[str, pd.DataFrame]:
@@ -167,8 +168,8 @@ def write_tables(answered: Answered, stage: Path) -> tuple[pd.DataFrame, pd.Data
         blocks, years = answered.blocks.beside(blocks), pd.concat([years, answered.blocks.years], ignore_index=True)
         write_json(stage / names.BLOCK_SCHEDULE, answered.blocks.record)
         write_csv(shown(answered.blocks.methods), stage / names.METHODS, plan.project)
-        answered.blocks.multipliers.to_csv(stage / names.BOUND, index=False)
-    write_table(blocks, stage)
+        named(answered.blocks.multipliers, plan.project).to_csv(stage / names.BOUND, index=False)
+    write_table(named(blocks, plan.project), stage)
     for found, name in ((table, names.SHELLS), (years, names.YEARS)):
         write_csv(shown(found if pushbacks is None else with_outline(found, plan.project)), stage / name, plan.project)
     if pushbacks is not None:
@@ -186,7 +187,7 @@ def write_schedule_tables(schedule: YearlySchedule, plan: Plan, stage: Path) -> 
     write_csv(shown(pushback_schedule.methods(schedule)), stage / names.METHODS, plan.project)
     write_json(stage / names.SCHEDULE_RECORD, pushback_record.record(schedule))
     for name, table in flow_tables(schedule).items():
-        shown(table).to_csv(stage / layout.TABLES / f"{name}.csv", index=False)
-    shown(limit_table(schedule)).to_csv(stage / names.LIMITS, index=False)
+        named(shown(table), plan.project).to_csv(stage / layout.TABLES / f"{name}.csv", index=False)
+    named(shown(limit_table(schedule)), plan.project).to_csv(stage / names.LIMITS, index=False)
     if schedule.optimum is not None:
-        bound_table(schedule).to_csv(stage / names.BOUND, index=False)
+        named(bound_table(schedule), plan.project).to_csv(stage / names.BOUND, index=False)

@@ -7,7 +7,7 @@ from typing import TYPE_CHECKING, Optional
 
 from pitplan.errors import PlanError
 
-from .periods import Period
+from .periods import MONTHS, Period
 from .schedule import FEED, TOTAL
 
 if TYPE_CHECKING:
@@ -25,6 +25,28 @@ def demand_periods(project: Project) -> None:
             )
     for number, period in enumerate(project.shells.calendar.periods, 1):
         demand_minimums(project, number, period)
+    demand_lengths(project)
+
+
+def demand_lengths(project: Project) -> None:
+    """Raises PlanError if periods are not years, and something is given by year; or if a period lasts beyond the years of a schedule."""
+    calendar, rules = project.shells.calendar, project.schedule
+    number = next((k for k, it in enumerate(calendar.periods, 1) if it.period_months != MONTHS), 0)
+    by_year = {
+        "[schedule] ramp_up": bool(rules and rules.ramp_up != (1.0,)),
+        "[economics] capex": bool(project.economics.capex),
+        **{f"[[metals]] {metal.name} prices": bool(metal.prices) for metal in project.metals},
+    }
+    for key in [key for key, given in by_year.items() if number and given]:
+        why = f"period_months is {calendar.periods[number - 1].period_months}, and {key} is by year: give it in [[periods]]"
+        raise PlanError(f"{project.path}: [[periods]] {number} {why}")
+    if rules and rules.years and calendar.within(rules.years) is None:
+        ends = calendar.ends(MONTHS * rules.years)
+        before, after = ends[ends < rules.years], ends[ends > rules.years]
+        expected = " or ".join(f"{end:.10g}" for end in (*before[-1:], *after[:1]) if end.is_integer())
+        raise PlanError(
+            f"{project.path}: [schedule] years: found {rules.years}, which end within one of the [[periods]]: expected {expected}"
+        )
 
 
 def wrong_with(period: Period, project: Project) -> Iterator[tuple[str, str]]:

@@ -1,4 +1,7 @@
-"""`[[periods]]`: what differs between the years of a mine: capacities, minimums, prices, fixed costs and capital."""
+"""`[[periods]]`: the periods of a mine, their lengths, and what differs between them: capacities, minimums, prices, fixed costs and capital.
+
+Periods are numbered from 1. Unless an entry sets `period_months` all of them are years, and most of the code says year for a period.
+"""
 
 from __future__ import annotations
 
@@ -7,10 +10,17 @@ from dataclasses import dataclass, field
 from decimal import Decimal
 from typing import Optional, TypeVar
 
+import numpy as np
+from numpy.typing import NDArray
+
 from .economics import MOST_YEARS
 from .toml_section import Section
 
 Value = TypeVar("Value")
+YEAR, PERIOD = "year", "period"
+MONTHS = 12
+# The months of periods that are parts of a year.
+PARTS = (1, 2, 3, 4, 6)
 
 
 @dataclass(frozen=True)
@@ -21,6 +31,8 @@ class Period:
     ----------
     years : int
         How many years it lasts.
+    period_months : int
+        Its periods have so many months: a part of a year, or whole years.
     mining_capacity, processing_capacity : float, optional
         Tonnes per year; the latter of a project that names no processes.
     capacity : dict of str to float
@@ -31,10 +43,11 @@ class Period:
         By metal, in the unit of its `price`.
     fixed_cost_per_year : Decimal, optional
     capex : Decimal
-        Spent at the start of its first year.
+        Spent at the start of its first period.
     """
 
     years: int = 1
+    period_months: int = MONTHS
     mining_capacity: Optional[float] = None
     processing_capacity: Optional[float] = None
     capacity: dict[str, float] = field(default_factory=dict)
@@ -43,10 +56,20 @@ class Period:
     fixed_cost_per_year: Optional[Decimal] = None
     capex: Decimal = Decimal(0)
 
+    @property
+    def count(self) -> int:
+        """The number of its periods."""
+        return self.years * MONTHS // self.period_months
+
+    @property
+    def length(self) -> float:
+        """The length of each of its periods in years."""
+        return self.period_months / MONTHS
+
 
 @dataclass(frozen=True)
 class Calendar:
-    """The periods one after the other; the last one continues. Without any, all years are as in the other sections."""
+    """The entries one after the other; the last period continues. Without any, all periods are years as in the other sections."""
 
     periods: tuple[Period, ...] = ()
 
@@ -54,17 +77,64 @@ class Calendar:
         return bool(self.periods)
 
     @property
-    def of_years(self) -> tuple[Period, ...]:
-        """The period of each year."""
-        return tuple(period for period in self.periods for _ in range(period.years))
+    def listed(self) -> tuple[Period, ...]:
+        """The entry of each period."""
+        return tuple(period for period in self.periods for _ in range(period.count))
+
+    @property
+    def is_yearly(self) -> bool:
+        """Whether each period is a year."""
+        return all(it.period_months == MONTHS for it in self.periods)
+
+    @property
+    def word(self) -> str:
+        """What a period is called in tables, figures and messages."""
+        return YEAR if self.is_yearly else PERIOD
+
+    def length(self, number: int) -> float:
+        """Returns the length in years of a period, from 1."""
+        for entry in self.periods:
+            number -= entry.count
+            if number <= 0:
+                return entry.length
+        return self.periods[-1].length if self.periods else 1.0
+
+    def lengths(self, count: int) -> NDArray[np.float64]:
+        """Returns the length of each period in years, shape (count,)."""
+        found = np.array([it.length for it in self.listed] or [1.0])
+        return np.asarray(found[np.minimum(np.arange(count), len(found) - 1)])
+
+    def ends(self, count: int) -> NDArray[np.float64]:
+        """Returns the end of each period in years, shape (count,)."""
+        return np.asarray(np.round(np.cumsum(self.lengths(count)) * MONTHS) / MONTHS)
+
+    def starts(self, count: int) -> NDArray[np.float64]:
+        """Returns the start of each period in years, shape (count,)."""
+        return np.concatenate([[0.0], self.ends(count)[:-1]])[:count]
+
+    def time(self, place: float) -> float:
+        """Returns the years until the end of so many periods, the last of which may be a part of one."""
+        whole = int(place)
+        return float(self.ends(whole)[-1] if whole else 0.0) + (place - whole) * float(self.lengths(whole + 1)[-1])
+
+    def span(self, count: int) -> float:
+        """Returns the years that the first periods last, an int if they are whole."""
+        found = self.time(count)
+        return int(found) if found.is_integer() else round(found, 6)
+
+    def within(self, years: int) -> Optional[int]:
+        """Returns the number of periods of the first years; None if a period lasts beyond them."""
+        most = years * MONTHS
+        ends = np.rint(self.ends(most) * MONTHS)
+        return int(np.searchsorted(ends, most)) + 1 if most in ends else None
 
     def by_year(self, value: Callable[[Period], Optional[Value]], otherwise: Value) -> tuple[Value, ...]:
-        """Returns a value of each year, the last of which continues; `otherwise` where a period has none."""
-        found = (value(period) for period in self.of_years)
+        """Returns a value of each period, the last of which continues; `otherwise` where an entry has none."""
+        found = (value(period) for period in self.listed)
         return tuple(otherwise if it is None else it for it in found) or (otherwise,)
 
     def by_name(self, values: Callable[[Period], dict[str, Value]], name: str, otherwise: Value) -> tuple[Value, ...]:
-        """Returns the value of a name in each year, as `by_year` does."""
+        """Returns the value of a name in each period, as `by_year` does."""
         return self.by_year(lambda period: values(period).get(name), otherwise)
 
     def has(self, value: Callable[[Period], object]) -> bool:
@@ -73,19 +143,23 @@ class Calendar:
 
     @property
     def capex(self) -> tuple[tuple[int, Decimal], ...]:
-        """Year, from 1, and amount of each period that spends something."""
-        found, year = [], 1
+        """The first period, from 1, and the amount of each entry that spends something."""
+        found, number = [], 1
         for period in self.periods:
-            found += [(year, period.capex)] if period.capex else []
-            year += period.years
+            found += [(number, period.capex)] if period.capex else []
+            number += period.count
         return tuple(found)
 
 
 def read_periods(sections: list[Section]) -> Calendar:
     found = Calendar(tuple(read_period(section) for section in sections))
-    years = len(found.of_years)
+    years = sum(it.years for it in found.periods)
     if years > MOST_YEARS:
         raise sections[-1].wrong("years", f"found {years:,} in all periods, expected {MOST_YEARS:,} at most")
+    if len(found.listed) > MOST_YEARS:
+        raise sections[-1].wrong(
+            "period_months", f"found {len(found.listed):,} periods in all, expected {MOST_YEARS:,} at most"
+        )
     last, section = found.periods[-1], sections[-1]
     closed = [name for name in ("mining_capacity", "processing_capacity") if getattr(last, name) == 0]
     closed += [f"capacity {name}" for name, amount in last.capacity.items() if amount == 0]
@@ -105,8 +179,10 @@ def read_period(section: Section) -> Period:
         return {name: float(inner.number(name, least=0)) for name in inner.data}
 
     prices = section.section("prices", optional=True)
+    years, months = read_length(section)
     period = Period(
-        years=section.whole("years", 1, 1, MOST_YEARS),
+        years=years,
+        period_months=months,
         mining_capacity=tonnes("mining_capacity"),
         processing_capacity=tonnes("processing_capacity"),
         capacity=by_name("capacity"),
@@ -119,3 +195,16 @@ def read_period(section: Section) -> Period:
     )
     section.finish()
     return period
+
+
+def read_length(section: Section) -> tuple[int, int]:
+    """Returns the years of an entry, by default those of one period, and the months of each period."""
+    months = section.whole("period_months", MONTHS, 1, MOST_YEARS * MONTHS)
+    if months % MONTHS and months not in PARTS:
+        parts = ", ".join(map(str, PARTS))
+        raise section.wrong("period_months", f"found {months}, expected {parts}, 12 or a multiple of 12")
+    years = section.whole("years", -(-months // MONTHS), 1, MOST_YEARS)
+    if years * MONTHS % months:
+        whole = months // MONTHS
+        raise section.wrong("years", f"found {years}, expected a multiple of {whole}, as each period has {whole} years")
+    return years, months

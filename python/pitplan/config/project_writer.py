@@ -22,7 +22,7 @@ from .economics import ByDomain, Curve, Economics, Metal, Process
 from .feed_grades import FeedGrade
 from .figures import FigureRules
 from .haulage import KINDS, Haulage
-from .periods import Period
+from .periods import MONTHS, Period
 from .pushbacks import PushbackRules
 from .schedule import ScheduleRules, Sum
 from .sensitivity import SensitivityRules
@@ -289,9 +289,11 @@ def of_shells(schedule: ShellRules) -> Values:
 
 def of_period(period: Period) -> Values:
     """A capacity of 0 is one: the process or the mine is not there yet."""
-    return {
-        name: None if value == {} or name == "capex" and not value else value for name, value in asdict(period).items()
+    values = asdict(period) | {
+        "capex": period.capex or None,
+        "period_months": None if period.period_months == MONTHS else period.period_months,
     }
+    return {name: None if value == {} else value for name, value in values.items()}
 
 
 def of_haulage(haulage: Haulage) -> Values:

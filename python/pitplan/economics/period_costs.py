@@ -18,9 +18,9 @@ class YearlyMoney:
     Attributes
     ----------
     fixed_cost : tuple of float
-        Period cost of each year, from 1, in the currency, spent evenly while the mine runs; the last one continues.
+        Fixed cost of each period, from 1, in the currency, spent evenly while the mine runs; the last one continues.
     capex : tuple of pairs
-        Year, from 1, and the amount that is spent at its start if the mine still runs, in the currency.
+        Period, from 1, and the amount that is spent at its start if the mine still runs, in the currency.
     premiums : dict of str to tuple
         By amount of metal, what a unit of it earns beyond the base price, less royalty, in each year from 1; the last one continues.
     net_prices : dict of str to float
@@ -77,10 +77,11 @@ def of_project(project: Project) -> YearlyMoney:
         if metal.prices or any(more):
             premiums[f"recovered_{metal.name}"] = tuple(float(it * (1 - money.royalty)) for it in more)
     capex = calendar.capex or money.capex
-    fixed = calendar.by_year(lambda it: it.fixed_cost_per_year, money.fixed_cost_per_year)
+    per_year = calendar.by_year(lambda it: it.fixed_cost_per_year, money.fixed_cost_per_year)
+    fixed = [float(amount) * length for amount, length in zip(per_year, calendar.lengths(len(per_year)))]
     net_prices = {f"recovered_{metal.name}": float(net_price(metal, money.royalty)) for metal in project.metals}
     spent = tuple((year, float(amount)) for year, amount in capex)
-    return YearlyMoney(tuple(map(float, fixed)), spent, premiums, net_prices)
+    return YearlyMoney(tuple(fixed), spent, premiums, net_prices)
 
 
 def net_price(metal: Metal, royalty: Decimal) -> Decimal:

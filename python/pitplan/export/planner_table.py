@@ -11,6 +11,7 @@ from pitplan.blockmodel import reader
 from pitplan.blockmodel.grid import Grid
 from pitplan.blockmodel.reader import format_of
 from pitplan.config import project_writer
+from pitplan.config.periods import PERIOD, YEAR
 from pitplan.config.project import Project
 from pitplan.core.atomic_files import hash_of
 from pitplan.core.numeric_fields import Source
@@ -21,7 +22,7 @@ from pitplan.plan import shown_name
 from pitplan.results.folder import Folder
 
 # The columns of results, in this order, if blocks.csv has them.
-FOUND = ("revenue_factor", "process_revenue_factor", "pushback", "year")
+FOUND = ("revenue_factor", "process_revenue_factor", "pushback", YEAR, PERIOD)
 # Encodings that are written as another: UTF-8 without a byte-order mark.
 WRITTEN_AS = {"utf-8-sig": "utf-8"}
 

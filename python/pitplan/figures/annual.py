@@ -7,11 +7,13 @@ from pathlib import Path
 from typing import Any
 
 import matplotlib
+import numpy as np
 import pandas as pd
 from matplotlib.axes import Axes
 from matplotlib.figure import Figure
 from matplotlib.ticker import MaxNLocator
 
+from pitplan.config.periods import Calendar
 from pitplan.config.project import Project
 from pitplan.config.shells import ShellRules
 from pitplan.core.magnitude import scaled
@@ -46,6 +48,14 @@ def capacities_of(settings: ShellRules) -> list[tuple[str, tuple[float, ...], st
     )
 
 
+def label_of(calendar: Calendar, count: int) -> str:
+    """Returns the label of an axis of periods."""
+    if calendar.is_yearly or not count:
+        return calendar.word
+    ends = calendar.ends(count)
+    return f"period, ending after {ends[0]:.3g} to {ends[-1]:.4g} years"
+
+
 def in_words(by_year: tuple[float, ...], size: float) -> str:
     """Returns the tonnes of years, or from the least to the most."""
     ends = sorted({min(by_year) / size, max(by_year) / size})
@@ -55,7 +65,9 @@ def in_words(by_year: tuple[float, ...], size: float) -> str:
 def scale_of(years: pd.DataFrame, settings: ShellRules) -> Scale:
     """Returns limits that hold all years, with zero at the same height on both axes."""
     most = max(float(years["total_tonnes"].max()), 1.0)
-    near = [max(by_year) for _, by_year, _ in capacities_of(settings) if max(by_year) <= FAR_ABOVE * most]
+    longest = float(settings.calendar.lengths(int(years["year"].max())).max())
+    highest = [longest * max(by_year) for _, by_year, _ in capacities_of(settings)]
+    near = [high for high in highest if high <= FAR_ABOVE * most]
     tonnes = scaled(max(most, *near, 0.0))
     top = MARGIN * max(most, *near, 0.0) / tonnes[0]
     earned, spent = max(float(years["cash_flow"].max()), 0.0), max(-float(years["cash_flow"].min()), 0.0)
@@ -140,17 +152,18 @@ def draw_tonnes(axis: Axes, years: pd.DataFrame, scale: Scale, settings: ShellRu
     for name, by_year, colour in capacities_of(settings):
         line = {"color": colour, "linestyle": "--", "linewidth": 1.3}
         line["label"] = f"{name}: {in_words(by_year, size)} {sign}t a year"
-        if len(set(by_year)) == 1:
-            axis.axhline(by_year[0] / size, **line)
+        count = max(len(by_year), int(years["year"].max())) + 1
+        per_year = np.array([by_year[min(year, len(by_year) - 1)] for year in range(count)])
+        values = per_year * settings.calendar.lengths(count) / size
+        if (values == values[0]).all():
+            axis.axhline(values[0], **line)
         else:
-            count = max(len(by_year), int(years["year"].max()))
-            values = [by_year[min(year, len(by_year) - 1)] / size for year in range(count + 1)]
-            axis.step([0.5 + year for year in range(count + 1)], values, where="post", **line)
+            axis.step(np.arange(count) + 0.5, values, where="post", **line)
     axis.set_ylim(*scale.rock)
     axis.set_yticks([tick for tick in axis.get_yticks() if 0 <= tick <= scale.rock[1]])
     axis.xaxis.set_major_locator(MaxNLocator(integer=True))
     axis.set_xlim(0.4, max(float(years["year"].max()) + 0.6, axis.get_xlim()[1]))
-    axis.set_xlabel("year")
+    axis.set_xlabel(label_of(settings.calendar, int(years["year"].max())))
 
 
 def draw_cash(axis: Axes, years: pd.DataFrame, scale: Scale) -> None:

@@ -12,10 +12,11 @@ from matplotlib.axes import Axes
 from matplotlib.figure import Figure
 from matplotlib.ticker import MaxNLocator
 
+from pitplan.config.periods import Calendar
 from pitplan.core.magnitude import scaled
 from pitplan.figures.style import ORE, PLAIN, STYLE, WASTE, finish, list_of
 
-from .annual import FAR_ABOVE, MARGIN, MILL, SHOVELS
+from .annual import FAR_ABOVE, MARGIN, MILL, SHOVELS, label_of
 
 if TYPE_CHECKING:
     from pitplan.scheduling.blocks.tables import ScheduledBlocks
@@ -46,9 +47,9 @@ def plot(made: ScheduledBlocks, axes: Any) -> list[Axes]:
     return [tonnes, money]
 
 
-def draw_bars(ax: Axes, years: pd.DataFrame, size: float) -> None:
+def draw_bars(ax: Axes, years: pd.DataFrame, size: float, calendar: Calendar) -> None:
     """Draws ore and waste of each year; a text if nothing is mined."""
-    ax.set_xlabel("year")
+    ax.set_xlabel(label_of(calendar, len(years)))
     if years.empty:
         ax.text(0.5, 0.5, "nothing is mined", transform=ax.transAxes, ha="center", va="center")
         ax.set_xlim(0.4, 1.6)
@@ -66,7 +67,7 @@ def plot_tonnes(made: ScheduledBlocks, ax: Axes) -> None:
     years, limits = made.years, made.planned.limits
     top = max(float(years["total_tonnes"].max()), 1.0) if len(years) else 1.0
     size, sign = scaled(top)
-    draw_bars(ax, years, size)
+    draw_bars(ax, years, size, limits.calendar)
     edges = np.arange(max(len(years), 1) + 1) + 0.5
     for name, label, colour in (
         ("feed_tonnes", "processing capacity", MILL),
@@ -84,7 +85,7 @@ def plot_tonnes(made: ScheduledBlocks, ax: Axes) -> None:
                 linewidth=1.3,
                 label=label,
             )
-            top = max(top, limits.most[name])
+            top = max(top, most.max() * size)
     ax.set_ylim(0, 1.2 * MARGIN * top / size)
     ax.set_ylabel(f"total material, {sign}t")
     ax.legend(loc="upper right", ncol=2, facecolor="white", edgecolor="none", framealpha=0.9)
@@ -95,7 +96,8 @@ def plot_value(made: ScheduledBlocks, ax: Axes) -> None:
     size, sign = scaled(max(float(np.abs(earned).max()), made.found.bound))
     currency = made.planned.plan.project.economics.currency
     marks = {"color": ORE, "marker": "o", "markersize": 3, "linewidth": 1.4}
-    ax.plot(np.arange(len(earned)), earned / size, label=f"schedule: {earned[-1] / size:,.2f}", **marks)
+    ends = np.append(0.0, made.planned.limits.calendar.ends(len(earned) - 1))
+    ax.plot(ends, earned / size, label=f"schedule: {earned[-1] / size:,.2f}", **marks)
     ax.axhline(
         made.found.bound / size,
         color=PLAIN,

@@ -36,7 +36,7 @@ from pitplan.scheduling.flow.tables import feed_table
 from pitplan.scheduling.methods import LP, MILP, NAMES, RULE
 from pitplan.scheduling.pushback_schedule import YearlySchedule
 
-from .annual import FAR_ABOVE, MARGIN, MILL as MILL_COLOUR, SHOVELS, in_words
+from .annual import FAR_ABOVE, MARGIN, MILL as MILL_COLOUR, SHOVELS, in_words, label_of
 
 TITLES = {RULE: "Rule", LP: "Linear programme", MILP: "Integer programme"}
 COLOURS = {
@@ -112,7 +112,7 @@ def draw_gantt(schedule: YearlySchedule, way: str, ax: Axes) -> None:
     ax.set_xlim(0.5, longest + 0.5)
     ax.set_ylim(row[-1] + 1, -1)
     ax.xaxis.set_major_locator(MaxNLocator(integer=True))
-    ax.set_xlabel("year")
+    ax.set_xlabel(label_of(schedule.settings.calendar, longest))
     ax.spines["right"].set_visible(False)
     ax.set_title(f"{TITLES.get(way, way)}: NPV {money(schedule.value(way), schedule)}")
     name_benches(schedule, row, longest, ax)
@@ -235,8 +235,8 @@ def layers_of(schedule: YearlySchedule) -> list[tuple[str, str, str, dict[str, A
 
 def draw_flows(ax: Axes, schedule: YearlySchedule, way: str, size: float) -> None:
     """Draws a bar per year with a layer per destination; a text if nothing is mined."""
-    ax.set_xlabel("year")
     count = schedule.flows[way].years
+    ax.set_xlabel(label_of(schedule.settings.calendar, count))
     if not count:
         ax.text(0.5, 0.5, "nothing is mined", transform=ax.transAxes, ha="center", va="center")
         ax.set_xlim(0.4, 1.6)
@@ -318,7 +318,7 @@ def plot_cumulative(schedule: YearlySchedule, years: pd.DataFrame, ax: Axes) -> 
     for case, curve in curves.items():
         if len(curve) > 1:
             ax.plot(
-                np.arange(len(curve)),
+                np.append(0.0, schedule.settings.calendar.ends(len(curve) - 1)),
                 curve / size,
                 color=COLOURS[case],
                 label=f"{NAMES[case]}: {curve[-1] / size:,.2f}",

@@ -37,8 +37,10 @@ BEST, WORST, SPECIFIED = "best", "worst", "specified"
 HAIR = 1e-9
 # NPVs that differ by less than this share, or this amount in the currency, are equal.
 EQUAL, TINY = 1e-9, 1e-3
-# How many years before the end of its year a cash flow is discounted from, if not continuously.
+# How much of a year, or of a shorter period, lies between a cash flow and its end, if it does not flow continuously.
 BEFORE_THE_END = {"end_of_year": 0.0, "mid_year": 0.5}
+# Years of a period of which no time is used.
+MOMENT = 1e-12
 
 
 @dataclass(frozen=True)
@@ -93,7 +95,7 @@ class Years:
     Attributes
     ----------
     end : float
-        Life in years.
+        The life: by `Course.years` in periods, by `Terms.earned` in years.
     amounts : array of float, shape (years, names)
         By `Course.years` the amounts of benches; by `Terms.earned` those of `Terms.columns`, discounted cash flow last.
     """
@@ -188,18 +190,26 @@ def course_of(amounts: np.ndarray, wait: Wait) -> Course:
 
 
 def year_discounts(settings: ShellRules, count: int) -> np.ndarray:
-    """Discount factors of the years 1 to `count`: for cash at the end of the year, at its middle, or evenly through it."""
-    ends = np.arange(1.0, count + 1)
-    return discounts_between(ends - 1, ends, settings)
+    """Discount factors of the periods 1 to `count`: for cash at the end of the year, at its middle, or evenly through it."""
+    return discounts_of(np.ones(count), settings)
 
 
-def discounts_between(starts: np.ndarray, ends: np.ndarray, settings: ShellRules) -> np.ndarray:
-    """Discount factors of periods that start with a year and end within it."""
-    if settings.discounting in BEFORE_THE_END:
-        return np.asarray(
-            (1 + settings.discount_rate) ** -(np.floor(starts) + 1 - BEFORE_THE_END[settings.discounting])
-        )
-    return mean_discount(starts, ends, settings.discount_rate)
+def discounts_of(parts: np.ndarray, settings: ShellRules) -> np.ndarray:
+    """Returns the discount factors of the first periods, of whose time only the first parts are used, shape (periods,).
+
+    Cash flows at the end or the middle of its year, or of its period if that is shorter. A period of several years spreads it evenly over those
+    that are used.
+    """
+    starts, lengths = settings.calendar.starts(len(parts)), settings.calendar.lengths(len(parts))
+    if settings.discounting not in BEFORE_THE_END:
+        return mean_discount(starts, starts + parts * lengths, settings.discount_rate)
+    used, unit = np.maximum(parts * lengths, MOMENT), np.minimum(lengths, 1.0)
+    found = np.zeros(len(parts))
+    for number in range(int(np.ceil(lengths.max(initial=0.0)))):
+        flows = np.clip(used - number * unit, 0.0, unit)
+        time = starts + (number + 1 - BEFORE_THE_END[settings.discounting]) * unit
+        found += flows * (1 + settings.discount_rate) ** -time
+    return found / used
 
 
 @dataclass(frozen=True)
@@ -219,15 +229,14 @@ class Terms:
         """Returns the years of a course with their period costs and discounted cash flow. A pit without material has no period costs."""
         amounts = years.amounts
         cash = amounts[:, CASH] + (amounts * self.money.premium(self.names, len(amounts))).sum(axis=1)
-        starts = np.arange(float(len(amounts)))
-        ends = np.clip(years.end, starts, starts + 1)
-        fixed = self.money.fixed(len(amounts)) * (ends - starts)
+        parts, calendar = np.clip(years.end - np.arange(len(amounts)), 0.0, 1.0), self.settings.calendar
+        fixed = self.money.fixed(len(amounts)) * parts
         spent = self.money.spent(len(amounts)) * (amounts[:, ROCK].sum() > 0)
-        worth = (cash - fixed) * discounts_between(starts, ends, self.settings) - spent * (
-            1 + self.settings.discount_rate
-        ) ** -starts
+        starts = (1 + self.settings.discount_rate) ** -calendar.starts(len(amounts))
+        worth = (cash - fixed) * discounts_of(parts, self.settings) - spent * starts
         of_years = [fixed, spent] if self.money.columns else []
-        return Years(years.end, np.column_stack([amounts[:, :CASH], *of_years, cash - fixed - spent, worth]))
+        found = np.column_stack([amounts[:, :CASH], *of_years, cash - fixed - spent, worth])
+        return Years(calendar.time(years.end), found)
 
     def processed(self, kinds: OreKinds, pits: list[Years]) -> list[Years]:
         """Returns the years of pits in the columns of `names`, with each year's ore at its best destinations."""
@@ -238,7 +247,8 @@ class Terms:
         premium = self.money.premium(kinds.metals, int(year.max(initial=0)) + 1)[year]
         gain = by_process[:, 0] + np.einsum("rm,rmkp->rkp", premium, by_process[:, 1:])
         by_year = np.array(self.settings.capacities_by_year)
-        capacity = part[:, None] * by_year[np.minimum(year, len(by_year) - 1)]
+        used = part * self.settings.calendar.lengths(int(year.max(initial=0)) + 1)[year]
+        capacity = used[:, None] * by_year[np.minimum(year, len(by_year) - 1)]
         share = best_shares(feed, gain, kinds.pays, capacity)
         fed = np.einsum("rk,rkp->rp", feed, share)
         flows = np.einsum("rmkp,rkp->rm", by_process, share)

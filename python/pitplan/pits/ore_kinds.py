@@ -33,7 +33,7 @@ class Wait:
     uses : array, shape (columns, capacities)
         Years of each capacity, as in `[shells]`, that a unit of each column uses.
     shares : array, shape (years, capacities)
-        What each year has of each capacity, 1 being that of `[shells]`; the last year continues.
+        What each period has of each capacity, 1 being a year of that of `[shells]`; the last period continues.
     """
 
     uses: Floats
@@ -116,13 +116,14 @@ class OreKinds:
 def with_mining(uses: Floats, shares: Floats, settings: ShellRules) -> Wait:
     """Returns the uses of capacities with that of mining, by total tonnes in the first column."""
     if settings.mining_capacity is None:
-        return Wait(uses, shares)
+        return Wait(uses, shares * settings.calendar.lengths(len(shares))[:, None])
     column = np.zeros(len(uses))
     column[0] = 1 / settings.mining_capacity
     of_mining = np.array(settings.mining_by_year) / settings.mining_capacity
     years = np.arange(max(len(shares), len(of_mining)))
     rows = [part[np.minimum(years, len(part) - 1)] for part in (shares, of_mining)]
-    return Wait(np.column_stack([uses, column]), np.column_stack(rows))
+    lengths = settings.calendar.lengths(len(years))
+    return Wait(np.column_stack([uses, column]), np.column_stack(rows) * lengths[:, None])
 
 
 def unions(masks: Mask) -> list[Mask]:

@@ -12,11 +12,12 @@ import pandas as pd
 from jinja2 import Environment, FileSystemLoader, select_autoescape
 
 from pitplan.config.economics import Metal
+from pitplan.config.periods import PERIOD, YEAR
 from pitplan.config.project import Project
 from pitplan.core.magnitude import scaled
 from pitplan.core.revenue_factors import factor_text
 from pitplan.results import columns as schema
-from pitplan.results.column_types import GRADE, METAL, METRES, MONEY, SHARE, TEXT, TONNES, Column, Table
+from pitplan.results.column_types import GRADE, METAL, METRES, MONEY, SHARE, TEXT, TONNES, WHOLE_YEARS, Column, Table
 
 TEMPLATES = Environment(
     loader=FileSystemLoader(Path(__file__).parents[1] / "templates"),
@@ -77,8 +78,13 @@ class Display:
                 heading = "mill feed" if is_diluted and name == "feed_tonnes" else column.heading
                 heading = heading.replace("METAL", subject).replace("PROCESS", subject)
                 size, unit = units.of(table[name], column, metals.get(subject))
-                found.append((name, heading if unit is None else f"{heading}, {unit}", size, column.shown_places))
+                places = column.shown_places if column.unit is not WHOLE_YEARS or is_whole(table[name]) else 2
+                found.append((name, heading if unit is None else f"{heading}, {unit}", size, places))
         return found
+
+
+def is_whole(values: pd.Series) -> bool:
+    return bool((values % 1 == 0).all())
 
 
 @dataclass(frozen=True)
@@ -134,7 +140,7 @@ OF_BLOCKS = Display(schema.METHODS, (*BOUNDED, "optimality_gap", *AMOUNTS), BOUN
 SPENT, FLOWS = ("fixed_cost", "capex"), ("cash_flow", "discounted_cash_flow")
 OF_YEARS = Display(
     schema.YEARLY,
-    ("year", "case", "total_tonnes", "feed_tonnes", "recovered_METAL", *SPENT, *FLOWS),
+    (YEAR, PERIOD, "case", "total_tonnes", "feed_tonnes", "recovered_METAL", *SPENT, *FLOWS),
     (*FLOWS, *SPENT),
 )
 OF_CASES = Display(schema.SENSITIVITY, (CASE, "npv", NPV_CHANGE, "tonnes", "feed_tonnes", EARNED[0], "years"), ("npv",))

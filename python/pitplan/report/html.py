@@ -308,7 +308,11 @@ def of_way(ways: Written, shown: str, project: Project) -> list[Figure]:
     names = {"npv": "Net present value", "upper_bound": bound, "tonnes": "Total material", "feed_tonnes": "Mill feed"}
     names |= {"unmined_tonnes": "Unmined material"} if "unmined_tonnes" in columns else {}
     found = [ways.figure(name, row, columns[column]) for column, name in names.items()]
-    return [*found, *recovered(ways, row, columns, project), ways.figure("Life", row, ("years", "life, years", 1.0, 0))]
+    return [
+        *found,
+        *recovered(ways, row, columns, project),
+        ways.figure("Life", row, ("years", "life, years", 1.0, columns["years"][3])),
+    ]
 
 
 def of_sensitivity(found: Sensitivity, project: Project) -> dict[str, Any]:

@@ -16,6 +16,7 @@ import numpy as np
 import pandas as pd
 
 from pitplan.blockmodel.axes import turn_of
+from pitplan.config.periods import PERIOD, YEAR
 from pitplan.core.optional_packages import three_scripts
 from pitplan.errors import PlanError
 from pitplan.results.folder import Folder
@@ -29,7 +30,11 @@ MOST_FACTORS = 254
 # Up to this number of blocks the page has all rows, otherwise those of mined blocks.
 MOST_ROWS = 300_000
 # Stages besides the revenue factor: column, and a colour map with its range. Colours darken from first to last, for the colour-blind.
-STAGES = (("pushback", "viridis_r", (0.08, 0.95)), ("year", "plasma_r", (0.05, 0.95)))
+STAGES = (
+    ("pushback", "viridis_r", (0.08, 0.95)),
+    (YEAR, "plasma_r", (0.05, 0.95)),
+    (PERIOD, "plasma_r", (0.05, 0.95)),
+)
 
 
 def write(path: Path, folder: Folder) -> None:

@@ -3,8 +3,10 @@
 from __future__ import annotations
 
 import re
-from dataclasses import dataclass
+from dataclasses import dataclass, replace
 from typing import Optional
+
+from pitplan.config.periods import PERIOD, YEAR
 
 THOUSANDS = "#,##0"
 
@@ -92,7 +94,10 @@ class Table:
     digits: Optional[int] = None
 
     def find(self, name: str) -> Optional[Column]:
-        """A column by its name in files, or by its own; None if the table has none."""
+        """A column by its name in files, or by its own; None if the table has none. A number of a period is a column `year` too."""
+        if name == PERIOD:
+            found = self.find(YEAR)
+            return found and replace(found, heading=PERIOD)
         exact = [it for it in self.columns if it.name == name]
         return next(iter(exact or [it for it in self.columns if it.matches(name)]), None)
 

@@ -27,7 +27,7 @@ from .conventions import DISCOUNTING, OUTLINE
 SEVERAL = "with several processes"
 RF = Column("revenue_factor", FACTOR, "that of the shell", "revenue factor")
 METHOD = Column("method", TEXT, "`rule`, `lp`, `milp` or `block`", "method")
-YEAR = Column("year", NUMBER, "from 1", "year")
+YEAR = Column("year", NUMBER, "from 1; the column is `period` if `[[periods]]` are not years", "year")
 PUSHBACK = Column("pushback", NUMBER, "from 1", "pushback")
 BENCH = Column("bench", METRES, "elevation of its centroids")
 BLOCKS = Column("blocks", COUNT, "blocks with tonnes", "blocks")

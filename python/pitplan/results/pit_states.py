@@ -9,11 +9,12 @@ import numpy as np
 from numpy.typing import NDArray
 
 from pitplan.blockmodel.grid import Grid
+from pitplan.config.periods import PERIOD, YEAR
 from pitplan.core.revenue_factors import BASE_PRICE, factor_text
 from pitplan.errors import PlanError
 from pitplan.results.folder import Folder
 
-FACTOR, PUSHBACK, YEAR = "revenue_factor", "pushback", "year"
+FACTOR, PUSHBACK = "revenue_factor", "pushback"
 KINDS = (FACTOR, PUSHBACK, YEAR)
 PIT, GROUND = "pit", "ground"
 MADE_BY = {PUSHBACK: "pitplan pushbacks", YEAR: "pitplan schedule"}
@@ -26,7 +27,7 @@ class Shape:
     Attributes
     ----------
     of : str
-        `revenue_factor`: one pit; `pushback` or `year`: the pit at the end of each.
+        `revenue_factor`: one pit; `pushback` or `year`: the pit at the end of each, or of each period.
     surface : str
         `pit`: the surface around mined blocks; `ground`: the open surface of the ground with the pit in it.
     smooth : bool
@@ -48,7 +49,7 @@ class Stage:
     Attributes
     ----------
     kind : str
-        FACTOR, PUSHBACK or YEAR.
+        FACTOR, PUSHBACK, YEAR or PERIOD.
     number : float
         That of the factor, pushback or year; 0: before mining.
     dug : array of bool, shape (levels, rows, columns)
@@ -91,11 +92,12 @@ def stages_of(folder: Folder, shape: Shape) -> list[Stage]:
                 f"{folder.path}: the pit of revenue factor {factor_text(shape.revenue_factor)} is empty and has no surface"
             )
         return [Stage(FACTOR, shape.revenue_factor, dug)]
-    if shape.of not in folder.blocks:
-        raise PlanError(f"{folder.path}: has no {shape.of}s: run {MADE_BY[shape.of]}, and give its folder")
-    number = np.where(rock(folder), cube_of(folder, shape.of), 0)
+    kind = PERIOD if shape.of == YEAR and PERIOD in folder.blocks else shape.of
+    if kind not in folder.blocks:
+        raise PlanError(f"{folder.path}: has no {kind}s: run {MADE_BY[kind]}, and give its folder")
+    number = np.where(rock(folder), cube_of(folder, kind), 0)
     first = 0 if shape.surface == GROUND else 1
-    return [Stage(shape.of, last, (number > 0) & (number <= last)) for last in range(first, int(number.max()) + 1)]
+    return [Stage(kind, last, (number > 0) & (number <= last)) for last in range(first, int(number.max()) + 1)]
 
 
 def rock(folder: Folder) -> NDArray[Any]:

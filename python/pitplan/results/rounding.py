@@ -8,6 +8,7 @@ from pathlib import Path
 import numpy as np
 import pandas as pd
 
+from pitplan.config.periods import YEAR
 from pitplan.config.project import Project
 
 from .column_types import SHARE
@@ -17,7 +18,13 @@ from .conventions import with_discounting
 
 def write_csv(table: pd.DataFrame, path: Path, project: Project) -> None:
     """Writes a table, with the column `discounting` if it has discounted amounts."""
-    with_discounting(table, project).to_csv(path, index=False)
+    named(with_discounting(table, project), project).to_csv(path, index=False)
+
+
+def named(table: pd.DataFrame, project: Project) -> pd.DataFrame:
+    """Returns a table whose column `year` is called `period` if the periods of the project are not years."""
+    word = project.shells.calendar.word
+    return table if word == YEAR else table.rename(columns={YEAR: word})
 
 
 def shown(table: pd.DataFrame) -> pd.DataFrame:

@@ -8,6 +8,7 @@ from typing import Optional
 import numpy as np
 
 from pitplan.config.economics import MOST_YEARS
+from pitplan.config.periods import Calendar
 from pitplan.config.project import Project
 from pitplan.config.schedule import ScheduleRules
 from pitplan.config.shells import ShellRules
@@ -22,13 +23,14 @@ HAIR = 1e-9
 
 @dataclass(frozen=True)
 class Limits:
-    """What a year may hold.
+    """What a year, or another period, may hold.
 
-    most          by name the most of an amount; of ore once the mill runs in full
+    most          by name the most of an amount per year; of ore once the mill runs in full
     ramp_up       shares of the tonnes of mill and processes in the first years; the last one stays
-    vertical_advance_rate  the most benches by which a pushback sinks; infinite where there is no limit
+    vertical_advance_rate  the most benches by which a pushback sinks in a year; infinite where there is no limit
     least         by name the least of an amount, likewise
-    most_by_year, least_by_year  by name the limits of years that differ, from year 1; the last one continues
+    most_by_year, least_by_year  by name the limits per year of periods that differ, from the first; the last one continues
+    calendar      the lengths of the periods, by which limits per year are multiplied
     """
 
     most: dict[str, float]
@@ -37,6 +39,7 @@ class Limits:
     least: dict[str, float] = field(default_factory=dict)
     most_by_year: dict[str, tuple[float, ...]] = field(default_factory=dict)
     least_by_year: dict[str, tuple[float, ...]] = field(default_factory=dict)
+    calendar: Calendar = Calendar()
 
     def of_year(self, number: int) -> np.ndarray:
         """The limited amounts of a year, numbered from 1."""
@@ -49,16 +52,23 @@ class Limits:
     def most_of(self, name: str, number: int) -> float:
         """The most of an amount in a year, numbered from 1."""
         by_year = self.most_by_year.get(name)
-        return by_year[min(number, len(by_year)) - 1] if by_year else self.most[name] * self.share(name, number)
+        of_year = by_year[min(number, len(by_year)) - 1] if by_year else self.most[name] * self.share(name, number)
+        return of_year * self.calendar.length(number)
 
     def least_of(self, name: str, number: int) -> float:
         """The least of an amount in a year, numbered from 1."""
         by_year = self.least_by_year.get(name)
-        return by_year[min(number, len(by_year)) - 1] if by_year else self.least[name] * self.share(name, number)
+        of_year = by_year[min(number, len(by_year)) - 1] if by_year else self.least[name] * self.share(name, number)
+        return of_year * self.calendar.length(number)
+
+    def sinking(self, count: int) -> np.ndarray:
+        """The most benches by which a pushback sinks in each period, shape (count,)."""
+        return np.asarray(self.vertical_advance_rate * self.calendar.lengths(count))
 
     def greatest(self, name: str) -> float:
         """The most of an amount in any year."""
-        return max([*self.most_by_year.get(name, ()), *([] if name in self.most_by_year else [self.most[name]])])
+        listed = max(1, len(self.calendar.listed), len(self.ramp_up), len(self.most_by_year.get(name, ())))
+        return max(self.most_of(name, number) for number in range(1, listed + 1))
 
     def share(self, name: str, number: int) -> float:
         """The share of an amount's limit that a year has."""
@@ -81,7 +91,13 @@ def limits_of(project: Project, rules: ScheduleRules) -> Limits:
     most |= {f"{ORE}_{process.name}": process.capacity for process in project.processes}
     most |= {f"recovered_{name}": amount for name, amount in rules.max_metal_per_year.items()}
     rate = np.inf if rules.vertical_advance_rate is None else rules.vertical_advance_rate
-    return Limits(most, rules.ramp_up, rate, most_by_year=capacities_by_year(project, most))
+    return Limits(
+        most,
+        rules.ramp_up,
+        rate,
+        most_by_year=capacities_by_year(project, most),
+        calendar=project.shells.calendar,
+    )
 
 
 def capacities_by_year(project: Project, most: dict[str, float]) -> dict[str, tuple[float, ...]]:
@@ -135,7 +151,7 @@ class Problem:
 
 def costs_of_years(money: YearlyMoney, settings: ShellRules, years: int) -> np.ndarray:
     """Fixed costs and capex of years in which the mine runs, discounted."""
-    starts = (1 + settings.discount_rate) ** -np.arange(float(years))
+    starts = (1 + settings.discount_rate) ** -settings.calendar.starts(years)
     return money.fixed(years) * year_discounts(settings, years) + money.spent(years) * starts
 
 
@@ -184,7 +200,7 @@ class Digging:
             np.inf if sequence.pace is None else max(0.0, sequence.pace[number - 1] - self.benches.of(ROCK) @ self.done)
         )
         left = np.append(self.limits.of_year(number), pace)
-        depth = np.full(int(self.benches.pushback.max()) + 1, self.limits.vertical_advance_rate)
+        depth = np.full(int(self.benches.pushback.max()) + 1, self.limits.sinking(number)[-1])
         shares = np.zeros(len(self.benches))
         for bench in pending:
             is_due = sequence.first is None or sequence.first[bench] <= number

@@ -3,6 +3,7 @@
 from __future__ import annotations
 
 from dataclasses import replace
+from typing import Optional
 
 from pitplan.config.project import Project
 from pitplan.config.schedule import FEED, TOTAL, ScheduleRules
@@ -12,6 +13,11 @@ from .bench_sequencing import Limits, limits_of
 
 # How the names of sums of the table's columns begin.
 SUM = "sum_"
+
+
+def periods_of(project: Project, rules: ScheduleRules) -> Optional[int]:
+    """Returns the number of periods of `[schedule] years`; None without it."""
+    return None if rules.years is None else project.shells.calendar.within(rules.years)
 
 
 def all_limits_of(project: Project, rules: ScheduleRules) -> Limits:

@@ -23,7 +23,8 @@ def record(schedule: YearlySchedule) -> dict[str, Any]:
         "methods": {method: record_of(schedule, method) for method in schedule.flows},
         "upper_bound": None if schedule.upper_bound is None else round(schedule.upper_bound, 3),
         "milp_upper_bound": None if most is None or math.isinf(most) else round(most, 3),
-        "years": schedule.years,
+        "years": schedule.time(schedule.years),
+        **periods_in(schedule, schedule.years),
         "shown": schedule.shown,
         "lead": schedule.lead,
         "lag": schedule.benches.lag,
@@ -44,10 +45,16 @@ def record_of(schedule: YearlySchedule, method: str) -> dict[str, Any]:
     by_process = {name or MILL: values.round(6).tolist() for name, values in (found or {}).items()}
     return {
         "npv": round(schedule.value(method), 3),
-        "years": schedule.flows[method].years,
+        "years": schedule.time(schedule.flows[method].years),
+        **periods_in(schedule, schedule.flows[method].years),
         "unmined_tonnes": round(schedule.left(method), 3),
         **({"cutoffs": by_process} if found else {}),
     }
+
+
+def periods_in(schedule: YearlySchedule, count: int) -> dict[str, Any]:
+    """Returns the number of periods unless they are years."""
+    return {} if schedule.settings.calendar.is_yearly else {"periods": count}
 
 
 def notes(schedule: YearlySchedule) -> list[str]:
@@ -60,7 +67,7 @@ def notes(schedule: YearlySchedule) -> list[str]:
     if schedule.interrupted:
         found.append("WARNING: the run was interrupted before all methods had finished; the table has those that did")
     if schedule.upper_bound is not None:
-        scope = f"any schedule of these pushbacks of up to {schedule.years} years within these limits, wherever each block goes"
+        scope = f"any schedule of these pushbacks of up to {schedule.time(schedule.years):.10g} years within these limits, wherever each block goes"
         found.append(f"upper bound on the NPV of {scope}: {schedule.upper_bound:,.0f}")
     if schedule.milp_upper_bound is not None and MILP not in schedule.flows:
         found.append("WARNING: milp found no schedule within its time limit")
@@ -68,7 +75,9 @@ def notes(schedule: YearlySchedule) -> list[str]:
         found.append(f"upper bound of milp on schedules by these value bins: {schedule.milp_upper_bound:,.0f}")
     for name, values in (cutoffs(schedule.flows[schedule.shown], schedule.names) or {}).items():
         told = ", ".join(f"{worth:.2f}" for worth in values)
-        found.append(f"{schedule.shown}: cut-off of {name or MILL} by year (net value per tonne of feed): {told}")
+        found.append(
+            f"{schedule.shown}: cut-off of {name or MILL} by {schedule.settings.calendar.word} (net value per tonne of feed): {told}"
+        )
     for method in schedule.flows:
         rock = schedule.left(method)
         if not schedule.shares[method].any():

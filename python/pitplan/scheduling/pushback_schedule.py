@@ -28,7 +28,7 @@ from .flow.flows import Flows
 from .flow.model import FlowModel
 from .flow.parcels import Material
 from .flow.programme import FlowOptimum, FlowProgramme, Prices
-from .limits import SUM, all_limits_of
+from .limits import SUM, all_limits_of, periods_of
 from .methods import LP, MILP, RULE
 
 # The linear programme may take this part of the rule's years more.
@@ -96,6 +96,10 @@ class YearlySchedule:
     def shares(self) -> dict[str, np.ndarray]:
         """By method the share of each bench that is mined in each year, shape (benches, years)."""
         return {method: flows.dug for method, flows in self.flows.items()}
+
+    def time(self, count: int) -> float:
+        """Returns the years that so many periods last."""
+        return self.settings.calendar.span(count)
 
     @property
     def names(self) -> list[str]:
@@ -168,11 +172,12 @@ def make(pushbacks: Pushbacks, progress: Progress = silent) -> YearlySchedule:
     material = parcels.of_pushbacks(pushbacks, rules)
     limits = parcels.with_grades(all_limits_of(project, rules), material.blocks)
     problem = Problem(material.benches, limits, project.shells, period_costs.of_project(project))
-    model, count = FlowModel(problem, material.parcels, rules.years or 1, rules.stockpiles), len(material.benches)
+    most, count = periods_of(project, rules), len(material.benches)
+    model = FlowModel(problem, material.parcels, most or 1, rules.stockpiles)
     schedule = YearlySchedule(pushbacks, material, model, {}, 0)
     with progress.step(f"scheduling {count:,} benches of {len(pushbacks.factors)} pushbacks by rule"):
-        flows, lead = scheduler.by_rule(model, pace_of(schedule), rules.years)
-    model = replace(model, years=rules.years or max(1, math.ceil((1 + MORE_YEARS) * flows.years)))
+        flows, lead = scheduler.by_rule(model, pace_of(schedule), most)
+    model = replace(model, years=most or max(1, math.ceil((1 + MORE_YEARS) * flows.years)))
     schedule = replace(schedule, model=model, lead=lead, flows={} if limits.least else {RULE: flows})
     try:
         for schedule in better(schedule, rules, progress):
@@ -182,7 +187,7 @@ def make(pushbacks: Pushbacks, progress: Progress = silent) -> YearlySchedule:
             raise
         schedule = replace(schedule, interrupted=True)
     if not any(shares.any() for shares in schedule.shares.values()):
-        years = f"{model.years} year{'s' * (model.years > 1)}"
+        years = f"{schedule.time(model.years):.10g} year{'s' * (model.years > 1)}"
         why = f"within these limits nothing can be mined in {years}: check processing_capacity and ramp_up"
         raise PlanError(f"{project.path}: [schedule] years: {why}")
     return schedule
@@ -239,7 +244,7 @@ def relaxed(schedule: YearlySchedule, progress: Progress) -> YearlySchedule:
     """Returns the schedule with the optimum of the linear programme and the upper bound, unless it has a lower one. Raises PlanError, with the
     minimums that lack, if no schedule meets them."""
     model, programme = schedule.model, FlowProgramme(schedule.model)
-    size = f"{model.years} years and {len(model.ore):,} parcels, {len(programme.gain):,} variables"
+    size = f"{model.years} {schedule.settings.calendar.word}s and {len(model.ore):,} parcels, {len(programme.gain):,} variables"
     with progress.step(f"solving the linear programme of {size}"):
         try:
             optimum = programme.solved()
@@ -257,7 +262,8 @@ def in_finer_bins(schedule: YearlySchedule, rules: ScheduleRules) -> YearlySched
     relaxation = bound.Lagrangian(replace(schedule.model, ore=schedule.material.blocks), schedule.optimum.prices)
     material = parcels.by_choice(schedule.material, relaxation.choices[1])
     model = replace(schedule.model, ore=material.parcels)
-    flows = {RULE: scheduler.by_rule(model, pace_of(schedule), rules.years)[0]}
+    most = periods_of(schedule.pushbacks.plan.project, rules)
+    flows = {RULE: scheduler.by_rule(model, pace_of(schedule), most)[0]}
     return replace(schedule, material=material, model=model, flows=flows if schedule.flows else {})
 
 
@@ -317,7 +323,7 @@ def methods(schedule: YearlySchedule) -> pd.DataFrame:
                 "npv": value,
                 "upper_bound": most,
                 "optimality_gap": (most - value) / abs(most) if most else np.nan,
-                "years": flows.years,
+                "years": schedule.time(flows.years),
                 "tonnes": yearly[ROCK].sum(),
                 "feed_tonnes": yearly[ORE].sum(),
                 "unmined_tonnes": schedule.left(method),

@@ -17,7 +17,6 @@ from planaudit.inputs.matching import (
     FREE,
     PROCESS,
     PUSHBACK,
-    YEAR,
     TableRows,
     beside,
     own_columns,
@@ -31,7 +30,7 @@ from planaudit.inputs.project import GRADE_UNITS, Project, Wall
 from planaudit.inputs.record import PLAN, read_plan
 from planaudit.inputs.rotated_grid import steps_of
 from planaudit.inputs.run import Run
-from planaudit.inputs.tables import demand_factors, read_table
+from planaudit.inputs.tables import YEAR, demand_factors, read_table
 from planaudit.money.feed import by_code, recovered
 
 

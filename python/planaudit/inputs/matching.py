@@ -14,7 +14,7 @@ from planaudit.inputs import block_table, plain_tables
 from planaudit.inputs.project import MissingRock, Project
 from planaudit.inputs.reblocking import divided, together, written_rows
 from planaudit.inputs.rotated_grid import steps_of
-from planaudit.inputs.tables import demand_numbers
+from planaudit.inputs.tables import PERIOD, YEAR, demand_numbers
 from planaudit.inputs.text_layout import TextLayout
 
 # The columns of results in blocks.csv.
@@ -26,7 +26,7 @@ HAULED = ("haul_distance", "haulage_cost", "ore_haulage_cost")
 # Further columns of `pitplan pit`, of the pit without constraints.
 FREE = ("free_revenue_factor", "free_process_revenue_factor")
 # Further columns of `pitplan pushbacks` and `pitplan schedule`.
-PUSHBACK, YEAR, BIN = "pushback", "year", "bin"
+PUSHBACK, BIN = "pushback", "bin"
 # If a surface cuts blocks: the tonnes of the table. Results have the tonnes below the surface.
 UNCUT = "tonnes before the cut"
 # With a schedule by block the share of each block that goes to a process.
@@ -84,6 +84,8 @@ def read_blocks(path: Path, project: Project, said: Optional[tuple[str, ...]] = 
     is_whole = (
         said is None or isinstance(columns.missing_blocks, MissingRock) or bool(columns.reblock or project.cuts_blocks)
     )
+    word = project.shells.calendar.word
+    wanted = {word if name == YEAR else name for name in wanted}
     texts = [*codes, PROCESS]
     found = plain_blocks(path, None if is_whole else wanted, texts)
     if found is None:
@@ -97,7 +99,7 @@ def read_blocks(path: Path, project: Project, said: Optional[tuple[str, ...]] = 
             low_memory=False,
         )
     demand_numbers(found, path.name, texts)
-    return found
+    return found.rename(columns={word: YEAR})
 
 
 def plain_blocks(path: Path, wanted: Optional[set[str]], texts: list[str]) -> Optional[pd.DataFrame]:
@@ -116,7 +118,7 @@ def own_columns(written: pd.DataFrame, rows: pd.DataFrame, order: np.ndarray) ->
 
 def own_name(column: str) -> str:
     """Returns the name of a planner's column in blocks.csv."""
-    return f"planner_{column}" if column in (*SAID, *FREE, *HAULED, PUSHBACK, YEAR, BIN, PROCESS) else column
+    return f"planner_{column}" if column in (*SAID, *FREE, *HAULED, PUSHBACK, YEAR, PERIOD, BIN, PROCESS) else column
 
 
 def beside(

@@ -10,6 +10,8 @@ from decimal import Decimal
 from pathlib import Path
 from typing import Optional, Union
 
+import numpy as np
+
 from planaudit.inputs.row_rules import RowRules
 
 # Mass of metal per tonne of ore and unit of grade, in tonnes, or grams if the grade is in grams per tonne.
@@ -230,6 +232,7 @@ class Period:
     """An entry of `[[periods]]`; None or a missing name where it says nothing."""
 
     years: int
+    period_months: int
     mining_capacity: Optional[float]
     processing_capacity: Optional[float]
     capacity: dict[str, float]
@@ -238,20 +241,58 @@ class Period:
     fixed_cost_per_year: Optional[Decimal]
     capex: Decimal
 
+    @property
+    def count(self) -> int:
+        """How many periods it has."""
+        return self.years * 12 // self.period_months
+
 
 @dataclass(frozen=True)
 class Calendar:
-    """`[[periods]]`, one after the other; the last one continues."""
+    """`[[periods]]`, one after the other; the last period continues. Most of the audit says year for a period."""
 
     periods: tuple[Period, ...] = ()
 
     def period(self, year: int) -> Optional[Period]:
-        """Returns the period of a year, from 1; None without any."""
+        """Returns the entry of a period, from 1; None without any."""
         for period in self.periods:
-            year -= period.years
+            year -= period.count
             if year <= 0:
                 return period
         return self.periods[-1] if self.periods else None
+
+    @property
+    def count(self) -> int:
+        """How many periods the entries have."""
+        return sum(period.count for period in self.periods)
+
+    @property
+    def word(self) -> str:
+        """What tables call the number of a period."""
+        return "year" if all(period.period_months == 12 for period in self.periods) else "period"
+
+    def months(self, number: int) -> int:
+        """Returns the months of a period, from 1."""
+        period = self.period(number)
+        return 12 if period is None else period.period_months
+
+    def length(self, number: int) -> float:
+        """Returns the length of a period in years."""
+        return self.months(number) / 12
+
+    def lengths(self, count: int) -> np.ndarray:
+        """Returns the lengths of the first periods in years, shape (count,)."""
+        return np.array([self.length(number) for number in range(1, count + 1)])
+
+    def end(self, number: int) -> float:
+        """Returns the end of a period in years; 0 of period 0."""
+        if not self.periods:
+            return float(number)
+        return sum(self.months(each) for each in range(1, number + 1)) / 12
+
+    def time(self, place: float) -> float:
+        """Returns the years until so many periods are over, the last of which may be a part of one."""
+        return self.end(int(place)) + (place - int(place)) * self.length(int(place) + 1)
 
 
 @dataclass(frozen=True)

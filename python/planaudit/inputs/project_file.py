@@ -309,7 +309,8 @@ def periods_of(entries: list[Data]) -> tuple[Period, ...]:
 
     return tuple(
         Period(
-            years=int(data.get("years", 1)),
+            years=int(data.get("years", -(-int(data.get("period_months", 12)) // 12))),
+            period_months=int(data.get("period_months", 12)),
             mining_capacity=metres(data, "mining_capacity"),
             processing_capacity=metres(data, "processing_capacity"),
             capacity={name: float(value) for name, value in amounts(data, "capacity").items()},

@@ -32,6 +32,8 @@ MAY_LACK = (
 EXACT = "value_at_revenue_factor"
 # The folder of an output folder in which its tables lie, and the row of a table below its header.
 TABLES, FIRST_ROW = "tables", 2
+# What tables call the number of a period if the periods are not years, and what the audit calls it.
+PERIOD, YEAR = "period", "year"
 # Text columns, which have a rule of their own.
 WORDS = ("discounting", "outline")
 
@@ -53,7 +55,13 @@ def read_table(path: Path, texts: Sequence[str] = ()) -> pd.DataFrame:
     frame = pd.read_csv(path, dtype=dict.fromkeys([*texts, EXACT], str), keep_default_na=False, na_values=[""])
     frame = in_thousandths(frame.drop(columns=frame.columns.intersection(WORDS)))
     demand_numbers(frame, path.name, texts)
-    return frame
+    return frame.rename(columns={PERIOD: YEAR})
+
+
+def read_prices(path: Path) -> pd.DataFrame:
+    """Reads bound.csv: the price of each limit, side and period, as precisely as it is written."""
+    found = pd.read_csv(path, float_precision="round_trip", dtype={"limit": str, "side": str})
+    return found.rename(columns={PERIOD: YEAR})
 
 
 def demand_numbers(frame: pd.DataFrame, source: str, texts: Iterable[str]) -> None:

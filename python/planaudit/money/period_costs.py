@@ -23,16 +23,17 @@ def premiums(project: Project, year: int) -> dict[str, float]:
 
 
 def years_of_prices(project: Project) -> int:
-    """Returns the number of years until prices stay as they are."""
+    """Returns the number of periods until prices stay as they are."""
     listed = max((len(metal.prices) for metal in project.metals), default=0)
-    return max(1, listed, sum(period.years for period in project.shells.periods))
+    return max(1, listed, project.shells.calendar.count)
 
 
 def fixed_cost(project: Project, year: int) -> float:
-    """Returns the fixed cost of a whole year."""
+    """Returns the fixed cost of a whole period."""
     period = project.shells.period(year)
     own = None if period is None else period.fixed_cost_per_year
-    return float(project.economics.fixed_cost_per_year if own is None else own)
+    of_year = float(project.economics.fixed_cost_per_year if own is None else own)
+    return of_year * project.shells.calendar.length(year)
 
 
 def has_costs(project: Project) -> bool:
@@ -47,5 +48,5 @@ def capex(project: Project, year: int) -> float:
     found, first = sum(float(amount) for at, amount in project.economics.capex if at == year), 1
     for period in project.shells.periods:
         found += float(period.capex) if first == year else 0.0
-        first += period.years
+        first += period.count
     return found

@@ -7,6 +7,7 @@ from dataclasses import dataclass
 import numpy as np
 
 from planaudit.inputs.project import MOST_YEARS, Project
+from planaudit.money.discounts import at_start, factor
 from planaudit.money.period_costs import HAIR, capex, fixed_cost, has_costs, premiums
 
 # Amounts by name.
@@ -22,7 +23,7 @@ class Parts:
     piece, year, share : array, shape (parts,)
         The piece of each part, its year from 1, and its share of the piece.
     life : float
-        Years to the end of the last piece.
+        Periods to the end of the last piece.
     """
 
     piece: np.ndarray
@@ -60,17 +61,6 @@ def parts_of(uses: list[list[float]], shares: list[list[float]]) -> Parts:
     return Parts(pieces, years, parts, year - 1 + used)
 
 
-def discounts(until: np.ndarray, years: np.ndarray, project: Project) -> np.ndarray:
-    """Returns the discount factor of each year, which lasts until a moment."""
-    rate, how = project.shells.discount_rate, project.shells.discounting
-    if how != "continuous":
-        return np.asarray((1 + rate) ** -(years - (0.5 if how == "mid_year" else 0.0)))
-    since = years - 1.0
-    is_moment = (until - since < HAIR) | (rate == 0)
-    mean = ((1 + rate) ** -since - (1 + rate) ** -until) / np.where(is_moment, 1.0, np.log1p(rate) * (until - since))
-    return np.where(is_moment, (1 + rate) ** -until, mean)
-
-
 def shares_of(parts: Parts, pieces: int) -> np.ndarray:
     """Returns the share of each piece that is mined in each year, shape (years, pieces)."""
     found = np.zeros((int(parts.year.max()), pieces))
@@ -85,11 +75,11 @@ def money_of(found: Amounts, life: float, project: Project) -> Amounts:
     for name in premiums(project, 1):
         gains = np.array([premiums(project, int(year))[name] for year in years])
         found = {**found, "cash_flow": found["cash_flow"] + found[name] * gains}
-    until = np.clip(life, years - 1.0, years)
-    fixed = np.array([fixed_cost(project, int(year)) for year in years]) * (until - (years - 1.0))
+    parts = np.clip(life - (years - 1.0), 0.0, 1.0)
+    fixed = np.array([fixed_cost(project, int(year)) for year in years]) * parts
     spent = np.array([capex(project, int(year)) for year in years])
-    gain = found["cash_flow"] - fixed
+    gain: np.ndarray = found["cash_flow"] - fixed
     of_years = {"fixed_cost": fixed, "capex": spent} if has_costs(project) else {}
-    spent_now = spent * (1 + project.shells.discount_rate) ** -(years - 1.0)
-    present = gain * discounts(until, years, project) - spent_now
+    factors = np.array([factor(project, int(year), float(part)) for year, part in zip(years, parts)])
+    present = gain * factors - spent * np.array([at_start(project, int(year)) for year in years])
     return {**found, **of_years, "cash_flow": gain - spent, "discounted_cash_flow": present}

@@ -36,11 +36,11 @@ def capacities(project: Project) -> np.ndarray:
 
 
 def years_listed(project: Project) -> range:
-    return range(1, 1 + max(1, sum(period.years for period in project.shells.periods)))
+    return range(1, 1 + max(1, project.shells.calendar.count))
 
 
 def capacities_by_year(project: Project) -> np.ndarray:
-    """Returns the capacity of each process in each listed year, shape (years, processes); the last one continues."""
+    """Returns the capacity of each process in each listed period, shape (periods, processes); the last one continues."""
     found = []
     for year in years_listed(project):
         period = project.shells.period(year)
@@ -50,11 +50,12 @@ def capacities_by_year(project: Project) -> np.ndarray:
         else:
             given = None if period is None else period.processing_capacity
             found.append([project.shells.processing_capacity if given is None else given])
-    return np.array(found, dtype=float)
+    return np.array(found, dtype=float) * project.shells.calendar.lengths(len(found))[:, None]
 
 
 def mining_by_year(project: Project) -> np.ndarray:
-    """Returns the mining capacity of each listed year, infinite without one; the last one continues."""
+    """Returns the mining capacity of each listed period, infinite without one; the last one continues."""
     base = math.inf if project.shells.mining_capacity is None else project.shells.mining_capacity
     periods = [project.shells.period(year) for year in years_listed(project)]
-    return np.array([base if it is None or it.mining_capacity is None else it.mining_capacity for it in periods])
+    found = [base if it is None or it.mining_capacity is None else it.mining_capacity for it in periods]
+    return np.array(found) * project.shells.calendar.lengths(len(found))

@@ -113,7 +113,7 @@ class Benches:
 
 @dataclass(frozen=True)
 class Pit:
-    """The years of a pit: amounts by year, the life in years, and the error of sums. A pit without tonnes has no amounts."""
+    """The years of a pit: amounts by year, the life in periods, and the error of sums. A pit without tonnes has no amounts."""
 
     years: Amounts
     life: float
@@ -127,7 +127,7 @@ class Pit:
 
 @dataclass(frozen=True)
 class Dug:
-    """What a shell digs in each year: shares of benches, shape (years, benches), and its life in years."""
+    """What a shell digs in each year: shares of benches, shape (years, benches), and its life in periods."""
 
     shares: np.ndarray
     life: float

@@ -2,7 +2,6 @@
 
 from __future__ import annotations
 
-import math
 from collections.abc import Iterator
 
 import numpy as np
@@ -90,7 +89,8 @@ def verify_npv(answer: Answer, pits: Pits) -> Rule:
     differences: list[str] = []
     for factor in answer.shells.index:
         best = pits[BEST, float(factor)]
-        due = {f"npv_{case}": pits[case, float(factor)].npv for case in cases_of(answer.project)} | {"years": best.life}
+        due = {f"npv_{case}": pits[case, float(factor)].npv for case in cases_of(answer.project)}
+        due |= {"years": answer.project.shells.calendar.time(best.life)}
         said = {name: answer.shells[name][factor] for name in due}
 
         def slack(name: str, amount: float, of_npv: float = best.slack) -> float:
@@ -98,11 +98,3 @@ def verify_npv(answer: Answer, pits: Pits) -> Rule:
 
         differences += unlike(f"revenue factor {factor_text(factor)}", said, due, slack)
     return rule("years", "the NPVs follow from them", differences)
-
-
-def mean(start: float, end: float, rate: float) -> float:
-    """Returns the mean of (1 + rate)^-t for t from start to end."""
-    if rate == 0 or end - start < 1e-12:
-        return (1 + rate) ** -end
-    force = math.log(1 + rate)
-    return ((1 + rate) ** -start - (1 + rate) ** -end) / (force * (end - start))

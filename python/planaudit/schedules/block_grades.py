@@ -9,8 +9,8 @@ from typing import Any
 import numpy as np
 
 from planaudit.inputs.answer import Answer
-from planaudit.inputs.matching import YEAR
 from planaudit.inputs.project import FeedGrade
+from planaudit.inputs.tables import YEAR
 from planaudit.schedules.limits import Shares, shares_of
 from planaudit.schedules.lots import grade_name
 

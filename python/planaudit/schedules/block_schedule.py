@@ -14,12 +14,13 @@ import pandas as pd
 from planaudit.blocks import constraints as fixed
 from planaudit.ground import slopes as walls
 from planaudit.inputs.answer import Answer
-from planaudit.inputs.matching import YEAR
+from planaudit.inputs.tables import YEAR
 from planaudit.money.period_costs import capex, fixed_cost, has_costs, premiums
 from planaudit.rules import TOLD, Rule, rule
 from planaudit.schedules import block_grades, bounds, methods as ways_table
 from planaudit.schedules.discounts import discount, present_costs
 from planaudit.schedules.limits import amounts_of, limits_of, minima_of, shares_of
+from planaudit.schedules.periods import counted
 from planaudit.schedules.pushback_schedule import CENT
 
 FILE, CASE = "block_schedule.json", "block"
@@ -28,7 +29,7 @@ SLIGHT = 1e-6
 
 def verify(answer: Answer) -> list[Rule]:
     """Verifies constraints, order, limits and values."""
-    told = json.loads((answer.folder / FILE).read_text(encoding="utf-8"))
+    told = counted(json.loads((answer.folder / FILE).read_text(encoding="utf-8")), answer.project)
     flows = flows_of(answer)
     sums = flows.groupby(answer.said[YEAR].to_numpy()).sum()
     rules = [
@@ -111,8 +112,9 @@ def verify_limits(answer: Answer, told: dict[str, Any], sums: pd.DataFrame) -> R
     expected = {"ramp_up": list(rules.ramp_up) if rules else [1.0]} | (
         {"years": rules.years} if rules and rules.years else {}
     )
+    said = told | {"years": answer.project.shells.calendar.end(told["years"])}
     differences += [
-        f"{FILE}: {name} {told[name]} for {amount}" for name, amount in expected.items() if told[name] != amount
+        f"{FILE}: {name} {said[name]} for {amount}" for name, amount in expected.items() if said[name] != amount
     ]
     due = {name: base for name, base, _ in minima_of(answer)}
     if told.get("least", {}) != due:

@@ -16,13 +16,13 @@ import pandas as pd
 
 from planaudit.blocks import constraints
 from planaudit.inputs.answer import Answer
-from planaudit.inputs.tables import TABLES
+from planaudit.inputs.tables import TABLES, read_prices
 from planaudit.money.period_costs import premiums
 from planaudit.rules import Rule, rule
 from planaudit.schedules import block_grades
 from planaudit.schedules.closure import Closure, maximum_closure
 from planaudit.schedules.discounts import discount, present_costs
-from planaudit.schedules.limits import amounts_of, limits_of, minima_of, shares_of
+from planaudit.schedules.limits import amounts_of, at, limits_of, minima_of, shares_of
 from planaudit.schedules.precedences import Precedences, precedences_of
 from planaudit.schedules.pushback_schedule import CENT
 
@@ -44,7 +44,7 @@ def verify(answer: Answer, told: dict[str, Any]) -> Rule:
     path = answer.folder / TABLES / FILE
     if not path.is_file():
         return rule(NAME, HOLDS, [f"{FILE} is missing"])
-    prices = pd.read_csv(path, float_precision="round_trip", dtype={"limit": str, "side": str})
+    prices = read_prices(path)
     if prices.empty:
         differences = [] if told["upper_bound"] == 0 else [f"{told['upper_bound']:.12g} for 0: {FILE} has no rows"]
         return rule(NAME, HOLDS, differences)
@@ -222,10 +222,6 @@ class Bound:
         assert self.arcs is not None
         count = len(self.arcs)
         return bool((one[2].inside[-count:] <= other[2].inside[:count]).all())
-
-
-def at(ramp: tuple[float, ...], year: int) -> float:
-    return ramp[min(year, len(ramp)) - 1]
 
 
 def is_of_all(answer: Answer, name: str) -> bool:

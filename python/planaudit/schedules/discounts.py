@@ -1,21 +1,18 @@
-"""Discount factors of years."""
+"""Discount factors of the periods of a schedule, and what they cost."""
 
 from __future__ import annotations
 
 from planaudit.inputs.answer import Answer
+from planaudit.money.discounts import at_start, factor
 from planaudit.money.period_costs import capex, fixed_cost
-from planaudit.pits import years
 
 
 def discount(answer: Answer, year: int) -> float:
-    """Returns the discount factor of the cash flow of a year, from 1."""
-    settings = answer.project.shells
-    if settings.discounting == "continuous":
-        return years.mean(year - 1, year, settings.discount_rate)
-    return (1 + settings.discount_rate) ** -(year - (0.5 if settings.discounting == "mid_year" else 0.0))
+    """Returns the discount factor of the cash flow of a period, from 1."""
+    return factor(answer.project, year)
 
 
 def present_costs(answer: Answer, year: int) -> float:
-    """Returns fixed cost and capex of a whole year, discounted."""
+    """Returns fixed cost and capex of a whole period, discounted."""
     of_year = fixed_cost(answer.project, year) * discount(answer, year)
-    return of_year + capex(answer.project, year) * (1 + answer.project.shells.discount_rate) ** -(year - 1)
+    return of_year + capex(answer.project, year) * at_start(answer.project, year)

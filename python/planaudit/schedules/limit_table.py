@@ -123,8 +123,10 @@ class LimitTable:
     def bounds(self, name: str, year: int) -> tuple[float, float]:
         """Returns minimum and maximum of a year; nan where there is none."""
         if name.startswith(ADVANCE):
-            assert self.answer.project.schedule is not None
-            return np.nan, float(self.answer.project.schedule.vertical_advance_rate or np.nan)
+            project = self.answer.project
+            assert project.schedule is not None
+            rate = float(project.schedule.vertical_advance_rate or np.nan)
+            return np.nan, rate * project.shells.calendar.length(year)
         if name.startswith(STOCK):
             return np.nan, self.capacities[name.removeprefix(STOCK)]
         least, most = (float(values[year - 1]) for values in self.limits[name])

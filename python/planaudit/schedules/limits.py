@@ -2,7 +2,7 @@
 
 from __future__ import annotations
 
-from collections.abc import Iterator
+from collections.abc import Iterator, Sequence
 
 import numpy as np
 import pandas as pd
@@ -58,13 +58,21 @@ def quantity(answer: Answer, number: int, shares: Shares) -> np.ndarray:
 def limits_of(answer: Answer) -> Iterator[tuple[str, tuple[float, ...], float]]:
     """Yields the name of an amount, its limit, and the share of it that each year has; the last share continues."""
     project = answer.project
-    by_year = maxima_of_periods(project, years_listed(project)) if project.shells.periods else {}
+    by_year = maxima_of_periods(project, project.shells.calendar.count) if project.shells.periods else {}
     for name, ramp, most in capacities_of(answer):
-        yield name, tuple(by_year[name] / most) if name in by_year else ramp, most
+        yield name, of_lengths(project, tuple(by_year[name] / most) if name in by_year else ramp), most
 
 
-def years_listed(project: Project) -> int:
-    return sum(period.years for period in project.shells.periods)
+def of_lengths(project: Project, per_year: Sequence[float]) -> tuple[float, ...]:
+    """Returns what each period has of a limit per year; the last one continues."""
+    calendar = project.shells.calendar
+    numbers = range(1, 1 + max(len(per_year), calendar.count))
+    return tuple(at(per_year, number) * calendar.length(number) for number in numbers)
+
+
+def at(per_year: Sequence[float], number: int) -> float:
+    """Returns the value of a period, from 1; the last one continues."""
+    return float(per_year[min(number, len(per_year)) - 1])
 
 
 def capacities_of(answer: Answer) -> Iterator[tuple[str, tuple[float, ...], float]]:
@@ -87,12 +95,13 @@ def capacities_of(answer: Answer) -> Iterator[tuple[str, tuple[float, ...], floa
 def minima_of(answer: Answer) -> list[tuple[str, float, tuple[float, ...]]]:
     """Returns the name of an amount with a minimum, this without periods, and that of each year; the last one continues."""
     project, rules = answer.project, answer.project.schedule
-    own = minima_of_periods(project, years_listed(project)) if project.shells.periods else {}
+    own = minima_of_periods(project, project.shells.calendar.count) if project.shells.periods else {}
     base = dict.fromkeys(own, 0.0) | dict(least_of(answer))
     found = []
     for name, least in base.items():
         ramp = rules.ramp_up if rules and name.startswith("feed_tonnes") else (1.0,)
-        found.append((name, least, tuple(own[name]) if name in own else tuple(least * share for share in ramp)))
+        per_year = tuple(own[name]) if name in own else tuple(least * share for share in ramp)
+        found.append((name, least, of_lengths(project, per_year)))
     return found
 
 

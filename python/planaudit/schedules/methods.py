@@ -26,7 +26,8 @@ def differences(answer: Answer, told: dict[str, dict[str, Any]]) -> list[str]:
     found = []
     for way, record in told.items():
         years = answer.years[answer.years["case"] == way]
-        expected = record | {"years": len(years), "optimality_gap": below(record["npv"], record["upper_bound"])}
+        life = answer.project.shells.calendar.end(len(years))
+        expected = record | {"years": life, "optimality_gap": below(record["npv"], record["upper_bound"])}
         expected |= {name: years[column].sum() for name, column in SUMS.items()}
         expected |= {name: years[name].sum() for name in years.columns if name.startswith("recovered_")}
         if set(said.columns) != set(expected):

@@ -1,8 +1,8 @@
-"""The limits that `[[periods]]` sets for years of a schedule."""
+"""The periods of a schedule: how many there are, and the limits that `[[periods]]` sets for them."""
 
 from __future__ import annotations
 
-from typing import Optional
+from typing import Any, Optional
 
 import numpy as np
 
@@ -15,8 +15,17 @@ def period_of(project: Project, year: int) -> Period:
     return found
 
 
+def counted(record: dict[str, Any], project: Project) -> dict[str, Any]:
+    """Returns the record of a schedule, or of one of its methods, in which `years` is the number of periods. Raises ValueError if its years are
+    not those of its periods."""
+    count = record.get("periods", record["years"])
+    if project.shells.calendar.word == "period" and abs(project.shells.calendar.end(count) - record["years"]) > 1e-5:
+        raise ValueError(f"{count} periods last {project.shells.calendar.end(count):.10g} years, not {record['years']}")
+    return record | {"years": count}
+
+
 def maxima_of_periods(project: Project, years: int) -> dict[str, np.ndarray]:
-    """Returns the maximum in each year of each amount whose capacity some period sets."""
+    """Returns the maximum per year, in each period, of each amount whose capacity some period sets."""
     rules, shells, periods = project.schedule, project.shells, project.shells.periods
     numbers, found = range(1, years + 1), {}
     if any(period.mining_capacity is not None for period in periods):
@@ -37,7 +46,7 @@ def maxima_of_periods(project: Project, years: int) -> dict[str, np.ndarray]:
 
 
 def minima_of_periods(project: Project, years: int) -> dict[str, np.ndarray]:
-    """Returns the minimum in each year of each amount that has one in some period."""
+    """Returns the minimum per year, in each period, of each amount that has one in some period."""
     base = project.schedule.minimum if project.schedule else {}
     found = {}
     for name in dict.fromkeys(name for period in project.shells.periods for name in period.minimum):

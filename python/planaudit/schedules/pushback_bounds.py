@@ -19,10 +19,10 @@ from scipy.sparse import coo_matrix
 
 from planaudit.inputs.answer import Answer
 from planaudit.inputs.project import Stockpile
-from planaudit.inputs.tables import TABLES
-from planaudit.money.period_costs import capex, fixed_cost, premiums
+from planaudit.inputs.tables import TABLES, read_prices
+from planaudit.money.period_costs import premiums
 from planaudit.rules import Rule, rule
-from planaudit.schedules.discounts import discount
+from planaudit.schedules.discounts import discount, present_costs
 from planaudit.schedules.lots import BlockAmounts
 
 FILE = "bound.csv"
@@ -54,7 +54,7 @@ def verify(answer: Answer, told: dict[str, Any], limits: dict[str, tuple[np.ndar
         return rule(NAME, "not recomputed: the run was interrupted before there was one", [])
     if not path.is_file():
         return rule(NAME, HOLDS, [f"{FILE} is missing"])
-    prices = pd.read_csv(path, float_precision="round_trip", dtype={"limit": str, "side": str})
+    prices = read_prices(path)
     bound = Bound(answer, prices, int(told["years"]), limits)
     differences = list(bound.unlike_limits())
     if not differences:
@@ -86,7 +86,7 @@ class Bound:
             found |= {(name, MIN): least} if (least > 0).any() else {}
         rules = self.answer.project.schedule
         if rules and rules.vertical_advance_rate:
-            rate = np.full(self.years, float(rules.vertical_advance_rate))
+            rate = float(rules.vertical_advance_rate) * self.answer.project.shells.calendar.lengths(self.years)
             found |= {(f"{ADVANCE}{number}", MAX): rate for number in np.unique(self.benches["pushback"])}
         for it in self.blocks.stockpiles:
             found |= {(f"{STOCK}{it.name}", MAX): np.full(self.years, it.capacity)} if it.capacity else {}
@@ -216,7 +216,7 @@ class Bound:
         if rules and rules.vertical_advance_rate:
             pushback = self.benches["pushback"].to_numpy()
             above = before & (pushback[:, None] == pushback)
-            sunk = float(rules.vertical_advance_rate) * np.arange(1, self.years + 1)
+            sunk = float(rules.vertical_advance_rate) * self.answer.project.shells.calendar.lengths(self.years).cumsum()
             found = np.minimum(found, left_over(np.ones(len(self.benches)), above, sunk))
         return found
 
@@ -231,10 +231,7 @@ class Bound:
     @property
     def of_running(self) -> float:
         """What running as many years as is best earns: the prices of limits that show it, less what the years cost."""
-        project, rate = self.answer.project, self.answer.project.shells.discount_rate
-        fixed = np.array([fixed_cost(project, year) for year in range(1, self.years + 1)]) * self.discounts
-        spent = np.array([capex(project, year) * (1 + rate) ** -(year - 1) for year in range(1, self.years + 1)])
-        earned = -fixed - spent
+        earned = -np.array([present_costs(self.answer, year) for year in range(1, self.years + 1)])
         for (name, side), prices in self.by_price.items():
             if side == RUNNING:
                 earned = earned + prices * self.limits[name, MAX]

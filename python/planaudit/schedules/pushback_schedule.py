@@ -22,7 +22,7 @@ from planaudit.schedules.discounts import discount, present_costs
 from planaudit.schedules.limits import least_of
 from planaudit.schedules.lots import grade_name
 from planaudit.schedules.material_flow import MaterialFlow
-from planaudit.schedules.periods import maxima_of_periods, minima_of_periods
+from planaudit.schedules.periods import counted, maxima_of_periods, minima_of_periods
 
 FILE = "schedule.json"
 CENT, SLIGHT = 0.01, 1e-6
@@ -63,7 +63,8 @@ class Way:
 
 def verify(answer: Answer) -> list[Rule]:
     """Verifies order, amounts, flows, limits, values, the bound, and the years of blocks."""
-    told = json.loads((answer.folder / FILE).read_text(encoding="utf-8"))
+    told = counted(json.loads((answer.folder / FILE).read_text(encoding="utf-8")), answer.project)
+    told["methods"] = {name: counted(method, answer.project) for name, method in told["methods"].items()}
     flow, strange = material_flow.read(answer)
     sums = sums_of_benches(flow)
     misplaced, rows = levelled(answer, told)
@@ -105,8 +106,8 @@ def sums_of_benches(flow: MaterialFlow) -> pd.DataFrame:
 
 
 def by_year(answer: Answer, years: int) -> dict[str, tuple[np.ndarray, np.ndarray]]:
-    """Returns the minimum and maximum of each limited amount in each year."""
-    rules, nothing = answer.project.schedule, np.zeros(years)
+    """Returns the minimum and maximum of each limited amount in each period."""
+    rules, nothing, lengths = answer.project.schedule, np.zeros(years), answer.project.shells.calendar.lengths(years)
     ramp_up = rules.ramp_up if rules else (1.0,)
     ramp = np.array([ramp_up[min(year, len(ramp_up) - 1)] for year in range(years)])
 
@@ -120,7 +121,7 @@ def by_year(answer: Answer, years: int) -> dict[str, tuple[np.ndarray, np.ndarra
     )
     for name, least_of_years in minima.items():
         found[name] = least_of_years, found.get(name, (nothing, np.full(years, np.inf)))[1]
-    return found
+    return {name: (least * lengths, most * lengths) for name, (least, most) in found.items()}
 
 
 def maxima_of(answer: Answer) -> dict[str, float]:
@@ -223,8 +224,9 @@ def unlike_limits(way: Way, told: dict[str, Any]) -> Iterator[str]:
         "vertical_advance_rate": rules and rules.vertical_advance_rate,
     }
     due |= {"years": rules.years} if rules and rules.years else {}
+    said = told | {"years": way.answer.project.shells.calendar.end(told["years"])}
     yield from (
-        f"schedule.json: {name} {told[name]} for {amount}" for name, amount in due.items() if told[name] != amount
+        f"schedule.json: {name} {said[name]} for {amount}" for name, amount in due.items() if said[name] != amount
     )
 
 
@@ -249,7 +251,8 @@ def verify_limits(ways: list[Way], told: dict[str, Any], flow: MaterialFlow) -> 
         sunk = way.rows.groupby(["pushback", "year"])["share"].sum()
         differences += [
             f"{way.name}: pushback {at[0]} advances {by:.9g} benches in year {at[1]}"
-            for at, by in sunk[sunk > (deepest or math.inf) + SLIGHT].items()
+            for at, by in sunk.items()
+            if by > (deepest or math.inf) * way.answer.project.shells.calendar.length(at[1]) + SLIGHT
         ]
         if way.last > told["years"]:
             differences.append(f"{way.name}: material is mined in year {way.last}")

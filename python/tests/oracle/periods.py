@@ -1,4 +1,4 @@
-"""What years have of their own: capacities, prices, fixed costs and capital."""
+"""What periods have of their own: their length, capacities, prices, fixed costs and capital. Unless an entry says otherwise they are years."""
 
 from __future__ import annotations
 
@@ -9,28 +9,44 @@ from .mine import Mine
 
 
 def period(mine: Mine, year: int) -> dict[str, Any]:
-    """The keys of the period of a year, from 1; the last period continues."""
+    """The entry of a period, from 1; the last one continues."""
     found: dict[str, Any] = {}
     for found in mine.project.get("periods", []):
-        year -= found.get("years", 1)
+        year -= count_of(found)
         if year <= 0:
             return found
     return found
 
 
+def count_of(entry: dict[str, Any]) -> int:
+    """How many periods an entry has."""
+    months = entry.get("period_months", 12)
+    return int(entry.get("years", max(1, months // 12)) * 12 // months)
+
+
+def length_of(mine: Mine, year: int) -> Fraction:
+    """The length of a period in years."""
+    return Fraction(period(mine, year).get("period_months", 12), 12)
+
+
+def start_of(mine: Mine, year: int) -> Fraction:
+    """When a period starts, in years."""
+    return sum((length_of(mine, before) for before in range(1, year)), Fraction(0))
+
+
 def most_of(mine: Mine, year: int) -> list[Fraction]:
-    """The capacity of each process in a year."""
-    own = period(mine, year)
+    """The capacity of each process in a period."""
+    own, length = period(mine, year), length_of(mine, year)
     several = mine.project.get("processes", [])
     if several:
-        return [Fraction(own.get("capacity", {}).get(it["name"], it["capacity"])) for it in several]
-    return [Fraction(own.get("processing_capacity", mine.project["shells"]["processing_capacity"]))]
+        return [length * Fraction(own.get("capacity", {}).get(it["name"], it["capacity"])) for it in several]
+    return [length * Fraction(own.get("processing_capacity", mine.project["shells"]["processing_capacity"]))]
 
 
 def mining_of(mine: Mine, year: int) -> Optional[Fraction]:
     """The mining capacity of a year; None without one."""
     found = period(mine, year).get("mining_capacity", mine.project["shells"].get("mining_capacity"))
-    return None if found is None else Fraction(found)
+    return None if found is None else length_of(mine, year) * Fraction(found)
 
 
 def price_of(mine: Mine, metal: dict[str, Any], year: int) -> Any:
@@ -40,9 +56,8 @@ def price_of(mine: Mine, metal: dict[str, Any], year: int) -> Any:
 
 
 def fixed_of(mine: Mine, year: int) -> Fraction:
-    return Fraction(
-        period(mine, year).get("fixed_cost_per_year", mine.project["economics"].get("fixed_cost_per_year", 0))
-    )
+    of_year = period(mine, year).get("fixed_cost_per_year", mine.project["economics"].get("fixed_cost_per_year", 0))
+    return length_of(mine, year) * Fraction(of_year)
 
 
 def capex_of(mine: Mine, year: int) -> Fraction:
@@ -53,11 +68,11 @@ def capex_of(mine: Mine, year: int) -> Fraction:
     )
     for it in mine.project.get("periods", []):
         found += Fraction(it.get("capex", 0)) if first == year else 0
-        first += it.get("years", 1)
+        first += count_of(it)
     return found
 
 
 def years_listed(mine: Mine) -> int:
     """How many years differ."""
     prices = max(len(metal.get("prices", [])) for metal in mine.project["metals"])
-    return max(1, prices, sum(it.get("years", 1) for it in mine.project.get("periods", [])))
+    return max(1, prices, sum(count_of(it) for it in mine.project.get("periods", [])))

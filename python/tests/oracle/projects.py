@@ -199,5 +199,9 @@ def periods(rng: Random, several: int, text: str) -> list[str]:
         lines.append("" if "\nprices" in text else pick(rng, "", f"prices = {{ copper = {prices['copper']} }}"))
         lines.append(pick(rng, "", "fixed_cost_per_year = 450"))
         lines.append("" if "\ncapex" in text else pick(rng, "", "capex = 1234.5"))
+        is_by_year = "\nprices" in text or "\ncapex" in text
+        lines.append("" if is_by_year else pick(rng, "", "", "period_months = 6", "period_months = 24"))
+        if "period_months = 24" in lines and "years = 2" not in lines and rng.random() < 0.5:
+            lines.append("years = 4")
         found.append("\n".join(filter(None, lines)))
     return found

@@ -9,6 +9,7 @@ from typing import Any, Optional
 
 from .destinations import Amounts, Ore
 from .mine import Mine, Place
+from .periods import length_of, start_of
 from .pits import is_mineralised_waste, is_processed, value_at
 from .years import CASH, FEED, TOTAL, Year, amounts_of, best_years, earned, npv, pieces_of
 
@@ -81,7 +82,8 @@ class Shells:
         of_cases = self.cases(number)
         row = {"revenue_factor": float(factor)} | totals(mine, pit, factor)
         row |= {f"npv_{case}": npv(mine, years) for case, years in of_cases.items()}
-        row["years"] = float(len(of_cases["best"]) - 1 + of_cases["best"][-1].length)
+        best = of_cases["best"]
+        row["years"] = float(start_of(mine, len(best)) + best[-1].length * length_of(mine, len(best)))
         row["value_at_revenue_factor"] = float(sum(value_at(mine, place, factor) for place in pit))
         processed = sum(mine.blocks[it].feed for it in pit if is_processed(mine, it, factor))
         return row | {"processed_at_revenue_factor": float(processed)}

@@ -10,7 +10,7 @@ from typing import Any, Optional
 
 from .destinations import Amounts, Limits, Ore, premiums
 from .mine import Mine, Place
-from .periods import capex_of, fixed_of, mining_of
+from .periods import capex_of, fixed_of, length_of, mining_of, start_of
 
 TOTAL, FEED, CASH, MINING = "total_tonnes", "feed_tonnes", "cash_flow", "mining"
 
@@ -51,7 +51,7 @@ def capacities(mine: Mine, ore: Ore) -> list[Limits]:
 
 @dataclass
 class Year:
-    """What is mined in a year, and how long the mine runs in it."""
+    """What is mined in a year, or in another period, and in which part of it the mine runs."""
 
     length: Fraction = Fraction(1)
     amounts: Amounts = field(default_factory=dict)
@@ -115,12 +115,25 @@ def pieces_of(mine: Mine, shells: list[set[Place]], ore: Ore, lag: Optional[int]
     return [part for _, part in sorted(parts, key=lambda it: it[0])]
 
 
-def discount(rate: float, how: str, start: float, end: float) -> float:
-    """The mean discount factor of cash from start to end, within one year."""
-    if how == "end_of_year":
-        return float((1 + rate) ** -(math.floor(start) + 1))
-    if how == "mid_year":
-        return float((1 + rate) ** -(math.floor(start) + 0.5))
+def discount(mine: Mine, number: int, part: Fraction) -> float:
+    """The mean discount factor of the cash of the first part of a period, which flows evenly: in each year, or shorter period, at its end or
+    middle."""
+    shells = mine.project["shells"]
+    rate, how = float(shells["discount_rate"]), shells.get("discounting", "end_of_year")
+    begin, length = start_of(mine, number), length_of(mine, number)
+    if how == "continuous":
+        return between(rate, float(begin), float(begin + part * length))
+    unit = min(length, Fraction(1))
+    found = weights = 0.0
+    for step in range(math.ceil(length / unit)):
+        weight = float(min(max(part * length - step * unit, Fraction(0)), unit)) or (0.0 if step else 1e-9)
+        moment = begin + (step + Fraction(1, 1 if how == "end_of_year" else 2)) * unit
+        found, weights = found + weight * float((1 + rate) ** -float(moment)), weights + weight
+    return found / weights
+
+
+def between(rate: float, start: float, end: float) -> float:
+    """The mean discount factor of cash that flows evenly from start to end."""
     force = math.log(1 + rate)
     if end == start or not force:
         return math.exp(-force * start)
@@ -137,17 +150,16 @@ def cash_of(mine: Mine, year: int, amounts: Amounts) -> Fraction:
 
 def earned(mine: Mine, years: list[Year]) -> list[dict[str, float]]:
     """The written amounts of each year, with period costs and the discounted cash flow."""
-    shells = mine.project["shells"]
-    rate, how = float(shells["discount_rate"]), shells.get("discounting", "end_of_year")
+    rate = float(mine.project["shells"]["discount_rate"])
     some = any(year.amounts.get(TOTAL) for year in years)
     found = []
     for number, year in enumerate(years, 1):
         fixed = fixed_of(mine, number) * year.length
         spent = capex_of(mine, number) if some else Fraction(0)
         cash = cash_of(mine, number, year.amounts) - fixed
-        worth = float(cash) * discount(rate, how, number - 1, number - 1 + float(year.length))
+        worth = float(cash) * discount(mine, number, year.length)
         row: dict[str, Any] = {name: float(year.amounts.get(name, 0)) for name in (TOTAL, FEED)}
         row |= {"fixed_cost": float(fixed), "capex": float(spent), CASH: float(cash - spent)}
-        row["discounted_cash_flow"] = worth - float(spent) * (1 + rate) ** -(number - 1)
+        row["discounted_cash_flow"] = worth - float(spent) * (1 + rate) ** -float(start_of(mine, number))
         found.append(row)
     return found

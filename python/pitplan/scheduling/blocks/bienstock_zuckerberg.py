@@ -177,7 +177,7 @@ def owed_by(nodes: Nodes, prices: NDArray[np.float64]) -> str:
     problem, told = nodes.problem, []
     for limit, by_year in zip(problem.limits, prices):
         years = [str(year + 1) for year in np.flatnonzero(by_year < -SLIGHT)]
-        told += [f"{limit.name} in year{'s' * (len(years) > 1)} {', '.join(years)}"] if years else []
+        told += [f"{limit.name} in {problem.word}{'s' * (len(years) > 1)} {', '.join(years)}"] if years else []
     told += [due.name for due, by_year in zip(problem.dues, prices[len(problem.limits) :]) if by_year[0] < -SLIGHT]
     return "; ".join(told) or "all limits together"
 

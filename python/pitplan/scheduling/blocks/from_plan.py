@@ -17,7 +17,7 @@ from pitplan.pits.best_worst_case import year_discounts
 from pitplan.plan import MILLION, Plan
 from pitplan.pushbacks.bench_table import CASH, ORE, ROCK
 from pitplan.scheduling.bench_sequencing import Limits, costs_of_years
-from pitplan.scheduling.limits import SUM, all_limits_of
+from pitplan.scheduling.limits import SUM, all_limits_of, periods_of
 from pitplan.slopes import closure
 from pitplan.slopes.arcs import ABSENT, slices
 
@@ -78,7 +78,9 @@ def of_plan(plan: Plan) -> PlannedBlocks:
     pit = pit_of(best[cells], needs, forced)
     held = {name: amounts[pit, flows[CASH][pit].argmax(axis=1)] for name, amounts in flows.items()}
     demand_small(plan, cells[pit], held, limits)
-    years = rules.years or years_of({name: amounts.sum() for name, amounts in held.items()}, limits, project)
+    years = periods_of(project, rules) or years_of(
+        {name: amounts.sum() for name, amounts in held.items()}, limits, project
+    )
     above = [Limit(name, flows[name], most) for name, most in zip(limits.most, limits.of_years(years).T)]
     # What yields nothing there is not sent to a process for the sake of a least amount.
     below = [
@@ -91,6 +93,7 @@ def of_plan(plan: Plan) -> PlannedBlocks:
         limits=(*above, *below, *(it for grade in grades for it in grade.limits_of(cells, pays.shape[1], years))),
         dues=dues_of(forced, pays.shape[1]),
         costs=costs_of_years(money, project.shells, years) if money.columns else None,
+        word=project.shells.calendar.word,
     )
     return PlannedBlocks(plan, cells, destinations_of(project), limits, flows, problem, pays, tuple(grades))
 

@@ -13,6 +13,7 @@ from typing import Optional
 import numpy as np
 from numpy.typing import NDArray
 
+from pitplan.config.periods import YEAR
 from pitplan.errors import PlanError
 
 
@@ -92,6 +93,7 @@ class BlockProblem:
     limits  what a year may hold
     dues    what all years must hold together
     costs   what each year up to the last in which a block is mined costs, discounted, in money, 0 or more: shape (years,); None: nothing
+    word    what messages call a year: period if some are not years
     """
 
     values: NDArray[np.float64]
@@ -99,6 +101,7 @@ class BlockProblem:
     limits: tuple[Limit, ...]
     dues: tuple[Due, ...] = ()
     costs: Optional[NDArray[np.float64]] = None
+    word: str = YEAR
 
     @property
     def running_costs(self) -> NDArray[np.float64]:
@@ -150,13 +153,13 @@ class BlockProblem:
         """The same problem with its blocks in an order."""
         limits = tuple(replace(it, amounts=it.amounts[order]) for it in self.limits)
         dues = tuple(replace(it, amounts=it.amounts[order]) for it in self.dues)
-        return BlockProblem(self.values[order], self.needs.in_order(order), limits, dues, self.costs)
+        return BlockProblem(self.values[order], self.needs.in_order(order), limits, dues, self.costs, self.word)
 
     def of_blocks(self, kept: NDArray[np.bool_]) -> BlockProblem:
         """The problem of these blocks alone, which need none of the others."""
         limits = tuple(replace(it, amounts=it.amounts[kept]) for it in self.limits)
         dues = tuple(replace(it, amounts=it.amounts[kept]) for it in self.dues)
-        return BlockProblem(self.values[kept], self.needs.within(kept), limits, dues, self.costs)
+        return BlockProblem(self.values[kept], self.needs.within(kept), limits, dues, self.costs, self.word)
 
 
 def demand_sound(problem: BlockProblem) -> None:
@@ -185,7 +188,7 @@ def demand_sound(problem: BlockProblem) -> None:
         if (floor > limit.most).any():
             year = int((floor > limit.most).argmax())
             raise PlanError(
-                f"{limit.name}: the minimum of year {year + 1} is {floor[year]:.10g}, above its maximum of {limit.most[year]:.10g}"
+                f"{limit.name}: the minimum of {problem.word} {year + 1} is {floor[year]:.10g}, above its maximum of {limit.most[year]:.10g}"
             )
     for due in problem.dues:
         is_whole = due.amounts.shape == shape[:2] and np.isfinite(due.amounts).all() and not (due.amounts < 0).any()

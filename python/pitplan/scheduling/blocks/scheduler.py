@@ -188,7 +188,7 @@ class Search:
         for limit, by_year in zip(problem.limits, sums):
             short = np.flatnonzero(by_year < limit.floor * (1 - HAIR))
             told += [
-                f"year {year + 1} has {by_year[year]:,.10g} of {limit.name} for {limit.floor[year]:,.10g}"
+                f"{problem.word} {year + 1} has {by_year[year]:,.10g} of {limit.name} for {limit.floor[year]:,.10g}"
                 for year in short[:TOLD]
             ]
         told += [

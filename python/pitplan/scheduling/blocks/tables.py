@@ -60,6 +60,10 @@ class ScheduledBlocks:
             found[name] = spread[ids]
         return blocks.assign(**found)
 
+    def time(self, count: int) -> float:
+        """The years that so many periods last."""
+        return self.planned.plan.project.shells.calendar.span(count)
+
     @cached_property
     def years(self) -> pd.DataFrame:
         """A row a year up to the last in which anything is dug, as `shell_tables.years` has of cases."""
@@ -88,7 +92,7 @@ class ScheduledBlocks:
             "npv": self.found.value,
             "upper_bound": self.found.bound,
             "optimality_gap": self.found.gap,
-            "years": self.count,
+            "years": self.time(self.count),
             "blocks": int(dug.sum()),
             "tonnes": self.years[ROCK].sum(),
             "feed_tonnes": self.years[ORE].sum(),
@@ -132,7 +136,8 @@ class ScheduledBlocks:
             "npv": value,
             "upper_bound": bound,
             "gap": round(gap_of(value, bound), 9),
-            "years": self.planned.problem.years,
+            "years": self.time(self.planned.problem.years),
+            **({} if limits.calendar.is_yearly else {"periods": self.planned.problem.years}),
             "limits": limits.most,
             **({"least": limits.least} if limits.least else {}),
             **({"feed": self.feed_limits} if self.planned.grades else {}),
@@ -150,7 +155,7 @@ class ScheduledBlocks:
     @property
     def notes(self) -> list[str]:
         """What a planner should know of the schedule."""
-        found, years = self.found, self.planned.problem.years
+        found, years = self.found, f"{self.time(self.planned.problem.years):.10g}"
         said = [
             f"upper bound on the NPV of any schedule by block of up to {years} years within these limits: {found.bound:,.0f}; "
             f"this schedule has an NPV of {found.value:,.0f}, an optimality gap of {100 * found.gap:.2f} %"

@@ -78,7 +78,7 @@ def keeps(model: FlowModel, dug: NDArray[np.float64]) -> bool:
             return False
     sunk = np.stack([dug[benches.pushback == pushback].sum(axis=0) for pushback in np.unique(benches.pushback)])
     is_within = (limits.amounts(benches).T @ dug).T <= limits.of_years(years) * (1 + TOLERATED)
-    return bool(is_within.all() and (sunk <= limits.vertical_advance_rate + TOLERATED).all())
+    return bool(is_within.all() and (sunk <= limits.sinking(years) + TOLERATED).all())
 
 
 def whole_shares(cumulative: NDArray[np.float64]) -> NDArray[np.float64]:

@@ -71,7 +71,7 @@ def amounts_of(schedule: YearlySchedule, flows: Flows, name: str) -> tuple[Float
     limits, years, nothing = schedule.problem.limits, flows.years, np.full(flows.years, np.nan)
     if name.startswith(ADVANCE):
         mine = schedule.benches.pushback == int(name.removeprefix(ADVANCE))
-        return flows.dug[mine].sum(axis=0), nothing, np.full(years, limits.vertical_advance_rate)
+        return flows.dug[mine].sum(axis=0), nothing, limits.sinking(years)
     if name.startswith(STOCK):
         return of_stockpile(schedule, flows, name)
     most = limits.of_years(max(years, 1))[:years, list(limits.most).index(name)] if name in limits.most else nothing

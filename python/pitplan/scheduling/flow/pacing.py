@@ -124,7 +124,7 @@ class Pacing:
         used = [np.append(0.0, row.cumsum()) for row in takes]
         place, found = 0.0, []
         for year, end in enumerate(tonnes):
-            most = [*limits.of_year(year + 1), *[limits.vertical_advance_rate] * len(sinking)]
+            most = [*limits.of_year(year + 1), *[limits.sinking(year + 1)[-1]] * len(sinking)]
             ends = [float(np.interp(np.interp(place, sums, row) + free, row, sums)) for row, free in zip(used, most)]
             found += ends
             nearest = min(ends, key=lambda it: abs(it - end), default=end)
@@ -193,7 +193,7 @@ class Moves:
         if np.isfinite(limits.vertical_advance_rate):
             for pushback in np.unique(self.model.benches.pushback):
                 sunk = self.between((self.model.benches.pushback == pushback).astype(float), first, last)
-                fits &= sunk <= limits.vertical_advance_rate * (1 + LOOSE)
+                fits &= sunk <= limits.sinking(self.model.years).max() * (1 + LOOSE)
         return first[fits], last[fits]
 
     @property

@@ -195,7 +195,7 @@ class FlowProgramme:
     def advance(self, pushback: int) -> Limit:
         """The limit of the vertical advance of a pushback, in benches."""
         mined = kron(csr_matrix((self.model.benches.pushback == pushback)[None].astype(float)), self.step)
-        most = np.full(self.years, self.model.problem.limits.vertical_advance_rate)
+        most = self.model.problem.limits.sinking(self.years)
         return Limit(f"{ADVANCE}{pushback}", MAX, self.row(mined, None, None, None, None), most)
 
     def capacities_of_stockpiles(self) -> Iterator[Limit]:
@@ -293,8 +293,9 @@ class FlowProgramme:
         )
         assert found.unknowns is not None
         short = found.unknowns[len(given.gain) :].reshape(len(elastic), self.years)
+        word = self.model.problem.limits.calendar.word
         lacks_of = [
-            f"{it.name} in year {year + 1} by {lacks * it.scale:,.6g} of {it.amount[year]:,.6g}"
+            f"{it.name} in {word} {year + 1} by {lacks * it.scale:,.6g} of {it.amount[year]:,.6g}"
             for it, of_years in zip(elastic, short)
             for year, lacks in enumerate(of_years)
             if lacks > LACKING

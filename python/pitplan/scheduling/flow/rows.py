@@ -51,7 +51,7 @@ def furthest(benches: PushbackBenches, limits: Limits, years: int) -> NDArray[np
         result = np.minimum(result, left_over(takes[:, number], benches.before, most[:, number]))
     if np.isfinite(limits.vertical_advance_rate):
         above = benches.before & (benches.pushback[:, None] == benches.pushback)
-        sunk = limits.vertical_advance_rate * np.arange(1, years + 1)
+        sunk = limits.sinking(years).cumsum()
         result = np.minimum(result, left_over(np.ones(len(benches)), above, sunk))
     return result
 
