@@ -15,6 +15,7 @@ from hypothesis import given, strategies as st
 
 import pitplan
 from pitplan import PlanError, verify, write_schedule
+from pitplan.config.periods import Calendar
 from pitplan.config.schedule import Effort
 from pitplan.economics import period_costs
 from pitplan.economics.period_costs import YearlyMoney
@@ -135,7 +136,10 @@ def two_benches(money):
     amounts = np.array([[10, 10, 0, 100], [10, 10, 5, 10]], dtype=float)
     benches = PushbackBenches(np.array([1, 1]), np.array([0, 1]), NAMES, amounts)
     return Problem(
-        benches, Limits({"feed_tonnes": 10}), SimpleNamespace(discount_rate=0.0, discounting="end_of_year"), money
+        benches,
+        Limits({"feed_tonnes": 10}),
+        SimpleNamespace(discount_rate=0.0, discounting="end_of_year", calendar=Calendar()),
+        money,
     )
 
 

@@ -5,6 +5,7 @@ from types import SimpleNamespace
 import numpy as np
 from hypothesis import strategies as st
 
+from pitplan.config.periods import Calendar
 from pitplan.pushbacks.bench_table import PushbackBenches
 from pitplan.scheduling.bench_sequencing import Problem
 from pitplan.scheduling.flow import scheduler
@@ -18,7 +19,8 @@ NAMES = ("total_tonnes", "feed_tonnes", "recovered_copper", "cash_flow")
 
 
 def problem_of(benches, limits, rate=0.1, discounting="end_of_year"):
-    return Problem(benches, limits, SimpleNamespace(discount_rate=rate, discounting=discounting))
+    settings = SimpleNamespace(discount_rate=rate, discounting=discounting, calendar=Calendar())
+    return Problem(benches, limits, settings)
 
 
 def without_flows(problem, years):
