@@ -447,3 +447,20 @@ def test_where_no_block_pays_nothing_is_mined_which_is_an_answer(plan_folder):
     made = tables.make(Plan.from_project(project))
     axes = block_schedule.plot(made, Figure().subplots(1, 2))
     assert [text.get_text() for text in axes[0].texts] == ["nothing is mined"]
+
+
+def test_one_process_and_two_with_half_its_capacity_each_earn_the_same(plan_folder):
+    """The ore of two pillars fills the capacity of a year, in one mill or in two halves."""
+    text = (
+        named_mill()
+        .replace("mining_capacity = 200", "mining_capacity = 400")
+        .replace("capacity = 100", "capacity = 200")
+    )
+    mill = text[text.index("[[processes]]") :]
+    half = "".join(mill.replace('"mill"', f'"{name}"').replace("capacity = 200", "capacity = 100") for name in "ab")
+    one, _ = scheduled(plan_folder, text=text)
+    two, folder = scheduled(plan_folder, text=text.replace(mill, half))
+    assert two["npv"] == pytest.approx(one["npv"]) and two["upper_bound"] == pytest.approx(one["upper_bound"])
+    found = pd.read_csv(folder / "tables/blocks.csv").set_index("name").loc[["b0-0-0", "b1-0-0"]]
+    assert (found["share_a"] + found["share_b"]).tolist() == pytest.approx([1, 1])
+    assert found[["share_a", "share_b"]].sum().tolist() == pytest.approx([1, 1])
