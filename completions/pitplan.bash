@@ -17,7 +17,7 @@ _pitplan() {
     local command=${COMP_WORDS[1]} before=${COMP_WORDS[COMP_CWORD - 1]} options="" valued="" given=0 k
     COMPREPLY=()
     if [ "$COMP_CWORD" -eq 1 ]; then
-        _pitplan_words "init check completion prepare shells pit pushbacks schedule sensitivity scenarios gather scenario report view export audit verify convert --version -h --help"
+        _pitplan_words "init check completion prepare shells pit pushbacks schedule sensitivity compare scenarios gather scenario report view export audit verify convert --version -h --help"
         return
     fi
     case "$command $before" in
@@ -27,7 +27,7 @@ _pitplan() {
     "check --set" | "prepare --set" | "shells --set" | "pit --set" | "pit --revenue-factor" | "pit --rf" | "pushbacks --set" | "schedule --set" | "sensitivity --set" | "sensitivity --on" | "sensitivity --workers" | "scenarios --set" | "scenarios --on" | "scenarios --workers" | "scenarios --revenue-factor" | "scenarios --rf" | "gather --revenue-factor" | "gather --rf" | "export --revenue-factor" | "export --rf" | "audit --revenue-factor" | "audit --rf")
         return
         ;;
-    "prepare --out" | "shells --out" | "pit --out" | "pushbacks --out" | "schedule --out" | "sensitivity --out" | "scenarios --out" | "report --sensitivity" | "audit --out" | "convert --out")
+    "prepare --out" | "shells --out" | "pit --out" | "pushbacks --out" | "schedule --out" | "sensitivity --out" | "compare --out" | "scenarios --out" | "report --sensitivity" | "audit --out" | "convert --out")
         _pitplan_paths folder && return
         ;;
     "shells --solver" | "pit --solver" | "pushbacks --solver" | "schedule --solver" | "sensitivity --solver" | "scenarios --solver")
@@ -59,6 +59,7 @@ _pitplan() {
     pushbacks) options="--set --out --quiet --no-verify --json --no-figures --solver -h --help" valued="--set --out --solver" ;;
     schedule) options="--set --out --quiet --no-verify --json --no-figures --solver --by -h --help" valued="--set --out --solver --by" ;;
     sensitivity) options="--set --out --quiet --no-verify --json --no-figures --solver --on --workers -h --help" valued="--set --out --solver --on --workers" ;;
+    compare) options="--out --quiet --json --no-figures --no-bridge -h --help" valued="--out" ;;
     scenarios) options="--set --out --quiet --no-verify --no-figures --solver --by --on --workers --revenue-factor --rf --partial -h --help" valued="--set --out --solver --by --on --workers --revenue-factor --rf" ;;
     gather) options="--quiet --no-verify --no-figures --revenue-factor --rf --partial -h --help" valued="--revenue-factor --rf" ;;
     scenario) options="--quiet -h --help" valued="" ;;
@@ -90,6 +91,7 @@ _pitplan() {
         "pushbacks "0) _pitplan_paths project && return ;;
         "schedule "0) _pitplan_paths project && return ;;
         "sensitivity "0) _pitplan_paths project && return ;;
+        "compare "*) _pitplan_paths folder && return ;;
         "scenarios "0) _pitplan_paths project && return ;;
         "gather "0) _pitplan_paths folder && return ;;
         "scenario "0) _pitplan_paths folder && return ;;

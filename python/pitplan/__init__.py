@@ -27,6 +27,7 @@ Functions write what the subcommands write, by default into the output folder of
     pushbacks = pitplan.write_pushbacks("project.toml")    # one row per pushback
     methods = pitplan.write_schedule("project.toml")       # one row per method: rule, lp
     cases = pitplan.write_sensitivity("project.toml")      # one row per case: parameters changed by a share
+    found = pitplan.compare(["out", "other"])              # found.inputs, found.results, found.periods, found.bridge
     found = pitplan.write_scenarios("project.toml")        # found.probability, found.table, found.quantiles; found.notes
     each = pitplan.write_scenarios("project.toml", request=pitplan.Request(by="block"))     # each.schedules
 
@@ -69,6 +70,7 @@ if TYPE_CHECKING:
     from .commands.audit import audit
     from .commands.audited import Rule
     from .commands.check import check
+    from .commands.compare import Comparison, compare
     from .commands.export import write_export
     from .commands.pit import write_pit
     from .commands.pushbacks import write_pushbacks
@@ -105,6 +107,7 @@ MODULES = {
     "commands.audit": ("audit",),
     "commands.audited": ("Rule",),
     "commands.check": ("check",),
+    "commands.compare": ("Comparison", "compare"),
     "commands.export": ("write_export",),
     "commands.pit": ("write_pit",),
     "commands.pushbacks": ("write_pushbacks",),
@@ -133,6 +136,7 @@ __all__ = [
     "BlockModel",
     "BlockSchedule",
     "BudgetUsedUp",
+    "Comparison",
     "InputWarning",
     "MissingPackage",
     "Plan",
@@ -153,6 +157,7 @@ __all__ = [
     "Writing",
     "audit",
     "check",
+    "compare",
     "gather",
     "load",
     "verify",

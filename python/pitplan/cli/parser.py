@@ -6,17 +6,34 @@ Words that other modules define stand here too, so that help needs none of these
 from __future__ import annotations
 
 import argparse
-from decimal import Decimal, InvalidOperation
 from difflib import get_close_matches
 from functools import cache
 from pathlib import Path
 from typing import Any, Callable
 
 from minelib.__main__ import add_arguments as add_minelib
-from pitplan.core.revenue_factors import BASE_PRICE, factor_text, of_decimal
 
 from .. import __version__
 from . import subcommands
+from .shared_options import (
+    REVENUE_FACTOR,
+    add_factor,
+    add_figures,
+    add_folder,
+    add_gathering,
+    add_json,
+    add_out,
+    add_project,
+    add_quiet,
+    add_set,
+    add_solver,
+    add_workers,
+    add_writing,
+    factor_of,
+    positive,
+    scheduler_of,
+    where_of,
+)
 
 DESCRIPTION = (
     "Plan an open-pit mine: from a block model, prices, costs and slope angles to pit shells, pushbacks and schedules."
@@ -24,11 +41,8 @@ DESCRIPTION = (
 FORMATS = ("table", "csv", "xlsx", "vti", "vtu", "omf", "dm", "dxf", "stl", "obj", "gpkg", "str", "lines")
 STAGES = ("revenue_factor", "pushback", "year")
 SURFACES = ("pit", "ground")
-SOLVERS = ("library", "program")
 SHELLS = ("bash", "zsh", "fish")
 PLAN_FOLDER = "output folder of shells, pushbacks or schedule"
-# The option that names a shell.
-REVENUE_FACTOR = ("--revenue-factor", "--rf")
 # The column at which the words on a subcommand begin.
 INDENT = 15
 
@@ -95,7 +109,7 @@ def parser() -> Parser:
     subs = Subparsers(top)
     subs.group("set up", add_init, add_check, add_completion)
     subs.group("plan", add_prepare, add_shells, add_pit, add_pushbacks, add_schedule)
-    subs.group("studies", add_sensitivity, add_scenarios, add_gather, add_scenario)
+    subs.group("studies", add_sensitivity, add_compare, add_scenarios, add_gather, add_scenario)
     subs.group("outputs", add_report, add_view, add_export, add_audit, add_verify)
     subs.group("other formats", add_convert)
     return top
@@ -208,6 +222,18 @@ def add_sensitivity(subs: Subparsers) -> None:
     add_workers(sub)
 
 
+def add_compare(subs: Subparsers) -> None:
+    more = "The first folder is the base. Each changed input is applied in turn, and the plan is made again for the bridge of NPV."
+    sub = subs.add("compare", "compare runs: inputs, results, periods, and a bridge of NPV", subcommands.compare, more)
+    text = "folders of pitplan shells or of pitplan schedule"
+    sub.add_argument("folders", type=Path, nargs="+", metavar="FOLDER", help=text)
+    add_out(sub, "comparison next to the first folder")
+    add_quiet(sub)
+    add_json(sub)
+    add_figures(sub)
+    sub.add_argument("--no-bridge", action="store_true", help="compare what is written, and run nothing")
+
+
 def add_scenarios(subs: Subparsers) -> None:
     does = "solve realisations of the grades at several prices: inclusion probabilities, or schedules"
     sub = subs.add("scenarios", does, subcommands.scenarios)
@@ -299,94 +325,3 @@ def add_convert(subs: Subparsers) -> None:
     kinds = sub.add_subparsers(dest="kind", required=True, metavar="KIND", help="minelib")
     text = "convert MineLib's .upit, .cpit, .pcpsp, .prec and .blocks files, as published"
     add_minelib(kinds.add_parser("minelib", help=text, description=text))
-
-
-def add_project(sub: Parser) -> None:
-    sub.add_argument("project", type=Path, metavar="PROJECT", help="project.toml")
-
-
-def add_folder(sub: Parser, text: str) -> None:
-    sub.add_argument("folder", type=Path, metavar="FOLDER", help=text)
-
-
-def add_out(sub: Parser, default: str) -> None:
-    sub.add_argument("--out", type=Path, metavar="FOLDER", help=f"output folder (default: {default})")
-
-
-def add_quiet(sub: Parser) -> None:
-    sub.add_argument("--quiet", action="store_true", help="print no progress on standard error")
-
-
-def add_writing(sub: Parser) -> None:
-    add_quiet(sub)
-    sub.add_argument("--no-verify", action="store_true", help="skip the independent recalculation of the results")
-
-
-def add_figures(sub: Parser) -> None:
-    sub.add_argument(
-        "--no-figures", action="store_true", help="draw no figures, and remove those of an earlier run in the folder"
-    )
-
-
-def add_json(sub: Parser) -> None:
-    text = "print the table as JSON, with unrounded numbers, and the path of the report or table"
-    sub.add_argument("--json", action="store_true", help=text)
-
-
-def add_set(sub: Parser) -> None:
-    text = (
-        "set a key of the project, for example economics.mining_cost=2.6 or metals.copper.price=9000 (may be repeated)"
-    )
-    sub.add_argument("--set", action="append", default=[], metavar="KEY=VALUE", help=text)
-
-
-def add_solver(sub: Parser) -> None:
-    default = "the one that PITSHELL_LIBRARY or PITSHELL names, otherwise the library if it is installed"
-    text = f"solve by the library, on arrays, or by the program, on files, which are kept (default: {default})"
-    sub.add_argument("--solver", choices=SOLVERS, help=text)
-
-
-def add_factor(sub: Parser) -> None:
-    text = f"revenue factor of the pit, such as 0.80 (default: {factor_text(BASE_PRICE)}, the base price)"
-    sub.add_argument(*REVENUE_FACTOR, type=factor_of, default=BASE_PRICE, metavar="FACTOR", help=text)
-
-
-def add_workers(sub: Parser) -> None:
-    sub.add_argument(
-        "--workers",
-        type=positive,
-        metavar="NUMBER",
-        help="number of processes of local (default: one for each processor)",
-    )
-
-
-def add_gathering(sub: Parser) -> None:
-    text = "revenue factor of the shell whose probabilities are drawn (default: the project's selected one, otherwise 1.00)"
-    sub.add_argument(*REVENUE_FACTOR, type=factor_of, metavar="FACTOR", help=text)
-    sub.add_argument("--partial", action="store_true", help="gather even if scenarios have no result")
-
-
-def where_of(text: str) -> str:
-    if text in ("local", "slurm", "parallel") or "://" in text:
-        return text
-    raise argparse.ArgumentTypeError(f'found "{text}", expected local, tcp://host:port, slurm or parallel')
-
-
-def scheduler_of(text: str) -> str:
-    if text == "local" or "://" in text:
-        return text
-    raise argparse.ArgumentTypeError(f'found "{text}", expected local or tcp://host:port')
-
-
-def factor_of(text: str) -> float:
-    try:
-        return of_decimal(Decimal(text))
-    except (InvalidOperation, ValueError):
-        said = f'found "{text}", expected a revenue factor from 0 to 100 with at most three decimals, such as 0.80'
-        raise argparse.ArgumentTypeError(said) from None
-
-
-def positive(text: str) -> int:
-    if not text.isdigit() or int(text) < 1:
-        raise argparse.ArgumentTypeError(f'found "{text}", expected a whole number from 1 on')
-    return int(text)

@@ -60,6 +60,25 @@ def print_notes(notes: list[str]) -> None:
         tell(note)
 
 
+def print_frame(table: pd.DataFrame) -> None:
+    """Prints a table with its texts to the left and its numbers to two decimals, and an empty line."""
+    columns = []
+    for name in table:
+        is_number = table[name].dtype.kind in "if"
+        texts = [number_of(value) if is_number else str(value) for value in table[name]]
+        wide = max(map(len, [str(name), *texts]))
+        columns.append([text.rjust(wide) if is_number else text.ljust(wide) for text in [str(name), *texts]])
+    for line in zip(*columns):
+        print("  ".join(line).rstrip())
+    print()
+
+
+def number_of(value: float) -> str:
+    if pd.isna(value):
+        return "-"
+    return f"{value:,.0f}" if float(value).is_integer() else f"{value:,.2f}"
+
+
 def print_table(headings: list[str], rows: list[list[str]]) -> None:
     """Prints columns, aligned to the right, under two lines of headings."""
     upper = [heading.split(", ")[0] for heading in headings]

@@ -173,6 +173,24 @@ def sensitivity(options: Namespace) -> int:
     return 0
 
 
+def compare(options: Namespace) -> int:
+    from pitplan.results import names
+
+    from ..commands.compare import compare as write_comparison
+    from ..commands.writing import Writing
+    from .printing import print_frame, print_json
+
+    writing = Writing(progress_of(options), figures=False if options.no_figures else None)
+    found = write_comparison(options.folders, options.out, not options.no_bridge, writing)
+    if options.json:
+        print_json(found.results, found.folder / names.COMPARED_RESULTS)
+        return 0
+    for table in (found.inputs, found.results, *([] if found.bridge is None else [found.bridge])):
+        print_frame(table)
+    print(found.folder)
+    return 0
+
+
 def scenarios(options: Namespace) -> int:
     from pitplan.studies.scenarios.request import Request
 

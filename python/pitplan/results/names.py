@@ -15,11 +15,28 @@ SCHEDULE_RECORD, BLOCK_SCHEDULE = "schedule.json", "block_schedule.json"
 REPORT, VIEW = "report.html", "view.html"
 SENSITIVITY, SENSITIVITY_RECORD = f"{TABLES}/sensitivity.csv", "sensitivity.json"
 TORNADO, SPIDER = f"{FIGURES}/tornado.png", f"{FIGURES}/spider.png"
+COMPARISON = "comparison.json"
+COMPARED_RESULTS, COMPARED_INPUTS = f"{TABLES}/results.csv", f"{TABLES}/inputs.csv"
+COMPARED_PERIODS, BRIDGE, PERIODS_FIGURE = f"{TABLES}/periods.csv", f"{TABLES}/bridge.csv", f"{FIGURES}/periods.png"
+# The most runs that a comparison has besides the first.
+MOST_COMPARED = 20
 # What only some commands write. A run removes those of an earlier run that it does not write itself, since they show other results.
 OF_SOME = (
     *(SHELLS, YEARS, PITS, PUSHBACKS, SCHEDULE, METHODS, BOUND, WORKBOOK),
     *(MATERIAL_FLOWS, FEED, STOCKPILES, LIMITS, CUTOFFS),
     *(SCHEDULE_RECORD, BLOCK_SCHEDULE, REPORT, VIEW),
+)
+
+
+def bridge_figure(number: int) -> str:
+    """Returns the figure of the bridge to a run, by its number from 1."""
+    return f"{FIGURES}/bridge-{number}.png"
+
+
+# A comparison removes those of an earlier one.
+OF_COMPARISON = (
+    *(COMPARED_RESULTS, COMPARED_INPUTS, COMPARED_PERIODS, BRIDGE, PERIODS_FIGURE),
+    *(bridge_figure(number) for number in range(1, MOST_COMPARED + 1)),
 )
 
 
