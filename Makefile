@@ -115,13 +115,13 @@ test-library: setup
 # certificates, journals and fixed files to each other byte; tests/test_sweeps.py and tests/test_hostile_files.py do a part of it.
 sweep:
 	test -x build/pitshell || $(MAKE) build
-	tests/sweeps.py --results bench/results/sweeps.md
-	tools/compare_bent.py --results bench/results/sweeps.md
+	tests/sweeps.py --results build/sweeps.md
+	tools/compare_bent.py --results build/sweeps.md
 
 # A thousand runs with workers on random mines, for half an hour or more, each journal replayed by the program and by tools/replay_journal.py.
 storm:
 	test -x build/pitshell || $(MAKE) build
-	tools/journal_storm.py --runs 1000 --results bench/results/journal-storm.md
+	tools/journal_storm.py --runs 1000 --results build/journal-storm.md
 
 # Times the program by suites, and other people's maximum flows beside it; the table goes to bench/results/. bench/bench.py --help names
 # the suites, of which SUITE chooses one: make bench SUITE=fixed. BENCH has a suite's options: BENCH=--quick stops at 100,000 blocks.
