@@ -102,7 +102,7 @@ thorough: setup
 	PITPLAN_TESTS=thorough PITPLAN_SEED=$(SEED) /usr/bin/python3 -m pytest python/tests -q -p no:cacheprovider -n auto --dist loadfile \
 	  --hypothesis-seed=$(SEED)
 
-# Tries all mutants, for an hour or two, and renews their table. tools/mutants.py CRATE tries those of a crate.
+# Tries all mutants for the prover, for an hour or two, and renews mutants.lock. tools/mutants.py CRATE tries those of a crate.
 mutants:
 	tools/mutants.py
 
