@@ -28,11 +28,13 @@ library:
 dist: build library
 	tools/dist.py
 
-# Renews what repeats a command line or the columns of tables: man page of pitshell, completions, FORMATS, stored words of tests.
+# Renews what repeats a command line, the columns of tables or measurements: man page of pitshell, completions, FORMATS, stored words of
+# tests, tables of README and SPEED.
 docs:
 	test -x $(PROGRAM) || $(MAKE) build
 	tools/make_docs.py
 	tools/columns_page.py
+	tools/bench_tables.py
 	tools/pitplan completion bash > completions/pitplan.bash
 	tools/pitplan completion zsh > completions/_pitplan
 	tools/pitplan completion fish > completions/pitplan.fish
@@ -123,13 +125,14 @@ storm:
 	test -x build/pitshell || $(MAKE) build
 	tools/journal_storm.py --runs 1000 --results build/journal-storm.md
 
-# Times the program by suites, and other people's maximum flows beside it; the table goes to bench/results/. bench/bench.py --help names
-# the suites, of which SUITE chooses one: make bench SUITE=fixed. BENCH has a suite's options: BENCH=--quick stops at 100,000 blocks.
-# Peers whose packages are missing are left out.
-SUITE = table
+# Times the program by all suites, next to other people's maximum flows, and writes bench/results/bench.md, from which make docs makes the
+# tables of README and SPEED. SUITE chooses one suite, which writes build/bench.md: make bench SUITE=fixed. BENCH has options: BENCH=--small
+# tries the machinery. Peers whose packages are missing are left out.
+SUITE = all
 bench:
 	tools/setup.sh bench || echo "going on with the peers that there are"
 	test -x $(PROGRAM) || $(MAKE) build
+	test -e build/libpitshell.so || $(MAKE) library
 	/usr/bin/python3 bench/bench.py $(SUITE) $(BENCH)
 
 # Installs what the planner's layer and its tests need of Debian's packages, where anything is missing.
