@@ -28,11 +28,13 @@ library:
 dist: build library
 	tools/dist.py
 
-# Renews what repeats a command line or the columns of tables: man page of pitshell, completions, FORMATS, stored words of tests.
+# Renews what repeats a command line, the columns of tables or measurements: man page of pitshell, completions, FORMATS, stored words of
+# tests, tables of README and SPEED.
 docs:
 	test -x $(PROGRAM) || $(MAKE) build
 	tools/make_docs.py
 	tools/columns_page.py
+	tools/bench_tables.py
 	tools/pitplan completion bash > completions/pitplan.bash
 	tools/pitplan completion zsh > completions/_pitplan
 	tools/pitplan completion fish > completions/pitplan.fish
@@ -102,7 +104,7 @@ thorough: setup
 	PITPLAN_TESTS=thorough PITPLAN_SEED=$(SEED) /usr/bin/python3 -m pytest python/tests -q -p no:cacheprovider -n auto --dist loadfile \
 	  --hypothesis-seed=$(SEED)
 
-# Tries all mutants, for an hour or two, and renews their table. tools/mutants.py CRATE tries those of a crate.
+# Tries all mutants for the prover, for an hour or two, and renews mutants.lock. tools/mutants.py CRATE tries those of a crate.
 mutants:
 	tools/mutants.py
 
@@ -115,21 +117,22 @@ test-library: setup
 # certificates, journals and fixed files to each other byte; tests/test_sweeps.py and tests/test_hostile_files.py do a part of it.
 sweep:
 	test -x build/pitshell || $(MAKE) build
-	tests/sweeps.py --results bench/results/sweeps.md
-	tools/compare_bent.py --results bench/results/sweeps.md
+	tests/sweeps.py --results build/sweeps.md
+	tools/compare_bent.py --results build/sweeps.md
 
 # A thousand runs with workers on random mines, for half an hour or more, each journal replayed by the program and by tools/replay_journal.py.
 storm:
 	test -x build/pitshell || $(MAKE) build
-	tools/journal_storm.py --runs 1000 --results bench/results/journal-storm.md
+	tools/journal_storm.py --runs 1000 --results build/journal-storm.md
 
-# Times the program by suites, and other people's maximum flows beside it; the table goes to bench/results/. bench/bench.py --help names
-# the suites, of which SUITE chooses one: make bench SUITE=fixed. BENCH has a suite's options: BENCH=--quick stops at 100,000 blocks.
-# Peers whose packages are missing are left out.
-SUITE = table
+# Times the program by all suites, next to other people's maximum flows, and writes bench/results/bench.md, from which make docs makes the
+# tables of README and SPEED. SUITE chooses one suite, which writes build/bench.md: make bench SUITE=fixed. BENCH has options: BENCH=--small
+# tries the machinery. Peers whose packages are missing are left out.
+SUITE = all
 bench:
 	tools/setup.sh bench || echo "going on with the peers that there are"
 	test -x $(PROGRAM) || $(MAKE) build
+	test -e build/libpitshell.so || $(MAKE) library
 	/usr/bin/python3 bench/bench.py $(SUITE) $(BENCH)
 
 # Installs what the planner's layer and its tests need of Debian's packages, where anything is missing.

@@ -1,4 +1,4 @@
-"""Times fixed blocks beside the plain run, on synthetic mines.
+"""Times fixed blocks next to the plain run, on synthetic mines.
 
 Whole runs in mode single, of which the one with the least processor seconds counts: `plain`; `forced`, with the upper half of the
 blocks forced in; `barred`, with the lower half barred; and `forced one` and `barred one`, with one block of these. Blocks are
@@ -8,7 +8,7 @@ the ratio to `plain`.
 
 import pathlib
 
-from kit import WORK, Mine, count_of, keep, mine_of, options
+from kit import WORK, Mine, count_of, keep, mine_of, options, parsed
 from timing import best
 
 NAMES = ("plain", "forced", "forced one", "barred", "barred one")
@@ -43,7 +43,7 @@ def row(program: pathlib.Path, mine: Mine, slopes: str, runs: int) -> str:
 
 
 def main(words: list[str]) -> None:
-    given = options("fixed", __doc__, [50000, 500000], ["1:5"]).parse_args(words)
+    given = parsed(options("fixed", __doc__, [500000, 1000000], ["1:5"]), words)
     rows = [row(given.bin, mine_of(blocks, slopes), slopes, given.runs) for slopes in given.slopes for blocks in given.blocks]
     head = ["| slopes | blocks | " + " | ".join(f"{name} | MB" for name in NAMES) + " |", "|---" * (2 + 2 * len(NAMES)) + "|"]
-    keep("fixed", "Fixed blocks beside the plain run", given.bin, [*head, *rows])
+    keep(given, "Fixed blocks next to the plain run", [*head, *rows])

@@ -1,4 +1,4 @@
-"""Times the greatest pit beside the least, on synthetic mines.
+"""Times the greatest pit next to the least, on synthetic mines.
 
 Whole runs in mode single, of which the one with the least processor seconds counts: `solve`, and `shells` at the factor 1000 alone and
 at 30 factors up to 1500 per mille, with `--pit least` and with `--pit greatest`. Processor seconds and the peak in megabytes; in
@@ -7,7 +7,7 @@ brackets the ratio to the least.
 
 import pathlib
 
-from kit import Mine, keep, mine_of, options
+from kit import Mine, keep, mine_of, options, parsed
 from timing import Run, best
 
 LISTS = {"one shell": [1000], "30 shells": range(50, 1501, 50)}
@@ -25,11 +25,11 @@ def cells(least: Run, greatest: Run) -> str:
 
 
 def main(words: list[str]) -> None:
-    given = options("greatest", __doc__, [50000, 500000], ["1:5"]).parse_args(words)
+    given = parsed(options("greatest", __doc__, [50000, 500000], ["1:5"]), words)
     lines = ["| slopes | blocks | run | least | MB | greatest | MB |", "|---|---|---|---|---|---|---|"]
     for slopes in given.slopes:
         for blocks in given.blocks:
             for name, command in commands(given.bin, mine_of(blocks, slopes)).items():
                 least, greatest = (best([*command, "--pit", pit], given.runs) for pit in ("least", "greatest"))
                 lines.append(f"| {slopes} | {blocks:,} | {name} | {cells(least, greatest)} |")
-    keep("greatest", "The greatest pit beside the least", given.bin, lines)
+    keep(given, "The greatest pit next to the least", lines)

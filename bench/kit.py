@@ -1,4 +1,4 @@
-"""What all suites of the bench share: synthetic mines under bench/work/, the options, and where a table is kept."""
+"""What all suites of the bench share: synthetic mines under bench/work/, the options, and the file that has their results."""
 
 import argparse
 import datetime
@@ -11,9 +11,15 @@ import machine
 
 ROOT = pathlib.Path(__file__).resolve().parent.parent
 WORK = ROOT / "bench" / "work"
-RESULTS = ROOT / "bench" / "results"
+RESULTS, DRAFT = ROOT / "bench" / "results" / "bench.md", ROOT / "build" / "bench.md"
+HEAD = """# Measurements
+
+Processor seconds and megabytes of whole runs. `bench/bench.py` writes a section for each suite, `make bench` all of them on one build;
+`make docs` makes the tables of README and SPEED from them.
+"""
 SLOPES = ("1:5", "1:9", "cone")
 sys.path.insert(0, str(ROOT / "tools"))
+from bench_tables import sections  # noqa: E402
 from make_mine import write_mine  # noqa: E402
 
 
@@ -44,14 +50,25 @@ def count_of(mine: Mine) -> int:
 
 
 def options(suite: str, text: str | None, blocks: Sequence[int] = (), slopes: Sequence[str] = ()) -> argparse.ArgumentParser:
-    """The options of a suite: the program, the sizes and slopes of mines, where it has such, and how many runs there are of each."""
+    """The options of a suite: the program, the sizes and slopes of mines if it has some, and the number of runs of each."""
     parser = argparse.ArgumentParser(prog=f"bench/bench.py {suite}", description=text, formatter_class=argparse.RawDescriptionHelpFormatter)
+    parser.set_defaults(suite=suite, blocks=[], slopes=[])
     parser.add_argument("--bin", type=existing, default=ROOT / "build" / "pitshell", help="the program (default: build/pitshell)")
     parser.add_argument("--runs", type=int, default=3, help="runs of each, of which the least counts (default: 3)")
+    parser.add_argument("--results", type=pathlib.Path, default=DRAFT, help="the file to write (default: build/bench.md)")
+    parser.add_argument("--small", action="store_true", help="mines of 1,000 blocks and one run of each, to try the machinery")
     if blocks:
         parser.add_argument("--blocks", type=int, nargs="+", default=list(blocks), help="the sizes, from small to large")
         parser.add_argument("--slopes", nargs="+", default=list(slopes), choices=SLOPES)
     return parser
+
+
+def parsed(parser: argparse.ArgumentParser, words: Sequence[str]) -> argparse.Namespace:
+    """The options that were given; --small wins over sizes and runs."""
+    given = parser.parse_args(words)
+    if given.small:
+        given.blocks, given.runs = given.blocks and [1000], 1
+    return given
 
 
 def existing(name: str) -> pathlib.Path:
@@ -61,12 +78,13 @@ def existing(name: str) -> pathlib.Path:
     return path
 
 
-def keep(name: str, title: str, program: pathlib.Path, lines: Iterable[str]) -> None:
-    """Writes a suite's table to bench/results/, with the date, the command, the machine and what was timed, and shows it."""
+def keep(given: argparse.Namespace, title: str, lines: Iterable[str]) -> None:
+    """Writes a suite's section, with the date, the command, the machine and what was timed, and shows it; the other sections stay."""
     now = datetime.datetime.now(datetime.UTC)
     command = " ".join(["bench/bench.py", *sys.argv[1:]])
-    head = f"# {title}, {now:%Y-%m-%d %H:%M} UTC\n\n`{command}`. {machine.processor()}, load {machine.load()}. {machine.versions(program)}.\n\n"
-    text = head + "\n".join(lines) + "\n"
-    RESULTS.mkdir(exist_ok=True)
-    (RESULTS / f"{now:%Y-%m-%d}-{name}.md").write_text(text)
-    print(text, end="")
+    head = f"{title}. {now:%Y-%m-%d %H:%M} UTC, `{command}`. {machine.processor()}, load {machine.load()}. {machine.versions(given.bin)}."
+    found = sections(given.results.read_text()) if given.results.is_file() else {}
+    found[given.suite] = "\n".join([head, "", *lines]) + "\n"
+    given.results.parent.mkdir(exist_ok=True)
+    given.results.write_text(HEAD + "".join(f"\n## {name}\n\n{part.rstrip()}\n" for name, part in found.items()))
+    print(found[given.suite], end="")

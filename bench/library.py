@@ -15,7 +15,7 @@ from decimal import Decimal
 from pathlib import Path
 
 import numpy as np
-from kit import ROOT, Mine, keep, mine_of, options
+from kit import ROOT, Mine, keep, mine_of, options, parsed
 
 sys.path.insert(0, str(ROOT / "python"))
 
@@ -158,7 +158,7 @@ def main(words: list[str]) -> None:
     if words[:1] == ["--child"]:
         child(*words[1:])
         return
-    given = options("library", __doc__, [100000, 1000000], ["1:5"]).parse_args(words)
+    given = parsed(options("library", __doc__, [100000, 1000000], ["1:9"]), words)
     lines = ["| slopes | blocks | way | whole s | processor s | steps s | MB before | MB at most |", "|---" * 8 + "|"]
     for slopes in given.slopes:
         for blocks in given.blocks:
@@ -172,4 +172,4 @@ def main(words: list[str]) -> None:
                 lines.append(f"| {slopes} | {blocks:,} | {way} | {whole:.2f} | {least['processor']:.2f} | {steps} | {least['before']} | {least['peak']} |")
             if len(answers) != 2:
                 raise SystemExit(f"the answers differ at {blocks} blocks with slopes {slopes}: {answers}")
-    keep("library", "The library on arrays beside the program on text", given.bin, lines)
+    keep(given, "The library on arrays next to the program on text", lines)

@@ -3,6 +3,7 @@
 import os
 import pathlib
 import platform
+import re
 import subprocess
 
 PACKAGES = ("g++", "libboost-graph-dev", "liblemon-dev", "libmaxflow-dev", "libigraph-dev")
@@ -29,10 +30,17 @@ def load() -> str:
     return f"{os.getloadavg()[0]:.1f}"
 
 
+def built_at(program: pathlib.Path) -> str:
+    """The commit that the program was built of, if the file beside it says so (tools/build.py)."""
+    told = program.with_suffix(".version")
+    found = re.search(r"^commit (\w{9})\w*(-dirty)?", told.read_text(), re.MULTILINE) if told.is_file() else None
+    return f" of commit {found[1]}{found[2] or ''}" if found else ""
+
+
 def versions(program: pathlib.Path) -> str:
-    """The program's version, the commit of this bench, and the versions of those of Debian's packages that are there."""
+    """The program's version and commit, the commit of this bench, and the versions of those of Debian's packages that are there."""
     commit = said("git", "-C", str(pathlib.Path(__file__).parent), "rev-parse", "--short", "HEAD")
-    rows = [f"{said(str(program), '--version')}, this bench at commit {commit}"]
+    rows = [f"{said(str(program), '--version')}{built_at(program)}, this bench at commit {commit}"]
     for package in PACKAGES:
         found = said("dpkg-query", "-W", "-f", "${db:Status-Status} ${Version}", package).split()
         if found[:1] == ["installed"]:

@@ -7,7 +7,7 @@ above 2, is marked.
 import pathlib
 from collections.abc import Iterator
 
-from kit import WORK, keep, options
+from kit import WORK, keep, options, parsed
 from timing import best
 
 HEAD = "NAME: t\nTYPE: UPIT\nNBLOCKS: {}\nOBJECTIVE_FUNCTION:\n"
@@ -65,10 +65,10 @@ def files_of(model: str | bytes, prec: str | bytes) -> tuple[pathlib.Path, pathl
 def main(words: list[str]) -> None:
     parser = options("malice", __doc__)
     parser.add_argument("--megabytes", type=int, default=10)
-    given = parser.parse_args(words)
+    given = parsed(parser, words)
     lines = ["| text | MB | seconds | s/MB | times a lawful file | answer |", "|---|---|---|---|---|---|"]
     lawful = 0.0
-    for what, model_text, prec_text, due in texts(given.megabytes * 1_000_000):
+    for what, model_text, prec_text, due in texts((1 if given.small else given.megabytes) * 1_000_000):
         model, prec = files_of(model_text, prec_text)
         size = (model.stat().st_size + prec.stat().st_size) / 1e6
         run = best([given.bin, "solve", "--model", model, "--prec", prec], given.runs, status=1 if due else 0)
@@ -76,4 +76,4 @@ def main(words: list[str]) -> None:
         lawful = max(lawful, pace) if what.startswith("lawful") else lawful
         marks = (" SLOW" if pace > 2 * lawful else ""), ("" if fault == due else f" WRONG, due: {due}")
         lines.append(f"| {what} | {size:.1f} | {run.processor:.2f} | {pace:.4f} | {pace / lawful:.2f}{marks[0]} | {fault or 'a pit'}{marks[1]} |")
-    keep("malice", "Texts that mean harm", given.bin, lines)
+    keep(given, "Adversarial texts", lines)

@@ -11,7 +11,7 @@ import pathlib
 from collections.abc import Callable, Sequence
 from typing import NamedTuple
 
-from kit import WORK, keep, options
+from kit import WORK, keep, options, parsed
 from timing import best
 
 
@@ -93,14 +93,14 @@ def digest_of(shape: Shape) -> str:
 def main(words: list[str]) -> None:
     parser = options("shapes", __doc__)
     parser.add_argument("--modes", nargs="+", default=["single", "parts"])
-    given = parser.parse_args(words)
+    given = parsed(parser, words)
     lines = ["| shape | blocks | mode | s | MB |", "|---|---|---|---|---|"]
     for name, make, count in SHAPES:
-        shape = make(count)
+        shape = make(count // 100 * 2 if given.small else count)
         model, prec = files_of(name, shape)
         for mode in given.modes:
             run = best([given.bin, "solve", "--model", model, "--prec", prec, "--mode", mode], given.runs)
             if run.written != digest_of(shape):
                 raise SystemExit(f"{name} in mode {mode}: another answer than its shape gives")
             lines.append(f"| {name} | {len(shape.values):,} | {mode} | {run.processor:.2f} | {run.peak:.0f} |")
-    keep("shapes", "Mines of odd shapes", given.bin, lines)
+    keep(given, "Mines of odd shapes", lines)

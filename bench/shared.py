@@ -10,7 +10,7 @@ import collections
 import subprocess
 from typing import NamedTuple
 
-from kit import WORK, Mine, keep, mine_of, options
+from kit import WORK, Mine, keep, mine_of, options, parsed
 from timing import Run, timed
 
 DRIVER, STALE = "0", "2"
@@ -63,12 +63,12 @@ def rows(program: object, mine: Mine, workers: list[int], count: int) -> list[st
 
 
 def main(words: list[str]) -> None:
-    parser = options("shared", __doc__, [50000, 100000, 500000], ["1:9"])
+    parser = options("shared", __doc__, [50000, 100000, 500000], ["1:9", "cone"])
     parser.add_argument("--workers", type=int, nargs="+", default=[1, 2, 4])
-    given = parser.parse_args(words)
+    given = parsed(parser, words)
     lines = ["| slopes | blocks | mode | solve s | ratio to parts | whole, clock s | asks | stale | by the driver |", "|---" * 9 + "|"]
     for slopes in given.slopes:
         for blocks in given.blocks:
             found = rows(given.bin, mine_of(blocks, slopes), given.workers, given.runs)
             lines += [f"| {slopes} | {blocks:,} | {row}" for row in found]
-    keep("shared", "Mode shared beside parts; all pits of a mine are the same bytes", given.bin, lines)
+    keep(given, "Mode shared next to parts; all pits of a mine are the same bytes", lines)

@@ -7,7 +7,7 @@ refused; `one`, the factor 1000 alone, which is one solve of the mine's own valu
 
 import pathlib
 
-from kit import Mine, keep, mine_of, options
+from kit import Mine, keep, mine_of, options, parsed
 from timing import best
 
 LISTS = {"30": range(50, 1501, 50), "50": range(40, 2001, 40), "100": range(20, 2001, 20)}
@@ -26,8 +26,8 @@ def row(program: pathlib.Path, mine: Mine, name: str, runs: int) -> str:
 
 
 def main(words: list[str]) -> None:
-    given = options("shells", __doc__, [50000, 500000], ["1:9"]).parse_args(words)
+    given = parsed(options("shells", __doc__, [50000, 500000], ["1:9"]), words)
     head = ["| slopes | blocks | reading | one | MB | " + " | ".join(f"{name} | MB | ratio | without reading" for name in LISTS) + " |"]
     head.append("|---" * (5 + 4 * len(LISTS)) + "|")
     mines = [(f"{slopes} | {blocks:,}", mine_of(blocks, slopes)) for slopes in given.slopes for blocks in given.blocks]
-    keep("shells", "Nested shells beside one factor", given.bin, [*head, *(row(given.bin, mine, name, given.runs) for name, mine in mines)])
+    keep(given, "Nested shells next to one factor", [*head, *(row(given.bin, mine, name, given.runs) for name, mine in mines)])

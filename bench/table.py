@@ -1,7 +1,7 @@
 """Times the program in its modes, and other people's maximum flows beside it, on the same mines in one run.
 
 For each mine: `pitshell solve` in mode single, parts and shared (four workers), `pitshell shells`
-with 30 factors up to 1500 per mille, and each peer of bench/peers.py. All pits of a mine must be the same bytes, or the bench
+with 30 factors up to 1500 per mille, and the strongest peer of bench/peers.py, or those that are named. All pits of a mine must be the same bytes, or the bench
 ends with status 1. Processor seconds, the least of three rounds in which each runs once (of two above 100,000 blocks; what takes
 more than eight seconds is run once):
 
@@ -12,11 +12,10 @@ least the 13 MB of the process that starts it.
 `single / this`: the whole run of mode single over this one.
 
 What needs more processor seconds than the limit, mode single aside, is left out there and at the larger sizes of those slopes.
-`--quick` stops at 100,000 blocks. The table goes to bench/results/, anew after each mine, so that a run that is stopped leaves what it measured;
-README has rows of its first part, one line a mine with the strongest peer.
+The section is written again after each mine, so a run that is stopped leaves what it measured. README has rows of its first part, one line
+a mine with the strongest peer. The suite `peers` has all peers next to mode single, up to 500,000 blocks.
 """
 
-import argparse
 import dataclasses
 import multiprocessing
 import pathlib
@@ -27,7 +26,9 @@ import peers
 from timing import Run, timed
 
 SIZES = [50000, 100000, 500000, 1000000]
-QUICK = [50000, 100000]
+STRONGEST = "kolmogorov"
+# Up to so many blocks there are three rounds.
+SHORT = 100000
 FACTORS = ",".join(map(str, range(50, 1501, 50)))
 MODES = {"single": [], "parts": ["--mode", "parts"], "shared, 4 workers": ["--mode", "shared", "--workers", "4"]}
 SINGLE = "pitshell, single"
@@ -95,10 +96,11 @@ def made(blocks: int, slopes: str) -> None:
 class Bench:
     """The programs, the peers and the limit of a whole bench, and who was past the limit at which slopes."""
 
-    def __init__(self, program: pathlib.Path, modes: bool, names: list[str] | None, limit: int) -> None:
+    def __init__(self, program: pathlib.Path, modes: bool, named: list[str] | None, usual: set[str], limit: int) -> None:
+        """Takes the named peers, each of which there must be, or the usual ones that there are."""
         self.program, self.modes, self.limit = program, modes, limit
         self.others, found = peers.build()
-        self.peers = found if names is None else names
+        self.peers = [name for name in found if name in usual] if named is None else named
         if missing := [name for name in self.peers if name not in found]:
             raise SystemExit(f"no such peer, or its headers are missing: {', '.join(missing)}; there are {', '.join(found)}")
         self.late: set[tuple[str, str]] = set()
@@ -124,7 +126,7 @@ class Bench:
         made(blocks, slopes)
         turns = self.turns(slopes, blocks)
         times: dict[str, list[tuple[Run, float]]] = {name: [] for name in turns}
-        for _ in range(3 if blocks <= QUICK[-1] else 2):
+        for _ in range(3 if blocks <= SHORT else 2):
             for name, turn in turns.items():
                 if (slopes, name) in self.late or any(run.elapsed > LONG for run, _ in times[name]):
                     continue
@@ -155,7 +157,7 @@ def short(mines: list[Mine], limit: int) -> list[str]:
             peer = min(others, key=lambda row: row.run.processor)
             text += f"| {peer.run.processor:.2f} | {peer.solve:.2f} | {peer.run.peak:.0f} | {peer.solver} |"
         else:
-            text += f"| more than {limit} | | | all |"
+            text += f"| more than {limit} | | | all |" if len(mine.rows) > 1 and not mine.rows[-1].solver.startswith("pitshell") else "| not timed | | | |"
         lines.append(text)
     return lines
 
@@ -177,25 +179,23 @@ def long(mines: list[Mine], limit: int) -> list[str]:
     return lines
 
 
-def name_of(given: argparse.Namespace) -> str:
-    """The table's file, by the sizes that were asked for."""
-    part = f"-{min(given.blocks)}-{max(given.blocks)}" if given.blocks != SIZES else ""
-    return f"table{'-quick' if given.quick else part}{'-single' if given.single else ''}"
-
-
-def main(words: list[str]) -> None:
-    parser = kit.options("table", __doc__, SIZES, kit.SLOPES)
-    parser.add_argument("--quick", action="store_true", help="50,000 and 100,000 blocks alone")
-    parser.add_argument("--peers", nargs="*", help="all that there are, where it is not given")
-    parser.add_argument("--single", action="store_true", help="of pitshell mode single alone")
+def measure(words: list[str], suite: str, about: str | None, sizes: list[int], usual: set[str]) -> None:
+    """Times the peers that are named, or the usual ones, next to the program; the suite `table` has its other modes too."""
+    parser = kit.options(suite, about, sizes, kit.SLOPES)
+    parser.add_argument("--peers", nargs="*", help="their names; a wrong one lists those that there are")
+    parser.add_argument("--single", action="store_true", default=suite != "table", help="of pitshell mode single alone")
     parser.add_argument("--limit", type=int, default=20, help="processor seconds of one run")
-    given = parser.parse_args(words)
+    given = kit.parsed(parser, words)
     kit.WORK.mkdir(exist_ok=True)
-    bench = Bench(given.bin, not given.single, given.peers, given.limit)
+    bench = Bench(given.bin, not given.single, given.peers, usual, given.limit)
     mines: list[Mine] = []
-    for blocks in QUICK if given.quick else sorted(given.blocks):
+    for blocks in sorted(given.blocks):
         for slopes in given.slopes:
             mines.append(bench.measure(slopes, blocks))
             mines.sort(key=lambda mine: (given.slopes.index(mine.slopes), mine.blocks))
             lines = [*short(mines, given.limit), "", *long(mines, given.limit)]
-            kit.keep(name_of(given), "Beside other people's maximum flows; all pits of a mine are the same bytes", given.bin, lines)
+            kit.keep(given, "Next to other people's maximum flows; all pits of a mine are the same bytes", lines)
+
+
+def main(words: list[str]) -> None:
+    measure(words, "table", __doc__, SIZES, {STRONGEST})

@@ -140,9 +140,3 @@ def test_the_last_column_may_be_named(mine: Mine, column: str) -> None:
     """Attributes are 64 at most, the first being 0: the mine has two."""
     words = [*shells(**{column: "63"})]
     assert mine.run(*words) == (1, "", "error 16: no column 63 in blocks\n")
-
-
-def test_the_exchanges_that_are_planted_by_hand_stand_in_the_sources() -> None:
-    """tools/wiring.py plants them; what it says of a stale one is its name."""
-    ran = subprocess.run([TOP / "tools" / "wiring.py", "--read"], capture_output=True, text=True, timeout=60)
-    assert (ran.returncode, ran.stdout, ran.stderr) == (0, "", "")

@@ -17,17 +17,13 @@ Place = tuple[int, int, str]
 
 
 class Change(NamedTuple):
-    """A file, where in it a piece of text begins and ends, what is to stand there, and the lines of the statement round it.
-
-    in_function  whether it runs when a function is called, and not as the file is read
-    """
+    """A file, where in it a piece of text begins and ends, what takes its place, and the lines of the statement round it."""
 
     file: pathlib.Path
     start: int
     end: int
     text: str
     lines: range
-    in_function: bool
 
     @property
     def changed(self) -> str:
@@ -63,24 +59,17 @@ class Finder(ast.NodeVisitor):
         for line in self.source.splitlines(keepends=True):
             self.starts.append(self.starts[-1] + len(line))
         self.found: list[Change] = []
-        self.lines, self.in_function = range(0), False
+        self.lines = range(0)
 
     def visit(self, node: ast.AST) -> None:
-        outside = self.lines, self.in_function
+        outside = self.lines
         if isinstance(node, ast.stmt):
             body = getattr(node, "body", None)
             last = body[0].lineno - 1 if body else node.end_lineno
             self.lines = range(node.lineno, max(node.lineno, last) + 1)
-        self.found += [Change(self.file, *place, self.lines, self.in_function) for place in self.places(node)]
-        if isinstance(node, (ast.FunctionDef, ast.Lambda)):
-            for inner in [*getattr(node, "decorator_list", []), node.args]:
-                self.visit(inner)
-            self.in_function = True
-            for inner in node.body if isinstance(node, ast.FunctionDef) else [node.body]:
-                self.visit(inner)
-        else:
-            self.generic_visit(node)
-        self.lines, self.in_function = outside
+        self.found += [Change(self.file, *place, self.lines) for place in self.places(node)]
+        self.generic_visit(node)
+        self.lines = outside
 
     def places(self, node: ast.AST) -> Iterator[Place]:
         """Every change at one node of the syntax."""

@@ -1,17 +1,17 @@
 #!/usr/bin/python3
-"""Plants single changes of meaning in the planner's layer, one at a time in a copy, and looks whether a test sees each.
+"""Mutation test of the planner's layer: plants single changes, one at a time in a copy, and checks that a test fails on each.
 
-    tools/planted_changes.py [--seeds 1,2,3] [--count 100] [--jobs 2] [--pictures] [--results FILE]      some 20 minutes a seed
+    tools/planted_changes.py [--seeds 1,2,3] [--count 100] [--jobs 2] [--only PATH] [--pictures] [--results FILE]      by hand
 
-A change is a comparison turned or its edge moved, a sign, a whole number, `and` for `or`, or an `if` that is never taken, at a place
-that the seed draws among all of python/pitplan and python/planaudit. What stands on other lines does not alter whether a change is drawn. The modules that
-draw pictures (PICTURES) are left out, since most of their numbers are looks: widths, sizes of type, colours. --pictures draws
-among these alone, and asks for no share. The tests are those of python/tests but for the library's. They run once without a change,
-by which is known what tests run each line; on a change these run, the quick ones first, until one fails, in a fork of a process that
-has read the libraries (tools/warm_tests.py). A line that no test runs is not seen. The status is 1 where fewer than 95 of 100 are seen,
-and 2 where a test fails without a change.
+A change (tools/changes_of_meaning.py) is drawn by the seed among all of python/pitplan and python/planaudit, or of --only; changed lines
+elsewhere do not alter whether it is drawn. The modules that draw figures (PICTURES) are left out, since most of their numbers are widths,
+sizes of type and colours. --pictures draws among these alone, and asks for no share.
 
---results writes what is not seen. What the file says of a change already, behind the dash, is kept.
+All tests of python/tests except the library's run once without a change, under Debian's python3-coverage. On a change run the files whose
+tests run one of its lines, and all tests if those pass. --tests names the files of tests to use in place of all. The status is 1 if fewer
+than 95 of 100 changes are detected, and 2 if a test fails without a change.
+
+--results writes the survivors. The reason that the file gives for a survivor, after the dash, is kept.
 """
 import argparse
 import concurrent.futures
@@ -20,71 +20,76 @@ import os
 import pathlib
 import queue
 import re
+import signal
+import subprocess
 import sys
 import tempfile
-from collections.abc import Iterable, Iterator
+from collections.abc import Iterator, Mapping
 from typing import NamedTuple
 
+import coverage
+import pytest
+
 import clone
-import line_coverage
 from changes_of_meaning import Change, changes, drawn
 from crates import TOP
-from line_coverage import Lines
-from warm_tests import Runner
 
 LAYER, AUDIT = (pathlib.Path("python") / name for name in ("pitplan", "planaudit"))
 DRAWING = ("plans_sections", "schedule", "block_schedule", "sensitivity", "map_marks", "annual", "scenarios")
 PICTURES = {LAYER / "figures" / f"{name}.py" for name in DRAWING}
+TESTS = pathlib.Path("python") / "tests"
 WANTED = 0.95
-# A change may make a program take all the memory or all the time that it is given.
+# A change may make a program take all the memory or all the time that it gets.
 MOST_BYTES = 4 << 30
-MOST_SECONDS = 900
-QUICK = 0.5
-HEAD = "# Planted changes that no test sees\n\nWritten by `tools/planted_changes.py`; why each is harmless is written by hand.\n"
+MOST_SECONDS = 1800
+HEAD = "# Planted changes that no test detects\n\nWritten by `tools/planted_changes.py`; the reasons are written by hand.\n"
+SETTINGS = """[run]
+source =
+    {copy}/python/pitplan
+    {copy}/python/planaudit
+data_file = {notes}/coverage
+"""
+Lines = Mapping[str, Mapping[int, set[str]]]
 
 
-class Copy(NamedTuple):
-    """A copy of the repository, and what runs tests in it."""
+class Suite(NamedTuple):
+    """The files of tests, what of the layer each runs, by file and line, and copies of the repository that nobody uses at the moment."""
 
-    folder: pathlib.Path
-    runner: Runner
-
-    def fails(self, tests: list[str]) -> bool:
-        """Whether one of the tests fails here, or they do not end."""
-        words = ["-q", "-x", "-p", "no:cacheprovider", "-p", "first_failure", f"--basetemp={self.folder.parent / 'tests'}", *tests]
-        return self.runner.status(words, MOST_SECONDS) != 0
-
-
-class Trial(NamedTuple):
-    """What changes are tried with: which tests run what, and copies that nobody uses at the moment."""
-
+    files: list[str]
     lines: Lines
     copies: queue.SimpleQueue
 
-    def in_order(self, tests: Iterable[str]) -> list[str]:
-        """Quick ones first, file by file, since what the tests of a file share is made anew whenever another file's come between."""
-        seconds = self.lines.seconds
-        return sorted(tests, key=lambda test: (seconds[test] > QUICK and seconds[test], test.partition("::")[0], seconds[test]))
-
-    def is_seen(self, change: Change) -> bool:
-        """Whether a test that runs the change fails on it, or does not end; all are asked where it runs as its module is read."""
-        tests = self.lines.of(change.file, change.lines) if change.in_function else self.lines.seconds.keys()
-        if not tests:
-            return False
+    def detects(self, change: Change) -> bool:
+        """Whether a test fails on the change, or the tests do not end."""
+        by_line = self.lines.get(str(change.file), {})
+        near = sorted(set().union(*(by_line.get(line, set()) for line in change.lines)))
         copy = self.copies.get()
         try:
-            with planted(copy.folder, change):
-                return copy.fails(self.in_order(tests))
+            with planted(copy, change):
+                return any(fails(copy, files) for files in (near, self.files) if files)
         finally:
             self.copies.put(copy)
 
-    def fails_unchanged(self) -> bool:
-        """Whether a test fails without a change, in the order and within the limits in which changes are tried."""
-        copy = self.copies.get()
+
+def environment() -> dict[str, str]:
+    built = {"PITSHELL": TOP / "build" / "pitshell", "PITSHELL_LIBRARY": TOP / "build" / "libpitshell.so"}
+    return {**{name: str(file) for name, file in built.items() if file.exists()}, **os.environ}
+
+
+def fails(copy: pathlib.Path, files: list[str]) -> bool:
+    """Whether a test of these files fails in a copy, or they do not end."""
+    words = ["prlimit", f"--data={MOST_BYTES}", "/usr/bin/python3", "-m", "pytest", "-q", "-x", "-p", "no:cacheprovider", *files]
+    words.append(f"--basetemp={copy.parent / 'tests'}")
+    with subprocess.Popen(
+        words, cwd=copy, env=environment(), stdout=subprocess.DEVNULL, stderr=subprocess.DEVNULL, start_new_session=True
+    ) as ran:
         try:
-            return copy.fails(self.in_order(self.lines.seconds))
+            return ran.wait(MOST_SECONDS) != 0
+        except subprocess.TimeoutExpired:
+            return True
         finally:
-            self.copies.put(copy)
+            with contextlib.suppress(ProcessLookupError):
+                os.killpg(ran.pid, signal.SIGKILL)
 
 
 @contextlib.contextmanager
@@ -100,80 +105,100 @@ def planted(copy: pathlib.Path, change: Change) -> Iterator[None]:
 
 
 def write(path: pathlib.Path, text: str) -> None:
-    """Gives a module another text; one of the same length in the same second would pass for the one that was compiled."""
+    """Gives a module another text, and removes what was compiled of it: a text of the same length in the same second would pass for it."""
     path.write_text(text)
     for compiled in (path.parent / "__pycache__").glob(f"{path.stem}.*"):
         compiled.unlink()
 
 
-@contextlib.contextmanager
-def warm(folder: pathlib.Path, environment: dict[str, str]) -> Iterator[Copy]:
-    """A copy whose tests run in forks of one process."""
-    runner = Runner(folder, {**environment, "PYTHONPATH": str(folder / "tools")}, MOST_BYTES)
-    try:
-        yield Copy(folder, runner)
-    finally:
-        runner.end()
+@pytest.hookimpl(tryfirst=True)
+def pytest_runtest_protocol(item: pytest.Item) -> None:
+    """Notes what runs from now on under the test's file; pytest loads this module as a plugin in lines_run."""
+    coverage.Coverage.current().switch_context(item.nodeid.partition("::")[0])
+
+
+def lines_run(copy: pathlib.Path, files: list[str]) -> Lines | None:
+    """Runs the tests once, and gives the files of tests that run each line; None if a test fails."""
+    with tempfile.TemporaryDirectory(prefix="pitshell-") as notes:
+        settings, data = pathlib.Path(notes) / "settings", pathlib.Path(notes) / "coverage"
+        settings.write_text(SETTINGS.format(copy=copy, notes=notes))
+        words = ["/usr/bin/python3", "-m", "coverage", "run", f"--rcfile={settings}", "-m", "pytest", "-q", "-x", "-p", "no:cacheprovider"]
+        words += ["-p", pathlib.Path(__file__).stem, *files]
+        known = {**environment(), "PYTHONPATH": str(copy / "tools")}
+        ran = subprocess.run(words, cwd=copy, env=known, capture_output=True, text=True)
+        if ran.returncode:
+            print(ran.stdout[-2000:], ran.stderr[-2000:])
+            return None
+        found = coverage.CoverageData(basename=str(data))
+        found.read()
+        return {
+            str(pathlib.Path(file).relative_to(copy)): {line: set(names) - {""} for line, names in found.contexts_by_lineno(file).items()}
+            for file in found.measured_files()
+        }
 
 
 @contextlib.contextmanager
-def trial(jobs: int) -> Iterator[Trial | None]:
-    """Runs the tests once without a change; None where one fails. Then as many changes can be tried at once as there are jobs."""
-    built = {"PITSHELL": TOP / "build" / "pitshell", "PITSHELL_LIBRARY": TOP / "build" / "libpitshell.so"}
-    environment = {**{name: str(file) for name, file in built.items() if file.exists()}, **os.environ}
+def suite(jobs: int, files: list[str]) -> Iterator[Suite | None]:
+    """The suite with as many copies as there are jobs; None if a test fails without a change."""
     with contextlib.ExitStack() as stack:
-        # All at once, so that the repository may be worked on meanwhile.
+        # All are made now, so that the repository may be worked on meanwhile.
         first, *others = [stack.enter_context(clone.clone()) for _ in range(jobs + 1)]
-        notes = stack.enter_context(tempfile.TemporaryDirectory(prefix="pitshell-"))
-        lines = line_coverage.run(first, pathlib.Path(notes), environment)
         copies: queue.SimpleQueue = queue.SimpleQueue()
-        for folder in others:
-            copies.put(stack.enter_context(warm(folder, environment)))
-        yield None if lines is None else Trial(lines, copies)
+        for copy in others:
+            copies.put(copy)
+        lines = lines_run(first, files)
+        yield None if lines is None else Suite(files, lines, copies)
 
 
-def survivors(seed: int, sample: list[Change], tried: Trial, jobs: int) -> list[Change]:
-    """The changes of a seed that no test sees; tells of each whether one does."""
+def survivors(seed: int, sample: list[Change], tests: Suite, jobs: int) -> list[Change]:
+    """The changes of a seed that no test detects; prints each change."""
     with concurrent.futures.ThreadPoolExecutor(jobs) as pool:
         left = []
-        for change, seen in zip(sample, pool.map(tried.is_seen, sample)):
-            print(seed, "seen    " if seen else "NOT SEEN", change, flush=True)
-            left += [] if seen else [change]
+        for change, detected in zip(sample, pool.map(tests.detects, sample)):
+            print(seed, "detected" if detected else "SURVIVES", change, flush=True)
+            left += [] if detected else [change]
     return left
 
 
-def write_results(path: pathlib.Path, found: dict[int, list[Change]], count: int) -> None:
-    """One part a seed and one line a change that is not seen, with what the file said of it before."""
+def write_results(path: pathlib.Path, found: dict[int, list[Change]], counts: dict[int, int]) -> None:
+    """A part for each seed and a line for each survivor, with the reason that the file gave before."""
     before = path.read_text() if path.is_file() else ""
     why = {change: reason for change, reason in re.findall(r"^- `.*?:\d+`: (.*?) — (.*)$", before, re.MULTILINE)}
     parts = [HEAD]
     for seed, left in found.items():
-        rows = [f"- {change} — {why.get(change.said, 'not looked at yet')}" for change in left]
-        parts.append("\n".join([f"## Seed {seed}: {count - len(left)} of {count} are seen", "", *rows, ""]))
+        rows = [f"- {change} — {why.get(change.said, 'not judged yet')}" for change in left]
+        parts.append("\n".join([f"## Seed {seed}: {counts[seed] - len(left)} of {counts[seed]} are detected", "", *rows, ""]))
     path.write_text("\n".join(parts))
 
 
-def main() -> int:
+def parsed() -> argparse.Namespace:
     parser = argparse.ArgumentParser(description=__doc__, formatter_class=argparse.RawDescriptionHelpFormatter)
     parser.add_argument("--seeds", default="1", type=lambda text: [int(word) for word in text.split(",")])
     parser.add_argument("--count", type=int, default=100)
     parser.add_argument("--jobs", type=int, default=2)
+    parser.add_argument("--only", default="python", metavar="PATH", help="a module or folder whose changes alone are drawn")
     parser.add_argument("--pictures", action="store_true")
+    parser.add_argument("--tests", nargs="+", default=[str(TESTS), f"--ignore={TESTS / 'test_library.py'}"], metavar="FILE")
     parser.add_argument("--results", type=pathlib.Path)
-    given = parser.parse_args()
-    all_changes = [change for change in [*changes(LAYER), *changes(AUDIT)] if (change.file in PICTURES) == given.pictures]
-    found = {}
-    with trial(given.jobs) as tried:
-        if tried is None or tried.fails_unchanged():
+    return parser.parse_args()
+
+
+def main() -> int:
+    given, found, counts = parsed(), {}, {}
+    candidates = [change for change in [*changes(LAYER), *changes(AUDIT)] if change.file.is_relative_to(given.only)]
+    candidates = [change for change in candidates if (change.file in PICTURES) == given.pictures]
+    with suite(given.jobs, given.tests) as tests:
+        if tests is None:
             print("a test fails without a change")
             return 2
         for seed in given.seeds:
-            found[seed] = survivors(seed, drawn(all_changes, seed, given.count), tried, given.jobs)
-            print(f"Seed {seed}: {given.count - len(found[seed])} of {given.count} changes are seen.", flush=True)
+            sample = drawn(candidates, seed, given.count)
+            found[seed], counts[seed] = survivors(seed, sample, tests, given.jobs), len(sample)
+            print(f"Seed {seed}: {len(sample) - len(found[seed])} of {len(sample)} changes are detected.", flush=True)
     if given.results:
-        write_results(given.results, found, given.count)
-    fewest = min(given.count - len(left) for left in found.values())
-    return int(not given.pictures and fewest < WANTED * given.count)
+        write_results(given.results, found, counts)
+    is_enough = all(len(found[seed]) <= (1 - WANTED) * counts[seed] for seed in found)
+    return int(not given.pictures and not is_enough)
 
 
 if __name__ == "__main__":

@@ -1,0 +1,1 @@
+"""Mutation testing of the Rattle crates: mutants as files, what must refuse each, and the lock file of verdicts."""
