@@ -30,6 +30,10 @@ changes = [0.1]
 parameters = "mining_cost"
 [constraints]
 must_mine = "due"
+[cash_flow]
+discount_rates = [0.05]
+closure_cost = 5
+tax_rate = 0.3
 """
 PROCESSES = """[[processes]]
 name = "mill"
@@ -61,7 +65,7 @@ def written(tmp_path_factory):
         "cls": lambda i, j, k: "measured" if k else "inferred",
     }
     table = rows(11, 9, 4, **varied)
-    money = "fixed_cost_per_year = 77\ncapex = [[1, 10]]\n"
+    money = "mining_cost_per_bench = 0.01\nfixed_cost_per_year = 77\ncapex = [[1, 10]]\n"
     one = PROJECT.replace("mining_cost = 2\n", f"mining_cost = 2\n{money}") + WIDE
     one = one.replace("processing_capacity = 100\n", "processing_capacity = 100\nspecified = { pushbacks = [0.5] }\n")
     one = one.replace("[table]\n", '[table]\nclass = "cls"\n')
@@ -113,10 +117,13 @@ def test_each_column_that_is_written_is_in_the_schema_and_each_of_the_schema_is_
         "feed.csv",
         "cutoffs.csv",
         "stockpiles.csv",
+        "cash_flow.csv",
+        "valuation.csv",
         "sensitivity.csv",
     ):
         never = {it.name for it in BY_FILE[file].columns} - {it.name for it in found[file]}
         never -= {"feed_tonnes_PROCESS"} if file not in ("shells.csv", "years.csv", "pushbacks.csv") else set()
+        never -= {"haulage_cost", "rounding"} if file == "cash_flow.csv" else set()
         assert never - {"outline"} <= by_block, file
 
 

@@ -12,6 +12,7 @@ from dataclasses import replace
 from functools import cache
 from typing import Optional
 
+from .cash_flow_columns import CASH_FLOW, VALUATION
 from .column_types import (
     AMOUNT,
     COUNT,
@@ -260,7 +261,7 @@ BLOCK_TABLE = Table(
     digits=0,
 )
 TABLES: tuple[Table, ...] = (BLOCK_TABLE, SHELLS, YEARLY, PITS, PUSHBACKS, SCHEDULE, METHODS, SENSITIVITY)
-TABLES += (MATERIAL_FLOWS, FEEDS, CUTOFFS, STOCKPILES, LIMITS)
+TABLES += (MATERIAL_FLOWS, FEEDS, CUTOFFS, STOCKPILES, LIMITS, CASH_FLOW, VALUATION)
 TABLES += (MULTIPLIERS, PROBABILITY, SCENARIOS, QUANTILES, COMMON, COMMON_YEARS, SCHEDULES, BLOCK_QUANTILES)
 
 
