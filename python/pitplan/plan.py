@@ -47,6 +47,7 @@ OWN_COLUMNS = (
     "pushback",
     "year",
     "bin",
+    "share_mined",
     "process",
     *("haul_distance", "haulage_cost", "ore_haulage_cost"),
 )

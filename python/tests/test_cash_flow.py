@@ -1,13 +1,12 @@
 """The cash flow by line, against one worked out by hand, a second implementation, and its workbook recalculated by LibreOffice."""
 
 import shutil
-import subprocess
 from decimal import Decimal
 
 import numpy as np
 import pandas as pd
 import pytest
-from helpers import worked_cash_flow
+from helpers import office, worked_cash_flow
 from helpers.verified import UNVERIFIED
 
 import pitplan
@@ -242,17 +241,7 @@ def test_a_changed_value_is_found(worked, tmp_path, name):
 @pytest.fixture(scope="module")
 def recalculated(worked, tmp_path_factory):
     """The cells of the sheet after LibreOffice has recalculated the workbook, by row."""
-    openpyxl = pytest.importorskip("openpyxl")
-    if not shutil.which("soffice"):
-        pytest.skip("LibreOffice is missing: apt-get install libreoffice-calc-nogui")
-    return recalculate(worked / "tables/schedule.xlsx", tmp_path_factory.mktemp("office"), openpyxl)["cash_flow"]
-
-
-def recalculate(book, place, openpyxl):
-    home = f"-env:UserInstallation=file://{place}/home"
-    words = ["soffice", "--headless", "--norestore", home, "--convert-to", "xlsx:Calc MS Excel 2007 XML"]
-    subprocess.run([*words, "--outdir", place / "out", book], check=True, capture_output=True, timeout=300)
-    return openpyxl.load_workbook(place / "out" / book.name, data_only=True)
+    return office.recalculated(worked / "tables/schedule.xlsx", tmp_path_factory.mktemp("office"))["cash_flow"]
 
 
 def sheet_lines(sheet):

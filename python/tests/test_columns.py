@@ -86,11 +86,12 @@ def written(tmp_path_factory):
 
 
 def own(table, header):
-    """The columns of a file without the planner's own, which come first in blocks.csv, before the source in flows.csv, and before the cut-off."""
+    """The columns of a file without the planner's own, which come first in blocks.csv, before the source of flows, and before the cut-off."""
     if table.file == "cutoffs.csv":
         return header[: header.index("process") + 1] + header[header.index("cutoff") :]
-    if table.file == "flows.csv":
-        return header[: header.index("bin") + 1] + header[header.index("source") :]
+    if table.file in ("flows.csv", "inventory.csv"):
+        last = "bin" if table.file == "flows.csv" else "bench"
+        return header[: header.index(last) + 1] + header[header.index("source") :]
     return header[header.index("mining_cost") :] if table.file == "blocks.csv" else header
 
 
@@ -117,6 +118,7 @@ def test_each_column_that_is_written_is_in_the_schema_and_each_of_the_schema_is_
         "feed.csv",
         "cutoffs.csv",
         "stockpiles.csv",
+        "inventory.csv",
         "cash_flow.csv",
         "valuation.csv",
         "sensitivity.csv",

@@ -178,7 +178,7 @@ def wrong(folder):
 
 RULES = [
     *("schedule amounts", "material flow", "schedule order", "schedule limits", "schedule value"),
-    *("cash flow", "upper bound", "years of blocks"),
+    *("cash flow", "inventory", "upper bound", "years of blocks"),
 ]
 
 
@@ -201,8 +201,8 @@ def test_the_report_and_the_workbook_have_the_schedule(copied):
         and "the schedule and its upper bound, the other numbers" in page
     )
     book = pd.read_excel(copied / "tables/schedule.xlsx", sheet_name=None)
-    tables = ["feed", "flows", "cutoffs", "methods", "schedule", "years", "pushbacks", "shells"]
-    assert list(book) == ["cash_flow", *tables]
+    tables = ["feed", "flows", "cutoffs", "inventory", "methods", "schedule", "years", "pushbacks", "shells"]
+    assert list(book) == ["cash_flow", "reserves", *tables]
     for name in ("cutoffs", "schedule", "pushbacks", "shells"):
         pd.testing.assert_frame_equal(book[name], pd.read_csv(copied / "tables" / f"{name}.csv"), check_dtype=False)
     years = pd.read_csv(copied / "tables/years.csv")

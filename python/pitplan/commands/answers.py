@@ -115,7 +115,8 @@ def tables_of(answered: Answered) -> list[str]:
     found += [names.BLOCK_SCHEDULE, names.BOUND] if answered.blocks else []
     found += [names.METHODS] if answered.schedule or answered.blocks else []
     if answered.schedule:
-        found += [names.MATERIAL_FLOWS, names.FEED, names.CUTOFFS, names.LIMITS, names.CASH_FLOW, names.VALUATION]
+        found += [names.MATERIAL_FLOWS, names.INVENTORY, names.FEED, names.CUTOFFS, names.LIMITS]
+        found += [names.CASH_FLOW, names.VALUATION]
         found += [names.BOUND] if answered.schedule.optimum else []
         found += [names.STOCKPILES] if answered.schedule.is_stocked else []
     return found
@@ -125,8 +126,10 @@ def flow_tables(schedule: YearlySchedule) -> dict[str, pd.DataFrame]:
     """The tables of material flow, by the names of their files."""
     from pitplan.scheduling.flow import tables
     from pitplan.scheduling.flow.cutoff_table import cutoff_table
+    from pitplan.scheduling.inventory import inventory_table
 
     found = {"feed": tables.feed_table(schedule), "flows": schedule.material_flows, "cutoffs": cutoff_table(schedule)}
+    found["inventory"] = inventory_table(schedule)
     return found | ({"stockpiles": tables.stockpile_table(schedule)} if schedule.is_stocked else {})
 
 
@@ -151,10 +154,12 @@ def write_tables(answered: Answered, stage: Path) -> tuple[pd.DataFrame, pd.Data
         (stage / layout.SOLVER / mine_files.ANSWER).write_bytes(solution.answer)
     blocks = shell_tables.blocks(plan, solution) if pushbacks is None else nested.blocks(pushbacks)
     if answered.schedule is not None:
-        from pitplan.scheduling import pushback_schedule
+        from pitplan.scheduling import inventory, pushback_schedule
 
         blocks["year"] = pushback_schedule.blocks_year(answered.schedule)[blocks["id"].to_numpy()]
         blocks["bin"] = pushback_schedule.blocks_bin(answered.schedule)[blocks["id"].to_numpy()]
+        for name, shares in inventory.blocks_shares(answered.schedule).items():
+            blocks[name] = shares[blocks["id"].to_numpy()]
         years = pd.concat([years, pushback_schedule.years(answered.schedule)], ignore_index=True)
         write_schedule_tables(answered.schedule, plan, stage)
     if answered.blocks is not None:

@@ -9,6 +9,7 @@ import pandas as pd
 
 from pitplan.export import xlsx
 from pitplan.export.cash_flow_sheet import CashFlowSheet
+from pitplan.export.reserve_sheet import ReserveSheet, sheet_rows
 from pitplan.pushbacks import nested
 from pitplan.results import names
 from pitplan.results.conventions import with_discounting, with_outline
@@ -22,7 +23,7 @@ if TYPE_CHECKING:
 
 
 def write(answered: Answered, stage: Path, table: pd.DataFrame, years: pd.DataFrame) -> None:
-    """Writes the workbook: the cash flow by line of the schedule that is shown, with formulas, then the tables.
+    """Writes the workbook: cash flow by line and reserves of the schedule that is shown, with formulas, then the tables.
 
     Parameters
     ----------
@@ -35,9 +36,11 @@ def write(answered: Answered, stage: Path, table: pd.DataFrame, years: pd.DataFr
     assert answered.schedule is not None
     method, project = answered.schedule.shown, answered.plan.project
     lines, values = (it[it["method"] == method] for it in cash_flow_tables(answered.schedule).values())
+    sheets = sheets_of(answered, table, years)
     # A schedule that mines nothing has no period.
     first = [CashFlowSheet(project, lines, values).sheet().write] if len(lines) else []
-    xlsx.write(stage / names.WORKBOOK, sheets_of(answered, table, years), first)
+    first += [ReserveSheet(project, method, sheets["inventory"]).write] if len(lines) else []
+    xlsx.write(stage / names.WORKBOOK, sheets, first)
 
 
 def sheets_of(answered: Answered, table: pd.DataFrame, years: pd.DataFrame) -> dict[str, pd.DataFrame]:
@@ -52,4 +55,7 @@ def sheets_of(answered: Answered, table: pd.DataFrame, years: pd.DataFrame) -> d
         "shells": shown(with_outline(table, project)),
     }
     of_flows = {name: shown(table) for name, table in flow_tables(answered.schedule).items()}
+    inventory = of_flows["inventory"]
+    mine = inventory[inventory["method"] == answered.schedule.shown].reset_index(drop=True)
+    of_flows["inventory"] = sheet_rows(mine, project)
     return of_flows | {name: with_discounting(sheet, project) for name, sheet in sheets.items()}
