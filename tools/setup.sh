@@ -35,6 +35,7 @@ mypy                  tests    the same: types
 python3-setuptools    tests    make dist: wheels
 python3-wheel         tests    the same
 python3-venv          tests    the test that installs these wheels
+libreoffice-calc-nogui  tests    the test that recalculates the workbook
 dpkg-dev              tests    make dist: the Debian package
 man-db                tests    the test that the manual pages are shown
 chromium              all      the tests that open the 3D page, and print the report

@@ -49,6 +49,7 @@ OWN_COLUMNS = (
     YEAR,
     PERIOD,
     "bin",
+    "share_mined",
     "process",
     *("haul_distance", "haulage_cost", "ore_haulage_cost"),
 )

@@ -155,7 +155,7 @@ def without_workbooks():
 
     write = xlsx.write
     with pytest.MonkeyPatch.context() as patch:
-        patch.setattr(xlsx, "write", lambda path, sheets: path.write_bytes(b"workbook"))
+        patch.setattr(xlsx, "write", lambda path, *sheets: path.write_bytes(b"workbook"))
         yield write
 
 

@@ -30,6 +30,10 @@ changes = [0.1]
 parameters = "mining_cost"
 [constraints]
 must_mine = "due"
+[cash_flow]
+discount_rates = [0.05]
+closure_cost = 5
+tax_rate = 0.3
 """
 PROCESSES = """[[processes]]
 name = "mill"
@@ -61,7 +65,7 @@ def written(tmp_path_factory):
         "cls": lambda i, j, k: "measured" if k else "inferred",
     }
     table = rows(11, 9, 4, **varied)
-    money = "fixed_cost_per_year = 77\ncapex = [[1, 10]]\n"
+    money = "mining_cost_per_bench = 0.01\nfixed_cost_per_year = 77\ncapex = [[1, 10]]\n"
     one = PROJECT.replace("mining_cost = 2\n", f"mining_cost = 2\n{money}") + WIDE
     one = one.replace("processing_capacity = 100\n", "processing_capacity = 100\nspecified = { pushbacks = [0.5] }\n")
     one = one.replace("[table]\n", '[table]\nclass = "cls"\n')
@@ -82,11 +86,12 @@ def written(tmp_path_factory):
 
 
 def own(table, header):
-    """The columns of a file without the planner's own, which come first in blocks.csv, before the source in flows.csv, and before the cut-off."""
+    """The columns of a file without the planner's own, which come first in blocks.csv, before the source of flows, and before the cut-off."""
     if table.file == "cutoffs.csv":
         return header[: header.index("process") + 1] + header[header.index("cutoff") :]
-    if table.file == "flows.csv":
-        return header[: header.index("bin") + 1] + header[header.index("source") :]
+    if table.file in ("flows.csv", "inventory.csv"):
+        last = "bin" if table.file == "flows.csv" else "bench"
+        return header[: header.index(last) + 1] + header[header.index("source") :]
     return header[header.index("mining_cost") :] if table.file == "blocks.csv" else header
 
 
@@ -113,10 +118,14 @@ def test_each_column_that_is_written_is_in_the_schema_and_each_of_the_schema_is_
         "feed.csv",
         "cutoffs.csv",
         "stockpiles.csv",
+        "inventory.csv",
+        "cash_flow.csv",
+        "valuation.csv",
         "sensitivity.csv",
     ):
         never = {it.name for it in BY_FILE[file].columns} - {it.name for it in found[file]}
         never -= {"feed_tonnes_PROCESS"} if file not in ("shells.csv", "years.csv", "pushbacks.csv") else set()
+        never -= {"haulage_cost", "rounding"} if file == "cash_flow.csv" else set()
         assert never - {"outline"} <= by_block, file
 
 

@@ -20,6 +20,7 @@ def test_what_is_written_is_right(plan_folder, monkeypatch, seed):
     rules = "[schedule]\nbench_lag = 1\nyears = 9\n" + pick(
         rng, "", "bins = 3\n", "bins = 3\nstockpile = { reclaim_cost = 0.4 }\n", "stockpile = { reclaim_cost = 0.4 }\n"
     )
+    rules += pick(rng, "", "[cash_flow]\ntax_rate = 0.3\nclosure_cost = 500\ndiscount_rates = [0.05]\n")
     if is_one:
         rules += pick(rng, "", "[schedule.feed]\nau = { max = 3 }\n", "[schedule.feed]\ncu = { min = 0.4 }\n")
     text = (

@@ -178,7 +178,7 @@ def wrong(folder):
 
 RULES = [
     *("schedule amounts", "material flow", "schedule order", "schedule limits", "schedule value"),
-    *("upper bound", "years of blocks"),
+    *("cash flow", "inventory", "upper bound", "years of blocks"),
 ]
 
 
@@ -201,7 +201,8 @@ def test_the_report_and_the_workbook_have_the_schedule(copied):
         and "the schedule and its upper bound, the other numbers" in page
     )
     book = pd.read_excel(copied / "tables/schedule.xlsx", sheet_name=None)
-    assert list(book) == ["feed", "flows", "cutoffs", "methods", "schedule", "years", "pushbacks", "shells"]
+    tables = ["feed", "flows", "cutoffs", "inventory", "methods", "schedule", "years", "pushbacks", "shells"]
+    assert list(book) == ["cash_flow", "reserves", *tables]
     for name in ("cutoffs", "schedule", "pushbacks", "shells"):
         pd.testing.assert_frame_equal(book[name], pd.read_csv(copied / "tables" / f"{name}.csv"), check_dtype=False)
     years = pd.read_csv(copied / "tables/years.csv")
@@ -385,7 +386,7 @@ def test_blocks_of_half_a_tonne_are_dug_and_counted(plan_folder):
 
 def test_a_case_of_no_way_is_found(copied):
     rewrite(copied / "tables/years.csv", lambda table: table.assign(case=table["case"].replace("rule", "hand")))
-    assert wrong(copied) == {"years", "schedule value"}
+    assert wrong(copied) == {"years", "schedule value", "cash flow"}
 
 
 def test_an_interruption_keeps_what_is_found_so_far(plan_folder, capsys, monkeypatch):

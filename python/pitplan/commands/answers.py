@@ -20,7 +20,7 @@ from pitplan.pushbacks import nested
 from pitplan.pushbacks.nested import Pushbacks
 from pitplan.report import html
 from pitplan.results import names
-from pitplan.results.conventions import with_discounting, with_outline
+from pitplan.results.conventions import with_outline
 from pitplan.results.rounding import named, shown, write_csv
 from pitplan.solver import mine_files, problem
 from pitplan.solver.problem import Mine
@@ -74,10 +74,10 @@ def write_answer(answered: Answered, run: Run) -> pd.DataFrame:
         with progress.step("drawing"):
             drawn = draw(answered, table, years, factor, stage)
     if answered.schedule is not None:
-        from pitplan.export import xlsx
+        from . import workbook
 
         with progress.step("writing the workbook"):
-            xlsx.write(stage / names.WORKBOOK, sheets_of(answered, table, years))
+            workbook.write(answered, stage, table, years)
     finish(plan, run.record, [*mine_files.of_program(stage), *tables_of(answered), *drawn], stage)
     html.write(stage / names.REPORT, stage, run.project)
     return table
@@ -115,37 +115,33 @@ def tables_of(answered: Answered) -> list[str]:
     found += [names.BLOCK_SCHEDULE, names.BOUND] if answered.blocks else []
     found += [names.METHODS] if answered.schedule or answered.blocks else []
     if answered.schedule:
-        found += [names.MATERIAL_FLOWS, names.FEED, names.CUTOFFS, names.LIMITS]
+        found += [names.MATERIAL_FLOWS, names.INVENTORY, names.FEED, names.CUTOFFS, names.LIMITS]
+        found += [names.CASH_FLOW, names.VALUATION]
         found += [names.BOUND] if answered.schedule.optimum else []
         found += [names.STOCKPILES] if answered.schedule.is_stocked else []
     return found
-
-
-def sheets_of(answered: Answered, table: pd.DataFrame, years: pd.DataFrame) -> dict[str, pd.DataFrame]:
-    """The tables of a schedule's workbook, by sheet."""
-    from pitplan.scheduling import pushback_schedule
-
-    assert answered.pushbacks is not None and answered.schedule is not None
-    project = answered.plan.project
-    sheets = {
-        "methods": pushback_schedule.methods(answered.schedule),
-        "schedule": shown(pushback_schedule.table(answered.schedule)),
-        "years": shown(with_outline(years[years["revenue_factor"] == answered.schedule.factor], project)),
-        "pushbacks": shown(nested.table(answered.pushbacks)),
-        "shells": shown(with_outline(table, project)),
-    }
-    of_flows = {name: shown(table) for name, table in flow_tables(answered.schedule).items()}
-    found = of_flows | {name: with_discounting(sheet, project) for name, sheet in sheets.items()}
-    return {name: named(sheet, project) for name, sheet in found.items()}
 
 
 def flow_tables(schedule: YearlySchedule) -> dict[str, pd.DataFrame]:
     """The tables of material flow, by the names of their files."""
     from pitplan.scheduling.flow import tables
     from pitplan.scheduling.flow.cutoff_table import cutoff_table
+    from pitplan.scheduling.inventory import inventory_table
 
     found = {"feed": tables.feed_table(schedule), "flows": schedule.material_flows, "cutoffs": cutoff_table(schedule)}
+    found["inventory"] = inventory_table(schedule)
     return found | ({"stockpiles": tables.stockpile_table(schedule)} if schedule.is_stocked else {})
+
+
+def cash_flow_tables(schedule: YearlySchedule) -> dict[str, pd.DataFrame]:
+    """The tables of the cash flow by line, by their paths."""
+    from pitplan.scheduling.cash_flow import tables
+
+    found = tables.finances(schedule)
+    return {
+        names.CASH_FLOW: tables.cash_flow_table(schedule, found),
+        names.VALUATION: tables.valuation_table(schedule, found),
+    }
 
 
 def write_tables(answered: Answered, stage: Path) -> tuple[pd.DataFrame, pd.DataFrame]:
@@ -158,10 +154,12 @@ def write_tables(answered: Answered, stage: Path) -> tuple[pd.DataFrame, pd.Data
         (stage / layout.SOLVER / mine_files.ANSWER).write_bytes(solution.answer)
     blocks = shell_tables.blocks(plan, solution) if pushbacks is None else nested.blocks(pushbacks)
     if answered.schedule is not None:
-        from pitplan.scheduling import pushback_schedule
+        from pitplan.scheduling import inventory, pushback_schedule
 
         blocks["year"] = pushback_schedule.blocks_year(answered.schedule)[blocks["id"].to_numpy()]
         blocks["bin"] = pushback_schedule.blocks_bin(answered.schedule)[blocks["id"].to_numpy()]
+        for name, shares in inventory.blocks_shares(answered.schedule).items():
+            blocks[name] = shares[blocks["id"].to_numpy()]
         years = pd.concat([years, pushback_schedule.years(answered.schedule)], ignore_index=True)
         write_schedule_tables(answered.schedule, plan, stage)
     if answered.blocks is not None:
@@ -178,13 +176,15 @@ def write_tables(answered: Answered, stage: Path) -> tuple[pd.DataFrame, pd.Data
 
 
 def write_schedule_tables(schedule: YearlySchedule, plan: Plan, stage: Path) -> None:
-    """Writes schedule.csv, methods.csv, schedule.json, limits.csv, bound.csv and the tables of material flow."""
+    """Writes schedule.csv, methods.csv, schedule.json, limits.csv, bound.csv, and the tables of cash flow and of material flow."""
     from pitplan.scheduling import pushback_record, pushback_schedule
     from pitplan.scheduling.flow.limit_table import limit_table
     from pitplan.scheduling.flow.tables import bound_table
 
     write_csv(shown(pushback_schedule.table(schedule)), stage / names.SCHEDULE, plan.project)
     write_csv(shown(pushback_schedule.methods(schedule)), stage / names.METHODS, plan.project)
+    for path, table in cash_flow_tables(schedule).items():
+        write_csv(shown(table), stage / path, plan.project)
     write_json(stage / names.SCHEDULE_RECORD, pushback_record.record(schedule))
     for name, table in flow_tables(schedule).items():
         named(shown(table), plan.project).to_csv(stage / layout.TABLES / f"{name}.csv", index=False)

@@ -24,6 +24,10 @@ class ClassRules:
         """The treatment of a class: that of its rule, otherwise waste or ore by its name, whatever its case."""
         return self.given.get(code, WASTE if code.lower() in WASTE_NAMES else ORE)
 
+    def may_be_reserve(self, code: str) -> bool:
+        """Whether reporting codes allow the class in reserves, by its name. A rule that treats inferred material as ore does not change that."""
+        return code.lower() not in WASTE_NAMES
+
 
 def read_classes(section: Section) -> ClassRules:
     given = {code: section.choice(code, TREATMENTS, None) for code in section.data}

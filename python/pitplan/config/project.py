@@ -12,6 +12,7 @@ from pitplan.errors import PlanError
 
 from . import toml_text
 from .agreement import demand_agreement
+from .cash_flow import CashFlowRules, read_cash_flow
 from .classes import ClassRules, read_classes
 from .constraints import ConstraintRules, read_constraints
 from .economics import Economics, Metal, Process, read_economics, read_metal, read_process
@@ -57,6 +58,7 @@ class Project:
     haulage: Optional[Haulage] = None
     solver: Optional[str] = None
     classes: ClassRules = ClassRules()
+    cash_flow: CashFlowRules = CashFlowRules()
 
     @property
     def by_process(self) -> tuple[Project, ...]:
@@ -228,6 +230,7 @@ def of_data(data: dict[str, Any], path: Path, source: Optional[str] = None) -> P
         processes=processes,
         haulage=read_haulage(top.section("haulage")) if top.has("haulage") else None,
         classes=read_classes(top.section("classes", optional=True)),
+        cash_flow=read_cash_flow(top.section("cash_flow", optional=True)),
     )
     metals = tuple(metal.name for metal in project.metals)
     if top.has("sensitivity"):

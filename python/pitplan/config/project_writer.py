@@ -55,6 +55,7 @@ def of_project(project: Project, folder: Path) -> str:
         "constraints": project.constraints and of_fixed(project.constraints, folder),
         "pushbacks": project.pushbacks and of_pushbacks(project.pushbacks),
         "schedule": project.schedule and of_schedule(project.schedule),
+        "cash_flow": project.cash_flow.as_toml() or None,
         "sensitivity": project.sensitivity and of_sensitivity(project.sensitivity),
         "scenarios": project.scenarios and of_scenarios(project.scenarios, folder),
         "figures": project.figures and of_pictures(project.figures),

@@ -5,7 +5,7 @@ from __future__ import annotations
 import math
 from dataclasses import dataclass
 from decimal import Decimal
-from functools import cached_property
+from functools import cached_property, reduce
 from typing import Optional
 
 import numpy as np
@@ -45,6 +45,8 @@ def added_cost(money: Economics, elevation: float) -> Decimal:
 
 
 MILLIONTHS = 6
+# The lines of the mining cost.
+MINING, DEPTH, HAULAGE = "mining", "depth", "haulage"
 
 # The files' decimals have twelve digits before the point, and a fixed cut-off adds two amounts.
 GREATEST = 10**17
@@ -133,8 +135,9 @@ class Rows:
         """Returns a cost per tonne times the adjustment factors of a column; itself without a column."""
         return a_tonne.times(Exact.of_floats(self.frame[factors].to_numpy())) if factors else a_tonne
 
-    def mining(self) -> Exact:
-        """Returns the mining cost with haulage as waste. Its factor applies to neither haulage nor the increment by bench or elevation."""
+    def mining_rates(self) -> dict[str, Exact]:
+        """Returns the mining cost per tonne by line: mining, depth (the increment by bench or elevation), and with `[haulage]` haulage as waste.
+        The adjustment factor applies to the first alone."""
         money, solid = self.project.economics, np.array(self.tonnes.whole > 0, dtype=bool)
         _, _, level = self.grid.indices(self.grid.rows)
         if money.mining_cost_by_elevation:
@@ -143,8 +146,20 @@ class Rows:
         else:
             steps = np.maximum(level - reference_level(money, self.grid), 0).astype(np.int64)
             deeper = Exact(steps, 0).times(self.every(money.mining_cost_per_bench))
-        a_tonne = self.adjusted(self.by_code(money.mining_cost, solid, "mining_cost"), money.mcaf).plus(deeper)
-        return self.tonnes.times(a_tonne.plus(self.roads.waste) if self.roads else a_tonne)
+        found = {
+            MINING: self.adjusted(self.by_code(money.mining_cost, solid, "mining_cost"), money.mcaf),
+            DEPTH: deeper,
+        }
+        return found | ({HAULAGE: self.roads.waste} if self.roads else {})
+
+    def mining(self) -> Exact:
+        """Returns the mining cost with haulage as waste."""
+        return self.tonnes.times(reduce(Exact.plus, self.mining_rates().values()))
+
+    def processing_rate(self, needed: np.ndarray) -> Exact:
+        """Returns the cost of processing a tonne of feed. Raises PlanError if a row in `needed` has a rock type without one."""
+        money = self.project.economics
+        return self.adjusted(self.by_code(money.processing_cost, needed, "processing_cost"), money.pcaf)
 
     def feed(self) -> Feed:
         """Returns the mill feed of each row. Raises PlanError if a mineralised row has a code without a number."""
@@ -181,8 +196,7 @@ class Rows:
             revenue = revenue.plus(metal[m.name].times(self.every(m.by_quantity(m.price) * (1 - costs.royalty))))
             selling = selling.plus(metal[m.name].times(self.every(m.by_quantity(m.selling_cost))))
         yields = np.array(revenue.whole > 0, dtype=bool)
-        a_tonne = self.adjusted(self.by_code(costs.processing_cost, yields, "processing_cost"), costs.pcaf)
-        a_tonne = a_tonne.plus(self.every(costs.royalty_per_tonne))
+        a_tonne = self.processing_rate(yields).plus(self.every(costs.royalty_per_tonne))
         if self.roads:
             a_tonne = self.with_haulage(a_tonne, yields)
         amounts = {"revenue": revenue, "processing cost": feed.tonnes.times(a_tonne).plus(selling)}

@@ -34,6 +34,7 @@ LINES = {"gpkg": "gpkg", "str": "str", "lines": "csv"}
 SHEETS = (
     *(names.SHELLS, names.YEARS, names.PUSHBACKS, names.SCHEDULE),
     *(names.MATERIAL_FLOWS, names.FEED, names.CUTOFFS, names.STOCKPILES),
+    *(names.INVENTORY, names.CASH_FLOW, names.VALUATION),
 )
 # The corners of a cell in the order of a VTK voxel: steps east, north and up.
 CORNERS = np.array([(x, y, z) for z in (0, 1) for y in (0, 1) for x in (0, 1)])

@@ -5,7 +5,9 @@ from __future__ import annotations
 import io
 import re
 import zipfile
+from collections.abc import Callable, Sequence
 from pathlib import Path
+from typing import Any
 
 import numpy as np
 import pandas as pd
@@ -25,12 +27,14 @@ def demand_library() -> None:
     load("openpyxl", "python3-openpyxl", "a workbook")
 
 
-def write(path: Path, sheets: dict[str, pd.DataFrame]) -> None:
-    """Writes a sheet per table, by its name, with a frozen header. Raises MissingPackage without openpyxl."""
+def write(path: Path, sheets: dict[str, pd.DataFrame], first: Sequence[Callable[[Any], None]] = ()) -> None:
+    """Writes a sheet per table, by its name, with a frozen header, after those that `first` adds. Raises MissingPackage without openpyxl."""
     openpyxl = load("openpyxl", "python3-openpyxl", "a workbook")
     styles = load("openpyxl.styles", "python3-openpyxl", "a workbook")
     book = openpyxl.Workbook()
     book.remove(book.active)
+    for add in first:
+        add(book)
     for name, table in sheets.items():
         sheet = book.create_sheet(name)
         sheet.append(list(table.columns))

@@ -12,6 +12,7 @@ from dataclasses import replace
 from functools import cache
 from typing import Optional
 
+from .cash_flow_columns import CASH_FLOW, VALUATION
 from .column_types import (
     AMOUNT,
     COUNT,
@@ -60,7 +61,7 @@ from .common_columns import (
     YEAR,
 )
 from .comparison_columns import COMPARISON
-from .flow_columns import BIN, CUTOFFS, FEEDS, LIMITS, MATERIAL_FLOWS, STOCKPILES
+from .flow_columns import BIN, CUTOFFS, FEEDS, INVENTORY, LIMITS, MATERIAL_FLOWS, STOCKPILES
 
 SHELLS = Table("shells.csv", "a row per revenue factor", (RF, *PIT, *EARNED, OUTLINES, DISCOUNTS))
 PITS = Table(
@@ -252,7 +253,8 @@ BLOCK_TABLE = Table(
         replace(PUSHBACK, holds="from 1; 0: none", when="with pushbacks"),
         replace(YEAR, holds="in which its bench is completed; 0: never", when="with a schedule"),
         replace(BIN, when="with a schedule of pushbacks"),
-        Column("share_PROCESS", SHARE, "share of the block that goes to a process; the rest is waste", when="by block"),
+        Column("share_mined", SHARE, "share of the block that is mined", when="with a schedule of pushbacks"),
+        Column("share_PROCESS", SHARE, "share of the block that a process takes", when="with a schedule"),
         replace(FIRST, name="free_revenue_factor", holds="without the constraints", when="of `pitplan pit`"),
         replace(
             PROCESSED, name="free_process_revenue_factor", holds="without the constraints", when="of `pitplan pit`"
@@ -261,7 +263,7 @@ BLOCK_TABLE = Table(
     digits=0,
 )
 TABLES: tuple[Table, ...] = (BLOCK_TABLE, SHELLS, YEARLY, PITS, PUSHBACKS, SCHEDULE, METHODS, SENSITIVITY)
-TABLES += (MATERIAL_FLOWS, FEEDS, CUTOFFS, STOCKPILES, LIMITS)
+TABLES += (MATERIAL_FLOWS, FEEDS, CUTOFFS, STOCKPILES, LIMITS, CASH_FLOW, VALUATION, INVENTORY)
 TABLES += (MULTIPLIERS, PROBABILITY, SCENARIOS, QUANTILES, COMMON, COMMON_YEARS, SCHEDULES, BLOCK_QUANTILES)
 TABLES += COMPARISON
 

@@ -8,6 +8,7 @@ from .column_types import COUNT, GRADE, METAL, SHARE, TEXT, TONNES, Column, Tabl
 from .common_columns import BENCH, FEED, FLOWS, HEAD_GRADE, METHOD, MINED, PUSHBACK, RECOVERED, YEAR
 
 CONTAINED = Column("contained_METAL", METAL, "metal in the feed", "contained METAL")
+IN_SITU = Column("in_situ_METAL", METAL, "metal in the in-situ tonnes", "METAL in situ")
 BIN = Column("bin", COUNT, "value bin of ore: by process, from the poorest; 0: no ore")
 MATERIAL_FLOWS = Table(
     "flows.csv",
@@ -19,6 +20,7 @@ MATERIAL_FLOWS = Table(
             "destination", TEXT, "a process (`mill` if the project names none), a stockpile or `waste`", "destination"
         ),
         replace(MINED, holds="in-situ tonnes that flow"),
+        replace(IN_SITU, holds="metal in these"),
         replace(FEED, holds="mill feed, if a process or a stockpile takes them"),
         CONTAINED,
         RECOVERED,
@@ -26,6 +28,26 @@ MATERIAL_FLOWS = Table(
             FLOWS[0],
             holds="revenue less the costs of processing, selling, stacking and reclaiming, at the prices of the year",
         ),
+    ),
+)
+INVENTORY = Table(
+    "inventory.csv",
+    "of a schedule of pushbacks: a row per method, year, pushback, bench, rock type, resource class, source and destination",
+    (
+        *(METHOD, YEAR, PUSHBACK, BENCH),
+        *MATERIAL_FLOWS.columns[5:7],
+        Column(
+            "category",
+            TEXT,
+            "`ore`: mill feed of classes that may be reserves; `not_reserve`: mill feed of other classes; `stockpile`; `waste`",
+            "category",
+        ),
+        replace(MINED, holds="in-situ tonnes that flow"),
+        Column("grade_METAL", GRADE, "their in-situ grade", "METAL"),
+        replace(IN_SITU, holds="metal in these"),
+        replace(FEED, holds="mill feed, if a process or a stockpile takes them"),
+        replace(HEAD_GRADE, holds="its grade; empty for waste"),
+        *(CONTAINED, RECOVERED),
     ),
 )
 PROCESS = Column("process", TEXT, "`mill` if the project names none", "process")

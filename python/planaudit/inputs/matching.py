@@ -29,8 +29,8 @@ FREE = ("free_revenue_factor", "free_process_revenue_factor")
 PUSHBACK, BIN = "pushback", "bin"
 # If a surface cuts blocks: the tonnes of the table. Results have the tonnes below the surface.
 UNCUT = "tonnes before the cut"
-# With a schedule by block the share of each block that goes to a process.
-SHARE = "share_"
+# With a schedule the share of each block that goes to a process, and by pushbacks the share that is mined.
+SHARE, MINED = "share_", "share_mined"
 # The result of `rows_of`.
 TableRows = tuple[pd.DataFrame, Optional[pd.DataFrame], Optional[pd.DataFrame]]
 
@@ -118,7 +118,7 @@ def own_columns(written: pd.DataFrame, rows: pd.DataFrame, order: np.ndarray) ->
 
 def own_name(column: str) -> str:
     """Returns the name of a planner's column in blocks.csv."""
-    return f"planner_{column}" if column in (*SAID, *FREE, *HAULED, PUSHBACK, YEAR, PERIOD, BIN, PROCESS) else column
+    return f"planner_{column}" if column in (*SAID, *FREE, *HAULED, PUSHBACK, YEAR, PERIOD, BIN, MINED, PROCESS) else column
 
 
 def beside(

@@ -411,6 +411,16 @@ class ClassRules:
 
 
 @dataclass(frozen=True)
+class CashFlowRules:
+    """`[cash_flow]`; depreciation over years in even amounts, or without these by mill feed."""
+
+    discount_rates: tuple[Decimal, ...] = ()
+    closure_cost: Decimal = Decimal(0)
+    tax_rate: Decimal = Decimal(0)
+    depreciation_years: Optional[Decimal] = None
+
+
+@dataclass(frozen=True)
 class Scenarios:
     """`[scenarios]`: a folder of realisations or their columns by metal, and price decks."""
 
@@ -436,6 +446,7 @@ class Project:
     schedule: Optional[ScheduleRules] = None
     haulage: Optional[Haulage] = None
     classes: ClassRules = ClassRules()
+    cash_flow: CashFlowRules = CashFlowRules()
     # What the process accepts, in a project with one process of several.
     accepts: Accepts = Accepts()
 

@@ -21,6 +21,7 @@ from planaudit.inputs.project import (
     ByDomain,
     ByRock,
     Calendar,
+    CashFlowRules,
     ClassRules,
     ConstraintRules,
     Curve,
@@ -104,6 +105,7 @@ def of_data(data: Data, place: Places, source: str = "project") -> Project:
             schedule=schedule_of(data["schedule"]) if "schedule" in data else None,
             haulage=haulage_of(data["haulage"]) if "haulage" in data else None,
             classes=ClassRules({code: str(word) for code, word in data.get("classes", {}).items()}),
+            cash_flow=cash_flow_of(data.get("cash_flow", {})),
         )
 
 
@@ -374,6 +376,17 @@ def stockpile_of(data: Data) -> Stockpile:
         capacity=metres(data, "capacity"),
         recovery=floats(data.get("recovery", {})),
         accepts=accepts_of(data.get("accepts", {})),
+    )
+
+
+def cash_flow_of(data: Data) -> CashFlowRules:
+    """Returns `[cash_flow]`; depreciation is a table with years, or the words units_of_production."""
+    how = data.get("depreciation")
+    return CashFlowRules(
+        discount_rates=tuple(sorted(map(number, data.get("discount_rates", ())))),
+        closure_cost=number(data.get("closure_cost", 0)),
+        tax_rate=number(data.get("tax_rate", 0)),
+        depreciation_years=number(how["years"]) if isinstance(how, dict) else None,
     )
 
 

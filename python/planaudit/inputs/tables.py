@@ -27,6 +27,7 @@ MAY_LACK = (
         "optimality_gap",
     ),
     *("sum_", "kept_", "skin_value", "used", "minimum", "maximum", "utilisation", "shadow_price"),
+    *("cost_per_tonne_", "c1_cost", "irr", "payback"),
 )
 # Exact numbers stay texts.
 EXACT = "value_at_revenue_factor"

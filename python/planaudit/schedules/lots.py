@@ -158,10 +158,13 @@ class BlockAmounts:
 
     @cached_property
     def lots(self) -> pd.DataFrame:
-        """The sums of each lot, by its key: total_tonnes, mining cash, feed, contained metal, and by process recovered metal, gain, whether all
+        """The sums of each lot, by its key: total_tonnes, mining cash, feed, metal in situ and in the feed, and by process recovered metal, gain, whether all
         of its blocks have a revenue there, and limited amounts; and how many blocks each stockpile refuses."""
         columns = {"total_tonnes": self.tonnes, "mining_cash": self.mining_cash, "feed_tonnes": self.feed}
         columns |= {f"contained_{name}": amounts for name, amounts in self.contained.items()}
+        for metal in self.answer.project.metals:
+            content = self.column(metal.column) * float(GRADE_UNITS[metal.unit])
+            columns[f"in_situ_{metal.name}"] = content * self.tonnes
         for process in range(len(self.processes)):
             columns |= {f"recovered_{name} {process}": amounts[process] for name, amounts in self.recovered.items()}
             columns |= {f"gain {process}": self.gain[process], f"not taken {process}": 1.0 - self.takes[process]}

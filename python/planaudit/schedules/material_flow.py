@@ -106,6 +106,8 @@ class MaterialFlow:
             whole = self.whole[name].to_numpy()
             found[name] = whole * moved, AMOUNT + np.abs(whole) * open_to
         for metal in self.answer.project.metals:
+            whole = self.whole[f"in_situ_{metal.name}"].to_numpy()
+            found[f"in_situ_{metal.name}"] = whole * self.share, AMOUNT + np.abs(whole) * open_to
             whole = self.recovered(metal.name)
             found[f"recovered_{metal.name}"] = whole * fed, AMOUNT + np.abs(whole) * open_to
         cash, handled = self.cash

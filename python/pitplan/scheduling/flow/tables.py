@@ -107,12 +107,13 @@ class Lots:
 
     @cached_property
     def sums(self) -> pd.DataFrame:
-        """One row per lot: its key, total_tonnes, feed_tonnes, contained_METAL, and recovered_METAL and gain by process."""
+        """One row per lot: its key, total_tonnes, in_situ_METAL, feed_tonnes, contained_METAL, and recovered_METAL and gain by process."""
         plan, cells, values = self.plan, self.cells, self.plan.values
         columns = {"total_tonnes": values.tonnes[cells], "feed_tonnes": values.feed[cells]}
         for metal in plan.project.metals:
-            content = column_of(plan, metal.column, cells) * values.undiluted[cells]
-            columns[f"contained_{metal.name}"] = content * float(GRADE_UNITS[metal.unit])
+            grade = column_of(plan, metal.column, cells) * float(GRADE_UNITS[metal.unit])
+            columns[f"in_situ_{metal.name}"] = grade * values.tonnes[cells]
+            columns[f"contained_{metal.name}"] = grade * values.undiluted[cells]
         for number, way in enumerate(values.by_process):
             columns |= {f"recovered_{name} {number}": amounts[cells] for name, amounts in way.metal.items()}
             columns[f"gain {number}"] = (way.revenue[cells] - way.cost[cells]) / 1e6
@@ -128,8 +129,8 @@ def flow_table(schedule: YearlySchedule) -> pd.DataFrame:
     """Returns one row per method, year, lot, source and destination with a flow.
 
     Columns: method, year, pushback, bench (elevation), bin, rock type and class if the table has them, source, destination, total_tonnes,
-    feed_tonnes and contained_METAL in what goes to a process or a stockpile, recovered_METAL, and cash_flow: revenue less the costs of
-    processing, selling, stacking and reclaiming, at the year's prices.
+    in_situ_METAL, feed_tonnes and contained_METAL in what goes to a process or a stockpile, recovered_METAL, and cash_flow: revenue less the
+    costs of processing, selling, stacking and reclaiming, at the year's prices.
     """
     lots = Lots(schedule)
     found = [of_method(schedule, method, lots) for method in schedule.flows]
@@ -176,6 +177,8 @@ def written(flows: Flows, move: Move, lots: Lots, rows: NDArray[np.int64], at: N
             "total_tonnes": sums["total_tonnes"] * share,
         }
     )
+    for metal in plan.project.metals:
+        found[f"in_situ_{metal.name}"] = sums[f"in_situ_{metal.name}"] * share
     moved = 0.0 if move.destination == WASTE else share
     for name in ("feed_tonnes", *(f"contained_{metal.name}" for metal in plan.project.metals)):
         found[name] = sums[name] * moved

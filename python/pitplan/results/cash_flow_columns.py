@@ -1,0 +1,124 @@
+"""The columns of the cash flow by line: cash_flow.csv and valuation.csv."""
+
+from __future__ import annotations
+
+from dataclasses import replace
+
+from .column_types import MONEY, RATIO, YEARS, Column, Table, Unit
+from .common_columns import DISCOUNTS, FEED, FLOWS, HEAD_GRADE, METHOD, MINED, NPV, RECOVERED, SPENT, TONNAGES, YEAR
+from .flow_columns import CONTAINED
+
+WITH_TAX = "with `[cash_flow] tax_rate`"
+A_TONNE = Unit("currency per t", 6, 2, "#,##0.00")
+OF_PRICE = Unit("currency per unit of `price`", 6, 2, "#,##0.00")
+RATE = Unit("per year", None, 2, "0.0%")
+RETURN = Unit("per year", 9, 4, "0.00%")
+WASTE = next(it for it in TONNAGES if it.name == "waste_tonnes")
+STRIP = next(it for it in TONNAGES if it.name == "strip_ratio")
+PHYSICALS = (
+    MINED,
+    replace(WASTE, holds="total material less in-situ ore that is processed or stockpiled"),
+    replace(STRIP, unit=RATIO, holds="waste to that ore; empty without ore"),
+    replace(FEED, holds="mill feed of all processes"),
+    replace(HEAD_GRADE, holds="head grade of that feed; empty without feed"),
+    replace(CONTAINED, holds="metal in that feed"),
+    RECOVERED,
+    Column("price_METAL", OF_PRICE, "price of the year", "price of METAL"),
+)
+LINES = (
+    Column("revenue_METAL", MONEY, "recovered metal at the price of the year", "revenue METAL"),
+    Column("royalty", MONEY, "of revenue and per tonne of feed", "royalty"),
+    Column("selling_cost_METAL", MONEY, "selling cost of the recovered metal", "selling METAL"),
+    Column("mining_cost_ore", MONEY, "mining of what is processed or stockpiled", "mining ore"),
+    Column("mining_cost_waste", MONEY, "mining of the rest", "mining waste"),
+    Column(
+        "mining_cost_depth",
+        MONEY,
+        "increments by bench or elevation, of all material",
+        "mining depth",
+        "with such increments",
+    ),
+    Column("haulage_cost", MONEY, "haulage of ore and waste", "haulage", "with `[haulage]`"),
+    Column(
+        "mining_cost_added",
+        MONEY,
+        "what pushbacks add",
+        "mining added by pushbacks",
+        "with `[pushbacks] mining_cost_added`",
+    ),
+    Column("processing_cost_PROCESS", MONEY, "processing cost of a process", "processing PROCESS"),
+    Column("stacking_cost", MONEY, "placing ore on stockpiles", "stacking", "with stockpiles"),
+    Column("reclaim_cost", MONEY, "reclaiming it", "reclaim", "with stockpiles"),
+    SPENT[0],
+    Column(
+        "rounding",
+        MONEY,
+        "what rounding block values adds to the cash flow",
+        "rounding of block values",
+        "if `decimals` is below 6",
+    ),
+)
+RESULTS = (
+    Column("operating_cash_flow", MONEY, "revenue less royalty, selling and all costs above", "operating cash flow"),
+    SPENT[1],
+    replace(FLOWS[0], holds="operating cash flow less capex, as in `years.csv`"),
+    Column("closure_cost", MONEY, "in the last year", "closure cost", "with `[cash_flow] closure_cost`"),
+    Column("depreciation", MONEY, "of capex", "depreciation", WITH_TAX),
+    Column(
+        "taxable_income",
+        MONEY,
+        "operating cash flow less depreciation, closure cost and losses carried forward; at least 0",
+        "taxable income",
+        WITH_TAX,
+    ),
+    Column("tax", MONEY, "of the taxable income", "tax", WITH_TAX),
+    Column("free_cash_flow", MONEY, "cash flow less closure cost and tax", "free cash flow"),
+    replace(FLOWS[1], holds="`cash_flow` to the start of year 1, as in `years.csv`"),
+    Column(
+        "discounted_free_cash_flow",
+        MONEY,
+        "`free_cash_flow` to the start of year 1",
+        "discounted free cash flow",
+    ),
+    Column(
+        "cost_per_tonne_mined", A_TONNE, "mining and haulage per tonne of total material", "mining cost per tonne mined"
+    ),
+    Column(
+        "cost_per_tonne_fed",
+        A_TONNE,
+        "mining, haulage, processing, stockpiles and fixed costs per tonne of feed",
+        "site cost per tonne of feed",
+    ),
+    Column(
+        "c1_cost",
+        OF_PRICE,
+        "these and selling costs, less revenue of the other metals, per unit of the first metal",
+        "C1 cost",
+    ),
+)
+CASH_FLOW = Table(
+    "cash_flow.csv",
+    "of a schedule of pushbacks: a row per method and year; costs and tax are positive",
+    (METHOD, YEAR, *PHYSICALS, *LINES, *RESULTS, DISCOUNTS),
+)
+AFTER = "after closure cost and tax"
+VALUATION = Table(
+    "valuation.csv",
+    "of a schedule of pushbacks: a row per method and discount rate",
+    (
+        METHOD,
+        Column("discount_rate", RATE, "that of `[shells]`, and `[cash_flow] discount_rates`", "discount rate"),
+        replace(NPV, holds="of `cash_flow`"),
+        Column("npv_after_tax", MONEY, f"of `free_cash_flow`: {AFTER}", "NPV after tax"),
+        Column("irr", RETURN, "rate at which the NPV of `cash_flow` is 0; empty if there is none above 0", "IRR"),
+        Column("irr_after_tax", RETURN, f"the same {AFTER}", "IRR after tax"),
+        Column(
+            "payback",
+            YEARS,
+            "until the cumulative undiscounted cash flow is no longer negative; empty if it stays so",
+            "payback",
+        ),
+        Column("payback_after_tax", YEARS, f"the same {AFTER}", "payback after tax"),
+        DISCOUNTS,
+    ),
+)

@@ -1,0 +1,198 @@
+"""The lines of the cash flow of a method: physicals, revenue, costs and capex by period, from the quantities of blocks."""
+
+from __future__ import annotations
+
+from dataclasses import dataclass
+
+import numpy as np
+import pandas as pd
+from numpy.typing import NDArray
+
+from pitplan.config.economics import GRADE_UNITS, GRAMS, Metal
+from pitplan.config.places import MILL
+from pitplan.config.project import Project
+from pitplan.economics.cost_lines import PROCESSING, ROYALTY, price_of, selling_of
+from pitplan.economics.weighing import DEPTH, HAULAGE, MILLIONTHS, MINING
+from pitplan.pits import shell_tables
+from pitplan.scheduling import pushback_schedule
+from pitplan.scheduling.pushback_schedule import YearlySchedule
+
+from .operation import Amounts, Material, Operation
+
+# Lines by their columns in cash_flow.csv.
+Lines = dict[str, Amounts]
+
+
+@dataclass(frozen=True)
+class Statement:
+    """The cash flow of a method by line, in the currency; arrays of shape (periods,).
+
+    Attributes
+    ----------
+    method : str
+    year : array
+        The number of each period, from 1.
+    ends : array
+        The end of each period, in years.
+    physicals, prices : dict of str to array
+        Tonnes, grades and metals; and the prices of metals, per unit of their `price`.
+    revenue, deductions, costs : dict of str to array
+        Revenue by metal; royalty and selling costs; and the operating costs.
+    rounding : array
+        What the rounding of block values adds.
+    capex : array
+        Spent at the start of each period.
+    cash_flow, discounted : array
+        Those of years.csv.
+    """
+
+    method: str
+    year: NDArray[np.int64]
+    ends: Amounts
+    physicals: Lines
+    prices: Lines
+    revenue: Lines
+    deductions: Lines
+    costs: Lines
+    rounding: Amounts
+    capex: Amounts
+    cash_flow: Amounts
+    discounted: Amounts
+
+    @property
+    def starts(self) -> Amounts:
+        """The start of each period, in years."""
+        return np.append(0.0, self.ends)[:-1]
+
+    @property
+    def operating(self) -> Amounts:
+        """Revenue less deductions and operating costs."""
+        return self.total(self.revenue) - self.total(self.deductions) - self.total(self.costs) + self.rounding
+
+    def total(self, lines: Lines) -> Amounts:
+        """Returns the sum of lines by period."""
+        return np.asarray(sum(lines.values(), np.zeros(len(self.ends))))
+
+
+def statements(schedule: YearlySchedule) -> list[Statement]:
+    """Returns the cash flow of each method by line."""
+    material, years = Material(schedule), pushback_schedule.years(schedule)
+    return [
+        statement(Operation(material, flows), method, years[years["case"] == method])
+        for method, flows in schedule.flows.items()
+    ]
+
+
+def statement(operation: Operation, method: str, years: pd.DataFrame) -> Statement:
+    """Returns the cash flow of a method; `years` are its rows of years.csv."""
+    nothing = np.zeros(len(years))
+    of_years = {name: years[name].to_numpy() if name in years else nothing for name in ("fixed_cost", "capex")}
+    metals = operation.material.plan.project.metals
+    recovered = {metal.name: operation.recovered(metal.name) for metal in metals}
+    prices = prices_of(operation)
+    revenue = {f"revenue_{metal.name}": recovered[metal.name] * prices[metal.name] for metal in metals}
+    costs = mining_costs(operation) | processing_costs(operation) | stockpile_costs(operation)
+    return Statement(
+        method=method,
+        year=years["year"].to_numpy(),
+        ends=operation.material.plan.project.shells.calendar.ends(len(years)),
+        physicals=physicals(operation, recovered),
+        prices={f"price_{metal.name}": prices[metal.name] / units_of_price(metal) for metal in metals},
+        revenue=revenue,
+        deductions=deductions(operation, revenue, recovered),
+        costs=costs | ({"fixed_cost": of_years["fixed_cost"]} if "fixed_cost" in years else {}),
+        rounding=rounding_of(operation),
+        capex=of_years["capex"],
+        cash_flow=years["cash_flow"].to_numpy(),
+        discounted=years["discounted_cash_flow"].to_numpy(),
+    )
+
+
+def units_of_price(metal: Metal) -> float:
+    """Returns how many units of a metal's price a tonne or gram of it has: 2,204.6 pounds."""
+    return float(GRAMS[metal.quantity] / GRAMS[metal.price_unit])
+
+
+def prices_of(operation: Operation) -> Lines:
+    """Returns the price of a tonne or gram of each metal in each period."""
+    project, flows = operation.material.plan.project, operation.flows
+    names = tuple(f"recovered_{metal.name}" for metal in project.metals)
+    premiums = flows.model.problem.money.premium(names, flows.years) / (1 - float(project.economics.royalty))
+    return {metal.name: price_of(metal) + more for metal, more in zip(project.metals, premiums.T)}
+
+
+def physicals(operation: Operation, recovered: Lines) -> Lines:
+    """Returns tonnes, strip ratio, head grades and metals."""
+    values, project = operation.material.plan.values, operation.material.plan.project
+    total, ore = operation.mined(values.tonnes), operation.ore(values.tonnes)
+    waste, feed = np.maximum(total - ore, 0.0), operation.fed_anywhere(values.feed)
+    found = {"total_tonnes": total, "waste_tonnes": waste, "strip_ratio": shell_tables.ratio(waste, ore)}
+    found["feed_tonnes"] = feed
+    contained = {name: operation.fed_anywhere(metal) for name, metal in operation.material.contained.items()}
+    for metal in project.metals:
+        content = contained[metal.name] / float(GRADE_UNITS[metal.unit])
+        found[f"head_grade_{metal.name}"] = shell_tables.ratio(content, feed)
+    found |= {f"contained_{name}": amounts for name, amounts in contained.items()}
+    return found | {f"recovered_{name}": amounts for name, amounts in recovered.items()}
+
+
+def deductions(operation: Operation, revenue: Lines, recovered: Lines) -> Lines:
+    """Returns the royalty, by revenue and by tonne of feed, and the selling costs by metal."""
+    project, costs = operation.material.plan.project, operation.material.costs
+    royalty = float(project.economics.royalty) * sum(revenue.values())
+    royalty = royalty + sum(operation.fed(lines[ROYALTY], number) for number, lines in enumerate(costs.processing))
+    selling = {f"selling_cost_{it.name}": recovered[it.name] * selling_of(it) for it in project.metals}
+    return {"royalty": np.asarray(royalty)} | selling
+
+
+def mining_costs(operation: Operation) -> Lines:
+    """Returns the cost of mining ore and waste, of depth, of haulage, and what pushbacks add."""
+    material = operation.material
+    costs, project = material.costs, material.plan.project
+    ore = operation.ore(costs.mining[MINING])
+    found = {"mining_cost_ore": ore, "mining_cost_waste": operation.mined(costs.mining[MINING]) - ore}
+    if costs_more_below(project):
+        found["mining_cost_depth"] = operation.mined(costs.mining[DEPTH])
+    if project.haulage:
+        hauled = operation.mined(costs.mining[HAULAGE])
+        of_ore = [operation.fed(lines[HAULAGE], number) for number, lines in enumerate(costs.processing)]
+        found["haulage_cost"] = np.asarray(hauled + sum(of_ore))
+    if project.pushbacks and project.pushbacks.mining_cost_added:
+        found["mining_cost_added"] = operation.mined(material.schedule.pushbacks.mining_cost_added)
+    return found
+
+
+def costs_more_below(project: Project) -> bool:
+    """Returns whether the mining cost depends on the elevation."""
+    return bool(project.economics.mining_cost_per_bench or project.economics.mining_cost_by_elevation)
+
+
+def processing_costs(operation: Operation) -> Lines:
+    """Returns the processing cost by process."""
+    return {
+        f"processing_cost_{name or MILL}": operation.fed(lines[PROCESSING], number)
+        for number, (name, lines) in enumerate(
+            zip(operation.material.schedule.names, operation.material.costs.processing)
+        )
+    }
+
+
+def stockpile_costs(operation: Operation) -> Lines:
+    """Returns the costs of stacking and reclaiming, if there are stockpiles."""
+    if not operation.material.schedule.is_stocked:
+        return {}
+    return {"stacking_cost": operation.stacking, "reclaim_cost": operation.reclaim}
+
+
+def rounding_of(operation: Operation) -> Amounts:
+    """Returns what rounding the block values to the decimals of the project adds to the cash flow."""
+    costs = operation.material.costs
+    found = operation.mined(costs.mining_rounding)
+    for number, values in enumerate(costs.processing_rounding):
+        found = found + operation.fed(values, number)
+    return np.asarray(found)
+
+
+def is_rounded(project: Project) -> bool:
+    """Returns whether block values have fewer decimals than they are computed with, so that the rounding is a line of its own."""
+    return project.economics.decimals < MILLIONTHS

@@ -1,0 +1,124 @@
+"""What a schedule mines, feeds and recovers by period, of any amount of its blocks."""
+
+from __future__ import annotations
+
+from dataclasses import dataclass
+from functools import cached_property
+
+import numpy as np
+from numpy.typing import NDArray
+
+from pitplan.config.economics import GRADE_UNITS
+from pitplan.economics.cost_lines import CostLines, cost_lines
+from pitplan.plan import Plan
+from pitplan.scheduling.flow.flows import Flows
+from pitplan.scheduling.flow.parcels import column_of
+from pitplan.scheduling.pushback_schedule import YearlySchedule
+
+# Amounts of periods, each of shape (periods,).
+Amounts = NDArray[np.float64]
+
+
+@dataclass(frozen=True)
+class Material:
+    """The blocks of a schedule, by bench and parcel.
+
+    Attributes
+    ----------
+    schedule : YearlySchedule
+    """
+
+    schedule: YearlySchedule
+
+    @property
+    def plan(self) -> Plan:
+        return self.schedule.pushbacks.plan
+
+    @cached_property
+    def costs(self) -> CostLines:
+        """The costs of each cell by line."""
+        plan = self.plan
+        return cost_lines(plan.table, plan.grid, plan.project, plan.values)
+
+    @cached_property
+    def cells(self) -> NDArray[np.int64]:
+        """The cells of the pushbacks with tonnes."""
+        return np.flatnonzero((self.schedule.pushbacks.pushback > 0) & (self.plan.values.tonnes > 0))
+
+    @cached_property
+    def bench(self) -> NDArray[np.int64]:
+        """The bench of each of these cells."""
+        benches, grid = self.schedule.benches, self.plan.grid
+        found = np.full((len(self.schedule.pushbacks.factors) + 1, grid.shape[0]), -1)
+        found[benches.pushback, benches.level] = np.arange(len(benches))
+        return found[self.schedule.pushbacks.pushback[self.cells], self.cells // grid.per_level]
+
+    @cached_property
+    def contained(self) -> dict[str, NDArray[np.float64]]:
+        """Metal in the mill feed of each cell, in tonnes or grams, by metal."""
+        everywhere = np.arange(self.plan.grid.count)
+        return {
+            metal.name: column_of(self.plan, metal.column, everywhere)
+            * self.plan.values.undiluted
+            * float(GRADE_UNITS[metal.unit])
+            for metal in self.plan.project.metals
+        }
+
+    def of_benches(self, values: NDArray[np.float64]) -> NDArray[np.float64]:
+        """Returns the sums of values of cells by bench."""
+        return np.asarray(
+            np.bincount(self.bench, values[self.cells], minlength=len(self.schedule.benches)), dtype=float
+        )
+
+    def of_parcels(self, values: NDArray[np.float64]) -> NDArray[np.float64]:
+        """Returns the sums of values of cells by parcel of ore."""
+        material = self.schedule.material
+        sums = np.bincount(material.parcel, values[material.cells], minlength=len(material.parcels))
+        return np.asarray(sums, dtype=float)
+
+
+@dataclass(frozen=True)
+class Operation:
+    """The amounts of a method by period. Values are of cells; results have the shape (periods,).
+
+    Attributes
+    ----------
+    material : Material
+    flows : Flows
+    """
+
+    material: Material
+    flows: Flows
+
+    def mined(self, values: NDArray[np.float64]) -> Amounts:
+        """Returns what is mined."""
+        return np.asarray(self.material.of_benches(values) @ self.flows.dug)
+
+    def ore(self, values: NDArray[np.float64]) -> Amounts:
+        """Returns what is mined and goes to a process or a stockpile."""
+        sent = self.flows.direct.sum(axis=0) + self.flows.stocked.sum(axis=0)
+        return np.asarray(self.material.of_parcels(values) @ sent)
+
+    def fed(self, values: NDArray[np.float64], process: int) -> Amounts:
+        """Returns what a process takes, from the pit and from stockpiles."""
+        return np.asarray(self.material.of_parcels(values) @ self.flows.fed[process])
+
+    def fed_anywhere(self, values: NDArray[np.float64]) -> Amounts:
+        """Returns what all processes take."""
+        return np.asarray(sum(self.fed(values, process) for process in range(len(self.flows.direct))))
+
+    def recovered(self, metal: str) -> Amounts:
+        """Returns the recovered metal, after what stockpiles lose."""
+        return np.asarray(self.flows.processed(f"recovered_{metal}").sum(axis=(0, 1)))
+
+    @cached_property
+    def stacking(self) -> Amounts:
+        """The cost of placing ore on stockpiles."""
+        return np.asarray(np.einsum("sp,spt->t", self.flows.model.stacking, self.flows.stocked))
+
+    @cached_property
+    def reclaim(self) -> Amounts:
+        """The cost of reclaiming it."""
+        a_tonne = np.array([it.reclaim_cost for it in self.flows.model.stockpiles])
+        feed = np.einsum("p,skpt->st", self.flows.model.ore.feed, self.flows.reclaimed)
+        return np.asarray(a_tonne @ feed)

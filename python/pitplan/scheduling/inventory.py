@@ -1,0 +1,77 @@
+"""Inventory of a schedule of pushbacks: tonnes, grades and metal by bench, rock type, class and destination, and the shares of blocks."""
+
+from __future__ import annotations
+
+import numpy as np
+import pandas as pd
+from numpy.typing import NDArray
+
+from pitplan.config.economics import GRADE_UNITS
+from pitplan.config.places import MILL, WASTE
+from pitplan.config.project import Project
+from pitplan.pits import shell_tables
+from pitplan.plan import shown_name
+
+from .pushback_schedule import YearlySchedule
+
+# What a row counts as: mill feed of a class that may be a reserve, mill feed of another class, what lies on a stockpile, or waste.
+ORE, NOT_RESERVE, STOCKPILED = "ore", "not_reserve", "stockpile"
+CATEGORY = "category"
+# The decimals of shares of blocks.
+SHARE_PLACES = 9
+
+
+def codes_of(project: Project) -> list[str]:
+    """Returns the columns of rock type and resource class, as tables have them."""
+    return [shown_name(name) for name in (project.table.rock_type, project.table.resource_class) if name]
+
+
+def inventory_table(schedule: YearlySchedule) -> pd.DataFrame:
+    """Returns the sums of flows.csv by method, year, pushback, bench, rock type, class, source and destination.
+
+    Columns: these; category: ore, not_reserve (mill feed of classes that are no basis of reserves), stockpile or waste; total_tonnes with
+    grade_METAL and in_situ_METAL; feed_tonnes with head_grade_METAL, contained_METAL and recovered_METAL.
+    """
+    project, flows = schedule.pushbacks.plan.project, schedule.material_flows
+    names = [metal.name for metal in project.metals]
+    keys = ["method", "year", "pushback", "bench", *codes_of(project), "source", "destination"]
+    kinds = {kind: [f"{kind}_{name}" for name in names] for kind in ("in_situ", "contained", "recovered")}
+    amounts = ["total_tonnes", *kinds["in_situ"], "feed_tonnes", *kinds["contained"], *kinds["recovered"]]
+    sums = flows.groupby(keys, sort=False)[amounts].sum().reset_index()
+    methods = {method: number for number, method in enumerate(schedule.flows)}
+    order = sums.assign(method=sums["method"].map(methods), bench=-sums["bench"])
+    sums = sums.loc[order.sort_values(keys, kind="stable").index].reset_index(drop=True)
+    sums.insert(len(keys), CATEGORY, categories(sums, schedule))
+    for metal in project.metals:
+        unit, name = float(GRADE_UNITS[metal.unit]), metal.name
+        for grade, content, whole in (("grade", "in_situ", "total_tonnes"), ("head_grade", "contained", "feed_tonnes")):
+            values = shell_tables.ratio(sums[f"{content}_{name}"].to_numpy() / unit, sums[whole].to_numpy())
+            sums.insert(sums.columns.get_loc(f"{content}_{names[0]}"), f"{grade}_{name}", values)
+    return sums
+
+
+def blocks_shares(schedule: YearlySchedule) -> dict[str, NDArray[np.float64]]:
+    """Returns for each cell the share that is mined, and those that processes take, by the method that is shown, over all years.
+
+    Of a share of a bench that is mined the same share of each block is mined, and of a parcel that goes somewhere the same share of each block.
+    """
+    flows, material, grid = schedule.flows[schedule.shown], schedule.material, schedule.pushbacks.plan.grid
+    benches = np.zeros((len(schedule.pushbacks.factors) + 1, grid.shape[0]))
+    benches[schedule.benches.pushback, schedule.benches.level] = flows.dug.sum(axis=1)
+    found = {"share_mined": benches[schedule.pushbacks.pushback, np.arange(grid.count) // grid.per_level]}
+    for name, shares in zip(schedule.names, flows.fed.sum(axis=2)):
+        of_blocks = found[f"share_{name or MILL}"] = np.zeros(grid.count)
+        of_blocks[material.cells] = shares[material.parcel]
+    return {name: values.round(SHARE_PLACES) for name, values in found.items()}
+
+
+def categories(rows: pd.DataFrame, schedule: YearlySchedule) -> np.ndarray:
+    """Returns the category of each row."""
+    project, stockpiles = schedule.pushbacks.plan.project, [it.name for it in schedule.model.stockpiles]
+    column, feed = project.table.resource_class, np.full(len(rows), ORE, dtype=object)
+    if column is not None:
+        is_reserve = {code: project.classes.may_be_reserve(code) for code in rows[shown_name(column)].unique()}
+        feed[~rows[shown_name(column)].map(is_reserve).to_numpy(dtype=bool)] = NOT_RESERVE
+    feed[rows["destination"].isin(stockpiles)] = STOCKPILED
+    feed[rows["destination"] == WASTE] = WASTE
+    return feed

@@ -1,0 +1,239 @@
+"""Verifies cash_flow.csv of a schedule of pushbacks: each line from the blocks, prices and costs, and their sums."""
+
+from __future__ import annotations
+
+from collections.abc import Iterator
+from dataclasses import dataclass
+from functools import cached_property
+
+import numpy as np
+import pandas as pd
+
+from planaudit.inputs.answer import Answer
+from planaudit.inputs.project import GRADE_UNITS, Metal, Project
+from planaudit.inputs.tables import read_table
+from planaudit.money import haulage
+from planaudit.money.block_values import factors_of, more_for_depth
+from planaudit.money.feed import by_code
+from planaudit.money.period_costs import has_costs, premiums
+from planaudit.money.prices import KILOGRAMS, converted
+from planaudit.rules import TOLD, Rule, rule
+from planaudit.schedules import valuation
+from planaudit.schedules.lots import MILL
+from planaudit.schedules.material_flow import AMOUNT, PIT, WASTE, MaterialFlow
+
+FILE = "cash_flow.csv"
+# Amounts by column, each of shape (rows,).
+Lines = dict[str, np.ndarray]
+# The columns of costs besides the royalty.
+COSTS, OTHER_COSTS = ("selling_cost_", "mining_cost_", "processing_cost_"), (
+    "haulage_cost",
+    "stacking_cost",
+    "reclaim_cost",
+    "fixed_cost",
+)
+# With so many decimals the rounding of block values is no line.
+MOST_DECIMALS = 6
+
+
+@dataclass(frozen=True)
+class CashFlow:
+    """What each row of flows.csv adds to each line.
+
+    Attributes
+    ----------
+    flow : MaterialFlow
+    """
+
+    flow: MaterialFlow
+
+    @property
+    def answer(self) -> Answer:
+        return self.flow.answer
+
+    @property
+    def project(self) -> Project:
+        return self.answer.project
+
+    @cached_property
+    def whole(self) -> pd.DataFrame:
+        """The costs of the whole lot of each row: mining, depth, haulage and what pushbacks add, and by process processing and haulage; and the
+        number of its blocks."""
+        answer, blocks, money = self.answer, self.flow.blocks, self.project.economics
+        table, at, rules = self.project.table, blocks.inside, self.project.haulage
+        roads = haulage.roads_of(answer, rules) if rules else np.zeros(len(answer.rows))
+        deeper = np.array([float(more_for_depth(answer, z)) for z in answer.elevations])[answer.cells[0]]
+        mined = by_code(money.mining_cost, answer.rows, table) * factors_of(answer, money.mcaf)
+        found = {
+            "mining": mined[at],
+            "depth": deeper[at],
+            "hauled": haulage.rate(roads, rules.waste)[at] if rules else 0.0,
+        }
+        found = {name: rate * blocks.tonnes for name, rate in found.items()} | {"blocks": np.ones(len(at))}
+        found["added"] = -blocks.mining_cash - answer.said["mining_cost"].to_numpy()[at]
+        for number, way in enumerate(self.project.by_process):
+            cost = by_code(way.economics.processing_cost, answer.rows, table) * factors_of(answer, money.pcaf)
+            more = haulage.rate(roads, rules.ore, rules.waste)[at] if rules else 0.0
+            feed = blocks.feed * blocks.takes[number]
+            found |= {f"processing {number}": cost[at] * feed, f"hauled {number}": more * feed}
+        keys = self.flow.keys
+        sums = pd.concat([blocks.keys, pd.DataFrame(found)], axis=1).groupby(keys).sum()
+        return sums.reindex(pd.MultiIndex.from_frame(self.flow.rows[keys])).reset_index(drop=True)
+
+    def by_process(self, name: str) -> np.ndarray:
+        """Returns an amount of the whole lot in the process of each row; 0 without one."""
+        found = np.zeros(len(self.flow.rows))
+        for number in range(len(self.flow.blocks.processes)):
+            mine = self.flow.process == number
+            found[mine] = self.whole[f"{name} {number}"].to_numpy()[mine]
+        return found
+
+    @cached_property
+    def lines(self) -> Lines:
+        """What each row adds to each line, for its whole lot."""
+        flow, project, whole = self.flow, self.project, self.whole
+        from_pit = (flow.rows["source"] == PIT).to_numpy()
+        waste, fed = (flow.rows["destination"] == WASTE).to_numpy(), flow.process >= 0
+        lot, feed = flow.whole, flow.whole["feed_tonnes"].to_numpy()
+        found: Lines = {"total_tonnes": from_pit * lot["total_tonnes"], "waste_tonnes": waste * lot["total_tonnes"]}
+        found["feed_tonnes"] = fed * feed
+        found["royalty"] = fed * feed * float(project.economics.royalty_per_tonne)
+        for metal in project.metals:
+            price, recovered = prices(project, metal, flow.rows["year"]), flow.recovered(metal.name)
+            found[f"contained_{metal.name}"] = fed * lot[f"contained_{metal.name}"]
+            found |= {f"recovered_{metal.name}": recovered, f"revenue_{metal.name}": recovered * price}
+            found["royalty"] = found["royalty"] + recovered * price * float(project.economics.royalty)
+            found[f"selling_cost_{metal.name}"] = recovered * float(converted(metal, metal.selling_cost))
+        found["mining_cost_ore"] = from_pit * ~waste * whole["mining"]
+        found["mining_cost_waste"] = waste * whole["mining"]
+        found["mining_cost_depth"], found["mining_cost_added"] = from_pit * whole["depth"], from_pit * whole["added"]
+        found["haulage_cost"] = from_pit * whole["hauled"] + self.by_process("hauled")
+        for number, name in enumerate(flow.blocks.processes):
+            of_process = np.where(flow.process == number, self.by_process("processing"), 0.0)
+            found[f"processing_cost_{name or MILL}"] = of_process
+        found["stacking_cost"] = np.where(fed, 0.0, flow.of_stockpile(lambda it: it.stacking_cost, 0.0)) * feed
+        found["reclaim_cost"] = np.where(fed, flow.of_stockpile(lambda it: it.reclaim_cost, 0.0), 0.0) * feed
+        return {name: np.asarray(values) for name, values in found.items()}
+
+    def of(self, method: str, years: pd.Series) -> tuple[pd.DataFrame, pd.DataFrame]:
+        """Returns the lines of a method by year, and their tolerances."""
+        mine = (self.flow.rows["method"] == method).to_numpy()
+        share, tonnes = self.flow.share[mine], self.flow.whole["total_tonnes"].to_numpy()[mine]
+        year = self.flow.rows["year"].to_numpy()[mine]
+        found = pd.DataFrame({name: values[mine] * share for name, values in self.lines.items()})
+        slack = pd.DataFrame({name: np.abs(values[mine]) * AMOUNT / tonnes for name, values in self.lines.items()})
+        fed = (self.flow.process >= 0)[mine]
+        # Half of the last decimal of a mining cost, and of a revenue and a processing cost.
+        slack["rounding"] = self.whole["blocks"].to_numpy()[mine] * share * (0.5 + fed)
+        slack["rounding"] *= 10.0**-self.project.economics.decimals
+        sums = (it.groupby(year).sum().reindex(years, fill_value=0.0).reset_index(drop=True) for it in (found, slack))
+        lines, loose = sums
+        return lines, loose + AMOUNT + 1e-9 * lines.reindex(columns=loose.columns, fill_value=0.0).abs()
+
+    def due(self, name: str) -> bool:
+        """Whether a line is written."""
+        project, money = self.project, self.project.economics
+        added = project.pushbacks and project.pushbacks.mining_cost_added
+        optional = {
+            "mining_cost_depth": money.mining_cost_per_bench or money.mining_cost_by_elevation,
+            "haulage_cost": project.haulage,
+            "mining_cost_added": added,
+            "stacking_cost": self.flow.blocks.stockpiles,
+            "reclaim_cost": self.flow.blocks.stockpiles,
+        }
+        return bool(optional.get(name, True))
+
+
+def prices(project: Project, metal: Metal, years: pd.Series) -> np.ndarray:
+    """Returns the price of a tonne or gram of a metal in given years."""
+    kept, name = 1 - float(project.economics.royalty), f"recovered_{metal.name}"
+    more = {year: premiums(project, year).get(name, 0.0) / kept for year in years.unique()}
+    return float(converted(metal, metal.price)) + years.map(more).to_numpy(dtype=float)
+
+
+def units_of(metal: Metal) -> float:
+    """Returns how many units of its price a tonne or gram of a metal has."""
+    of_quantity = "g" if metal.unit == "gram_per_tonne" else "t"
+    return float(KILOGRAMS[of_quantity] / KILOGRAMS[metal.price_per or of_quantity])
+
+
+def verify(flow: MaterialFlow, methods: list[str]) -> Rule:
+    """Verifies cash_flow.csv and valuation.csv of all methods."""
+    answer, found = flow.answer, CashFlow(flow)
+    assert answer.years is not None
+    said = read_table(answer.folder / "tables" / FILE, ["method"])
+    differences = []
+    for method in methods:
+        mine = said[said["method"] == method].reset_index(drop=True)
+        years = answer.years[answer.years["case"] == method].reset_index(drop=True)
+        if mine["year"].tolist() != years["year"].tolist():
+            differences.append(f"{FILE}: {method}: years {mine['year'].tolist()} for {years['year'].tolist()}")
+            continue
+        differences += [f"{FILE}: {method}, {text}" for text in unlike(found, method, mine, years)]
+    differences += valuation.differences(answer, said, methods)
+    holds = "each line of the cash flow follows from the blocks, the lines sum to that of years.csv, and NPVs and returns follow from it"
+    return rule("cash flow", holds, differences[:TOLD], len(differences))
+
+
+def unlike(found: CashFlow, method: str, said: pd.DataFrame, years: pd.DataFrame) -> Iterator[str]:
+    """Yields lines of a method that do not follow from the blocks, or whose sum is not the cash flow of years.csv."""
+    expected, loose = due_of(found, method, said, years)
+    if differing := set(expected) ^ set(said.columns) - {"method", "year"}:
+        yield f"columns {sorted(differing)} are missing, or not expected"
+        return
+    spent = said["capex"] if "capex" in said else 0.0
+    if (said["operating_cash_flow"] - spent - said["cash_flow"]).abs().max() > 3 * AMOUNT:
+        yield "operating_cash_flow less capex is not cash_flow"
+    for name, due in expected.items():
+        value = said[name].to_numpy(dtype=float)
+        slack = np.broadcast_to(loose.get(name, 2e-6), len(said)) + 1e-8 * np.abs(due)
+        off = (np.abs(value - due) > slack) | (np.isnan(value) != ~np.isfinite(due))
+        yield from (f"year {said['year'][k]}: {name} {value[k]:.10g} for {due[k]:.10g}" for k in np.flatnonzero(off))
+
+
+def due_of(found: CashFlow, method: str, said: pd.DataFrame, years: pd.DataFrame) -> tuple[Lines, Lines]:
+    """Returns the columns of a method, and their tolerances: lines from the blocks, and sums, ratios and tax from the written lines."""
+    project = found.project
+    lines, slack = found.of(method, years["year"])
+    expected = {name: lines[name].to_numpy() for name in lines if found.due(name)}
+    loose = {name: slack[name].to_numpy() for name in expected}
+    taken = ["cash_flow", "discounted_cash_flow", *(["fixed_cost", "capex"] if has_costs(project) else [])]
+    expected |= {name: years[name].to_numpy() for name in taken}
+    costs = ["royalty", *(name for name in said if name in OTHER_COSTS or name.startswith(COSTS))]
+    revenue = [name for name in said if name.startswith("revenue_")]
+    earned, bound = said[revenue].sum(axis=1) - said[costs].sum(axis=1), slack["rounding"].to_numpy()
+    if project.economics.decimals < MOST_DECIMALS:
+        expected["rounding"], loose["rounding"] = np.zeros(len(said)), bound
+        earned, bound = earned + said["rounding"], np.zeros(len(said))
+    expected["operating_cash_flow"] = earned.to_numpy()
+    loose["operating_cash_flow"] = AMOUNT * (len(costs) + len(revenue) + 3) + bound
+    for values, known in zip(ratios(project, said), (expected, loose)):
+        known.update(values)
+    loose |= dict.fromkeys(valuation.OF_TAX, np.full(len(said), AMOUNT * 4 * len(said)))
+    return expected | valuation.taxed(found.answer, said), loose
+
+
+def ratios(project: Project, said: pd.DataFrame) -> tuple[Lines, Lines]:
+    """Returns prices, ratios, grades and unit costs, from the other columns; and their tolerances."""
+    first, found = project.metals[0], {}
+    mining = [name for name in said if name.startswith("mining_cost_") or name == "haulage_cost"]
+    site = [name for name in said if name in OTHER_COSTS or name.startswith(("mining_cost_", "processing_cost_"))]
+    selling = [f"selling_cost_{metal.name}" for metal in project.metals]
+    credit = said[[f"revenue_{metal.name}" for metal in project.metals[1:]]].sum(axis=1)
+    whole, feed, ore = said[site].sum(axis=1), said["feed_tonnes"], said["total_tonnes"] - said["waste_tonnes"]
+    parts = {"strip_ratio": (said["waste_tonnes"], ore, 1.0)}
+    for metal in project.metals:
+        parts[f"head_grade_{metal.name}"] = (said[f"contained_{metal.name}"], feed, float(GRADE_UNITS[metal.unit]))
+        found[f"price_{metal.name}"] = prices(project, metal, said["year"]) / units_of(metal)
+    parts["cost_per_tonne_mined"] = (said[mining].sum(axis=1), said["total_tonnes"], 1.0)
+    parts["cost_per_tonne_fed"] = (whole, feed, 1.0)
+    c1 = whole + said[selling].sum(axis=1) - credit
+    parts["c1_cost"] = (c1, said[f"recovered_{first.name}"], units_of(first))
+    loose = {}
+    with np.errstate(divide="ignore", invalid="ignore"):
+        for name, (amount, per, unit) in parts.items():
+            found[name] = (amount / per / unit).to_numpy(dtype=float)
+            # All are sums of rounded amounts.
+            slack = AMOUNT * (len(site) + len(project.metals) * 2 + 2 * np.abs(amount / per)) / per / unit
+            loose[name] = 2e-6 + np.nan_to_num(slack.to_numpy(dtype=float), posinf=0.0)
+    return found, loose

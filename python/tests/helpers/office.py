@@ -1,0 +1,17 @@
+"""Workbooks as LibreOffice recalculates them."""
+
+import shutil
+import subprocess
+
+import pytest
+
+
+def recalculated(book, place):
+    """The workbook of openpyxl with the values that LibreOffice computes; `place` is a folder for its files. Skips the test without it."""
+    openpyxl = pytest.importorskip("openpyxl")
+    if not shutil.which("soffice"):
+        pytest.skip("LibreOffice is missing: apt-get install libreoffice-calc-nogui")
+    home = f"-env:UserInstallation=file://{place}/home"
+    words = ["soffice", "--headless", "--norestore", home, "--convert-to", "xlsx:Calc MS Excel 2007 XML"]
+    subprocess.run([*words, "--outdir", place / "out", book], check=True, capture_output=True, timeout=300)
+    return openpyxl.load_workbook(place / "out" / book.name, data_only=True)
