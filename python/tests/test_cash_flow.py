@@ -1,5 +1,7 @@
 """The cash flow by line, against one worked out by hand, a second implementation, and its workbook recalculated by LibreOffice."""
 
+import json
+import re
 import shutil
 from decimal import Decimal
 
@@ -294,3 +296,25 @@ def test_every_number_of_the_sheet_is_a_number_with_a_unit(recalculated):
     for label, unit, total, periods in sheet_lines(recalculated)[3:]:
         for value in (total, *periods):
             assert value in (None, "") or (isinstance(value, (int, float)) and unit), label
+
+
+@pytest.mark.parametrize("discounting", ["end_of_year", "mid_year", "continuous"])
+def test_npvs_follow_from_the_sheet_with_periods_of_other_lengths(tmp_path, with_workbooks, discounting):
+    """Half-years, then a period of two years: NPVs at three rates, and those at the internal rates of return."""
+    text = re.sub(r"(?m)^(prices|capex) = .*\n", "", worked_cash_flow.TEXT + worked_cash_flow.MONEY)
+    for old, new in (
+        ("[shells]\n", f'[shells]\ndiscounting = "{discounting}"\n'),
+        ("capacity = { mill = 0 }", "capacity = { mill = 0 }\nyears = 1\nperiod_months = 6\ncapex = 900"),
+        ("capacity = { mill = 125 }", "capacity = { mill = 125 }\nperiod_months = 24"),
+    ):
+        assert text.count(old) == 1
+        text = text.replace(old, new)
+    folder = written_to(tmp_path, text)
+    assert wrong(folder) == set()
+    sheet = office.recalculated(folder / "tables/schedule.xlsx", tmp_path)["cash_flow"]
+    method = json.loads((folder / "schedule.json").read_text())["shown"]
+    lines, values = sheet_lines(sheet), values_of(folder, method)
+    totals = [line[2] for line in lines if line[0] == "discounted cash flow; total: NPV"]
+    assert totals[: len(values)] == pytest.approx(values["npv"].tolist(), abs=0.001)
+    assert all(abs(total) < 0.001 for total in totals[len(values) :])
+    assert list(next(line[3] for line in lines if line[0] == "end of period"))[:3] == [0.5, 1, 3]

@@ -128,7 +128,7 @@ def test_the_sheet_of_reserves_is_the_sum_of_the_inventory(written, tmp_path):
             feed, copper = part["feed_tonnes"].sum(), part["contained_copper"].sum()
             expected = [part["total_tonnes"].sum(), feed, 100 * copper / feed, copper, part["recovered_copper"].sum()]
             assert list(found[key]) == pytest.approx(expected, abs=1e-6), key
-    rows_of_years = cells[[row[0] for row in cells].index("end of period (years)") + 1 :]
+    rows_of_years = cells[[row[0] for row in cells].index("year") + 1 :]
     ore = mine[mine["category"] == "ore"].groupby("year")["feed_tonnes"].sum()
     assert [row[3] for row in rows_of_years[:-1]] == pytest.approx(
         [ore.get(row[0], 0.0) for row in rows_of_years[:-1]], abs=1e-6

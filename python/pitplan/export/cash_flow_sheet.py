@@ -74,7 +74,7 @@ class CashFlowSheet:
 
     def physicals(self) -> Iterator[Line]:
         """Yields the periods, tonnes, grades, metals and prices."""
-        ends = self.project.shells.calendar.ends(len(self.table))
+        ends = self.project.shells.calendar.ends(len(self.table)).tolist()
         yield Line("end", "end of period", "years", ends, total="life of mine", form="General", bold=True)
         yield Line("start", "start of period", "years", formula="=[end<]", form="General")
         yield from section("Physicals")

@@ -118,7 +118,11 @@ def own_columns(written: pd.DataFrame, rows: pd.DataFrame, order: np.ndarray) ->
 
 def own_name(column: str) -> str:
     """Returns the name of a planner's column in blocks.csv."""
-    return f"planner_{column}" if column in (*SAID, *FREE, *HAULED, PUSHBACK, YEAR, PERIOD, BIN, MINED, PROCESS) else column
+    return (
+        f"planner_{column}"
+        if column in (*SAID, *FREE, *HAULED, PUSHBACK, YEAR, PERIOD, BIN, MINED, PROCESS)
+        else column
+    )
 
 
 def beside(
