@@ -13,6 +13,7 @@ sys.path.insert(0, str(TOP / "tools"))
 import mutants as tool  # noqa: E402
 from mutation import crate_tests, edits, lock, program_tests, proofs, prover, states  # noqa: E402
 from mutation.clauses import mismatch, refused_at  # noqa: E402
+from mutation.outcomes import Outcome  # noqa: E402
 
 SOURCE = """//! A crate.
 #[tactic(auto)]
@@ -94,7 +95,7 @@ def test_the_clause_is_no_part_of_what_is_tried(mutant: edits.Mutant) -> None:
     [
         ("clause: first returns\n", edits.CLAUSE, "first returns"),
         ("proofs: csr\n", edits.PROOFS, "csr"),
-        ("crate-tests: lock_tests\n", edits.CRATE_TESTS, "lock_tests"),
+        ("crate-tests: crate_tests\n", edits.CRATE_TESTS, "crate_tests"),
         ("program-test: test_rows.py::test_a[b: c]\nfeatures: stats line\n", edits.PROGRAM_TEST, "test_rows.py::test_a[b: c]"),
     ],
 )
@@ -185,6 +186,40 @@ def test_lines_of_the_lock_file(tmp_path: pathlib.Path, monkeypatch: pytest.Monk
     lock.write_lock({first: lock.Line("ab", "find pit"), "csr/gone": lock.Line("cd", "x")})
     lock.record({second: lock.Line("ef", "6 of 13 fail")})
     assert lock.read_lock() == {first: lock.Line("ab", "find pit"), second: lock.Line("ef", "6 of 13 fail")}
+
+
+def for_prover() -> list[edits.Mutant]:
+    return [it for it in tool.readable()[0] if it.kind == edits.CLAUSE]
+
+
+def test_the_gate_tries_crates_that_changed_and_one_more() -> None:
+    mutants = for_prover()
+    lines = {it.name: lock.Line(states.state_of(it), it.by) for it in mutants}
+    (by_day,) = tool.due(mutants, lines)
+    other = next(it for it in mutants if it.crate != by_day)
+    changed, another = tool.due(mutants, lines | {other.name: lock.Line("of another state", other.by)})
+    assert (changed, another != changed) == (other.crate, True)
+    assert tool.due(mutants[:1], {}) == [mutants[0].crate]
+
+
+@pytest.mark.parametrize(("status", "wrong", "wanted"), [(0, "", 0), (0, "NOT REFUSED", 1), (1, "", 1)])
+def test_the_prover_s_are_recorded_if_all_is_well(
+    status: int, wrong: str, wanted: int, tmp_path: pathlib.Path, monkeypatch: pytest.MonkeyPatch
+) -> None:
+    monkeypatch.setattr(lock, "LOCK", tmp_path / "mutants.lock")
+    first, second = for_prover()[:2]
+    outcomes = [Outcome(first, first.by), Outcome(second, second.by, wrong)]
+    monkeypatch.setattr(prover, "run", lambda mutants, is_alone: (status, outcomes))
+    assert tool.by_prover([first, second], is_alone=False) == wanted
+    recorded = {it.name: lock.Line(states.state_of(it), it.by) for it in (first, second)}
+    assert lock.read_lock() == ({} if wanted else recorded)
+
+
+def test_the_others_are_recorded_one_by_one(tmp_path: pathlib.Path, monkeypatch: pytest.MonkeyPatch) -> None:
+    monkeypatch.setattr(lock, "LOCK", tmp_path / "mutants.lock")
+    first, second = for_prover()[:2]
+    assert tool.keep([Outcome(first, "6 of 13 fail"), Outcome(second, "", "NOT REFUSED")]) == 1
+    assert lock.read_lock() == {first.name: lock.Line(states.state_of(first), "6 of 13 fail")}
 
 
 def test_each_mutant_can_be_planted_and_has_a_line() -> None:

@@ -1,5 +1,6 @@
 """mutants.lock: a line for each mutant, with the state in which it was refused (tools/mutation/states.py) and by what."""
 
+import fcntl
 from typing import NamedTuple
 
 from crates import TOP
@@ -27,5 +28,7 @@ def write_lock(lines: dict[str, Line]) -> None:
 
 
 def record(found: dict[str, Line]) -> None:
-    """Writes these lines, and the others again as they stand in the file."""
-    write_lock(read_lock() | found)
+    """Writes these lines, and the others again as they stand in the file; another process that records waits meanwhile."""
+    with open(__file__) as held:
+        fcntl.flock(held, fcntl.LOCK_EX)
+        write_lock(read_lock() | found)
