@@ -22,7 +22,16 @@ from pitplan.report import columns, html
 from pitplan.results.folder import read_record
 
 CHROMIUM, PDFTOTEXT = shutil.which("chromium"), shutil.which("pdftotext")
-PARTS = ["Key results", "Confidence", "Figures", "Tables", "Inputs"]
+PARTS = [
+    "Key results",
+    "Assumptions",
+    "Pit-by-pit analysis",
+    "Plans and sections",
+    "Pushbacks",
+    "Schedule",
+    "Cash flow",
+]
+PARTS += ["Sensitivity", "Risks", "JORC Table 1, section 4", "Inputs", "Verification"]
 MORE = """[pushbacks]
 count = 2
 [schedule]
@@ -137,7 +146,8 @@ def test_each_number_of_the_page_is_one_of_a_written_table(written, place):
             ("tables/methods.csv", "recovered_gold"),
             ("tables/pushbacks.csv", "undiscounted_cash_flow"),
         } <= found
-    assert page.parts == PARTS and page.bare == []
+    assert page.parts == [part for part in PARTS if place != "plan" or part not in ("Pushbacks", "Schedule")]
+    assert page.bare == []
 
 
 def test_the_table_of_a_sensitivity_has_no_share_among_its_amounts(written):
@@ -235,11 +245,11 @@ def test_the_report_is_made_anew_with_a_sensitivity_of_the_same_inputs(copied, c
     shutil.move(folder / "sensitivity", copied / "other")
     assert main(["report", str(folder)]) == 0
     assert capsys.readouterr().out.strip() == str(folder / "report.html")
-    assert "<h3>Sensitivity</h3>" not in (folder / "report.html").read_text()
+    assert "<h2>Sensitivity</h2>" not in (folder / "report.html").read_text()
     assert main(["report", str(folder), "--sensitivity", str(copied / "other")]) == 0
     page = (folder / "report.html").read_text()
     assert (
-        "<h3>Sensitivity</h3>" in page
+        "<h2>Sensitivity</h2>" in page
         and "mining cost +10 %" in page
         and "Pairs of parameters are in the same file." in page
     )
@@ -258,7 +268,7 @@ def test_a_sensitivity_of_other_inputs_is_left_out_and_refused_where_it_is_asked
     page = (copied / "plan" / "report.html").read_text()
     assert (
         "is a sensitivity of other inputs (project.toml), and is left out here." in page
-        and "<h3>Sensitivity</h3>" not in page
+        and "<h2>Sensitivity</h2>" not in page
     )
     with pytest.raises(PlanError, match=r"of other inputs \(project.toml\): run pitplan sensitivity again"):
         pitplan.write_report(copied / "plan", copied / "plan" / "sensitivity")
@@ -268,7 +278,7 @@ def test_a_sensitivity_of_other_inputs_is_left_out_and_refused_where_it_is_asked
 def test_a_record_that_is_none_of_a_sensitivity_stops_no_report(copied, text):
     (copied / "plan" / "sensitivity" / "sensitivity.json").write_text(text)
     page = pitplan.write_report(copied / "plan").read_text()
-    assert "and is left out here." in page and "<h3>Sensitivity</h3>" not in page
+    assert "and is left out here." in page and "<h2>Sensitivity</h2>" not in page
 
 
 def test_a_report_of_a_project_that_has_changed_is_refused(copied):

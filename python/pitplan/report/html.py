@@ -26,8 +26,10 @@ from pitplan.results.names import SENSITIVITY, SENSITIVITY_RECORD
 from pitplan.scheduling import methods
 from planaudit import NOT_VERIFIED
 
-from . import columns as report
+from . import columns as report, table_one
+from .assumptions import selected_shell, topics
 from .columns import TEMPLATES, Columns
+from .risks import risks
 
 BY_BLOCK = "block"
 # Columns of the page that are made from another column of the file.
@@ -147,6 +149,7 @@ def write(path: Path, folder: Path, project: Project, sensitivity: Optional[Path
     warnings = [note for note in record["notes"] if note.startswith("WARNING")]
     page = TEMPLATES.get_template("report.html").render(
         **of_answer(folder, project, record),
+        **in_words(folder, project, record, found),
         sensitivity=found and of_sensitivity(found, project),
         no_sensitivity=missing,
         title=project.title,
@@ -166,6 +169,19 @@ def write(path: Path, folder: Path, project: Project, sensitivity: Optional[Path
         **{name: record[name] for name in ("summary", "verified")},
     )
     path.write_text(page, encoding="utf-8")
+
+
+def in_words(folder: Path, project: Project, record: dict[str, Any], found: Optional[Sensitivity]) -> dict[str, Any]:
+    """Returns the parts of the page that are text: assumptions, how the shell was selected, risks, and Table 1."""
+    selected = record["shells"]["selected"]
+    shells = read_table(folder, names.SHELLS).frame.set_index("revenue_factor")
+    cases = None if found is None else read_table(found.folder, SENSITIVITY).frame
+    return {
+        "assumptions": topics(project),
+        "selection": selected_shell(project, selected),
+        "risks": risks(project, record, shells.loc[selected], cases),
+        "table_one": table_one.rows(project, record),
+    }
 
 
 def text_of(folder: Path, project: Project, record: dict[str, Any]) -> str:

@@ -33,8 +33,9 @@ from .methods import LP, MILP, RULE
 
 # The linear programme may take this part of the rule's years more.
 MORE_YEARS = 0.2
-# While the bound is above the optimum of parcels by more than this share, parcels are made finer, so often at most.
-FINE, REFINEMENTS = 0.002, 3
+# While the bound is above the optimum of parcels by more than this share, parcels are made finer, so often at most. A linear programme with more
+# unknowns than MANY takes minutes: there a greater share is enough.
+FINE, FINE_OF_MANY, MANY, REFINEMENTS = 0.002, 0.003, 200_000, 3
 
 
 @dataclass(frozen=True)
@@ -229,7 +230,8 @@ def relaxations(schedule: YearlySchedule, rules: ScheduleRules, progress: Progre
     yield schedule
     for _ in range(REFINEMENTS):
         assert schedule.optimum is not None and schedule.upper_bound is not None
-        if schedule.upper_bound - schedule.optimum.value <= FINE * abs(schedule.upper_bound):
+        enough = FINE if len(FlowProgramme(schedule.model).gain) <= MANY else FINE_OF_MANY
+        if schedule.upper_bound - schedule.optimum.value <= enough * abs(schedule.upper_bound):
             break
         finer = relaxed(in_finer_bins(schedule, rules), progress)
         assert finer.optimum is not None

@@ -1,0 +1,233 @@
+"""The assumptions of a plan, in the words of a reader who knows mines and not the project's file."""
+
+from __future__ import annotations
+
+from collections.abc import Iterator
+from dataclasses import dataclass
+from decimal import Decimal
+from typing import Any, Optional
+
+from pitplan.config.classes import TREATMENTS
+from pitplan.config.economics import ByDomain, Curve, Metal
+from pitplan.config.periods import MONTHS, Period
+from pitplan.config.project import Project
+from pitplan.config.shells import IN_WORDS
+from pitplan.config.slopes import DIP, Wall
+from pitplan.core.revenue_factors import factor_text
+
+WORDS = {TREATMENTS[0]: "may be ore", TREATMENTS[1]: "waste", TREATMENTS[2]: "not allowed"}
+
+
+@dataclass(frozen=True)
+class Topic:
+    """Assumptions of one kind: pairs of what is assumed and its value with unit."""
+
+    name: str
+    rows: tuple[tuple[str, str], ...]
+
+
+def topics(project: Project) -> list[Topic]:
+    """Returns the assumptions of a project by topic; a topic without any is left out."""
+    parts = {
+        "Prices": prices(project),
+        "Costs": costs(project),
+        "Recoveries": recoveries(project),
+        "Mining": mining(project),
+        "Capacities": capacities(project),
+        "Periods": periods(project),
+        "Slopes": slopes(project),
+        "Resource classes": classes(project),
+    }
+    found = [Topic(name, tuple(rows)) for name, rows in parts.items()]
+    return [topic for topic in found if topic.rows]
+
+
+def number(value: Any) -> str:
+    """Returns a number with thousands, and without zeros at the end."""
+    return f"{Decimal(str(value)).normalize():,f}"
+
+
+def percent(share: Any) -> str:
+    return f"{number(100 * Decimal(str(share)))} %"
+
+
+def by_code(value: Any, text: Any = number) -> str:
+    """Returns a number, or those of rock types or domains with their codes."""
+    if isinstance(value, ByDomain):
+        return ", ".join(f"domain {code}: {text(it)}" for code, it in value.values.items())
+    if isinstance(value, dict):
+        return ", ".join(f"{code}: {by_code(it, text)}" for code, it in value.items())
+    if isinstance(value, Curve):
+        return " to ".join(f"{text(share)} at {number(grade)}" for grade, share in (value.points[0], value.points[-1]))
+    return str(text(value))
+
+
+def prices(project: Project) -> Iterator[tuple[str, str]]:
+    for metal in project.metals:
+        unit = f"{project.economics.currency}/{metal.price_unit}"
+        listed = f"; {', '.join(map(number, metal.prices))} by year" if metal.prices else ""
+        yield f"price of {metal.name}", f"{number(metal.price)} {unit}{listed}"
+        if metal.selling_cost:
+            yield f"selling cost of {metal.name}", f"{number(metal.selling_cost)} {unit}"
+    money = project.economics
+    if money.royalty:
+        yield "royalty", f"{percent(money.royalty)} of revenue"
+    if money.royalty_per_tonne:
+        yield "royalty per tonne", f"{number(money.royalty_per_tonne)} {money.currency}/t of mill feed"
+    shells = project.shells
+    yield "discount rate", f"{percent(shells.discount_rate)} a year, discounted {IN_WORDS[shells.discounting]}"
+
+
+def costs(project: Project) -> Iterator[tuple[str, str]]:
+    money = project.economics
+    a_tonne = f"{money.currency}/t"
+    yield "mining cost", f"{by_code(money.mining_cost)} {a_tonne}"
+    if money.mining_cost_per_bench:
+        below = (
+            "the top of the model"
+            if money.mining_cost_reference is None
+            else f"{number(money.mining_cost_reference)} m"
+        )
+        yield "mining cost by depth", f"{number(money.mining_cost_per_bench)} {a_tonne} more per bench below {below}"
+    if money.mining_cost_by_elevation:
+        ends = money.mining_cost_by_elevation[0], money.mining_cost_by_elevation[-1]
+        yield "mining cost by elevation", ", ".join(
+            f"{number(cost)} {a_tonne} more at {number(z)} m" for z, cost in ends
+        )
+    if project.haulage:
+        for kind in ("ore", "waste"):
+            road = getattr(project.haulage, kind)
+            yield f"haulage of {kind}", f"{number(road.cost)} {a_tonne} and km, one way"
+    named = {f"processing cost of {it.name}": it.cost for it in project.processes}
+    for name, cost in (named or {"processing cost": money.processing_cost}).items():
+        yield name, f"{by_code(cost)} {a_tonne} of mill feed"
+    yield from (
+        (f"cost adjustment factors ({name})", f"column {column} of the block model")
+        for name, column in (("mining", money.mcaf), ("processing", money.pcaf))
+        if column
+    )
+    if money.fixed_cost_per_year:
+        yield "fixed costs", f"{number(money.fixed_cost_per_year)} {money.currency} a year"
+    if money.capex:
+        yield "capital", ", ".join(
+            f"{number(amount)} {money.currency} at the start of year {year}" for year, amount in money.capex
+        )
+
+
+def recoveries(project: Project) -> Iterator[tuple[str, str]]:
+    def of(metal: Metal, recovery: Any) -> str:
+        tail = f", tail grade {by_code(metal.tail_grade)} {metal.sign}" if metal.tail_grade else ""
+        return f"{by_code(recovery, percent)}{tail}"
+
+    for metal in project.metals:
+        if not project.processes:
+            yield metal.name, of(metal, metal.recovery)
+        for process in project.processes:
+            yield f"{metal.name}, {process.name}", of(metal, process.recovery.get(metal.name, Decimal(0)))
+
+
+def mining(project: Project) -> Iterator[tuple[str, str]]:
+    money, rules, schedule = project.economics, project.pushbacks, project.schedule
+    yield "mining recovery", by_code(money.mining_recovery, percent)
+    yield "dilution", f"{by_code(money.dilution, percent)} at zero grade"
+    if rules and rules.min_mining_width:
+        yield "minimum mining width", f"{number(rules.min_mining_width)} m"
+    if rules and rules.min_bottom_width:
+        yield "minimum bottom width", f"{number(rules.min_bottom_width)} m"
+    if schedule and schedule.vertical_advance_rate:
+        yield "vertical advance rate", f"{number(schedule.vertical_advance_rate)} benches a year and pushback"
+    if schedule and schedule.bench_lag:
+        yield "bench lag between pushbacks", f"{schedule.bench_lag} bench{'es' * (schedule.bench_lag > 1)}"
+
+
+def capacities(project: Project) -> Iterator[tuple[str, str]]:
+    rules, shells = project.schedule, project.shells
+    most = (rules and rules.mining_capacity) or shells.mining_capacity
+    yield "mining", "any" if most is None else f"{number(most)} t a year"
+    named = {it.name: it.capacity for it in project.processes}
+    for name, capacity in (
+        named or {"processing": (rules and rules.processing_capacity) or shells.processing_capacity}
+    ).items():
+        yield name, f"{number(capacity)} t a year"
+    if rules and rules.ramp_up != (1.0,):
+        yield "ramp-up", f"{', '.join(map(percent, rules.ramp_up))} of the processing capacity, by year"
+    for grade in project.feed_grades:
+        ends = [
+            f"{word} {number(it)}" for word, it in (("at least", grade.min), ("at most", grade.max)) if it is not None
+        ]
+        yield f"head grade {grade.column}{f' of {grade.process}' if grade.process else ''}", ", ".join(ends)
+    for pile in rules.stockpiles if rules else ():
+        room = "" if pile.capacity is None else f", {number(pile.capacity)} t"
+        yield f"stockpile {pile.name}", f"reclaim {number(pile.reclaim_cost)} {project.economics.currency}/t{room}"
+
+
+def periods(project: Project) -> Iterator[tuple[str, str]]:
+    """Yields what each entry of `[[periods]]` changes."""
+    start = 0
+    for entry in project.shells.calendar.periods:
+        end = start + entry.years
+        last = " and later" if entry is project.shells.calendar.periods[-1] else ""
+        changed = "; ".join(of_period(entry, project))
+        if changed:
+            yield f"year {start + 1}{f' to {end}' if entry.years > 1 else ''}{last}", changed
+        start = end
+
+
+def of_period(entry: Period, project: Project) -> Iterator[str]:
+    currency = project.economics.currency
+    if entry.period_months != MONTHS:
+        yield f"periods of {entry.period_months} months"
+    given: dict[str, Optional[float]] = {
+        "mining": entry.mining_capacity,
+        "processing": entry.processing_capacity,
+        **entry.capacity,
+    }
+    yield from (f"{name} {number(most)} t a year" for name, most in given.items() if most is not None)
+    yield from (f"{name} at least {number(least)} a year" for name, least in entry.minimum.items())
+    yield from (f"{name} {number(price)} {currency}" for name, price in entry.prices.items())
+    if entry.fixed_cost_per_year is not None:
+        yield f"fixed costs {number(entry.fixed_cost_per_year)} {currency} a year"
+    if entry.capex:
+        yield f"capital {number(entry.capex)} {currency}"
+
+
+def slopes(project: Project) -> Iterator[tuple[str, str]]:
+    walls = project.slopes.domains
+    for wall in walls:
+        name = (
+            f"domain {', '.join(wall.domains)}"
+            if wall.domains
+            else "all domains"
+            if len(walls) == 1
+            else "other domains"
+        )
+        yield name, angle_of(wall)
+
+
+def angle_of(wall: Wall) -> str:
+    """Returns the angles of a wall in words."""
+    if wall.bench:
+        it = wall.bench
+        return f"{it.angle:.1f} degrees: benches of {number(it.height)} m, faces of {number(it.face_angle)} degrees, berms of {number(it.berm_width)} m"
+    if wall.angles:
+        of = "dip direction" if wall.azimuth_of == DIP else "azimuth of the wall"
+        angles = [number(angle) for _, angle in wall.angles]
+        if len(wall.angles) == 1:
+            return f"{angles[0]} degrees"
+        return f"{', '.join(f'{angle} at {number(azimuth)}' for angle, (azimuth, _) in zip(angles, wall.angles))} degrees, by {of}"
+    return f"pattern {wall.pattern}" if wall.pattern else "offsets of the planner"
+
+
+def classes(project: Project) -> Iterator[tuple[str, str]]:
+    if project.table.resource_class is None:
+        yield "classification", "none: no column of resource classes is given"
+        return
+    yield "without a rule", "inferred and unclassified material is waste, other classes may be ore"
+    yield from ((f"class {code or 'none'}", WORDS[treatment]) for code, treatment in project.classes.given.items())
+
+
+def selected_shell(project: Project, selected: float) -> str:
+    """Returns how the shell was selected, in words."""
+    if project.shells.selected is not None:
+        return f"revenue factor {factor_text(selected)}, set by the planner"
+    return f"revenue factor {factor_text(selected)}, the one with the highest NPV of pit-by-pit analysis"
