@@ -27,7 +27,7 @@ Functions write what the subcommands write, by default into the output folder of
     pushbacks = pitplan.write_pushbacks("project.toml")    # one row per pushback
     methods = pitplan.write_schedule("project.toml")       # one row per method: rule, lp
     cases = pitplan.write_sensitivity("project.toml")      # one row per case: parameters changed by a share
-    found = pitplan.compare(["out", "other"])              # found.inputs, found.results, found.periods, found.bridge
+    runs = pitplan.compare(["out", "other"])               # runs.inputs, runs.results, runs.periods, runs.bridge
     found = pitplan.write_scenarios("project.toml")        # found.probability, found.table, found.quantiles; found.notes
     each = pitplan.write_scenarios("project.toml", request=pitplan.Request(by="block"))     # each.schedules
 

@@ -189,15 +189,17 @@ def test_lists_of_jobs_are_told_by_what_to_start(plan_folder):
 
 
 def test_the_lines_of_the_help_run(plan_folder, monkeypatch):
-    """In a folder whose project has fixed blocks, pushbacks, scenarios and the help's factor."""
+    """In a folder whose project has fixed blocks, pushbacks, scenarios and the help's factor, and another run of it."""
     pytest.importorskip("distributed", reason="needs the Debian package python3-distributed")
     table = ores_and_fixed().assign(sim_1=lambda it: it["cu"], sim_2=lambda it: it["cu"] / 2)
     more = '[pushbacks]\nrevenue_factors = [0.5, 1.0]\n[scenarios]\ncolumns = { copper = "sim_*" }\n'
     text = with_section(FIXED_SECTION + more).replace("[0.5, 1.0, 1.5]", "[0.5, 0.8, 1.0]")
     path = plan_folder(table, text)
     monkeypatch.chdir(path.parent)
+    pitplan.write_shells("project.toml", "other")
     names = {}
     exec(LINES, names)
+    assert names["runs"].results["run"].tolist() == ["out", "other"]
     assert names["table"]["revenue_factor"].tolist() == [0.5, 0.8, 1.0] and all(
         rule.count == 0 for rule in names["rules"]
     )

@@ -2,13 +2,16 @@
 
 from __future__ import annotations
 
+from decimal import Decimal
 from typing import TYPE_CHECKING, Any
 
 from pitplan.errors import PlanError
 
+from . import toml_text
 from .acceptance import CLASS, DOMAIN, ROCK_TYPE, Accepts
 from .classes import REFUSE
 from .economics import ByDomain
+from .overrides import scaled
 from .period_agreement import demand_periods
 from .places import MILL, PIT, WASTE
 from .schedule import FEED, TOTAL, ScheduleRules
@@ -48,6 +51,7 @@ def demand_agreement(project: Project) -> None:
             raise PlanError(
                 f"{path}: [schedule] max_metal_per_year: found {name}, expected one of the [[metals]]: {', '.join(names)}"
             )
+    demand_varied_keys(project)
     demand_grades_of_files(project)
     if project.scenarios is not None:
         named = [*project.scenarios.columns, *(name for prices in project.scenarios.prices for name in prices)]
@@ -56,6 +60,18 @@ def demand_agreement(project: Project) -> None:
                 raise PlanError(
                     f"{path}: [scenarios]: found {name}, expected one of the [[metals]]: {', '.join(names)}"
                 )
+
+
+def demand_varied_keys(project: Project) -> None:
+    """Refuses keys of a sensitivity that the project does not have, or that hold no numbers."""
+    from .project_writer import of_project
+
+    varied = project.sensitivity
+    keys = {*varied.parameters, *(name for pair in varied.pairs for name in pair)} if varied else set()
+    if paths := sorted(name for name in keys if "." in name):
+        data = toml_text.parsed(of_project(project, project.path.parent), str(project.path))
+        for path in paths:
+            scaled(data, path, Decimal(1), f"{project.path}: [sensitivity]")
 
 
 def demand_grades_of_files(project: Project) -> None:

@@ -3,6 +3,7 @@
 from __future__ import annotations
 
 from copy import deepcopy
+from decimal import Decimal
 from typing import Any, Iterable
 
 from pitplan.errors import PlanError
@@ -55,6 +56,73 @@ def inner(entry: Any, part: str, assignment: str) -> Any:
     if not isinstance(within, (dict, list)):
         raise PlanError(f"--set {assignment}: {part} is {within!r}, and no section: expected KEY=VALUE, {EXAMPLE}")
     return within
+
+
+def scaled(data: dict[str, Any], path: str, by: Decimal, where: str) -> dict[str, Any]:
+    """The sections of a project with the numbers of a key times a factor.
+
+    Parameters
+    ----------
+    data : dict
+        The sections, as TOML has them.
+    path : str
+        Section and key with points between, as of `overridden`: `processes.mill.cost`.
+    by : Decimal
+        Of a table by rock type all numbers change, of a list all, and of pairs the second ones.
+    where : str
+        What errors begin with.
+
+    Raises
+    ------
+    PlanError
+        If there is no such key, or it has no number.
+    """
+    found = deepcopy(data)
+    *sections, key = path.split(".")
+    entry: Any = found
+    for part in sections:
+        entry = existing(entry, part, f"{where} {path}")
+    value = existing(entry, key, f"{where} {path}")
+    if not has_numbers(value):
+        raise PlanError(f"{where} {path}: found {value!r}, expected a number, or a table or list of numbers")
+    if isinstance(entry, list):
+        raise PlanError(f"{where} {path}: names an entry of a list, expected one of its keys")
+    entry[key] = times(value, by)
+    return found
+
+
+def existing(entry: Any, part: str, where: str) -> Any:
+    """A key of a section or an entry of a list. Raises PlanError if there is none."""
+    if isinstance(entry, dict):
+        if part in entry:
+            return entry[part]
+        names = [*entry]
+    else:
+        names = [str(it.get("name", number)) if isinstance(it, dict) else "" for number, it in enumerate(entry, 1)]
+        if part in names:
+            return entry[names.index(part)]
+        if part.isdecimal() and 1 <= int(part) <= len(entry):
+            return entry[int(part) - 1]
+    raise PlanError(f"{where}: found {part}, expected one of {', '.join(names)}")
+
+
+def is_number(value: Any) -> bool:
+    return isinstance(value, (int, Decimal)) and not isinstance(value, bool)
+
+
+def has_numbers(value: Any) -> bool:
+    """Whether a value is a number, or a table or list of nothing else."""
+    inner = value.values() if isinstance(value, dict) else value if isinstance(value, list) else None
+    return is_number(value) if inner is None else bool(inner) and all(map(has_numbers, inner))
+
+
+def times(value: Any, by: Decimal) -> Any:
+    """A number times a factor, or all numbers of a table or of a list; of pairs the second ones."""
+    if isinstance(value, dict):
+        return {key: times(it, by) for key, it in value.items()}
+    if isinstance(value, list):
+        return [[it[0], times(it[1], by)] if isinstance(it, list) and len(it) == 2 else times(it, by) for it in value]
+    return Decimal(value) * by if is_number(value) else value
 
 
 def value_of(text: str) -> Any:

@@ -10,6 +10,8 @@ from .toml_section import Section
 NAMES = ("price", "mining_cost", "processing_cost", "selling_cost", "recovery", "slopes", "capacity", "haulage")
 # Those that may be one metal's alone, as "price copper".
 OF_METALS = ("price", "selling_cost", "recovery")
+# Sections whose keys may be varied by their path, as processes.mill.cost.
+SECTIONS = ("economics", "metals", "processes", "slopes", "shells", "periods", "haulage")
 # Of the pit's rock.
 SKIN = Decimal("0.05")
 SHARES = (Decimal("-0.2"), Decimal("-0.1"), Decimal("0.1"), Decimal("0.2"))
@@ -75,15 +77,28 @@ def read_pairs(section: Section, metals: tuple[str, ...]) -> tuple[tuple[str, st
         (named(section, "pairs", one, metals), named(section, "pairs", other, metals)) for one, other in value
     )
     for one, other in pairs:
-        if one.partition(" ")[0] == other.partition(" ")[0] and (" " not in one or " " not in other or one == other):
+        if (
+            one == other
+            or "." not in one + other
+            and one.partition(" ")[0] == other.partition(" ")[0]
+            and (" " not in one or " " not in other or one == other)
+        ):
             raise section.wrong("pairs", f"{one} and {other} are not two different parameters")
     return pairs
 
 
 def named(section: Section, key: str, name: object, metals: tuple[str, ...]) -> str:
-    """A name that is known, or raises PlanError."""
+    """A name that is known, or the path of a key; raises PlanError otherwise."""
+    if "." in str(name):
+        first = str(name).partition(".")[0]
+        if first not in SECTIONS:
+            raise section.wrong(
+                key, f'found "{name}", expected a key of {", ".join(SECTIONS)}, such as processes.mill.cost'
+            )
+        return str(name)
     kind, _, metal = str(name).partition(" ")
     if kind in NAMES and (not metal or (kind in OF_METALS and metal in metals)):
         return str(name)
     of_metals = " or of one metal, as ".join((", ".join(OF_METALS), f'"price {metals[0]}"'))
-    raise section.wrong(key, f'found "{name}", expected one of {", ".join(NAMES)}; {of_metals}')
+    paths = "or the path of a key, such as economics.mining_cost"
+    raise section.wrong(key, f'found "{name}", expected one of {", ".join(NAMES)}; {of_metals}; {paths}')

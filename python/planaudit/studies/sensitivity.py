@@ -224,7 +224,7 @@ class Told:
         base = self.cases[0]
         assert base.skin is not None
         entries = {CASE: case.entry}
-        if not any(name == "slopes" for name, _ in case.changes):
+        if not any(name == "slopes" or name.startswith("slopes.") for name, _ in case.changes):
             entries |= {KEPT_PIT: base.entry, SKIN: np.where(base.skin, self.factor, 0)}
         every = valued(self.dug(np.maximum.reduce([*entries.values()]), project, case.walls))
         return {name: within(every, entry) for name, entry in entries.items()}
@@ -317,9 +317,24 @@ def changed(text: Text, changes: tuple[tuple[str, Decimal], ...]) -> Project:
     """Returns the project of the text with these numbers changed there."""
     data = text.data
     for name, share in changes:
+        if "." in name:
+            change_key(data, name.split("."), 1 + share)
+            continue
         kind, _, metal = name.partition(" ")
         NUMBERS[kind](data, 1 + share, metal)
     return of_data(data, text.place)
+
+
+def change_key(data: Data, path: list[str], by: Decimal) -> None:
+    """Changes the numbers of a key, by its path: entries of lists go by name, or by number from 1."""
+    entry: Any = data
+    for part in path[:-1]:
+        if isinstance(entry, list):
+            by_name = {str(it["name"]): it for it in entry if isinstance(it, dict) and "name" in it}
+            entry = by_name[part] if part in by_name else entry[int(part) - 1]
+        else:
+            entry = entry[part]
+    entry[path[-1]] = times(entry[path[-1]], by)
 
 
 def times(value: Any, by: Decimal, most: Decimal = Decimal("Infinity")) -> Any:

@@ -32,7 +32,7 @@ from pitplan.solver.choice import Solver
 from pitplan.studies import dask_pool
 from pitplan.studies.scenarios.store import key_of
 
-from .perturb import Change, given, varied
+from .perturb import Change, given, moves_walls, varied
 
 CASES = "cases"
 # Columns of the base case's pit at the parameters of a case, and the value of its skin.
@@ -53,7 +53,7 @@ class Case:
 
     @property
     def moves_walls(self) -> bool:
-        return any(name == "slopes" for name, _ in self.changes)
+        return any(moves_walls(name) for name, _ in self.changes)
 
 
 @dataclass(frozen=True)

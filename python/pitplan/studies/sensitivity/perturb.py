@@ -6,9 +6,11 @@ from dataclasses import replace
 from decimal import Decimal
 from typing import Callable, Union
 
+from pitplan.config import toml_text
 from pitplan.config.economics import ByRock, Curve, Metal, Process, Recovery
+from pitplan.config.overrides import scaled
 from pitplan.config.periods import Calendar, Period
-from pitplan.config.project import Project
+from pitplan.config.project import Project, of_data
 from pitplan.errors import PlanError
 
 # A parameter of `[sensitivity]`, and the share by which it changes: 0.1 is 10 % more.
@@ -20,9 +22,32 @@ STEEPEST, FLATTEST = 90.0, 1.0
 def varied(project: Project, changes: tuple[Change, ...]) -> Project:
     """Returns the project with these changes; recoveries stop at 1. Raises PlanError if a slope angle leaves 1 to 90 degrees."""
     for name, share in changes:
+        if "." in name:
+            project = with_key(project, 1 + share, name)
+            continue
         kind, _, metal = name.partition(" ")
         project = VARIED[kind](project, 1 + share, metal)
     return project
+
+
+def with_key(project: Project, by: Decimal, path: str) -> Project:
+    """Returns the project with the numbers of a key times a factor. Raises PlanError if there is no such key, or the project is not valid."""
+    where = f"{project.path}: [sensitivity]"
+    data = scaled(toml_text.parsed(project.to_toml(), str(project.path)), path, by, where)
+    found = of_data(data, project.path, f"{where} {path} times {by}")
+    kept = project.shells
+    shells = replace(
+        found.shells,
+        revenue_factors=kept.revenue_factors,
+        selected=kept.selected,
+        base_price_added=kept.base_price_added,
+    )
+    return replace(found, shells=shells, folder=project.folder, solver=project.solver)
+
+
+def moves_walls(name: str) -> bool:
+    """Returns whether a parameter changes slopes."""
+    return name == "slopes" or name.startswith("slopes.")
 
 
 def times(price: ByRock, by: Decimal) -> ByRock:
