@@ -24,6 +24,7 @@ these:
 - **Cash flow**: each line of a schedule of pushbacks follows from blocks, prices and costs, and the lines sum to the cash flow of its years. Tax,
   NPVs, internal rates of return and payback are recomputed.
 - **Inventory**: its rows are the sums of flows, no ore is of a class that is no basis of reserves, and the shares of blocks are those of their lots.
+- **Grade-tonnage curves**: tonnes and metal above each cut-off are those of the blocks, and marked cut-offs earn their costs.
 - **Schedules by block**: no block is mined before its whole cone, no year exceeds a limit, and the NPV does not exceed its bound, which is
   recomputed from its Lagrange multipliers by one maximum closure. For scenarios
   this holds for the schedule of each, and for the common schedule, whose years process the best ore of each scenario.

@@ -119,6 +119,7 @@ def test_each_column_that_is_written_is_in_the_schema_and_each_of_the_schema_is_
         "cutoffs.csv",
         "stockpiles.csv",
         "inventory.csv",
+        "grade_tonnage.csv",
         "cash_flow.csv",
         "valuation.csv",
         "sensitivity.csv",

@@ -178,7 +178,7 @@ def wrong(folder):
 
 RULES = [
     *("schedule amounts", "material flow", "schedule order", "schedule limits", "schedule value"),
-    *("cash flow", "inventory", "upper bound", "years of blocks"),
+    *("cash flow", "inventory", "grade tonnage", "upper bound", "years of blocks"),
 ]
 
 

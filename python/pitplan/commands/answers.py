@@ -116,7 +116,7 @@ def tables_of(answered: Answered) -> list[str]:
     found += [names.METHODS] if answered.schedule or answered.blocks else []
     if answered.schedule:
         found += [names.MATERIAL_FLOWS, names.INVENTORY, names.FEED, names.CUTOFFS, names.LIMITS]
-        found += [names.CASH_FLOW, names.VALUATION]
+        found += [names.CASH_FLOW, names.VALUATION, names.GRADE_TONNAGE]
         found += [names.BOUND] if answered.schedule.optimum else []
         found += [names.STOCKPILES] if answered.schedule.is_stocked else []
     return found
@@ -177,7 +177,7 @@ def write_tables(answered: Answered, stage: Path) -> tuple[pd.DataFrame, pd.Data
 
 def write_schedule_tables(schedule: YearlySchedule, plan: Plan, stage: Path) -> None:
     """Writes schedule.csv, methods.csv, schedule.json, limits.csv, bound.csv, and the tables of cash flow and of material flow."""
-    from pitplan.scheduling import pushback_record, pushback_schedule
+    from pitplan.scheduling import inventory, pushback_record, pushback_schedule
     from pitplan.scheduling.flow.limit_table import limit_table
     from pitplan.scheduling.flow.tables import bound_table
 
@@ -189,5 +189,6 @@ def write_schedule_tables(schedule: YearlySchedule, plan: Plan, stage: Path) -> 
     for name, table in flow_tables(schedule).items():
         named(shown(table), plan.project).to_csv(stage / layout.TABLES / f"{name}.csv", index=False)
     named(shown(limit_table(schedule)), plan.project).to_csv(stage / names.LIMITS, index=False)
+    shown(inventory.grade_tonnage_table(schedule)).to_csv(stage / names.GRADE_TONNAGE, index=False)
     if schedule.optimum is not None:
         named(bound_table(schedule), plan.project).to_csv(stage / names.BOUND, index=False)

@@ -50,6 +50,25 @@ INVENTORY = Table(
         *(CONTAINED, RECOVERED),
     ),
 )
+GRADE_TONNAGE = Table(
+    "grade_tonnage.csv",
+    "of a schedule of pushbacks: a row per part, resource class, metal and cut-off grade of that metal",
+    (
+        Column("part", TEXT, "`model`: the blocks of `blocks.csv`; `pit`: all pushbacks; or one of these", "part"),
+        Column("class", TEXT, "resource class; `all` without classes", "class"),
+        Column("metal", TEXT, "the metal of the cut-off", "metal"),
+        Column("cutoff_grade", GRADE, "cut-off grade, in situ", "cut-off grade"),
+        Column(
+            "mark",
+            TEXT,
+            "`marginal` or `break_even`, process and rock type: the grade that pays if the metal is the only one; otherwise empty",
+            "mark",
+        ),
+        Column("tonnes", TONNES, "in-situ tonnes at or above the cut-off", "above cut-off"),
+        Column("grade_METAL", GRADE, "their mean grade; empty without any", "METAL"),
+        replace(IN_SITU, holds="metal in these"),
+    ),
+)
 PROCESS = Column("process", TEXT, "`mill` if the project names none", "process")
 CUTOFF = Column(
     "cutoff",

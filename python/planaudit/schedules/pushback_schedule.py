@@ -17,7 +17,15 @@ from planaudit.inputs.answer import Answer
 from planaudit.money.period_costs import capex, fixed_cost
 from planaudit.revenue_factors import factor_texts
 from planaudit.rules import TOLD, Rule, rule
-from planaudit.schedules import cash_flow, inventory, limit_table, material_flow, methods as ways_table, pushback_bounds
+from planaudit.schedules import (
+    cash_flow,
+    grade_tonnage,
+    inventory,
+    limit_table,
+    material_flow,
+    methods as ways_table,
+    pushback_bounds,
+)
 from planaudit.schedules.discounts import discount, present_costs
 from planaudit.schedules.limits import least_of
 from planaudit.schedules.lots import grade_name
@@ -77,6 +85,7 @@ def verify(answer: Answer) -> list[Rule]:
         verify_value(ways, told, sums),
         cash_flow.verify(flow, list(told["methods"])),
         inventory.verify(flow, told["shown"]),
+        grade_tonnage.verify(answer),
         pushback_bounds.verify(answer, told, by_year(answer, int(told["years"]))),
         verify_years_of_blocks(ways, told, sums),
     ]

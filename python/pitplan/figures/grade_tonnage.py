@@ -1,0 +1,81 @@
+"""The figure of grade-tonnage curves: the model and the pit, by resource class, with marginal and break-even cut-offs."""
+
+from __future__ import annotations
+
+from pathlib import Path
+from typing import Any
+
+import matplotlib
+import numpy as np
+import pandas as pd
+from matplotlib.axes import Axes
+from matplotlib.figure import Figure
+
+from pitplan.config.classes import ORE_NAMES
+from pitplan.config.economics import Metal
+from pitplan.pits.grade_tonnage import BREAK_EVEN, MARGINAL, MODEL, PIT
+from pitplan.scheduling.inventory import grade_tonnage_table
+from pitplan.scheduling.pushback_schedule import YearlySchedule
+
+from .style import PLAIN, STYLE, WORST, finish, list_of
+
+TITLES = {MODEL: "block model", PIT: "pit"}
+# Classes from the best known on; further ones are grey.
+COLOURS = ("#1f4e79", "#5b93c7", "#b9d3ea", "#d9d4c8", "#ece8df")
+MARKS = {MARGINAL: ("marginal", ":"), BREAK_EVEN: ("break-even", "--")}
+
+
+def write(schedule: YearlySchedule, path: Path) -> None:
+    """Writes the figure."""
+    with matplotlib.rc_context(STYLE):
+        figure = Figure(figsize=(9.6, 4.4), constrained_layout=True)
+        plot(schedule, figure.subplots(1, 2))
+        finish(figure, path)
+
+
+def plot(schedule: YearlySchedule, axes: Any) -> list[Axes]:
+    """Draws the tonnes of the model and of the pit above each cut-off grade of the first metal, and their mean grade, on two axes."""
+    table, metal = grade_tonnage_table(schedule), schedule.pushbacks.plan.project.metals[0]
+    found = list_of(axes, 2)
+    for axis, (part, title) in zip(found, TITLES.items()):
+        plot_part(axis, table[(table["part"] == part) & (table["metal"] == metal.name)], metal)
+        axis.set_title(title)
+    return found
+
+
+def plot_part(axis: Axes, table: pd.DataFrame, metal: Metal) -> None:
+    curves = table[table["mark"] == ""]
+    classes = sorted(curves["class"].unique(), key=rank)
+    tonnes = curves.pivot_table(index="cutoff_grade", columns="class", values="tonnes", aggfunc="first")[classes] / 1e6
+    labels = [name or "unclassified" for name in classes]
+    axis.stackplot(tonnes.index, *tonnes.to_numpy().T, labels=labels, colors=(*COLOURS, *["#dddddd"] * len(classes)))
+    axis.set_xlabel(f"cut-off grade {metal.name}, {metal.sign}")
+    axis.set_ylabel("tonnes above cut-off, Mt")
+    axis.set_xlim(0, max(tonnes.index.max(), 1e-9))
+    axis.set_ylim(0, None)
+    above = axis.twinx()
+    content = curves.assign(content=(curves["tonnes"] * curves[f"grade_{metal.name}"]).fillna(0.0))
+    sums = content.groupby("cutoff_grade")[["content", "tonnes"]].sum()
+    with np.errstate(invalid="ignore"):
+        above.plot(sums.index, sums["content"] / sums["tonnes"], color=PLAIN, label="mean grade above cut-off")
+    above.set_ylabel(f"mean grade, {metal.sign}")
+    above.set_ylim(0, None)
+    mark(above, table)
+    handles = [part for it in (axis, above) for part in zip(*it.get_legend_handles_labels())]
+    above.legend(*zip(*handles), loc="upper center", bbox_to_anchor=(0.5, -0.16), ncol=3, frameon=False, fontsize=8)
+
+
+def rank(name: str) -> tuple[int, str]:
+    """Returns the place of a class: measured before indicated before others."""
+    return (ORE_NAMES.index(name.lower()) if name.lower() in ORE_NAMES else len(ORE_NAMES), name)
+
+
+def mark(axis: Axes, table: pd.DataFrame) -> None:
+    """Draws the least and the greatest cut-off of each kind over rock types, each in the process where it is least."""
+    marks = table.loc[table["mark"] != "", ["mark", "cutoff_grade"]].drop_duplicates()
+    words = marks["mark"].str.split(" ", n=2, expand=True).reindex(columns=[0, 1, 2]).fillna("")
+    least = marks["cutoff_grade"].groupby([words[0], words[2]]).min()
+    for kind, (label, line) in MARKS.items():
+        grades = least[kind] if kind in least.index.get_level_values(0) else pd.Series(dtype=float)
+        for number, grade in enumerate(sorted({grades.min(), grades.max()}) if len(grades) else []):
+            axis.axvline(grade, color=WORST, linestyle=line, linewidth=1.0, label=label if number == 0 else None)

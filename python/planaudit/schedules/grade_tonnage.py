@@ -1,0 +1,102 @@
+"""Verifies grade_tonnage.csv of a schedule of pushbacks: tonnes and metal above each cut-off, and what marked cut-offs earn."""
+
+from __future__ import annotations
+
+from collections.abc import Iterator
+
+import numpy as np
+import pandas as pd
+
+from planaudit.inputs.answer import Answer
+from planaudit.inputs.matching import PUSHBACK
+from planaudit.inputs.project import GRADE_UNITS, Metal
+from planaudit.inputs.tables import read_table
+from planaudit.rules import TOLD, Rule, rule
+from planaudit.schedules.cutoff_table import GRADE, MONEY, Material
+from planaudit.schedules.lots import MILL
+
+FILE, TEXTS = "grade_tonnage.csv", ["part", "class", "metal", "mark"]
+AMOUNT = 0.6e-3
+
+
+def verify(answer: Answer) -> Rule:
+    """Verifies the curves of the model, the pit and the pushbacks."""
+    said = read_table(answer.folder / "tables" / FILE, TEXTS).fillna(dict.fromkeys(TEXTS, ""))
+    found = [*unlike_curves(answer, said), *unlike_marks(answer, said)]
+    holds = "tonnes, grades and metal above each cut-off grade are those of the blocks, and marked cut-offs earn their costs"
+    return rule("grade tonnage", holds, found[:TOLD], len(found))
+
+
+def unlike_curves(answer: Answer, said: pd.DataFrame) -> Iterator[str]:
+    """Yields rows that differ from the sums over blocks, and missing parts or classes."""
+    pushback, column = answer.said[PUSHBACK].to_numpy(), answer.project.table.resource_class
+    code = answer.rows[column].astype(str).to_numpy() if column else np.full(len(answer.rows), "all")
+    parts = {"model": pushback >= 0, "pit": pushback > 0}
+    parts |= {f"pushback {number}": pushback == number for number in range(1, int(pushback.max()) + 1)}
+    masks = {(part, name): mask & (code == name) for part, mask in parts.items() for name in sorted(set(code))}
+    masks = {key: mask & (answer.tonnes > 0) for key, mask in masks.items() if (mask & (answer.tonnes > 0)).any()}
+    metals = {metal.name: metal for metal in answer.project.metals}
+    groups = dict(list(said.groupby(["part", "class", "metal"])))
+    if set(groups) != {(*key, name) for key in masks for name in metals}:
+        yield f"{FILE}: parts, classes and metals are not those of the blocks"
+        return
+    for (part, name, of_metal), rows in groups.items():
+        mask = masks[part, name]
+        tonnes, grade = answer.tonnes[mask], answer.rows[metals[of_metal].column].to_numpy(dtype=float)[mask]
+        if rows["cutoff_grade"].min() != 0 or not rows["cutoff_grade"].is_monotonic_increasing:
+            yield f"{FILE}: {part}, {name}, {of_metal}: cut-off grades do not rise from 0"
+        for row in rows.to_dict("records"):
+            above = grade >= row["cutoff_grade"]
+            yield from (
+                f"{FILE}: {part}, {name}, {of_metal} above {row['cutoff_grade']:.10g}: {text}"
+                for text in unlike(row, answer, (mask, above), tonnes[above])
+            )
+
+
+def unlike(
+    row: dict[str, float], answer: Answer, where: tuple[np.ndarray, np.ndarray], tonnes: np.ndarray
+) -> Iterator[str]:
+    """Yields amounts of a row that are not those of its blocks: of the mask in `where`, those above the cut-off, with their tonnes."""
+    mask, above = where
+    whole = float(tonnes.sum())
+    due = {"tonnes": (whole, AMOUNT)}
+    for metal in answer.project.metals:
+        content = float(tonnes @ answer.rows[metal.column].to_numpy(dtype=float)[mask][above])
+        due[f"in_situ_{metal.name}"] = content * float(GRADE_UNITS[metal.unit]), AMOUNT
+        due[f"grade_{metal.name}"] = (content / whole if whole else np.nan), GRADE
+    for name, (expected, slack) in due.items():
+        if abs(row[name] - expected) > slack + 1e-9 * abs(expected) or np.isnan(row[name]) != np.isnan(expected):
+            yield f"{name} {row[name]:.10g} for {expected:.10g}"
+
+
+def unlike_marks(answer: Answer, said: pd.DataFrame) -> Iterator[str]:
+    """Yields marked cut-offs of other processes, rock types and metals than the project has, or that do not earn what they are to cover."""
+    due = {}
+    for material, name, metal in materials(answer):
+        factor = 1 + material.of(material.project.economics.dilution)
+        for kind, cost in material.costs.items():
+            words = [kind.removesuffix("_grade"), name, *([material.rock] if material.rock else [])]
+            if np.isfinite(factor * cost) and material.earned(metal, 1e12, 0.0) > 0:
+                due[metal.name, " ".join(words)] = material, metal, cost, factor
+    rows = said[said["mark"] != ""]
+    if set(zip(rows["metal"], rows["mark"])) != set(due):
+        yield f"{FILE}: marks are not those of the processes and rock types"
+        return
+    for of_metal, mark, grade in sorted(set(zip(rows["metal"], rows["mark"], rows["cutoff_grade"]))):
+        material, metal, cost, factor = due[of_metal, mark]
+        low, high = (material.earned(metal, max(grade + by, 0.0) / factor, 0.0) for by in (-GRADE, GRADE))
+        slack = MONEY + 1e-6 * abs(cost)
+        if low > max(cost, 0.0) + slack or high < cost - slack:
+            yield f"{FILE}: {of_metal}, {mark}: {grade:.10g} does not earn {cost:.10g} per tonne of feed"
+
+
+def materials(answer: Answer) -> Iterator[tuple[Material, str, Metal]]:
+    """Yields each rock type that yields anything in a process, with the process and each of its recovered metals."""
+    column, processes = answer.project.table.rock_type, answer.project.processes
+    names = [process.name for process in processes] or [MILL]
+    for name, alone, (revenue, _) in zip(names, answer.project.by_process, answer.amounts_of_ways):
+        taken = answer.said[revenue].to_numpy() > 0
+        rocks = sorted(set(answer.rows[column].astype(str).to_numpy()[taken])) if column else [""] * bool(taken.any())
+        for rock in rocks:
+            material = Material(alone, rock)
+            yield from ((material, name, metal) for metal in material.metals)
