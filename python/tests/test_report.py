@@ -31,7 +31,16 @@ PARTS = [
     "Schedule",
     "Cash flow",
 ]
-PARTS += ["Sensitivity", "Risks", "JORC Table 1, section 4", "Inputs", "Verification"]
+PARTS += [
+    "Grade and tonnage",
+    "Schedule",
+    "Cash flow",
+    "Sensitivity",
+    "Risks",
+    "JORC Table 1, section 4",
+    "Inputs",
+    "Verification",
+]
 MORE = """[pushbacks]
 count = 2
 [schedule]
@@ -146,7 +155,9 @@ def test_each_number_of_the_page_is_one_of_a_written_table(written, place):
             ("tables/methods.csv", "recovered_gold"),
             ("tables/pushbacks.csv", "undiscounted_cash_flow"),
         } <= found
-    assert page.parts == [part for part in PARTS if place != "plan" or part not in ("Pushbacks", "Schedule")]
+    assert page.parts == [
+        part for part in PARTS if place != "plan" or part not in ("Pushbacks", "Grade and tonnage", "Schedule")
+    ]
     assert page.bare == []
 
 
