@@ -22,25 +22,8 @@ from pitplan.report import columns, html
 from pitplan.results.folder import read_record
 
 CHROMIUM, PDFTOTEXT = shutil.which("chromium"), shutil.which("pdftotext")
-PARTS = [
-    "Key results",
-    "Assumptions",
-    "Pit-by-pit analysis",
-    "Plans and sections",
-    "Pushbacks",
-    "Schedule",
-    "Cash flow",
-]
-PARTS += [
-    "Grade and tonnage",
-    "Schedule",
-    "Cash flow",
-    "Sensitivity",
-    "Risks",
-    "JORC Table 1, section 4",
-    "Inputs",
-    "Verification",
-]
+PARTS = ["Key results", "Assumptions", "Pit-by-pit analysis", "Plans and sections", "Pushbacks", "Grade and tonnage"]
+PARTS += ["Schedule", "Cash flow", "Sensitivity", "Risks", "JORC Table 1, section 4", "Inputs", "Verification"]
 MORE = """[pushbacks]
 count = 2
 [schedule]

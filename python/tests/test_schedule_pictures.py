@@ -16,7 +16,7 @@ from pitplan import PlanError
 from pitplan.config.project import Metal
 from pitplan.config.stockpiles import Stockpile
 from pitplan.export import xlsx
-from pitplan.figures import schedule as schedule_figures
+from pitplan.figures import gantt, schedule as schedule_figures
 from pitplan.report import viewer3d
 from pitplan.results.folder import Folder, read_folder
 from pitplan.scheduling import pushback_record, pushback_schedule
@@ -62,7 +62,7 @@ def rows_of(method, feed, shares):
 
 
 def test_a_gantt_has_a_bar_for_each_share(schedule):
-    axes = schedule_figures.plot_gantt(schedule, Figure().subplots(1, 2))
+    axes = gantt.plot_gantt(schedule, Figure().subplots(1, 2))
     for ax, way in zip(axes, schedule.shares):
         (bars,) = ax.collections
         shares = schedule.shares[way]
@@ -78,6 +78,26 @@ def test_a_gantt_has_a_bar_for_each_share(schedule):
         low, high = ax.get_ylim()
         assert low > 5.5 and high < 0 and ax.get_xlim() == (0.5, 3.5)
     assert axes[0].get_title() == f"Rule: NPV {schedule.value('rule'):,.2f} USD"
+
+
+def test_a_gantt_of_many_benches_has_a_row_per_pushback(schedule, monkeypatch):
+    """A cell for each pushback and year in which it is mined, with its highest and lowest bench; the darkest has most tonnes."""
+    monkeypatch.setattr(gantt, "MOST_ROWS", 2)
+    axes = gantt.plot_gantt(schedule, Figure().subplots(2, 1))
+    benches, elevations = schedule.benches, schedule.pushbacks.plan.grid.elevations()
+    for ax, way in zip(axes, schedule.shares):
+        shares = schedule.shares[way]
+        cells = {(number, year) for bench, year in zip(*np.nonzero(shares)) for number in [benches.pushback[bench]]}
+        found = {(round(it.get_y() + 0.45) + 1, round(it.get_x() - 0.5)): it for it in ax.patches}
+        assert found.keys() == cells and len(ax.patches) == len(cells)
+        tonnes = {key: (shares[benches.pushback == key[0], key[1]] * 100).sum() for key in cells}
+        shades = {key: 0.25 + 0.75 * amount / max(tonnes.values()) for key, amount in tonnes.items()}
+        assert {key: it.get_facecolor()[3] for key, it in found.items()} == pytest.approx(shades)
+        for text in ax.texts:
+            key = (round(text.get_position()[1]) + 1, round(text.get_position()[0]) - 1)
+            mined = elevations[benches.level[(benches.pushback == key[0]) & (shares[:, key[1]] > 0)]]
+            assert text.get_text() == f"{mined.max():.0f}\n{mined.min():.0f}"
+        assert [tick.get_text() for tick in ax.get_yticklabels()] == ["pushback 1", "pushback 2"]
 
 
 def test_the_bars_of_years_are_the_ore_and_the_waste_beside_their_limits(schedule):
@@ -136,7 +156,7 @@ def test_each_destination_is_a_layer_of_its_own(schedule):
     assert grades == {"head grade of mill", "head grade of leach"}
 
 
-@pytest.mark.parametrize("write", [schedule_figures.write_gantt, schedule_figures.write_tonnes])
+@pytest.mark.parametrize("write", [gantt.write_gantt, schedule_figures.write_tonnes])
 def test_pictures_are_written(schedule, write, tmp_path):
     backend = matplotlib.get_backend()
     write(schedule, tmp_path / "picture.png")
@@ -145,7 +165,7 @@ def test_pictures_are_written(schedule, write, tmp_path):
 
 def test_axes_that_are_too_few_are_refused(schedule):
     with pytest.raises(PlanError, match="1 axes are given, and the picture has 2"):
-        schedule_figures.plot_gantt(schedule, [Figure().subplots()])
+        gantt.plot_gantt(schedule, [Figure().subplots()])
 
 
 def test_a_workbook_has_a_sheet_a_table(tmp_path, with_workbooks):
@@ -207,7 +227,7 @@ def test_a_way_that_mines_nothing_is_drawn_with_a_sentence(schedule, way):
     assert len(axes[1 - place].containers) == 2
     (legend,) = axes[0].figure.legends
     assert [text.get_text() for text in legend.get_texts()][:2] == ["mill", "waste"]
-    axes = schedule_figures.plot_gantt(empty, Figure().subplots(1, 2))
+    axes = gantt.plot_gantt(empty, Figure().subplots(1, 2))
     assert "nothing is mined" in [text.get_text() for text in axes[place].texts]
     (note,) = [note for note in pushback_record.notes(empty) if "mines nothing" in note]
     assert note.startswith(f"{way} mines nothing: at these prices and costs")

@@ -240,9 +240,9 @@ class PushbackSchedule:
 
     def plot(self, axes: Any) -> list[Axes]:
         """Draws the years of the benches of each pushback, a method on each of the axes; returns these."""
-        from pitplan.figures import schedule
+        from pitplan.figures import gantt
 
-        return schedule.plot_gantt(self.found, axes)
+        return gantt.plot_gantt(self.found, axes)
 
     def write(self, folder: Folder = None, writing: Writing = Writing()) -> Path:
         """Writes what `pitplan schedule` writes, by default into schedule in the project's output folder; see `Shells.write`."""

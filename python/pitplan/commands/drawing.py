@@ -7,7 +7,7 @@ from typing import TYPE_CHECKING
 
 import pandas as pd
 
-from pitplan.figures import annual, block_schedule, grade_tonnage, plans_sections, pushbacks, schedule
+from pitplan.figures import annual, block_schedule, gantt, grade_tonnage, plans_sections, pushbacks, schedule
 from pitplan.figures.pit_by_pit import write_pit_by_pit
 from pitplan.figures.style import also_as, files_of
 
@@ -68,7 +68,7 @@ def draw_schedules(answered: Answered, years: pd.DataFrame, stage: Path) -> dict
     drawn: dict[str, str] = {}
     if answered.schedule is not None:
         drawn = SCHEDULE_PICTURES
-        schedule.write_gantt(answered.schedule, stage / drawn["schedule_gantt"])
+        gantt.write_gantt(answered.schedule, stage / drawn["schedule_gantt"])
         schedule.write_tonnes(answered.schedule, stage / drawn["schedule_tonnes"])
         schedule.write_cumulative(answered.schedule, years, stage / drawn["schedule_value"])
         grade_tonnage.write(answered.schedule, stage / drawn["grade_tonnage"])

@@ -9,12 +9,9 @@ import matplotlib
 import numpy as np
 import pandas as pd
 from matplotlib.axes import Axes
-from matplotlib.collections import PatchCollection
 from matplotlib.figure import Figure
-from matplotlib.patches import Rectangle
 from matplotlib.ticker import MaxNLocator
 
-from pitplan.blockmodel.grid import metres
 from pitplan.config.economics import Metal
 from pitplan.config.places import MILL, PIT, WASTE as AS_WASTE
 from pitplan.core.magnitude import scaled
@@ -37,8 +34,8 @@ from pitplan.scheduling.methods import LP, MILP, NAMES, RULE
 from pitplan.scheduling.pushback_schedule import YearlySchedule
 
 from .annual import FAR_ABOVE, MARGIN, MILL as MILL_COLOUR, SHOVELS, in_words, label_of
+from .gantt import TITLES
 
-TITLES = {RULE: "Rule", LP: "Linear programme", MILP: "Integer programme"}
 COLOURS = {
     "worst": WORST,
     "specified": SPECIFIED,
@@ -65,86 +62,6 @@ GRADE = "#a23b8f"
 STOCKED = ("#8fb3d9", "#d9b98f", "#9fc79d", "#b9a3cf")
 # Of several processes, in their order.
 PROCESSES = ("#1f5f9e", "#c8792b", "#4c8c4a", "#7b4fa3", "#b23a48")
-# The least opacity, for the smallest part of a bench.
-PALEST = 0.25
-# The most benches with a label.
-MOST_NAMES = 28
-
-
-def write_gantt(schedule: YearlySchedule, path: Path) -> None:
-    with matplotlib.rc_context(STYLE):
-        high = min(max(3.2, 0.16 * len(schedule.benches)), 14.0)
-        figure = Figure(figsize=(12, high + 0.8), constrained_layout=True)
-        plot_gantt(schedule, figure.subplots(1, len(schedule.shares), sharex=True, sharey=True, squeeze=False))
-        finish(figure, path)
-
-
-def plot_gantt(schedule: YearlySchedule, axes: Any) -> list[Axes]:
-    """Draws the years in which benches are mined, by pushback from the top.
-
-    Parameters
-    ----------
-    schedule : YearlySchedule
-    axes : array or list of Axes
-        One per method.
-
-    Returns
-    -------
-    list of Axes
-    """
-    found = list_of(axes, len(schedule.shares))
-    for ax, way in zip(found, schedule.shares):
-        draw_gantt(schedule, way, ax)
-    found[0].set_ylabel("benches by pushback: elevation of the centroids, m")
-    return found
-
-
-def draw_gantt(schedule: YearlySchedule, way: str, ax: Axes) -> None:
-    """Draws a bar per bench and year, darker the larger the share of the bench."""
-    shares, benches = schedule.shares[way], schedule.benches
-    row = rows_of(schedule)
-    bench, year = np.nonzero(shares)
-    tints = pushback_tints(int(benches.pushback.max()))[benches.pushback[bench] - 1]
-    tints[:, 3] = PALEST + (1 - PALEST) * shares[bench, year]
-    bars = [Rectangle((t + 0.5, row[b] - 0.5), 1, 1) for b, t in zip(bench, year)]
-    ax.add_collection(PatchCollection(bars, facecolors=tints, edgecolors="white", linewidths=0.3))
-    longest = max(other.shape[1] for other in schedule.shares.values())
-    ax.set_xlim(0.5, longest + 0.5)
-    ax.set_ylim(row[-1] + 1, -1)
-    ax.xaxis.set_major_locator(MaxNLocator(integer=True))
-    ax.set_xlabel(label_of(schedule.settings.calendar, longest))
-    ax.spines["right"].set_visible(False)
-    ax.set_title(f"{TITLES.get(way, way)}: NPV {money(schedule.value(way), schedule)}")
-    name_benches(schedule, row, longest, ax)
-    if not shares.any():
-        ax.text(0.5, 0.5, "nothing is mined", transform=ax.transAxes, ha="center", va="center")
-
-
-def rows_of(schedule: YearlySchedule) -> np.ndarray:
-    """Returns the row of each bench from the top of the figure, with space for the label of a pushback above its first."""
-    pushback = schedule.benches.pushback
-    return np.arange(len(pushback)) + 2.0 * (pushback - 1) + 1
-
-
-def pushback_tints(count: int) -> np.ndarray:
-    """Returns a colour per pushback, as in plans of pushbacks; shape (count, 4)."""
-    return matplotlib.colormaps["viridis_r"](np.linspace(0.08, 0.95, count))
-
-
-def name_benches(schedule: YearlySchedule, row: np.ndarray, longest: int, ax: Axes) -> None:
-    benches, elevations = schedule.benches, schedule.pushbacks.plan.grid.elevations()
-    each = -(-len(benches) // MOST_NAMES)
-    shown = [bench for bench in range(len(benches)) if benches.level[bench] % each == 0]
-    ax.set_yticks(row[shown], [metres(elevations[benches.level[bench]]) for bench in shown], fontsize=7)
-    for number in np.unique(benches.pushback):
-        first = row[benches.pushback == number][0]
-        ax.text(0.6, first - 1.0, f"pushback {number}", va="center", ha="left", fontsize=8, fontweight="bold")
-        ax.plot([0.5, longest + 0.5], [first - 0.55] * 2, color="#999999", linewidth=0.6)
-
-
-def money(amount: float, schedule: YearlySchedule) -> str:
-    size, sign = scaled(abs(amount))
-    return f"{amount / size:,.2f} {sign} {schedule.pushbacks.plan.project.economics.currency}".replace("  ", " ")
 
 
 def write_tonnes(schedule: YearlySchedule, path: Path) -> None:
