@@ -190,6 +190,7 @@ class Plan:
             "table": {"file": self.source, "rows": len(self.table), "fields_filled_with_0": self.filled},
             "grid": self.record_of_grid(),
             "money": {
+                "currency": project.economics.currency,
                 "cutoff": self.values.cutoff,
                 "mining_cost_reference": self.reference,
                 "decimals": project.economics.decimals,

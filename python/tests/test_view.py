@@ -16,7 +16,7 @@ from browser import Browser, needs_chromium
 import pitplan
 from pitplan import PlanError
 from pitplan.core.progress import silent
-from pitplan.report import viewer3d
+from pitplan.report import viewer3d, viewer_kinds
 from pitplan.results.folder import read_folder
 
 KEPT = Path(__file__).parent / "expected" / "view.png"
@@ -307,3 +307,29 @@ def test_the_colours_of_pushbacks_and_years_darken(name, colour_map, ends):
     """By the luminance of sRGB (IEC 61966-2-1), for whoever does not tell hues apart."""
     linear = (np.array(viewer3d.colours(colour_map, np.linspace(*ends, 30))) / 255) ** 2.2
     assert (np.diff(linear @ [0.2126, 0.7152, 0.0722]) < 0).all(), name
+
+
+def test_categories_and_values_by_hand(solved):
+    """Each block is ore or waste, and the value of a tonne has the colour of its share of the largest."""
+    folder = read_folder(solved[1])
+    model, blocks = viewer3d.model_of(folder), folder.blocks
+    kinds = {kind["name"]: kind for kind in model["kinds"]}
+    destination, at = kinds["destination"], blocks["id"].to_numpy()
+    found = np.array(["", *destination["labels"]])[bytes_of(destination["cells"])[at]]
+    expected = np.where(blocks["revenue"] > blocks["processing_cost"], "ore", "waste")
+    assert found.tolist() == np.where(blocks["tonnes"] > 0, expected, "").tolist()
+    assert len(destination["colours"]) == 2 and set(kinds) == {"destination", *folder.record["codes"]}
+    (value,) = model["amounts"]
+    worth = (blocks["revenue"] - blocks["processing_cost"]).clip(lower=0) - blocks["mining_cost"]
+    shares = (worth / blocks["tonnes"].where(blocks["tonnes"] > 0, 1) / value["most"]).clip(0, 1)
+    assert bytes_of(value["grade"])[at].tolist() == pytest.approx((shares * 255).tolist(), abs=0.51)
+    assert value["sign"] == "USD per t"
+
+
+def test_many_codes_share_the_last_colour(solved, monkeypatch):
+    folder = read_folder(solved[1])
+    codes = np.array([f"R{number % 20}" for number in range(len(folder.blocks))])
+    solid = np.ones(len(codes), dtype=bool)
+    kind = viewer_kinds.kind_of(folder, "rock", codes, solid, lambda cells: cells)
+    assert len(kind["labels"]) == len(kind["colours"]) == len(viewer_kinds.PALETTE) and kind["labels"][-1] == "others"
+    assert kind["cells"].max() == len(viewer_kinds.PALETTE)

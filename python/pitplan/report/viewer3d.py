@@ -23,6 +23,7 @@ from pitplan.results.folder import Folder
 from pitplan.results.names import TABLE
 
 from .columns import TEMPLATES
+from .viewer_kinds import kinds_of
 
 # The byte of a cell: 0 if no shell holds it, 1 to 254 the place of its revenue factor in the list, 255 air.
 AIR = 255
@@ -71,7 +72,9 @@ def model_of(folder: Folder) -> dict[str, Any]:
         "shell": encoded(grid.spread(shell, AIR)),
         "shell_colours": colours("viridis_r", np.linspace(0.02, 1, len(factors))),
         "metals": [metal_of(folder, metal, solid) for metal in folder.record["metals"]],
+        "amounts": [value_of(folder, solid)],
         "grade_colours": colours("YlOrRd", np.linspace(0, 1, 256)),
+        "kinds": kinds_of(folder, encoded),
         "stages": [stage_of(folder, *stage) for stage in STAGES if stage[0] in blocks],
         "rows": compressed(rows_of(folder).encode("utf-8")),
     }
@@ -80,10 +83,23 @@ def model_of(folder: Folder) -> dict[str, Any]:
 def metal_of(folder: Folder, metal: dict[str, Any], solid: np.ndarray) -> dict[str, Any]:
     """Returns a byte of grade per cell, and the grade of the largest byte."""
     grade = np.where(solid, folder.blocks[metal["column"]].to_numpy(), 0.0)
-    # The highest hundredth of the grades share a colour, so that one rich block does not make all others pale.
-    most = float(np.quantile(grade[grade > 0], 0.99)) if (grade > 0).any() else 1.0
-    tint = np.rint(np.clip(grade / most, 0, 1) * 255).astype(np.uint8)
-    return {"name": metal["name"], "sign": metal["sign"], "most": most, "grade": encoded(folder.grid.spread(tint, 0))}
+    return {"name": metal["name"], "sign": metal["sign"], **tinted(folder, grade)}
+
+
+def value_of(folder: Folder, solid: np.ndarray) -> dict[str, Any]:
+    """Returns a byte per cell of the value per tonne at the base price once it is mined; 0 if it does not pay."""
+    tonnes = folder.blocks[folder.record["tonnes"]].to_numpy()
+    value = np.where(solid, worths(folder.blocks) / np.where(solid, tonnes, 1.0), 0.0)
+    sign = f"{folder.record['money'].get('currency', '')} per t".strip()
+    return {"name": "value", "sign": sign, **tinted(folder, np.maximum(value, 0.0))}
+
+
+def tinted(folder: Folder, amounts: np.ndarray) -> dict[str, Any]:
+    """Returns a byte per cell of amounts from 0 on, and the amount of the largest byte."""
+    # The highest hundredth share a colour, so that one rich block does not make all others pale.
+    most = float(np.quantile(amounts[amounts > 0], 0.99)) if (amounts > 0).any() else 1.0
+    tint = np.rint(np.clip(amounts / most, 0, 1) * 255).astype(np.uint8)
+    return {"most": most, "grade": encoded(folder.grid.spread(tint, 0))}
 
 
 def stage_of(folder: Folder, name: str, shades: str, ends: tuple[float, float]) -> dict[str, Any]:
