@@ -28,19 +28,11 @@ PARTS = [
     "Pit-by-pit analysis",
     "Plans and sections",
     "Pushbacks",
-    "Schedule",
-    "Cash flow",
-]
-PARTS += [
     "Grade and tonnage",
     "Schedule",
     "Cash flow",
-    "Sensitivity",
-    "Risks",
-    "JORC Table 1, section 4",
-    "Inputs",
-    "Verification",
 ]
+PARTS += ["Sensitivity", "Risks", "JORC Table 1, section 4", "Inputs", "Verification"]
 MORE = """[pushbacks]
 count = 2
 [schedule]
