@@ -42,14 +42,14 @@ def figures_in(folder):
 @pytest.mark.parametrize(
     ("command", "name", "drawn", "headings"),
     [
-        (pitplan.write_shells, "", PICTURES, ["Pit by pit"]),
+        (pitplan.write_shells, "", PICTURES, []),
         (
             pitplan.write_schedule,
             "schedule",
             PICTURES | PUSHBACK_PICTURES | SCHEDULE_PICTURES,
-            ["Annual schedule", "Pushbacks"],
+            ["Grade and tonnage"],
         ),
-        (pitplan.write_block_schedule, "block_schedule", PICTURES | BLOCK_PICTURES, ["Schedule by block"]),
+        (pitplan.write_block_schedule, "block_schedule", PICTURES | BLOCK_PICTURES, []),
     ],
 )
 def test_a_run_without_figures_removes_those_of_an_earlier_run(mine, command, name, drawn, headings):
@@ -59,14 +59,14 @@ def test_a_run_without_figures_removes_those_of_an_earlier_run(mine, command, na
         first = command(mine, writing=ONCE)
     page, record = (folder / "report.html").read_text(), json.loads((folder / "plan.json").read_text())
     assert figures_in(folder) == {*drawn.values()} < {*record["files"]} and record["figures"] is True
-    assert page.count("data:image/png") == len(drawn) and "<h2>Figures</h2>" in page
+    assert page.count("data:image/png") == len(drawn)
     assert all((folder / figure).read_bytes().startswith(b"\x89PNG") for figure in drawn.values())
-    assert all(f"<h3>{heading}</h3>" in page for heading in headings)
+    assert all(f"<h2>{heading}</h2>" in page for heading in ["Plans and sections", *headings])
     second = command(mine, writing=BARE)
     page, record = (folder / "report.html").read_text(), json.loads((folder / "plan.json").read_text())
     assert figures_in(folder) == set() and record["figures"] is False and not {*FIGURES} & {*record["files"]}
-    assert "<img" not in page and "<h2>Figures</h2>" not in page and "<h2>Tables</h2>" in page
-    assert not any(f"<h3>{heading}</h3>" in page for heading in headings)
+    assert "<img" not in page and "<h2>Key results</h2>" in page
+    assert not any(f"<h2>{heading}</h2>" in page for heading in ["Plans and sections", *headings])
     assert first.to_csv() == second.to_csv()
 
 
