@@ -91,7 +91,7 @@ def test_a_sensitivity_of_another_input_is_no_part_of_a_report(two_grounds, name
     place = two_grounds.parent
     pitplan.write_sensitivity(two_grounds, writing=pitplan.Writing(verifies=False))
     pitplan.write_shells(two_grounds, writing=pitplan.Writing(verifies=False))
-    assert "<h3>Sensitivity</h3>" in (place / "plan" / "report.html").read_text()
+    assert "<h2>Sensitivity</h2>" in (place / "plan" / "report.html").read_text()
     other = place / name
     if name.endswith("ground.csv"):
         ground(other, 26 if name[0] == "b" else 29)
@@ -100,7 +100,7 @@ def test_a_sensitivity_of_another_input_is_no_part_of_a_report(two_grounds, name
     pitplan.write_shells(two_grounds, writing=pitplan.Writing(verifies=False))
     page = (place / "plan" / "report.html").read_text()
     said = f"is a sensitivity of other inputs ({name})"
-    assert f"{said}, and is left out here." in page and "<h3>Sensitivity</h3>" not in page
+    assert f"{said}, and is left out here." in page and "<h2>Sensitivity</h2>" not in page
     with pytest.raises(PlanError, match=re.escape(f"{said}: run pitplan sensitivity again")):
         pitplan.write_report(place / "plan", place / "plan" / "sensitivity")
 

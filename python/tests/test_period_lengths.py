@@ -2,6 +2,7 @@
 
 import json
 import shutil
+from decimal import Decimal
 
 import numpy as np
 import pandas as pd
@@ -233,3 +234,47 @@ def test_lists_by_year_do_not_go_with_other_periods(plan_folder):
         PlanError, match=r"\[\[periods\]\] 1 period_months is 3, and \[\[metals\]\] copper prices is by year"
     ):
         pitplan.load(plan_folder(pillars(), project))
+
+
+TABLE = "years,period_months,processing_capacity,prices.copper,capex\n1,6,,,\n2,,80,9000.5,70\n,,120,,\n"
+
+
+def test_periods_in_a_table_are_those_of_the_file(plan_folder):
+    same = periods(
+        "years = 1\nperiod_months = 6",
+        "years = 2\nprocessing_capacity = 80\nprices = { copper = 9000.5 }\ncapex = 70",
+        "processing_capacity = 120",
+    )
+    inline, _ = solved(plan_folder(column(), same))
+    path = plan_folder(column(), 'periods = "calendar.csv"\n' + PROJECT)
+    (path.parent / "calendar.csv").write_text(TABLE)
+    assert pitplan.load(path).shells.calendar.periods[1].prices == {"copper": Decimal("9000.5")}
+    table, _ = solved(path)
+    assert table["npv_best"] == inline["npv_best"] and table["years"] == inline["years"]
+    record = json.loads((path.parent / "plan" / "plan.json").read_text())
+    assert "calendar.csv" in record["inputs"] and wrong(path.parent / "plan") == set()
+    path.write_text(path.read_text() + "# edited\n")
+    assert not [rule for rule in pitplan.verify(path.parent / "plan") if rule.name == "years" and rule.differences]
+
+
+@pytest.mark.parametrize(
+    ("text", "said"),
+    [
+        ("years,mining\n1,x\n", r'calendar.csv row 2 column mining: found "x", expected a number'),
+        (
+            "years,minning_capacity\n1,5\n",
+            r"calendar.csv: \[row 2\] minning_capacity: unknown key: did you mean mining_capacity",
+        ),
+        ("years\n", "calendar.csv: found no rows"),
+        ("years,capex\n1\n", "calendar.csv row 2: found another number of fields"),
+        ("years\ninf\n", r'found "inf", expected a number'),
+    ],
+)
+def test_what_is_wrong_in_a_table_of_periods_is_named(plan_folder, text, said):
+    path = plan_folder(column(), 'periods = "calendar.csv"\n' + PROJECT)
+    (path.parent / "calendar.csv").write_text(text)
+    with pytest.raises(PlanError, match=said):
+        pitplan.load(path)
+    (path.parent / "calendar.csv").unlink()
+    with pytest.raises(PlanError, match="calendar.csv: cannot be read: No such file"):
+        pitplan.load(path)

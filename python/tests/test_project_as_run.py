@@ -125,7 +125,7 @@ def test_a_sensitivity_of_another_project_is_no_part_of_a_report(mine):
     assert "is a sensitivity of other inputs (project-as-run.toml), and is left out here." in page
     pitplan.write_sensitivity(dearer(load(path)))
     pitplan.write_report(path.parent / "plan")
-    assert "<h3>Sensitivity</h3>" in (path.parent / "plan" / "report.html").read_text()
+    assert "<h2>Sensitivity</h2>" in (path.parent / "plan" / "report.html").read_text()
 
 
 def test_scenarios_are_solved_of_the_project_that_was_run(mine):

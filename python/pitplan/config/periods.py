@@ -8,6 +8,7 @@ from __future__ import annotations
 from collections.abc import Callable
 from dataclasses import dataclass, field
 from decimal import Decimal
+from pathlib import Path
 from typing import Optional, TypeVar
 
 import numpy as np
@@ -69,9 +70,11 @@ class Period:
 
 @dataclass(frozen=True)
 class Calendar:
-    """The entries one after the other; the last period continues. Without any, all periods are years as in the other sections."""
+    """The entries one after the other, and the table that they were read from; the last period continues. Without any, all periods are years as
+    in the other sections."""
 
     periods: tuple[Period, ...] = ()
+    file: Optional[Path] = field(default=None, compare=False)
 
     def __bool__(self) -> bool:
         return bool(self.periods)

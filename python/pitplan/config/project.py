@@ -10,7 +10,7 @@ from typing import Any, Iterable, Mapping, Optional, Union
 
 from pitplan.errors import PlanError
 
-from . import toml_text
+from . import period_table, toml_text
 from .agreement import demand_agreement
 from .cash_flow import CashFlowRules, read_cash_flow
 from .classes import ClassRules, read_classes
@@ -67,11 +67,13 @@ class Project:
 
     @property
     def inputs(self) -> tuple[Path, ...]:
-        """The project's own file, and those that a plan is made of: its table, a topography, a surface as mined, and areas."""
+        """The project's own file, and those that a plan is made of: its table, one of periods, a topography, a surface as mined, and areas."""
         rules = self.constraints
         surfaces = (self.table.topography, *((rules.topography, rules.as_mined) if rules else ()))
         areas = () if rules is None else (area.polygon for area in rules.areas)
-        return (self.path, self.table.file, *(path for file in (*surfaces, *areas) if file for path in file.parts))
+        periods = self.shells.calendar.file
+        given = (self.path, self.table.file, *([periods] if periods else []))
+        return (*given, *(path for file in (*surfaces, *areas) if file for path in file.parts))
 
     @property
     def named_inputs(self) -> dict[str, Path]:
@@ -221,7 +223,7 @@ def of_data(data: dict[str, Any], path: Path, source: Optional[str] = None) -> P
         economics=read_economics(top.section("economics"), bool(processes)),
         metals=tuple(read_metal(section, bool(processes)) for section in top.sections("metals")),
         slopes=read_slopes(top.section("slopes")),
-        shells=replace(read_shells(top.section("shells"), processes), calendar=read_calendar(top)),
+        shells=replace(read_shells(top.section("shells"), processes), calendar=read_calendar(top, path.parent)),
         folder=path.parent / output.text("folder", "plan"),
         scenarios=read_scenarios(top.section("scenarios"), path.parent) if top.has("scenarios") else None,
         constraints=read_constraints(top.section("constraints"), path.parent) if top.has("constraints") else None,
@@ -243,8 +245,14 @@ def of_data(data: dict[str, Any], path: Path, source: Optional[str] = None) -> P
     return project
 
 
-def read_calendar(top: Section) -> Calendar:
-    return read_periods(top.sections("periods")) if top.has("periods") else Calendar()
+def read_calendar(top: Section, folder: Path) -> Calendar:
+    """Reads `[[periods]]`, or the table that `periods` names."""
+    if not top.has("periods"):
+        return Calendar()
+    if not isinstance(top.get("periods"), str):
+        return read_periods(top.sections("periods"))
+    file = folder / top.text("periods")
+    return replace(read_periods(period_table.sections_of(file)), file=file)
 
 
 def read_title(top: Section, default: str) -> str:

@@ -13,6 +13,7 @@ from typing import Any, Optional, Union
 import tomllib
 
 from planaudit.errors import AuditError
+from planaudit.inputs.period_table import entries_of
 from planaudit.inputs.project import (
     Accepts,
     Area,
@@ -96,7 +97,8 @@ def of_data(data: Data, place: Places, source: str = "project") -> Project:
             metals=tuple(metal_of(it) for it in data["metals"]),
             slopes=slopes_of(data["slopes"]),
             shells=replace(
-                shells_of(data["shells"], processes), calendar=Calendar(periods_of(data.get("periods", [])))
+                shells_of(data["shells"], processes),
+                calendar=Calendar(periods_of(entries_of(data.get("periods", []), place))),
             ),
             processes=processes,
             scenarios=scenarios_of(data["scenarios"], place) if "scenarios" in data else None,

@@ -1,0 +1,27 @@
+"""Reads periods in a table."""
+
+from __future__ import annotations
+
+import csv
+from collections.abc import Callable, Mapping
+from decimal import Decimal
+from pathlib import Path
+from typing import Any
+
+
+def entries_of(periods: Any, place: Callable[[str], Path]) -> list[Mapping[str, Any]]:
+    """Returns the entries of `[[periods]]`, which may be the name of a CSV file with the keys as columns: `capacity.mill` is a key by name."""
+    if not isinstance(periods, str):
+        return list(periods)
+    found: list[Mapping[str, Any]] = []
+    with open(place(periods), encoding="utf-8-sig", newline="") as file:
+        for row in csv.DictReader(file):
+            entry: dict[str, Any] = {}
+            for column, text in row.items():
+                key, _, name = column.strip().partition(".")
+                if text.strip() and name:
+                    entry.setdefault(key, {})[name] = Decimal(text)
+                elif text.strip():
+                    entry[key] = Decimal(text)
+            found.append(entry)
+    return found
