@@ -279,11 +279,7 @@ def test_what_is_right_passes(copied, capsys):
         "pushback widths",
     ]
     page = (copied / "report.html").read_text()
-    assert (
-        "<h3>Pushback by pushback</h3>" in page
-        and "the pushbacks, the other numbers" in page
-        and "data:image/png" not in page
-    )
+    assert "<h2>Pushbacks</h2>" in page and "the pushbacks, the other numbers" in page and "data:image/png" not in page
 
 
 NUMBERS = "blocks tonnes feed_tonnes waste_tonnes strip_ratio head_grade_copper recovered_copper undiscounted_cash_flow"
