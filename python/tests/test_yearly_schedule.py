@@ -4,7 +4,9 @@ import json
 import os
 import shutil
 import signal
+from dataclasses import replace
 
+import numpy as np
 import pandas as pd
 import pytest
 from conftest import PROJECT, rows
@@ -16,7 +18,9 @@ from pitplan import PlanError, load, verify
 from pitplan.cli import main
 from pitplan.export import xlsx
 from pitplan.results.folder import read_record
+from pitplan.scheduling import pushback_schedule
 from pitplan.scheduling.flow import programme
+from pitplan.scheduling.flow.flows import none_of
 
 # What each pillar is worth: 40 a per cent and tonne, less 10 for processing and 4 for mining.
 WORTHS = [2600, 1400, 600]
@@ -403,3 +407,22 @@ def test_an_interruption_keeps_what_is_found_so_far(plan_folder, capsys, monkeyp
     assert list(told["methods"]) == ["rule"] and told["upper_bound"] is None and told["interrupted"]
     assert "interrupted before all methods had finished" in capsys.readouterr().err
     assert wrong(folder) == set() and (folder / "report.html").exists()
+
+
+def test_parcels_with_which_the_rule_takes_more_years_than_there_are_end_the_refinement(plan_folder, monkeypatch):
+    """The linear programme and its bound have a fifth more years than the rule of the first parcels took."""
+    monkeypatch.setattr(pushback_schedule, "FINE", -1.0)
+    monkeypatch.setattr(pushback_schedule, "REFINEMENTS", 0)
+    first, _ = scheduled(plan_folder)
+
+    def longer(schedule, rules):
+        years = schedule.model.years + 6
+        dug = np.zeros((len(schedule.benches), years))
+        flows = none_of(replace(schedule.model, years=years), dug)
+        better = replace(schedule.model.ore, gain=1.01 * schedule.model.ore.gain)
+        return replace(schedule, model=replace(schedule.model, ore=better), flows={"rule": flows})
+
+    monkeypatch.setattr(pushback_schedule, "REFINEMENTS", 3)
+    monkeypatch.setattr(pushback_schedule, "in_finer_bins", longer)
+    again, _ = scheduled(plan_folder)
+    assert again["npv"].tolist() == first["npv"].tolist() and again["years"].tolist() == first["years"].tolist()

@@ -233,7 +233,11 @@ def relaxations(schedule: YearlySchedule, rules: ScheduleRules, progress: Progre
         enough = FINE if len(FlowProgramme(schedule.model).gain) <= MANY else FINE_OF_MANY
         if schedule.upper_bound - schedule.optimum.value <= enough * abs(schedule.upper_bound):
             break
-        finer = relaxed(in_finer_bins(schedule, rules), progress)
+        divided = in_finer_bins(schedule, rules)
+        # With other parcels the rule may take years that the programme and its bound do not have.
+        if any(flows.years > divided.model.years for flows in divided.flows.values()):
+            break
+        finer = relaxed(divided, progress)
         assert finer.optimum is not None
         if finer.optimum.value <= schedule.optimum.value:
             yield replace(schedule, upper_bound=finer.upper_bound, prices=finer.prices)
