@@ -268,13 +268,15 @@ def test_a_figure_has_the_same_bytes_each_time_in_each_format(project, tmp_path)
     assert b"<svg" in written[0][".svg"][:500]
 
 
-def test_pushbacks_are_drawn_where_the_project_asks_for(project, with_blank_figures, monkeypatch):
+def test_pushbacks_are_drawn_where_the_project_asks_for(project, with_blank_figures):
     shown = []
-    for name in ("write_plans", "write_sections"):
-        monkeypatch.setattr(pushbacks, name, lambda scene, path: (shown.append(scene), path.touch()))
-    pitplan.write_pushbacks(
-        project("levels = [5]\nnorth = 49\n[pushbacks]\ncount = 1"), writing=pitplan.Writing(verifies=False)
-    )
+    # The fixture `monkeypatch` ends after the blank figures do, and would put these back.
+    with pytest.MonkeyPatch.context() as patch:
+        for name in ("write_plans", "write_sections"):
+            patch.setattr(pushbacks, name, lambda scene, path: (shown.append(scene), path.touch()))
+        pitplan.write_pushbacks(
+            project("levels = [5]\nnorth = 49\n[pushbacks]\ncount = 1"), writing=pitplan.Writing(verifies=False)
+        )
     assert [pushbacks.levels_to_show(scene) for scene in shown] == [[2]] * 2 and shown[0].section_row == 4
 
 
