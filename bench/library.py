@@ -81,7 +81,7 @@ def by_program(mine, program: str) -> dict:
     n = len(mine["values"])
     before = peak()
     with tempfile.TemporaryDirectory() as folder:
-        model, prec, stats = Path(folder) / "mine.upit", Path(folder) / "mine.prec", Path(folder) / "stats"
+        model, prec = Path(folder) / "mine.upit", Path(folder) / "mine.prec"
         clock = Clock()
         write_model(model, "mine", mine["values"])
         clock.step("write values")
