@@ -9,7 +9,7 @@ from __future__ import annotations
 
 from dataclasses import dataclass, field
 from functools import cached_property
-from typing import Any
+from typing import Any, Optional
 
 import numpy as np
 from numpy.typing import NDArray
@@ -52,10 +52,13 @@ class Pacing:
     model : FlowModel
     prices : dict
         Of limits, from the linear programme. Limits on head grades are replaced by their prices, since they ask for blends.
+    most_kinds : int, optional
+        More bins than these are joined to about as many kinds of ore, for a first comparison; None: each bin is a kind.
     """
 
     model: FlowModel
     prices: Prices = field(default_factory=dict)
+    most_kinds: Optional[int] = None
 
     @cached_property
     def blended(self) -> dict[str, NDArray[np.float64]]:
@@ -66,12 +69,25 @@ class Pacing:
         return {name: self.prices.get((name, MAX), nothing)[: model.years] / model.discounts for name in names}
 
     @cached_property
+    def kind(self) -> NDArray[np.int64]:
+        """The kind of ore of each bin, shape (bins,): itself, or of many bins one of even feed by best process and value per tonne."""
+        ore, count = self.model.ore, int(self.model.ore.bin.max(initial=0))
+        if self.most_kinds is None or count <= self.most_kinds:
+            return np.arange(count)
+        gain = np.stack([np.bincount(ore.bin - 1, row, minlength=count) for row in ore.gain])
+        feed = np.maximum(np.bincount(ore.bin - 1, ore.feed, minlength=count), HAIR)
+        best, order = gain.argmax(axis=0), np.lexsort((gain.max(axis=0) / feed, gain.argmax(axis=0)))
+        part = np.empty(count, dtype=np.int64)
+        part[order] = self.most_kinds * (np.cumsum(feed[order]) - feed[order] / 2) // feed.sum()
+        return np.unique(best * self.most_kinds + part, return_inverse=True)[1].astype(np.int64)
+
+    @property
     def kinds(self) -> int:
-        return int(self.model.ore.bin.max(initial=0))
+        return int(self.kind.max(initial=-1)) + 1
 
     @cached_property
     def by_bench(self) -> dict[str, NDArray[np.float64]]:
-        """Sums of ore by bench, process and bin: gain at the base price, feed, and limited amounts, each of shape (benches, processes, bins)."""
+        """Sums of ore by bench, process and kind: gain at the base price, feed, and limited amounts, each of shape (benches, processes, kinds)."""
         model, ore = self.model, self.model.ore
         names = [name for name in (*model.limits, *self.premiums) if ore.of(name).any()]
         values = {GAIN: ore.gain} | {name: ore.of(name) for name in names}
@@ -79,7 +95,7 @@ class Pacing:
         for name, amounts in values.items():
             found[name] = np.zeros((len(model.benches), ore.processes, self.kinds))
             for process, row in enumerate(amounts):
-                np.add.at(found[name][:, process], (ore.bench, ore.bin - 1), row)
+                np.add.at(found[name][:, process], (ore.bench, self.kind[ore.bin - 1]), row)
         return found
 
     @property

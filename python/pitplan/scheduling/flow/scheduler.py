@@ -26,6 +26,8 @@ from .rows import paying
 MOST_PACING = 3
 # For so many of the best orders the best flows are sought; with minimums, which any order may miss, for more.
 TRIED, TRIED_WITH_MINIMUMS = 4, 40
+# Orders are compared with about so many kinds of ore at most, and so many of the best again with all bins.
+MOST_KINDS, COMPARED = 48, 8
 # By so much of it a minimum may be missed.
 TOLERATED = 1e-8
 
@@ -127,7 +129,7 @@ def from_optimum(model: FlowModel, optimum: FlowOptimum, rule: Optional[Flows] =
 
 def orders_of(model: FlowModel, optimum: FlowOptimum) -> list[Ordered]:
     """Returns orders of benches, the best first: by leads, and as the optimum of the linear programme is expected to mine them."""
-    pacing = Pacing(model, optimum.prices)
+    exact, pacing = Pacing(model, optimum.prices), Pacing(model, optimum.prices, MOST_KINDS)
     found = orders.by_one_lead(pacing)
     found.append(orders.improved(pacing, found[0]))
     seen = {tuple(it.order) for it in found}
@@ -135,7 +137,11 @@ def orders_of(model: FlowModel, optimum: FlowOptimum) -> list[Ordered]:
         if tuple(order) not in seen:
             seen.add(tuple(order))
             found.append(Ordered(order, pacing.coarse(order)))
-    return sorted(found, key=lambda it: it.course.value, reverse=True)
+    found.sort(key=lambda it: it.course.value, reverse=True)
+    if pacing.kinds == exact.kinds:
+        return found
+    again = [replace(it, course=exact.coarse(it.order)) for it in found[:COMPARED]]
+    return sorted(again, key=lambda it: it.course.value, reverse=True) + found[COMPARED:]
 
 
 def mined(model: FlowModel, order: NDArray[np.int64], optimum: FlowOptimum) -> Iterator[NDArray[np.float64]]:
