@@ -72,7 +72,8 @@ class Shells:
         pieces = {"best": pieces_of(mine, self.pits[:number], self.ore), "worst": pieces_of(mine, [pit], self.ore)}
         if rules:
             last, pushbacks = self.factors[number - 1], map(Fraction, rules["pushbacks"])
-            smaller = [self.pits[self.factors.index(it)] for it in pushbacks if it < last]
+            # A shell without material is no pushback.
+            smaller = [self.pits[self.factors.index(it)] for it in pushbacks if it < last and it in self.factors]
             pieces["specified"] = pieces_of(mine, [*smaller, pit], self.ore, rules.get("bench_lag", 0))
         return pieces
 
