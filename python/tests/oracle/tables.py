@@ -72,8 +72,9 @@ class Shells:
         pieces = {"best": pieces_of(mine, self.pits[:number], self.ore), "worst": pieces_of(mine, [pit], self.ore)}
         if rules:
             last, pushbacks = self.factors[number - 1], map(Fraction, rules["pushbacks"])
-            # A shell without material is no pushback.
-            smaller = [self.pits[self.factors.index(it)] for it in pushbacks if it < last and it in self.factors]
+            # The shells of pushbacks have their factors alone: of these the largest up to the named one ends the pushback.
+            ends = {max((f for f in self.factors if f <= it), default=None) for it in pushbacks if it < last}
+            smaller = [self.pits[self.factors.index(it)] for it in sorted(end for end in ends if end is not None)]
             pieces["specified"] = pieces_of(mine, [*smaller, pit], self.ore, rules.get("bench_lag", 0))
         return pieces
 
