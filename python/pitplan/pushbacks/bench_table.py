@@ -78,6 +78,14 @@ class PushbackBenches:
         return open_to[last].tolist()
 
 
+def benches_of_cells(pushbacks: Pushbacks, benches: PushbackBenches, cells: np.ndarray) -> np.ndarray:
+    """Returns the number of the bench of each cell with material, array of int, shape (cells,)."""
+    grid = pushbacks.plan.grid
+    number = np.full((len(pushbacks.factors) + 1, grid.shape[0]), -1)
+    number[benches.pushback, benches.level] = np.arange(len(benches))
+    return np.asarray(number[pushbacks.pushback[cells], cells // grid.per_level])
+
+
 def of_pushbacks(pushbacks: Pushbacks, lag: int = 0) -> PushbackBenches:
     """Returns the benches of pushbacks, at the base price and with the mining costs of the pushbacks."""
     plan, cells = pushbacks.plan, shell_tables.cells_of(pushbacks.plan, pushbacks.solution)

@@ -11,6 +11,7 @@ from numpy.typing import NDArray
 from pitplan.config.economics import GRADE_UNITS
 from pitplan.economics.cost_lines import CostLines, cost_lines
 from pitplan.plan import Plan
+from pitplan.pushbacks.bench_table import benches_of_cells
 from pitplan.scheduling.flow.flows import Flows
 from pitplan.scheduling.flow.parcels import column_of
 from pitplan.scheduling.pushback_schedule import YearlySchedule
@@ -48,10 +49,7 @@ class Material:
     @cached_property
     def bench(self) -> NDArray[np.int64]:
         """The bench of each of these cells."""
-        benches, grid = self.schedule.benches, self.plan.grid
-        found = np.full((len(self.schedule.pushbacks.factors) + 1, grid.shape[0]), -1)
-        found[benches.pushback, benches.level] = np.arange(len(benches))
-        return found[self.schedule.pushbacks.pushback[self.cells], self.cells // grid.per_level]
+        return np.asarray(benches_of_cells(self.schedule.pushbacks, self.schedule.benches, self.cells))
 
     @cached_property
     def contained(self) -> dict[str, NDArray[np.float64]]:

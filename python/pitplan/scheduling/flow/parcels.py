@@ -56,10 +56,8 @@ class Material:
 def of_pushbacks(pushbacks: Pushbacks, rules: ScheduleRules) -> Material:
     """Returns the material of pushbacks, with value bins of nearly even tonnage."""
     plan, assigned = pushbacks.plan, bench_table.of_pushbacks(pushbacks, rules.bench_lag)
-    bench_at = np.full((len(pushbacks.factors) + 1, plan.grid.shape[0]), -1)
-    bench_at[assigned.pushback, assigned.level] = np.arange(len(assigned))
     cells = ore_cells(pushbacks, rules)
-    blocks = ore_of(plan, rules, cells, bench_at[pushbacks.pushback[cells], cells // plan.grid.per_level])
+    blocks = ore_of(plan, rules, cells, bench_table.benches_of_cells(pushbacks, assigned, cells))
     per_tonne, names = per_tonne_of(blocks, blocks.gain), names_of(plan)
     best, count = per_tonne.argmax(axis=0), rules.bins or BINS
     edges = {
@@ -240,9 +238,7 @@ def mined_alone(pushbacks: Pushbacks, assigned: PushbackBenches, rules: Schedule
     """Returns the benches with the amounts of mining alone: total material, limited sums of all material, and the mining cost."""
     plan = pushbacks.plan
     inside = np.flatnonzero((pushbacks.pushback > 0) & (plan.values.tonnes > 0))
-    bench_at = np.full((len(pushbacks.factors) + 1, plan.grid.shape[0]), -1)
-    bench_at[assigned.pushback, assigned.level] = np.arange(len(assigned))
-    bench = bench_at[pushbacks.pushback[inside], inside // plan.grid.per_level]
+    bench = bench_table.benches_of_cells(pushbacks, assigned, inside)
     tonnes = plan.values.tonnes[inside]
     flows = {name: np.zeros(len(inside)) for name in assigned.names} | {ROCK: tonnes}
     flows[CASH] = -plan.values.mining[inside] / MILLION - pushbacks.mining_cost_added[inside]

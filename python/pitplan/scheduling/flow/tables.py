@@ -16,6 +16,7 @@ from pitplan.config.places import MILL, PIT, WASTE
 from pitplan.config.stockpiles import Stockpile
 from pitplan.pits import shell_tables
 from pitplan.plan import Plan, shown_name
+from pitplan.pushbacks.bench_table import benches_of_cells
 
 from .cutoffs import cutoffs
 from .flows import Flows
@@ -84,13 +85,10 @@ class Lots:
     def keys(self) -> pd.DataFrame:
         """The key of each block: bench, parcel (-1: no ore), bin, and codes."""
         plan, cells, material = self.plan, self.cells, self.schedule.material
-        benches = material.benches
-        bench_at = np.full((len(self.schedule.pushbacks.factors) + 1, plan.grid.shape[0]), -1)
-        bench_at[benches.pushback, benches.level] = np.arange(len(benches))
         parcel = np.full(plan.grid.count, -1)
         parcel[material.cells] = material.parcel
         found = {
-            "bench": bench_at[self.schedule.pushbacks.pushback[cells], cells // plan.grid.per_level],
+            "bench": benches_of_cells(self.schedule.pushbacks, material.benches, cells),
             "parcel": parcel[cells],
             "bin": np.append(material.parcels.bin, 0)[parcel[cells]],
         }
