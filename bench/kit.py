@@ -33,7 +33,7 @@ class Mine(NamedTuple):
 
 
 def mine_of(blocks: int, slopes: str) -> Mine:
-    """The mine of about so many blocks (tools/make_mine.py, seed 1), made where it is missing."""
+    """The mine of about `blocks` blocks (tools/make_mine.py, seed 1), made if it is missing."""
     WORK.mkdir(exist_ok=True)
     prefix = WORK / f"mine_{blocks}_{slopes.replace(':', '_')}"
     mine = Mine(*(prefix.with_suffix(end) for end in (".upit", ".blocks", ".prec", ".broken.prec")))

@@ -1,8 +1,8 @@
 """Times mode shared beside mode parts, and counts what the workers did.
 
 `solve s` is processor seconds of a whole run less those of reading (the same files with one more precedence line, which is refused),
-`whole, clock s` seconds on the clock of the whole run. In each of so many rounds every mode runs once, so that other work on the
-machine meets all; the least of each stands in the table. All pits of a mine have to be the same bytes. The journal of one more run
+`whole, clock s` seconds on the clock of the whole run. Every mode runs once in each round, so that other work on the machine
+slows all of them; the least of each stands in the table. All pits of a mine have to be the same bytes. The journal of one more run
 says what was asked for by workers, how much of that was stale, and what the driver decided by itself.
 """
 

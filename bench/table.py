@@ -27,13 +27,13 @@ from timing import Run, timed
 
 SIZES = [50000, 100000, 500000, 1000000]
 STRONGEST = "kolmogorov"
-# Up to so many blocks there are three rounds.
+# Mines of at most this number of blocks run in three rounds.
 SHORT = 100000
 FACTORS = ",".join(map(str, range(50, 1501, 50)))
 MODES = {"single": [], "parts": ["--mode", "parts"], "shared, 4 workers": ["--mode", "shared", "--workers", "4"]}
 SINGLE = "pitshell, single"
 SHELLS = "pitshell, shells of 30 factors"
-# A run that took so many seconds is not repeated.
+# A run of at least this number of seconds is not repeated.
 LONG = 8.0
 
 
@@ -97,7 +97,7 @@ class Bench:
     """The programs, the peers and the limit of a whole bench, and who was past the limit at which slopes."""
 
     def __init__(self, program: pathlib.Path, modes: bool, named: list[str] | None, usual: set[str], limit: int) -> None:
-        """Takes the named peers, each of which there must be, or the usual ones that there are."""
+        """Takes the named peers, or the usual ones among those that build. A named peer that is missing is an error."""
         self.program, self.modes, self.limit = program, modes, limit
         self.others, found = peers.build()
         self.peers = [name for name in found if name in usual] if named is None else named

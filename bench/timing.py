@@ -50,5 +50,5 @@ def timed(command: Sequence[object], status: int = 0, limit: int | None = None) 
 
 
 def best(command: Sequence[object], runs: int, status: int = 0) -> Run:
-    """The run with the least processor seconds of so many."""
+    """The run with the least processor seconds."""
     return min((timed(command, status) for _ in range(runs)), key=lambda row: row.processor)

@@ -18,7 +18,7 @@ import random
 
 
 def grid_of(blocks):
-    """Width, breadth and depth of a flat box with about so many blocks."""
+    """Width, breadth and depth of a flat box of about `blocks` blocks."""
     depth = max(1, round((blocks / 16) ** (1 / 3)))
     side = max(1, round(math.sqrt(blocks / depth)))
     return side, side, depth

@@ -25,7 +25,7 @@ class CashFlowRules:
     tax_rate : Decimal
         Share of the taxable income.
     depreciation_years : Decimal, optional
-        Capex is written off evenly over so many years; None: in proportion to the mill feed.
+        Years of straight-line depreciation of capex; None: depreciation in proportion to the mill feed.
     """
 
     discount_rates: tuple[Decimal, ...] = ()

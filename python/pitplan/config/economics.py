@@ -16,7 +16,7 @@ ByRock = Union[Decimal, dict[str, Decimal]]
 
 # When ore is told from waste: again at each revenue factor, or once at the base price.
 PER_REVENUE_FACTOR, AT_BASE_PRICE = "per_revenue_factor", "base_price"
-# So many years are counted at most.
+# The largest number of years of a project.
 MOST_YEARS = 1_000
 GRADE_UNITS = {"percent": Decimal("0.01"), "fraction": Decimal(1), "gram_per_tonne": Decimal(1)}
 METAL_UNITS = {"percent": "t", "fraction": "t", "gram_per_tonne": "g"}
@@ -29,7 +29,7 @@ GRAMS = {
     "lb": Decimal("453.59237"),
     "oz": Decimal("31.1034768"),
 }
-# A price that is converted from one unit to another keeps so many decimals, halves to the even one.
+# A price that is converted from one unit to another is rounded half to even, to this number of decimals.
 PRICE_PLACES = Decimal(1).scaleb(-12)
 
 

@@ -33,7 +33,7 @@ class Period:
     years : int
         How many years it lasts.
     period_months : int
-        Its periods have so many months: a part of a year, or whole years.
+        The length of a period in months: a part of a year, or whole years.
     mining_capacity, processing_capacity : float, optional
         Tonnes per year; the latter of a project that names no processes.
     capacity : dict of str to float
@@ -116,7 +116,7 @@ class Calendar:
         return np.concatenate([[0.0], self.ends(count)[:-1]])[:count]
 
     def time(self, place: float) -> float:
-        """Returns the years until the end of so many periods, the last of which may be a part of one."""
+        """Returns the years until the end of `place` periods; a fraction is a part of the last one."""
         whole = int(place)
         return float(self.ends(whole)[-1] if whole else 0.0) + (place - whole) * float(self.lengths(whole + 1)[-1])
 

@@ -17,8 +17,8 @@ WAYS = ("count", "tonnes", "revenue_factors")
 class PushbackRules:
     """How a pit is divided into pushbacks: by one of count, tonnes and revenue_factors; the other two are None.
 
-    count    so many pushbacks of even tonnage
-    tonnes   even pushbacks of about so many tonnes of rock each
+    count    the number of pushbacks, of even tonnage
+    tonnes   the tonnage of rock of each pushback, about
     revenue_factors  those of the pushbacks' shells, rising
     ultimate_pit     the revenue factor of the last pushback's shell; None: the project's selected one, else the one that `shells` selects
     min_mining_width   of a pushback on each bench, in metres; None: any

@@ -52,7 +52,7 @@ class ScheduleRules:
     vertical_advance_rate    the most benches by which a pushback sinks in a year; None: any
     bench_lag       by how many benches a pushback is behind the one before at least
     ramp_up         shares of the mill's tonnes in the first years; the last one stays
-    years           so many years at most; None: a fifth more than the rule takes
+    years           the most years; None: a fifth more than the rule takes
     milp            whether and how far an integer programme is solved too; None: it is not
     bins            value bins of each process; None: as many as the schedule of pushbacks has by default
     stockpiles      the stockpiles; none by default

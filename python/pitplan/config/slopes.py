@@ -33,7 +33,7 @@ class Bench:
 class Wall:
     """The walls of some regions: a pattern of needs, steps of the planner's own, or angles in degrees by azimuth (north 0, east 90).
 
-    steps       each so many blocks east, north and up
+    steps       each a number of blocks east, north and up
     bench       of what benches and berms the angle was made
     azimuth_of  what the azimuths are of: "wall", the bearing from the pit to the wall, or "dip", the dip direction of its face
     """

@@ -22,7 +22,7 @@ from .planner_table import places_of
 
 MAGIC, VERSION = b"\x84\x83\x82\x81", b"OMF-v0.9.0"
 HEAD = struct.Struct("<4s32s16sQ")
-# Texts with at most so many values are categories with a legend.
+# A text column with at most this number of distinct values becomes categories with a legend.
 MOST_CATEGORIES = 1000
 # The format asks for dates. They are constant, so that equal results give equal files.
 DATED = "2000-01-01T00:00:00Z"

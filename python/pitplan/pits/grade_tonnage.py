@@ -15,7 +15,7 @@ from pitplan.config.places import MILL
 from pitplan.economics.cutoff_grades import RockCosts
 from pitplan.plan import Plan
 
-# About so many cut-off grades up to the grade that only a hundredth of the mineralised tonnes exceeds.
+# The approximate number of cut-off grades up to the grade that a hundredth of the mineralised tonnes exceeds.
 STEPS, HIGH = 40, 0.99
 NICE = (1.0, 2.0, 2.5, 5.0, 10.0)
 MODEL, PIT = "model", "pit"

@@ -39,7 +39,7 @@ HAIR = 1e-9
 SMALL = 0.25
 # A pushback that keeps less than this share of what its shell adds is told.
 FEW = 0.5
-# So many pieces that are left are named each.
+# The largest number of remaining pieces that are named one by one.
 NAMED = 5
 
 

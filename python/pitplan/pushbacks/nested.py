@@ -214,7 +214,7 @@ def even_shells(
 
 
 def count_of(rules: PushbackRules, whole: float, project: Project) -> int:
-    """Returns the number of pushbacks of a pit of so many tonnes."""
+    """Returns the number of pushbacks of a pit of this tonnage."""
     if rules.count is not None:
         return rules.count
     assert rules.tonnes is not None

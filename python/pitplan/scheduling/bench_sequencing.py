@@ -145,7 +145,7 @@ class Problem:
         return self.costs_of_years(flows.shape[-1]) * running(flows)
 
     def costs_of_years(self, years: int) -> np.ndarray:
-        """The same of so many years in which the mine runs."""
+        """The same for a number of years in which the mine operates."""
         return costs_of_years(self.money, self.settings, years)
 
 
@@ -237,7 +237,7 @@ def dig(problem: Problem, sequence: Sequence, years: Optional[int] = None) -> np
 
 
 def by_lead(benches: PushbackBenches, lead: int) -> Sequence:
-    """All benches, each pushback so many benches behind the one before. No lead is the whole pit bench by bench; one of all levels is pushback
+    """All benches, each pushback `lead` benches behind the one before. No lead is the whole pit bench by bench; one of all levels is pushback
     by pushback."""
     return Sequence(np.lexsort((benches.pushback, benches.level + lead * (benches.pushback - 1))))
 

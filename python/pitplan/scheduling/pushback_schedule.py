@@ -99,7 +99,7 @@ class YearlySchedule:
         return {method: flows.dug for method, flows in self.flows.items()}
 
     def time(self, count: int) -> float:
-        """Returns the years that so many periods last."""
+        """Returns the years that `count` periods last."""
         return self.settings.calendar.span(count)
 
     @property

@@ -11,7 +11,7 @@ import numpy as np
 from pitplan.config.survey import SurveyFile
 from pitplan.errors import PlanError
 
-# So many layers are told in a refusal.
+# The largest number of layers that an error names.
 TOLD = 8
 # Metres by which the ends of a closed line may lie apart.
 APART = 1e-3

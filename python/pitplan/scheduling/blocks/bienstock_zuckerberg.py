@@ -26,9 +26,9 @@ from .nodes import Nodes
 from .partition import Groups, History, renumbered
 from .restricted_lp import Master, Restricted
 
-# Pits by whose rims nodes are in groups at first: those of so many factors.
+# The first groups lie between the nested pits of this number of revenue factors.
 FIRST_PITS = 40
-# With more groups than so many those that are alike are put together, after a gain of more than such a share.
+# Above FEW_GROUPS groups, equal groups merge after a relative gain of more than SLIGHT_GAIN.
 FEW_GROUPS, SLIGHT_GAIN = 2_000, 1e-9
 # So small a share that lacks of what is due is the solver's tolerance, and so small a price.
 LACKING, SLIGHT = 1e-7, 1e-15

@@ -21,7 +21,7 @@ from .ranks import Ranks
 from .schedule import BlockSchedule
 from .toposort import Sequence
 
-# The linear programmes are solved for so many of the filled schedules: those worth most at the prices.
+# The linear programmes are solved for this number of the filled schedules: those worth most at the dual prices.
 MOST_BLENDED = 6
 
 

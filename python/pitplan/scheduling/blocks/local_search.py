@@ -11,7 +11,7 @@ from .greedy import Filling, Room, schedule_of
 from .ranks import Ranks
 from .schedule import BlockSchedule
 
-# So many times all blocks are looked at.
+# The number of passes over all blocks, at most.
 MOST_PASSES = 6
 
 

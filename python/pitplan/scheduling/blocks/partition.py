@@ -7,7 +7,7 @@ from dataclasses import dataclass
 import numpy as np
 from numpy.typing import NDArray
 
-# Groups are put together that so many rounds do not tell apart, by shares to so many decimals.
+# Groups merge when ROUNDS_KEPT rounds give them equal shares, rounded to SHARES decimals.
 ROUNDS_KEPT, SHARES = 5, 9
 
 

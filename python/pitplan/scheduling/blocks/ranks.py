@@ -11,9 +11,9 @@ from scipy.sparse import csr_matrix
 
 from .problem import Needs
 
-# The bits of a word, and of so many blocks at once it is told whose cones hold them.
+# The bits of a word, and the number of blocks handled at once when the cones that hold them are marked.
 BITS, AT_ONCE = 64, 4096
-# So many cones are summed at once: their truths take 100 megabytes as floats.
+# The number of cones summed at once: their marks take 100 megabytes as floats.
 SUMMED = 3_000
 
 

@@ -21,7 +21,7 @@ from .integer_values import by_end
 from .nodes import Nodes
 from .partition import Groups
 
-# Of so many pairs of groups at most each has a mark, which is faster than to sort them.
+# Up to this number of pairs of groups, each pair has a mark, which is faster than sorting.
 MOST_MARKS = 2**28
 
 

@@ -28,11 +28,11 @@ from .window_milp import Window, sizes_of, window_of
 
 # The relaxation is solved to this share of its bound.
 RELAXED = 1e-4
-# A window's programme may take so many seconds, and is given up where it is not through after so many.
+# The time limit of a window's programme, in seconds, and the time after which its process is ended.
 WINDOW_SECONDS, PATIENCE = 60.0, 180.0
-# HiGHS ends so many seconds after its time is up, or much later.
+# HiGHS ends within this number of seconds after its time limit, or much later.
 LATE = 10.0
-# For so long windows are solved anew where years lack what they must hold at least, and so many of these years are told.
+# Windows are solved again for this number of seconds while years miss a minimum; the message names at most TOLD of these years.
 DUE_SECONDS, TOLD = 600.0, 5
 
 

@@ -61,7 +61,7 @@ class ScheduledBlocks:
         return blocks.assign(**found)
 
     def time(self, count: int) -> float:
-        """The years that so many periods last."""
+        """The years that `count` periods last."""
         return self.planned.plan.project.shells.calendar.span(count)
 
     @cached_property

@@ -24,11 +24,11 @@ from .problem import BlockProblem, Due, Limit
 from .ranks import ranks_of
 from .schedule import HAIR, BlockSchedule
 
-# Windows have about so many whole unknowns at most, at first the fewer ones, and so many years unless all blocks fit.
+# A window has about MOST_UNKNOWNS integer unknowns at most, at first FEWER, and at most MOST_YEARS years unless all blocks fit.
 FEWER, MOST_UNKNOWNS, MOST_YEARS = 2_500, 5_000, 4
 # A share that may be the solver's tolerance alone.
 SLIGHT = 1e-6
-# So many times what all free blocks earn or cost a least costs that is not held at all.
+# The penalty of a minimum that is missed entirely, as a multiple of what all free blocks earn or cost.
 LACKING = 10.0
 
 

@@ -109,7 +109,7 @@ class Finance:
 
 
 def straight_line(capex: Amounts, starts: Amounts, ends: Amounts, years: float) -> Amounts:
-    """Returns the depreciation of capex at the start of each period, evenly over so many years."""
+    """Returns the straight-line depreciation, over `years` years, of the capex at the start of each period."""
     found = np.zeros(len(capex))
     for period in np.flatnonzero(capex):
         share = np.clip(ends - starts[period], 0.0, years) - np.clip(starts - starts[period], 0.0, years)

@@ -25,7 +25,7 @@ from .rows import started_rows
 
 # What the solver's tolerance may add to a share, and by how much a limit may be missed.
 SLIGHT, TOLERATED = 1e-6, 1e-8
-# HiGHS may go on for long when its time is up: it is ended after so many times that and so many seconds more, with nothing found.
+# HiGHS may run past its time limit. Its process is ended after TIMES the limit plus LATE seconds, without a result.
 TIMES, LATE = 2.0, 30.0
 
 

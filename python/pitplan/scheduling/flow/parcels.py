@@ -22,7 +22,7 @@ from pitplan.scheduling.limits import SUM
 
 from .ore import FEED, Ore
 
-# A limit on a grade divides ore into so many parts of even feed, by that grade, so that parcels can be blended.
+# A limit on a grade divides ore by that grade into this number of parts of even feed, so that parcels can be blended.
 GRADE_PARTS = 3
 GRADE = "grade_"
 

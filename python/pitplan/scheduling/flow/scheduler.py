@@ -24,9 +24,9 @@ from .rows import paying
 
 # Of more processes than these the mine is paced by each one alone or by all.
 MOST_PACING = 3
-# For so many of the best orders the best flows are sought; with minimums, which any order may miss, for more.
+# The flows are optimised for this number of the best orders; with minimums, which any order may miss, for more.
 TRIED, TRIED_WITH_MINIMUMS = 4, 40
-# Orders are compared with about so many kinds of ore at most, and so many of the best again with all bins.
+# Orders are compared with about MOST_KINDS kinds of ore at most, and the best COMPARED of them again with all bins.
 MOST_KINDS, COMPARED = 48, 8
 # By so much of it a minimum may be missed.
 TOLERATED = 1e-8
