@@ -120,7 +120,7 @@ def test_the_sheet_of_reserves_is_the_sum_of_the_inventory(written, tmp_path):
     mine = table(written).query(f"method == '{shown(written)}'")
     heads = ["pushback", "class", "in situ (t)", "mill feed (t)", "head grade copper (%)"]
     tops = [number for number, row in enumerate(cells) if row[:5] == heads]
-    assert cells[tops[0] - 1][0] == "Ore" and cells[tops[1] - 1][0] == "Not reserves: mill feed of other classes"
+    assert cells[tops[0] - 1][0] == "Ore" and cells[tops[1] - 1][0] == "Not reserves: inferred and unclassified feed"
     for top, category in zip(tops, ("ore", "not_reserve")):
         due = mine[mine["category"] == category].groupby(["pushback", "cls"])
         found = {(row[0], row[1]): row[2:7] for row in cells[top + 1 :] if isinstance(row[0], int) and row[1]}

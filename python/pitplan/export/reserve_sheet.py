@@ -23,7 +23,7 @@ NO_CLASS = "unclassified"
 # A condition of a sum: a column of the inventory, and a cell or a text in quotes.
 Condition = tuple[str, str]
 Cells = list[Union[str, int, float]]
-WIDTH, HEAD_HEIGHT, FORMS = 15.0, 30.0, {"%": "0.000", "g/t": "0.000", "t/t": "0.000000"}
+WIDTH, HEAD_HEIGHT, FORMS = 18.0, 30.0, {"%": "0.000", "g/t": "0.000", "t/t": "0.000000"}
 
 
 class Formula(str):
@@ -104,9 +104,9 @@ class ReserveSheet:
     def rows(self) -> Iterator[Cells]:
         """Yields the cells of the sheet."""
         yield [f"{self.project.title}: mill feed of the schedule by {self.method}"]
-        yield ["Sums of the sheet inventory. Ore is mill feed of classes that may be reserves."]
+        yield ["Sums over the sheet inventory. Ore excludes mill feed of inferred and unclassified material."]
         row = 3
-        for category, title in ((ORE, "Ore"), (NOT_RESERVE, "Not reserves: mill feed of other classes")):
+        for category, title in ((ORE, "Ore"), (NOT_RESERVE, "Not reserves: inferred and unclassified feed")):
             if self.classes(category):
                 rows = list(self.by_pushback(category, title, row))
                 yield from rows
@@ -129,9 +129,9 @@ class ReserveSheet:
         yield []
 
     def by_period(self, row: int) -> Iterator[Cells]:
-        """Yields a table from a row of the sheet on: ore by period, with total material, waste, strip ratio, and the mill feed of other classes."""
+        """Yields a table from a row of the sheet on: ore by period, with total material, waste, strip ratio, and mill feed that cannot be reserves."""
         yield ["Ore by period"]
-        others = ["total material (t)", "waste (t)", "strip ratio (t/t)", "mill feed that is no reserve (t)"]
+        others = ["total material (t)", "waste (t)", "strip ratio (t/t)", "mill feed, not reserves (t)"]
         yield [self.project.shells.calendar.word, "", *self.heads[2:], *others]
         last = len(self.heads)
         letter = load("openpyxl.utils", "python3-openpyxl", "a workbook").get_column_letter

@@ -39,7 +39,7 @@ INVENTORY = Table(
         Column(
             "category",
             TEXT,
-            "`ore`: mill feed of classes that may be reserves; `not_reserve`: mill feed of other classes; `stockpile`; `waste`",
+            "`ore`: mill feed of classes that can be reserves; `not_reserve`: mill feed of inferred and unclassified material; `stockpile`; `waste`",
             "category",
         ),
         replace(MINED, holds="in-situ tonnes that flow"),

@@ -29,7 +29,7 @@ def codes_of(project: Project) -> list[str]:
 def inventory_table(schedule: YearlySchedule) -> pd.DataFrame:
     """Returns the sums of flows.csv by method, year, pushback, bench, rock type, class, source and destination.
 
-    Columns: these; category: ore, not_reserve (mill feed of classes that are no basis of reserves), stockpile or waste; total_tonnes with
+    Columns: these; category: ore, not_reserve (mill feed of inferred and unclassified material), stockpile or waste; total_tonnes with
     grade_METAL and in_situ_METAL; feed_tonnes with head_grade_METAL, contained_METAL and recovered_METAL.
     """
     project, flows = schedule.pushbacks.plan.project, schedule.material_flows
