@@ -18,7 +18,7 @@ from pitplan.scheduling.flow import scheduler
 from pitplan.scheduling.flow.bound import Lagrangian, upper_bound
 from pitplan.scheduling.flow.cutoffs import cutoffs
 from pitplan.scheduling.flow.flows import best
-from pitplan.scheduling.flow.model import FlowModel
+from pitplan.scheduling.flow.model import FlowModel, OpeningOre
 from pitplan.scheduling.flow.ore import Ore
 from pitplan.scheduling.flow.parcels import Material, by_choice
 from pitplan.scheduling.flow.programme import FlowProgramme
@@ -114,6 +114,45 @@ def test_arsenic_is_blended_from_the_stockpile_by_hand(cost, dirty):
     assert flows.used("grade_as_max").max() < 1e-6
 
 
+def lying(gain, excess, capacity=None):
+    """The mine of `blended` with 60 t on the stockpile at the start, of which a tonne gains so much before its reclaim cost of 1."""
+    model = blended(1.0)
+    ore = Ore(
+        np.zeros(1, dtype=np.int64),
+        np.ones(1, dtype=np.int64),
+        np.array([[60.0 * (gain - 1.0)]]),
+        {"feed_tonnes": np.array([[60.0]]), "grade_as_max": np.array([[60.0 * excess]])},
+    )
+    pile = Stockpile(1.0, capacity=capacity)
+    return replace(model, lots=OpeningOre(ore, np.zeros(1, dtype=np.int64)), stockpiles=(pile,))
+
+
+@pytest.mark.parametrize(
+    ("gain", "excess", "value", "opened", "dirty"),
+    [
+        # 60 t of 30 ppm let 52.5 t of the upper ore be milled in year 1, as (52.5 x 180 + 60 x 30) / 112.5 is 100; and in year 2 it is 47.5.
+        (2.0, -70.0, (60 * 1 + 10 * 52.5) / 1.1 + (10_000 + 9 * 47.5) / 1.21, [1, 0], 52.5),
+        # Ore of 100 ppm helps nobody, and is milled in year 1, when nothing else is.
+        (5.0, 0.0, 60 * 4 / 1.1 + (10_000 + 9 * 50) / 1.21, [1, 0], 0.0),
+        # It is too dirty in year 1, and in year 2 takes the place of upper ore: 60 t x 50 ppm use 3,000 of 4,000 ppm t, and are worth 19 each.
+        (20.0, 50.0, (10_000 + 50 * 19) / 1.21, [0, 5 / 6], 0.0),
+        # It costs more to reclaim than it earns.
+        (0.5, 0.0, (10_000 + 9 * 50) / 1.21, [0, 0], 0.0),
+    ],
+)
+def test_what_lies_on_a_stockpile_at_the_start_is_blended_by_hand(gain, excess, value, opened, dirty):
+    model = lying(gain, excess)
+    optimum = FlowProgramme(model).solved()
+    flows = scheduler.from_optimum(model, optimum)
+    found = [optimum.value, flows.value, upper_bound(model, model.ore, optimum.prices)]
+    assert found == pytest.approx([value] * 3)
+    assert flows.opened[0, 0].tolist() == pytest.approx(opened, abs=1e-6)
+    assert flows.direct[0, 0].tolist() == pytest.approx([dirty / 100, 0], abs=1e-6)
+    assert flows.of_opening[:, model.benches.names.index("feed_tonnes")].tolist() == pytest.approx(
+        [60 * share for share in opened], abs=1e-3
+    )
+
+
 def test_two_limits_that_no_flow_meets_are_an_error():
     """A feed of 150 t a year of a bench that holds 100."""
     model = two_benches(Limits({"feed_tonnes": 200}, least={"feed_tonnes": 150.0}, vertical_advance_rate=1.0), 2)
@@ -150,9 +189,14 @@ def demand_kept(flows):
     out = flows.reclaimed.sum(axis=1)
     lies = (flows.stocked - out).cumsum(axis=2)
     assert (out <= np.pad(lies, ((0, 0), (0, 0), (1, 0)))[..., :-1] + 1e-9).all()
+    assert (flows.opened.sum(axis=(0, 2)) <= 1 + 1e-9).all()
     for number, it in enumerate(model.stockpiles):
         assert model.ore.accepted is None or not flows.stocked[number, ~model.ore.accepted[number]].any()
-        assert (model.ore.feed @ lies[number] <= (it.capacity or np.inf) * (1 + 1e-6)).all()
+        lay = (it.opening.tonnes if it.opening else 0.0) - model.opening.on(number) @ flows.opened.sum(axis=0).cumsum(
+            axis=1
+        )
+        assert (lay + model.ore.feed @ lies[number] <= (it.capacity or np.inf) * (1 + 1e-6)).all()
+        assert flows.lying(number) == pytest.approx(lay + model.ore.feed @ lies[number], abs=1e-6)
 
 
 @examples(8)
@@ -191,22 +235,29 @@ def test_parcels_of_blocks_that_choose_alike_lose_nothing(pits, limits, several,
         assert (np.diff(mean[np.unique(found.blocks.bin[best == process])]) >= -1e-9).all()
 
 
-@examples(10)
-@given(mines, limits, processes, st.sampled_from([0.0, 0.5]), st.sampled_from(["process", "stockpile", "capacity"]))
-def test_more_freedom_never_lowers_the_optimum(pits, limits, several, cost, more):
-    """Nor the bound, which is the optimum where each parcel is one block."""
-    wide = model_of(mine_of(pits, 0), several, limits, 4, plain(cost))
+def without_last_process(ore, limited):
+    amounts = {name: values[:-1] for name, values in ore.amounts.items() if name in limited}
+    return Ore(ore.bench, ore.bin, ore.gain[:-1], amounts, ore.accepted)
+
+
+@examples(14)
+@given(mines, limits, processes, stockpiles, st.sampled_from(["process", "stockpile", "capacity", "opening"]))
+def test_more_freedom_never_lowers_the_optimum(pits, limits, several, piles, more):
+    """Nor the bound, which is the optimum where each parcel is one block. With what lies on it at the start a stockpile may have less room."""
+    wide = model_of(mine_of(pits, 0), several, limits, 4, piles)
     if more == "process":
         limited = dict(list(wide.problem.limits.most.items())[:-1])
-        ore = Ore(
-            wide.ore.bench,
-            wide.ore.bin,
-            wide.ore.gain[:-1],
-            {name: values[:-1] for name, values in wide.ore.amounts.items() if name in limited},
-        )
-        narrow = replace(wide, ore=ore, problem=replace(wide.problem, limits=replace(limits_of(wide), most=limited)))
+        lots = replace(wide.lots, ore=without_last_process(wide.lots.ore, limited)) if wide.lots else None
+        problem = replace(wide.problem, limits=replace(limits_of(wide), most=limited))
+        narrow = replace(wide, ore=without_last_process(wide.ore, limited), problem=problem, lots=lots)
     elif more == "stockpile":
         narrow = replace(wide, stockpiles=())
+    elif more == "opening":
+        # What lies there and is never reclaimed takes the same room.
+        rooms = tuple(
+            replace(it, capacity=it.capacity and it.capacity - 12.0 * bool(it.opening)) for it in wide.stockpiles
+        )
+        narrow = replace(wide, lots=None, stockpiles=rooms)
     else:
         least = {name: 0.8 * most for name, most in limits_of(wide).most.items()}
         narrow = replace(wide, problem=replace(wide.problem, limits=replace(limits_of(wide), most=least)))

@@ -41,7 +41,7 @@ def schedule():
     pushbacks = SimpleNamespace(plan=SimpleNamespace(grid=grid, project=project), factors=(0.5, 1.0))
     model, nothing = without_flows(problem, 3), np.zeros((0, 3))
     cumulative, cash = np.array([[1.0, 1, 1], [0.5, 1, 1], [0, 0.5, 1]]), np.array([300.0, 700, 300])
-    optimum = FlowOptimum(cumulative, nothing, nothing, nothing, np.ones(3), 985.0, cash)
+    optimum = FlowOptimum(cumulative, nothing, nothing, nothing, nothing, np.ones(3), 985.0, cash)
     flows = {method: none_of(model, dug) for method, dug in shares.items()}
     material = SimpleNamespace(edges={})
     made = pushback_schedule.YearlySchedule(pushbacks, material, model, flows, 1, optimum, 990.0)

@@ -11,6 +11,7 @@ from . import toml_text
 from .acceptance import CLASS, DOMAIN, ROCK_TYPE, Accepts
 from .classes import REFUSE
 from .economics import ByDomain
+from .opening_agreement import demand_opening
 from .overrides import scaled
 from .period_agreement import demand_periods
 from .places import MILL, PIT, WASTE
@@ -208,6 +209,7 @@ def demand_stockpiles(project: Project) -> None:
                     f"{project.path}: {where} recovery: found {name}, expected one of the [[metals]]: {', '.join(metals)}"
                 )
         demand_accepted(project, stockpile.accepts, where)
+        demand_opening(project, stockpile)
 
 
 def demand_processes_agree(project: Project) -> None:

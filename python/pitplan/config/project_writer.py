@@ -27,7 +27,7 @@ from .pushbacks import PushbackRules
 from .schedule import ScheduleRules, Sum
 from .sensitivity import SensitivityRules
 from .slopes import WALL, Slopes, Wall
-from .stockpiles import Stockpile
+from .stockpiles import Opening, Stockpile
 from .survey import SurveyFile
 
 # A section: values by key. A key whose value is None is left out.
@@ -340,7 +340,12 @@ def of_schedule(rules: ScheduleRules) -> Values:
 def of_stockpile(it: Stockpile) -> Values:
     names = ("name", "reclaim_cost", "stacking_cost", "capacity")
     values = {name: getattr(it, name) for name in names}
-    return {**values, "recovery": it.recovery or None, "accepts": of_accepts(it.accepts)}
+    more = {"recovery": it.recovery or None, "accepts": of_accepts(it.accepts)}
+    return {**values, **more, "opening": of_opening(it.opening) if it.opening else None}
+
+
+def of_opening(it: Opening) -> Values:
+    return {"tonnes": it.tonnes} | {key: code for key, code in it.codes.items() if code} | it.grades
 
 
 def of_sum(it: Sum) -> Values:

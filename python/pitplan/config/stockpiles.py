@@ -6,11 +6,38 @@ import re
 from dataclasses import dataclass, field
 from typing import Optional
 
-from .acceptance import Accepts, read_accepts
+from .acceptance import CLASS, CODES, DOMAIN, ROCK_TYPE, Accepts, read_accepts
 from .toml_section import Section
 
 # The name of the only stockpile if it has none.
 STOCKPILE = "stockpile"
+TONNES = "tonnes"
+
+
+@dataclass(frozen=True)
+class Opening:
+    """What lies on a stockpile at the start.
+
+    Attributes
+    ----------
+    tonnes : float
+        Tonnes of feed; nothing is lost and no rock is added when they are reclaimed.
+    grades : dict of str to float
+        By column of the table its mean, in the unit of the column.
+    rock_type, domain, resource_class : str
+        Its codes; "" where the project names no such column.
+    """
+
+    tonnes: float
+    grades: dict[str, float] = field(default_factory=dict)
+    rock_type: str = ""
+    domain: str = ""
+    resource_class: str = ""
+
+    @property
+    def codes(self) -> dict[str, str]:
+        """The codes by key."""
+        return {ROCK_TYPE: self.rock_type, DOMAIN: self.domain, CLASS: self.resource_class}
 
 
 @dataclass(frozen=True)
@@ -27,6 +54,9 @@ class Stockpile:
     recovery : dict of str to float
         By metal the share of its recovery that remains after reclaim; 1 of metals that are not named.
     accepts : Accepts
+        What may be placed there; what lies there at the start may be other ore.
+    opening : Opening, optional
+        What lies there at the start; None: nothing.
     """
 
     reclaim_cost: float
@@ -35,6 +65,7 @@ class Stockpile:
     capacity: Optional[float] = None
     recovery: dict[str, float] = field(default_factory=dict)
     accepts: Accepts = Accepts()
+    opening: Optional[Opening] = None
 
 
 def read_stockpiles(section: Section) -> tuple[Stockpile, ...]:
@@ -59,8 +90,14 @@ def read_stockpile(section: Section) -> Stockpile:
         capacity=float(section.number("capacity", least=1)) if section.has("capacity") else None,
         recovery={name: float(recovery.number(name, least=0)) for name in recovery.data},
         accepts=read_accepts(section.section("accepts")) if section.has("accepts") else Accepts(),
+        opening=read_opening(section.section("opening")) if section.has("opening") else None,
     )
     section.finish()
+    if found.opening and found.capacity is not None and found.opening.tonnes > found.capacity:
+        raise section.wrong(
+            "opening",
+            f"found {found.opening.tonnes:.10g} tonnes, expected the capacity of {found.capacity:.10g} at most",
+        )
     if not re.fullmatch(r"\w[\w-]*", found.name):
         raise section.wrong("name", f'found "{found.name}", expected one word of letters, digits, _ and -')
     for name, share in found.recovery.items():
@@ -68,4 +105,19 @@ def read_stockpile(section: Section) -> Stockpile:
             raise recovery.wrong(
                 name, f"found {share:.10g}, expected the share that remains after reclaim, from 0 to 1"
             )
+    return found
+
+
+def read_opening(section: Section) -> Opening:
+    """Reads what lies on a stockpile at the start. Raises PlanError, with the key, if it has a mistake."""
+    codes = {key: section.text(key) for key in CODES if section.has(key)}
+    columns = [name for name in section.data if name not in (TONNES, *CODES)]
+    found = Opening(
+        tonnes=float(section.number(TONNES, least=0)),
+        grades={name: float(section.number(name, least=0)) for name in columns},
+        rock_type=codes.get(ROCK_TYPE, ""),
+        domain=codes.get(DOMAIN, ""),
+        resource_class=codes.get(CLASS, ""),
+    )
+    section.finish()
     return found

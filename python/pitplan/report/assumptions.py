@@ -158,7 +158,8 @@ def capacities(project: Project) -> Iterator[tuple[str, str]]:
         yield f"head grade {grade.column}{f' of {grade.process}' if grade.process else ''}", ", ".join(ends)
     for pile in rules.stockpiles if rules else ():
         room = "" if pile.capacity is None else f", {number(pile.capacity)} t"
-        yield f"stockpile {pile.name}", f"reclaim {number(pile.reclaim_cost)} {project.economics.currency}/t{room}"
+        lies = "" if pile.opening is None else f", {number(pile.opening.tonnes)} t at the start"
+        yield f"stockpile {pile.name}", f"reclaim {number(pile.reclaim_cost)} {project.economics.currency}/t{room}{lies}"
 
 
 def periods(project: Project) -> Iterator[tuple[str, str]]:

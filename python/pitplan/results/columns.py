@@ -32,7 +32,6 @@ from .column_types import (
 )
 from .common_columns import (
     AT_FACTOR,
-    BENCH,
     BEST,
     BOUND,
     CASH,
@@ -61,7 +60,18 @@ from .common_columns import (
     YEAR,
 )
 from .comparison_columns import COMPARISON
-from .flow_columns import BIN, CUTOFFS, FEEDS, GRADE_TONNAGE, INVENTORY, LIMITS, MATERIAL_FLOWS, STOCKPILES
+from .flow_columns import (
+    BIN,
+    CUTOFFS,
+    FEEDS,
+    GRADE_TONNAGE,
+    INVENTORY,
+    LIMITS,
+    MATERIAL_FLOWS,
+    OF_BENCH,
+    OF_PUSHBACK,
+    STOCKPILES,
+)
 
 SHELLS = Table("shells.csv", "a row per revenue factor", (RF, *PIT, *EARNED, OUTLINES, DISCOUNTS))
 PITS = Table(
@@ -128,7 +138,7 @@ PUSHBACKS = Table(
 SCHEDULE = Table(
     "schedule.csv",
     "a row per method, bench and year",
-    (METHOD, YEAR, PUSHBACK, BENCH, Column("share", SHARE, "of the bench"), MINED, FEED, FEED_OF, RECOVERED)
+    (METHOD, YEAR, OF_PUSHBACK, OF_BENCH, Column("share", SHARE, "of the bench"), MINED, FEED, FEED_OF, RECOVERED)
     + (*FLOWS, DISCOUNTS),
 )
 METHODS = Table("methods.csv", "a row per method", (METHOD, NPV, BOUND, GAP, *SCHEDULED, DISCOUNTS))

@@ -7,6 +7,9 @@ from dataclasses import replace
 from .column_types import COUNT, GRADE, METAL, SHARE, TEXT, TONNES, Column, Table, Unit
 from .common_columns import BENCH, FEED, FLOWS, HEAD_GRADE, METHOD, MINED, PUSHBACK, RECOVERED, YEAR
 
+# The places of material in tables of flows.
+OF_PUSHBACK = replace(PUSHBACK, holds="from 1; 0: what lay on a stockpile at the start")
+OF_BENCH = replace(BENCH, holds="elevation of its centroids; empty in pushback 0")
 CONTAINED = Column("contained_METAL", METAL, "metal in the feed", "contained METAL")
 IN_SITU = Column("in_situ_METAL", METAL, "metal in the in-situ tonnes", "METAL in situ")
 BIN = Column("bin", COUNT, "value bin of ore: by process, from the poorest; 0: no ore")
@@ -14,7 +17,7 @@ MATERIAL_FLOWS = Table(
     "flows.csv",
     "of a schedule of pushbacks: a row per method, year, lot of a bench, source and destination",
     (
-        *(METHOD, YEAR, PUSHBACK, BENCH, BIN),
+        *(METHOD, YEAR, OF_PUSHBACK, OF_BENCH, BIN),
         Column("source", TEXT, "`pit` or a stockpile", "source"),
         Column(
             "destination", TEXT, "a process (`mill` if the project names none), a stockpile or `waste`", "destination"
@@ -34,7 +37,7 @@ INVENTORY = Table(
     "inventory.csv",
     "of a schedule of pushbacks: a row per method, year, pushback, bench, rock type, resource class, source and destination",
     (
-        *(METHOD, YEAR, PUSHBACK, BENCH),
+        *(METHOD, YEAR, OF_PUSHBACK, OF_BENCH),
         *MATERIAL_FLOWS.columns[5:7],
         Column(
             "category",

@@ -27,7 +27,8 @@ def codes_of(project: Project) -> list[str]:
 
 
 def inventory_table(schedule: YearlySchedule) -> pd.DataFrame:
-    """Returns the sums of flows.csv by method, year, pushback, bench, rock type, class, source and destination.
+    """Returns the sums of flows.csv by method, year, pushback, bench, rock type, class, source and destination. What lay on a stockpile at the
+    start is of pushback 0 and of no bench.
 
     Columns: these; category: ore, not_reserve (mill feed of inferred and unclassified material), stockpile or waste; total_tonnes with
     grade_METAL and in_situ_METAL; feed_tonnes with head_grade_METAL, contained_METAL and recovered_METAL.
@@ -37,7 +38,7 @@ def inventory_table(schedule: YearlySchedule) -> pd.DataFrame:
     keys = ["method", "year", "pushback", "bench", *codes_of(project), "source", "destination"]
     kinds = {kind: [f"{kind}_{name}" for name in names] for kind in ("in_situ", "contained", "recovered")}
     amounts = ["total_tonnes", *kinds["in_situ"], "feed_tonnes", *kinds["contained"], *kinds["recovered"]]
-    sums = flows.groupby(keys, sort=False)[amounts].sum().reset_index()
+    sums = flows.groupby(keys, sort=False, dropna=False)[amounts].sum().reset_index()
     methods = {method: number for number, method in enumerate(schedule.flows)}
     order = sums.assign(method=sums["method"].map(methods), bench=-sums["bench"])
     sums = sums.loc[order.sort_values(keys, kind="stable").index].reset_index(drop=True)

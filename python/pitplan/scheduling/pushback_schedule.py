@@ -23,9 +23,10 @@ from pitplan.pushbacks.bench_table import CASH, ORE, ROCK, PushbackBenches
 from pitplan.pushbacks.nested import Pushbacks
 
 from .bench_sequencing import Problem, running
-from .flow import bound, integer, parcels, scheduler, tables
+from .flow import bound, integer, opening, parcels, scheduler, tables
 from .flow.flows import Flows
 from .flow.model import FlowModel
+from .flow.opening import Lots
 from .flow.parcels import Material
 from .flow.programme import FlowOptimum, FlowProgramme, Prices
 from .limits import SUM, all_limits_of, periods_of
@@ -59,6 +60,8 @@ class YearlySchedule:
         No schedule of these pushbacks has a higher NPV, wherever each block goes.
     prices : dict
         The prices of limits from which it follows.
+    lots : Lots, optional
+        What lies on stockpiles at the start; None: nothing.
     milp_upper_bound : float, optional
         What the integer programme had shown by its end that no schedule of these parcels exceeds; None if it was not solved.
     interrupted : bool
@@ -75,6 +78,7 @@ class YearlySchedule:
     milp_upper_bound: Optional[float] = None
     interrupted: bool = False
     prices: Prices = field(default_factory=dict)
+    lots: Optional[Lots] = None
 
     @property
     def problem(self) -> Problem:
@@ -137,9 +141,9 @@ class YearlySchedule:
 
     def yearly(self, method: str) -> pd.DataFrame:
         """Returns one row per year: amounts, fixed_cost and capex if years cost anything, cash_flow after these, and discounted_cash_flow."""
-        flows = self.amounts(method)
+        flows, opened = self.amounts(method), self.from_opening(method)
         count = self.flows[method].years
-        found = {name: amounts.sum(axis=0) for name, amounts in flows.items()}
+        found = {name: amounts.sum(axis=0) + opened[name] for name, amounts in flows.items()}
         runs, money = running(self.flows[method].moved), self.problem.money
         costs = {"fixed_cost": money.fixed(count) * runs, "capex": money.spent(count) * runs} if money.columns else {}
         cash = found.pop(CASH)
@@ -150,6 +154,10 @@ class YearlySchedule:
         """Returns what flows of each bench in each year by the names of tables, each of shape (benches, years)."""
         flows = self.flows[method].of_benches
         return {name: flows[:, :, number] for number, name in enumerate(self.benches.names) if not name.startswith(SUM)}
+
+    def from_opening(self, method: str) -> dict[str, np.ndarray]:
+        """Returns what flows in each year of what lay on stockpiles at the start, by the names of tables, each of shape (years,)."""
+        return dict(zip(self.benches.names, self.flows[method].of_opening.T))
 
     def left(self, method: str) -> float:
         """Returns the tonnes of the pushbacks that a method leaves unmined."""
@@ -174,8 +182,10 @@ def make(pushbacks: Pushbacks, progress: Progress = silent) -> YearlySchedule:
     limits = parcels.with_grades(all_limits_of(project, rules), material.blocks)
     problem = Problem(material.benches, limits, project.shells, period_costs.of_project(project))
     most, count = periods_of(project, rules), len(material.benches)
-    model = FlowModel(problem, material.parcels, most or 1, rules.stockpiles)
-    schedule = YearlySchedule(pushbacks, material, model, {}, 0)
+    lots = opening.of_plan(pushbacks.plan, rules)
+    ore = lots.ore(rules, problem.money.net_prices) if lots else None
+    model = FlowModel(problem, material.parcels, most or 1, rules.stockpiles, ore)
+    schedule = YearlySchedule(pushbacks, material, model, {}, 0, lots=lots)
     with progress.step(f"scheduling {count:,} benches of {len(pushbacks.factors)} pushbacks by rule"):
         flows, lead = scheduler.by_rule(model, pace_of(schedule), most)
     model = replace(model, years=most or max(1, math.ceil((1 + MORE_YEARS) * flows.years)))
@@ -280,12 +290,23 @@ def pace_of(schedule: YearlySchedule) -> scheduler.Pace:
 
 
 def table(schedule: YearlySchedule) -> pd.DataFrame:
-    """Returns one row per method, bench and year in which anything of the bench is mined or processed.
+    """Returns one row per method, bench and year in which anything of the bench is mined or processed; in pushback 0, without a bench, what is
+    reclaimed of what lay on stockpiles at the start.
 
     Columns: method; year from 1; pushback; bench, the elevation of its centroids; share of the bench; total_tonnes, feed_tonnes,
     recovered_METAL; cash_flow at the year's prices, and discounted_cash_flow, both without period costs.
     """
     return pd.concat([rows_of(schedule, method) for method in schedule.flows], ignore_index=True)
+
+
+def rows_of_opening(schedule: YearlySchedule, method: str) -> pd.DataFrame:
+    """Returns the rows of a method for what lay on stockpiles at the start."""
+    amounts = {name: values for name, values in schedule.from_opening(method).items() if not name.startswith(SUM)}
+    year = np.flatnonzero(amounts[ORE])
+    head = {"method": np.full(len(year), method, dtype=object), "year": year + 1, "pushback": 0}
+    flows = {name: values[year] for name, values in amounts.items()}
+    present = flows[CASH] * schedule.discounts(schedule.flows[method].years)[year]
+    return pd.DataFrame(head | {"bench": np.nan, "share": 0.0} | flows | {"discounted_cash_flow": present})
 
 
 def rows_of(schedule: YearlySchedule, method: str) -> pd.DataFrame:
@@ -301,7 +322,9 @@ def rows_of(schedule: YearlySchedule, method: str) -> pd.DataFrame:
         "share": shares[bench, year],
     }
     flows = {name: values[bench, year] for name, values in amounts.items()}
-    return pd.DataFrame(head | flows | {"discounted_cash_flow": flows[CASH] * discounts[year]})
+    rows = pd.DataFrame(head | flows | {"discounted_cash_flow": flows[CASH] * discounts[year]})
+    opened = rows_of_opening(schedule, method)
+    return pd.concat([opened, rows]).sort_values("year", kind="stable") if len(opened) else rows
 
 
 def years(schedule: YearlySchedule) -> pd.DataFrame:

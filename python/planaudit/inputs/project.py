@@ -187,6 +187,17 @@ class Process:
 
 
 @dataclass(frozen=True)
+class Opening:
+    """What lies on a stockpile at the start: tonnes of feed, mean grades by column, and codes."""
+
+    tonnes: float
+    grades: dict[str, float]
+    rock_type: str = ""
+    domain: str = ""
+    resource_class: str = ""
+
+
+@dataclass(frozen=True)
 class Stockpile:
     """`[schedule.stockpile]`, or an entry of `[[schedule.stockpiles]]`."""
 
@@ -196,6 +207,12 @@ class Stockpile:
     capacity: Optional[float] = None
     recovery: dict[str, float] = field(default_factory=dict)
     accepts: Accepts = Accepts()
+    opening: Optional[Opening] = None
+
+    @property
+    def lying(self) -> float:
+        """The tonnes of feed that lie there at the start."""
+        return self.opening.tonnes if self.opening else 0.0
 
 
 @dataclass(frozen=True)

@@ -33,6 +33,7 @@ from planaudit.inputs.project import (
     Haulage,
     Metal,
     MissingRock,
+    Opening,
     Period,
     Process,
     Project,
@@ -378,7 +379,15 @@ def stockpile_of(data: Data) -> Stockpile:
         capacity=metres(data, "capacity"),
         recovery=floats(data.get("recovery", {})),
         accepts=accepts_of(data.get("accepts", {})),
+        opening=opening_of(data["opening"]) if "opening" in data else None,
     )
+
+
+def opening_of(data: Data) -> Opening:
+    """Returns what lies on a stockpile at the start; the keys that are no codes are columns with grades."""
+    codes = ("rock_type", "domain", "class")
+    grades = {name: value for name, value in data.items() if name not in ("tonnes", *codes)}
+    return Opening(float(number(data["tonnes"])), floats(grades), *(str(data.get(key, "")) for key in codes))
 
 
 def cash_flow_of(data: Data) -> CashFlowRules:

@@ -12,10 +12,11 @@ from planaudit.errors import AuditError
 from planaudit.revenue_factors import factor_texts, in_thousandths
 
 # Prefixes of columns with empty fields if the amount is not defined: a ratio to no ore, the width of an empty pushback, a bound that was not
-# computed, or columns of other cases.
+# computed, the bench of what lay on a stockpile at the start, or columns of other cases.
 MAY_LACK = (
     *(
         "strip_ratio",
+        "bench",
         "head_grade_",
         "grade_",
         "cutoff",

@@ -78,7 +78,16 @@ class CashFlow:
             found |= {f"processing {number}": cost[at] * feed, f"hauled {number}": more * feed}
         keys = self.flow.keys
         sums = pd.concat([blocks.keys, pd.DataFrame(found)], axis=1).groupby(keys).sum()
+        sums = pd.concat([sums, self.of_opening(list(sums))]) if self.flow.opening.given else sums
         return sums.reindex(pd.MultiIndex.from_frame(self.flow.rows[keys])).reset_index(drop=True)
+
+    def of_opening(self, columns: list[str]) -> pd.DataFrame:
+        """Returns the costs of what lies on stockpiles at the start: only processing costs anything."""
+        lots = self.flow.opening
+        found = pd.DataFrame(0.0, index=pd.MultiIndex.from_frame(lots.keys), columns=columns).assign(blocks=1.0)
+        for number in range(len(lots.takes)):
+            found[f"processing {number}"] = lots.processing(number) * lots.takes[number]
+        return found
 
     def by_process(self, name: str) -> np.ndarray:
         """Returns an amount of the whole lot in the process of each row; 0 without one."""

@@ -32,9 +32,10 @@ def unlike_rows(flow: MaterialFlow) -> Iterator[str]:
     keys, metals = ["method", "year", "pushback", "bench", *codes, "source", "destination"], flow.answer.project.metals
     texts = ["method", *codes, "source", "destination", CATEGORY]
     said = read_table(flow.answer.folder / "tables" / FILE, texts)
-    said = said.fillna(dict.fromkeys(texts, ""))
+    # What lay on stockpiles at the start is of pushback 0, and of no bench.
+    said = said.fillna(dict.fromkeys(texts, "") | {"bench": 0.0})
     kinds = [f"{kind}_{metal.name}" for kind in ("in_situ", "contained", "recovered") for metal in metals]
-    groups = flow.rows.groupby(keys)
+    groups = flow.rows.fillna({"bench": 0.0}).groupby(keys)
     sums, count = groups[["total_tonnes", "feed_tonnes", *kinds]].sum(), groups.size()
     if set(map(tuple, said[keys].to_numpy())) != set(sums.index) or len(said) != len(sums):
         yield f"{FILE}: has {len(said):,} rows for {len(sums):,} places of flows.csv, or others"

@@ -17,12 +17,15 @@ from planaudit.money.period_costs import premiums
 from planaudit.rules import TOLD, Rule, rule
 from planaudit.schedules import cutoff_table, stockpiles
 from planaudit.schedules.lots import MILL, BlockAmounts
+from planaudit.schedules.opening import FIRST, OpeningLots
 
 PIT, WASTE = "pit", "waste"
 # The last decimal place of amounts, and the tolerance of the solver for shares.
 AMOUNT, SHARE = 0.6e-3, 1e-6
 # Tolerance of the elevation of a bench, as a share of its height, and of sums.
 SLIGHT = 1e-6
+# The level of a row of no bench and no stockpile.
+UNKNOWN = -1e6
 
 
 @dataclass(frozen=True)
@@ -46,9 +49,19 @@ class MaterialFlow:
         return list(self.blocks.keys)
 
     @cached_property
+    def opening(self) -> OpeningLots:
+        """What lies on stockpiles at the start."""
+        return OpeningLots(self.blocks)
+
+    @cached_property
+    def lots(self) -> pd.DataFrame:
+        """The sums of each lot, of blocks and of what lies on stockpiles at the start."""
+        return pd.concat([self.blocks.lots, self.opening.lots]) if self.opening.given else self.blocks.lots
+
+    @cached_property
     def whole(self) -> pd.DataFrame:
         """The sums of the lot of each row; nan if there is no such lot."""
-        return self.blocks.lots.reindex(pd.MultiIndex.from_frame(self.rows[self.keys])).reset_index(drop=True)
+        return self.lots.reindex(pd.MultiIndex.from_frame(self.rows[self.keys])).reset_index(drop=True)
 
     @cached_property
     def share(self) -> np.ndarray:
@@ -136,7 +149,8 @@ class MaterialFlow:
         moves = [mine[mine[side] == name] for side in ("destination", "source")]
         placed, out = (rows.groupby("year")["feed_tonnes"].sum().reindex(years, fill_value=0.0) for rows in moves)
         slack = AMOUNT * sum(map(len, moves))
-        return (placed - out).cumsum(), pd.Series(slack, index=years)
+        start = sum(it.lying for it in self.blocks.stockpiles if it.name == name)
+        return start + (placed - out).cumsum(), pd.Series(slack, index=years)
 
     def used(self, name: str, method: str, dug: pd.Series) -> tuple[pd.Series, pd.Series]:
         """Returns a limited amount of a method by year, and its tolerance; `dug` are the shares of benches by year, pushback and level."""
@@ -148,7 +162,7 @@ class MaterialFlow:
         year = self.rows["year"][mine]
         found, slack = (pd.Series(values[mine]).groupby(year.to_numpy()).sum() for values in (fed, loose))
         mined = self.blocks.lots[name].groupby(level=["pushback", "level"]).sum()
-        whole = mined.reindex(dug.index.droplevel("year")).to_numpy() * dug.to_numpy()
+        whole = mined.reindex(dug.index.droplevel("year"), fill_value=0.0).to_numpy() * dug.to_numpy()
         of_mining = pd.Series(whole, index=dug.index).groupby(level="year").sum()
         return (
             found.add(of_mining, fill_value=0.0),
@@ -170,17 +184,25 @@ def read(answer: Answer) -> tuple[MaterialFlow, list[str]]:
     # Blocks without a resource class have an empty one.
     rows = rows.fillna(dict.fromkeys(texts, "")).astype(numbers | {name: int for name in ("year", "pushback", "bin")})
     steps = ((answer.elevations[0] - rows["bench"]) / answer.size[2]).astype(float)
+    steps = steps.where(rows["pushback"] > 0, levels_of_opening(rows, blocks)).fillna(UNKNOWN)
     rows["level"] = np.rint(steps).astype(int)
     processes = {name or MILL for name in blocks.processes}
     legs = {(PIT, WASTE), *((PIT, name) for name in processes)}
     for it in blocks.stockpiles:
         legs |= {(PIT, it.name), *((it.name, name) for name in processes)}
-    known = pd.MultiIndex.from_frame(rows[list(blocks.keys)]).isin(blocks.lots.index)
+    found = MaterialFlow(answer, blocks, rows)
+    known = pd.MultiIndex.from_frame(rows[found.keys]).isin(found.lots.index)
     leg = pd.Series(list(zip(rows["source"], rows["destination"]))).isin(legs).to_numpy()
     wrong = ((steps - rows["level"]).abs() > SLIGHT).to_numpy() | ~known | ~leg | (rows["year"] < 1).to_numpy()
     wrong |= (rows["total_tonnes"] < 0).to_numpy()
     differences = [f"flows.csv: {called(row)}: no such bench, bin or flow" for row in rows[wrong].itertuples()]
     return MaterialFlow(answer, blocks, rows[~wrong].reset_index(drop=True)), differences
+
+
+def levels_of_opening(rows: pd.DataFrame, blocks: BlockAmounts) -> pd.Series:
+    """Returns the level of rows of what lay on stockpiles at the start, by their source; nan if it is no stockpile, or there is a bench."""
+    numbers = {it.name: float(FIRST - number) for number, it in enumerate(blocks.stockpiles)}
+    return rows["source"].map(numbers).where(rows["bench"].isna())
 
 
 def called(row: Any) -> str:

@@ -2,7 +2,7 @@
 
 With a price on each limit in each year no schedule earns more than the prices times the limits, what the running years earn at these prices, and the
 greatest value of benches mined in order, where each block goes where it earns most less the prices of what it uses: to a process, to a
-stockpile until its best later year, or to waste. This holds for any prices.
+stockpile until its best later year, or to waste; and the greatest value of what lies on stockpiles at the start. This holds for any prices.
 """
 
 from __future__ import annotations
@@ -24,6 +24,7 @@ from planaudit.money.period_costs import premiums
 from planaudit.rules import Rule, rule
 from planaudit.schedules.discounts import discount, present_costs
 from planaudit.schedules.lots import BlockAmounts
+from planaudit.schedules.opening import OpeningLots
 
 FILE = "bound.csv"
 MAX, MIN, RUNNING = "max", "min", "running"
@@ -128,14 +129,16 @@ class Bound:
         sign = -1.0 if side == MIN else 1.0
         return sign * amounts[:, None] * self.by_price[name, side]
 
-    def in_process(self, process: int, stockpile: Optional[Stockpile] = None) -> np.ndarray:
-        """What each block earns in a process in each year, directly or from a stockpile, less prices, shape (blocks, years)."""
-        blocks, kept = self.blocks, stockpile.recovery if stockpile else {}
-        shares = {f"recovered_{metal}": kept.get(metal, 1.0) for metal in blocks.net_prices}
+    def in_process(
+        self, process: int, stockpile: Optional[Stockpile] = None, lots: Optional[OpeningLots] = None
+    ) -> np.ndarray:
+        """What each block, or each of some lots, earns in a process in each year, directly or from a stockpile, less prices, shape (blocks, years)."""
+        blocks, kept = lots or self.blocks, stockpile.recovery if stockpile else {}
+        shares = {f"recovered_{metal}": kept.get(metal, 1.0) for metal in self.blocks.net_prices}
         base = blocks.gain[process] - (stockpile.reclaim_cost if stockpile else 0.0) * blocks.feed
         for metal, share in kept.items():
-            base = base - (1 - share) * blocks.net_prices[metal] * blocks.of_process(f"recovered_{metal}", process)
-        found = np.empty((len(blocks.inside), self.years))
+            base = base - (1 - share) * self.blocks.net_prices[metal] * blocks.of_process(f"recovered_{metal}", process)
+        found = np.empty((len(blocks.feed), self.years))
         for year in range(self.years):
             money = base
             for name, premium in premiums(self.answer.project, year + 1).items():
@@ -260,9 +263,20 @@ class Bound:
         return -float(found.fun) * unit
 
     @property
+    def of_opening(self) -> float:
+        """What lies on stockpiles at the start earns at most. It pays the price of the capacity in each year at whose end it still lies there."""
+        lots, found = OpeningLots(self.blocks), 0.0
+        for place, (_, it, opening) in enumerate(lots.given):
+            ways = [self.in_process(number, it, lots)[place] for number in range(len(self.blocks.processes))]
+            price = self.by_price.get((f"{STOCK}{it.name}", MAX), np.zeros(self.years))
+            paid = opening.tonnes * np.append(0.0, price.cumsum())
+            found += max(float((np.max(ways, axis=0) - paid[:-1]).max()), float(-paid[-1]))
+        return found
+
+    @property
     def value(self) -> float:
         """The bound; without a minimum to mine nothing earns 0."""
-        found = self.of_limits + self.of_running + self.of_benches
+        found = self.of_limits + self.of_running + self.of_benches + self.of_opening
         return found if any(side == MIN for _, side in self.limits) else max(found, 0.0)
 
 

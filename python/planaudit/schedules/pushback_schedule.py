@@ -29,7 +29,8 @@ from planaudit.schedules import (
 from planaudit.schedules.discounts import discount, present_costs
 from planaudit.schedules.limits import least_of
 from planaudit.schedules.lots import grade_name
-from planaudit.schedules.material_flow import MaterialFlow
+from planaudit.schedules.material_flow import UNKNOWN, MaterialFlow
+from planaudit.schedules.opening import FIRST
 from planaudit.schedules.periods import counted, maxima_of_periods, minima_of_periods
 
 FILE = "schedule.json"
@@ -95,12 +96,14 @@ def levelled(answer: Answer, told: dict[str, Any]) -> tuple[list[str], pd.DataFr
     """Returns rows of schedule.csv with an unknown place, as differences, and the other rows with the level of their bench."""
     assert answer.schedule is not None
     rows = answer.schedule.copy()
-    steps = (answer.elevations[0] - rows["bench"]) / answer.size[2]
+    # What lay on stockpiles at the start is of no bench.
+    opening = (rows["pushback"] == 0) & rows["bench"].isna() & (rows["share"] == 0)
+    steps = ((answer.elevations[0] - rows["bench"]) / answer.size[2]).where(~opening, FIRST).fillna(UNKNOWN)
     rows["level"] = np.rint(steps).astype(int)
-    lost = (abs(steps - rows["level"]) > SLIGHT) | ~rows["level"].between(0, answer.shape[0] - 1)
+    lost = (abs(steps - rows["level"]) > SLIGHT) | ~(rows["level"].between(0, answer.shape[0] - 1) | opening)
     # Reclaiming ore from a stockpile mines nothing.
     nothing = (rows["share"] < 0) | ((rows["share"] == 0) & (rows["feed_tonnes"] <= 0))
-    lost |= ~rows["pushback"].between(1, answer.said["pushback"].max()) | (rows["year"] < 1) | nothing
+    lost |= ~(rows["pushback"].between(1, answer.said["pushback"].max()) | opening) | (rows["year"] < 1) | nothing
     differences = [
         f"{row.method}, year {row.year}: no bench {row.bench:.10g} of pushback {row.pushback}, or no share {row.share:g}"
         for row in rows[lost].itertuples()
@@ -182,6 +185,7 @@ def flows_of(way: Way, rows: pd.DataFrame, flow: MaterialFlow) -> tuple[pd.DataF
     mine = mine.assign(feed_tonnes=mine["feed_tonnes"].where(mine["destination"].isin(flow.names), 0.0))
     names = ["feed_tonnes", *(f"recovered_{metal.name}" for metal in way.answer.project.metals), "cash_flow"]
     keys = ["year", "pushback", "level"]
+    mine = mine.assign(level=mine["level"].clip(lower=FIRST))
     at = pd.MultiIndex.from_frame(rows[keys])
     found = mine.groupby(keys)[names].sum().reindex(at).fillna(0.0).reset_index(drop=True)
     for process in way.answer.project.processes:
@@ -210,7 +214,7 @@ def verify_order(ways: list[Way], sums: pd.DataFrame) -> Rule:
         is_there[tuple(np.array(sums.index.to_list()).T)] = True
         # The smallest mined share from the top of each pushback down; a level without a bench delays nothing.
         least = np.minimum.accumulate(np.where(is_there[:, :, None], way.done, 1.0), axis=1)
-        for row in way.rows.itertuples():
+        for row in way.rows[way.rows["pushback"] > 0].itertuples():
             down = min(row.level + lag, least.shape[1] - 1)
             waited = [
                 1.0,

@@ -56,14 +56,17 @@ def unlike_stock(flow: MaterialFlow, stockpile: Stockpile) -> Iterator[str]:
             sums[side, name] = of_years.reindex(columns=years, fill_value=0.0).cumsum(axis=1)
     placed, out = sums["destination", "total_tonnes"], sums["source", "total_tonnes"]
     before = placed.shift(1, axis=1, fill_value=0.0).reindex(out.index, fill_value=0.0)
-    whole = flow.blocks.lots["total_tonnes"].reindex(out.index.droplevel("method")).to_numpy()
+    whole = flow.lots["total_tonnes"].reindex(out.index.droplevel("method")).to_numpy()
+    # A lot that lies there at the start has been placed before the first year.
+    before = before.add(np.where(out.index.get_level_values("level") < 0, whole, 0.0), axis=0)
     slack = pd.Series(SHARE * whole + 3 * AMOUNT * len(years), index=out.index)
     wrong = out.sub(before).gt(slack, axis=0).any(axis=1)
     for at in out.index[wrong]:
         yield f"flows.csv: {', '.join(map(str, at))}: more is reclaimed from {stockpile.name} than was placed before"
     if stockpile.capacity is not None:
         lies = sums["destination", "feed_tonnes"].sub(sums["source", "feed_tonnes"], fill_value=0.0)
-        for method, of_years in lies.groupby(level="method").sum().iterrows():
+        for method, moved in lies.groupby(level="method").sum().iterrows():
+            of_years = moved + stockpile.lying
             off = of_years > stockpile.capacity * (1 + SHARE) + AMOUNT * (2 * len(lies) + 1)
             for year in of_years.index[off]:
                 yield f"flows.csv: {method}, year {year}: {stockpile.name} holds {of_years[year]:.10g} t above its capacity of {stockpile.capacity:.10g}"
@@ -82,13 +85,14 @@ def unlike_balance(flow: MaterialFlow, method: str, name: str, rows: pd.DataFram
         mine[mine[side] == name].groupby("year")[amounts].sum().reindex(years, fill_value=0.0)
         for side in ("destination", "source")
     )
-    lies = (placed - out).cumsum()
+    start = at_start(flow, name)
+    lies = (placed - out).cumsum() + start
     closing, slack = lies["feed_tonnes"].to_numpy(), AMOUNT * (len(mine) + 1)
     expected = {
         "in_tonnes": placed["feed_tonnes"].to_numpy(),
         "out_tonnes": out["feed_tonnes"].to_numpy(),
         "closing_tonnes": closing,
-        "opening_tonnes": np.append(0.0, closing[:-1]),
+        "opening_tonnes": np.append(start["feed_tonnes"], closing)[: len(closing)],
     }
     off = {key: np.abs(rows[key].to_numpy() - due) > slack + 1e-9 * np.abs(due) for key, due in expected.items()}
     # Of less than the rounding of its flows the grade is not known.
@@ -105,3 +109,10 @@ def unlike_balance(flow: MaterialFlow, method: str, name: str, rows: pd.DataFram
             f"{FILE}: {method}, {name}, year {year}: {key} does not follow from its flows"
             for year in np.array(years)[wrong]
         )
+
+
+def at_start(flow: MaterialFlow, name: str) -> pd.Series:
+    """Returns feed_tonnes and contained_METAL of what lies on a stockpile at the start."""
+    amounts = ["feed_tonnes", *(f"contained_{metal.name}" for metal in flow.answer.project.metals)]
+    mine = [it.name == name for _, it, _ in flow.opening.given]
+    return flow.opening.lots[amounts][mine].sum() if any(mine) else pd.Series(0.0, index=amounts)

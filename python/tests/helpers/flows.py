@@ -7,11 +7,11 @@ from helpers.benches import benches_of, problem_of
 from hypothesis import strategies as st
 from scipy.optimize import Bounds, LinearConstraint, linprog, milp
 
-from pitplan.config.stockpiles import Stockpile
+from pitplan.config.stockpiles import Opening, Stockpile
 from pitplan.economics.period_costs import YearlyMoney
 from pitplan.scheduling.bench_sequencing import Limits
-from pitplan.scheduling.flow.model import FlowModel
-from pitplan.scheduling.flow.ore import Ore
+from pitplan.scheduling.flow.model import FlowModel, OpeningOre
+from pitplan.scheduling.flow.ore import Ore, joined
 
 # Tonnes of a parcel, and what it gains in the first process.
 parcel = st.tuples(st.sampled_from([10, 50]), st.integers(0, 400))
@@ -23,13 +23,19 @@ mines = st.lists(st.tuples(st.integers(0, 1), st.lists(bench, min_size=1, max_si
 processes = st.lists(
     st.tuples(st.sampled_from([1.0, 0.6, 0.3]), st.sampled_from([25.0, 60.0, 1e5])), min_size=2, max_size=3
 )
-# Reclaim and stacking cost, capacity, and the share of metal that remains.
+# Reclaim and stacking cost, capacity, the share of metal that remains, and what lies there at the start.
 stockpile = st.tuples(
-    st.sampled_from([0.0, 0.5]), st.sampled_from([0.0, 0.3]), st.sampled_from([None, 15.0]), st.sampled_from([1.0, 0.8])
+    st.sampled_from([0.0, 0.5]),
+    st.sampled_from([0.0, 0.3]),
+    st.sampled_from([None, 15.0]),
+    st.sampled_from([1.0, 0.8]),
+    st.sampled_from([0.0, 12.0]),
 )
 stockpiles = st.lists(stockpile, max_size=2)
 # A tonne of feed holds so much copper, of which a unit earns so much.
 COPPER, NET_PRICE = 0.02, 50.0
+# What a tonne gains that lies on a stockpile at the start, before reclaim, in the first process, and by how much less in each later one.
+LYING, LESS = 4.0, 1.5
 
 
 def mine_of(pits, lag):
@@ -45,14 +51,31 @@ def mine_of(pits, lag):
 def stockpiles_of(given):
     """The stockpiles of some rules, the second of which accepts second parcels alone; none without rules."""
     return tuple(
-        Stockpile(reclaim, stacking, f"stock{number}", capacity, {"copper": share})
-        for number, (reclaim, stacking, capacity, share) in enumerate(given)
+        Stockpile(
+            reclaim, stacking, f"stock{number}", capacity, {"copper": share}, opening=Opening(lies) if lies else None
+        )
+        for number, (reclaim, stacking, capacity, share, lies) in enumerate(given)
     )
+
+
+def lots_of(stockpiles, processes):
+    """What lies on stockpiles at the start; the second one's lot goes to the first process alone."""
+    found, numbers = [], [number for number, it in enumerate(stockpiles) if it.opening]
+    for number in numbers:
+        feed = np.full((processes, 1), stockpiles[number].opening.tonnes)
+        feed[1:] *= number == 0
+        gain = feed * (LYING - LESS * np.arange(processes))[:, None]
+        amounts = {"feed_tonnes": feed, "recovered_copper": COPPER * feed}
+        for process in range(processes):
+            amounts[f"feed_tonnes_{process}"] = feed * (np.arange(processes) == process)[:, None]
+        ore = Ore(np.zeros(1, dtype=np.int64), np.ones(1, dtype=np.int64), gain, amounts)
+        found.append(ore.reclaimed(stockpiles[number], {"recovered_copper": NET_PRICE}))
+    return OpeningOre(joined(found), np.array(numbers)) if found else None
 
 
 def plain(cost):
     """A stockpile that costs so much to reclaim from, and nothing else; none for None."""
-    return [] if cost is None else [(cost, 0.0, None, 1.0)]
+    return [] if cost is None else [(cost, 0.0, None, 1.0, 0.0)]
 
 
 def model_of(mine, processes, limits, years, stockpiles=(), favour=3):
@@ -75,7 +98,8 @@ def model_of(mine, processes, limits, years, stockpiles=(), favour=3):
     ore = Ore(place[:, 0], place[:, 1], gains, amounts, accepted)
     limits = Limits(most, limits.ramp_up, limits.vertical_advance_rate)
     problem = replace(problem_of(benches, limits), money=YearlyMoney(net_prices={"recovered_copper": NET_PRICE}))
-    return FlowModel(problem, ore, years, stockpiles_of(stockpiles))
+    piles = stockpiles_of(stockpiles)
+    return FlowModel(problem, ore, years, piles, lots_of(piles, len(processes)))
 
 
 class Statement:
@@ -84,6 +108,7 @@ class Statement:
     def __init__(self, model: FlowModel) -> None:
         self.model, ore, piles = model, model.ore, len(model.stockpiles)
         counts = [len(model.benches), ore.processes * len(ore), piles * len(ore), piles * ore.processes * len(ore)]
+        counts.append(piles * ore.processes)
         self.starts = np.concatenate([[0], np.cumsum(counts)]) * model.years
         self.rows: list[np.ndarray] = []
         self.most: list[float] = []
@@ -105,6 +130,14 @@ class Statement:
 
     def stocked(self, pile: int, unit: int, year: int) -> int:
         return int(self.starts[2]) + (pile * len(self.model.ore) + unit) * self.model.years + year
+
+    def opened(self, pile: int, process: int, year: int) -> int:
+        return int(self.starts[4]) + (pile * self.model.ore.processes + process) * self.model.years + year
+
+    def lay(self, pile: int, process: int = 0) -> float:
+        """The tonnes that lie on a stockpile at the start, if the process takes them."""
+        opening = self.model.stockpiles[pile].opening
+        return opening.tonnes if opening and (pile == 0 or process == 0) else 0.0
 
     def add(self, most: float, terms: dict[int, float]) -> None:
         row = np.zeros(self.size)
@@ -144,6 +177,10 @@ class Statement:
                         for pile, rules in enumerate(model.stockpiles):
                             kept = rules.recovery["copper"] if name == "recovered_copper" else 1.0
                             terms[self.again(pile, process, unit, year)] = kept * amount
+                    for pile, rules in enumerate(model.stockpiles):
+                        a_tonne = {"feed_tonnes": 1.0, f"feed_tonnes_{process}": 1.0}
+                        a_tonne["recovered_copper"] = COPPER * rules.recovery["copper"]
+                        terms[self.opened(pile, process, year)] = a_tonne.get(name, 0.0) * self.lay(pile, process)
                 self.add(most * (ramp[year] if name.startswith("feed") else 1.0), terms)
             if np.isfinite(limits.vertical_advance_rate):
                 for pushback in set(benches.pushback.tolist()):
@@ -166,8 +203,12 @@ class Statement:
             placed = {self.stocked(pile, unit, t): 1.0 for t in range(year + 1)}
             balance = placed | {place: -1.0 for place in out}
             lies |= {place: sign * ore.feed[unit] for place, sign in balance.items()}
+        gone = {self.opened(pile, k, t): self.lay(pile) for k in range(ore.processes) for t in range(year + 1)}
+        self.add(self.lay(pile), gone)
         if model.stockpiles[pile].capacity is not None:
-            self.add(model.stockpiles[pile].capacity, lies)
+            self.add(
+                model.stockpiles[pile].capacity - self.lay(pile), lies | {k: -tonnes for k, tonnes in gone.items()}
+            )
 
     def state_order(self) -> None:
         model = self.model
@@ -205,6 +246,11 @@ class Statement:
                     for process in range(ore.processes):
                         gain = ore.gain[process, unit] - rules.reclaim_cost * ore.feed[unit] - lost
                         found[self.again(pile, process, unit, year)] = gain * present
+            for pile, rules in enumerate(model.stockpiles):
+                lost = rules.reclaim_cost + (1 - rules.recovery["copper"]) * NET_PRICE * COPPER
+                for process in range(ore.processes):
+                    gain = (LYING - LESS * process - lost) * self.lay(pile, process)
+                    found[self.opened(pile, process, year)] = gain * present
         return found
 
     @property
@@ -213,6 +259,8 @@ class Statement:
         for pile in range(len(model.stockpiles)):
             for unit in np.flatnonzero(~model.ore.accepted[pile]):
                 found[[self.stocked(pile, unit, year) for year in range(model.years)]] = 0.0
+            for process in [k for k in range(model.ore.processes) if not self.lay(pile, k)]:
+                found[[self.opened(pile, process, year) for year in range(model.years)]] = 0.0
         return found
 
 

@@ -125,7 +125,7 @@ def physicals(operation: Operation, recovered: Lines) -> Lines:
     """Returns tonnes, strip ratio, head grades and metals."""
     values, project = operation.material.plan.values, operation.material.plan.project
     total, ore = operation.mined(values.tonnes), operation.ore(values.tonnes)
-    waste, feed = np.maximum(total - ore, 0.0), operation.fed_anywhere(values.feed)
+    waste, feed = np.maximum(total - ore, 0.0), operation.fed_anywhere(operation.material.feed)
     found = {"total_tonnes": total, "waste_tonnes": waste, "strip_ratio": shell_tables.ratio(waste, ore)}
     found["feed_tonnes"] = feed
     contained = {name: operation.fed_anywhere(metal) for name, metal in operation.material.contained.items()}

@@ -1,4 +1,4 @@
-"""What a schedule mines, feeds and recovers by period, of any amount of its blocks."""
+"""What a schedule mines, feeds and recovers by period, of any amount of its blocks, and of what lies on stockpiles at the start."""
 
 from __future__ import annotations
 
@@ -13,6 +13,7 @@ from pitplan.economics.cost_lines import CostLines, cost_lines
 from pitplan.plan import Plan
 from pitplan.pushbacks.bench_table import benches_of_cells
 from pitplan.scheduling.flow.flows import Flows
+from pitplan.scheduling.flow.opening_table import contained
 from pitplan.scheduling.flow.parcels import column_of
 from pitplan.scheduling.pushback_schedule import YearlySchedule
 
@@ -22,7 +23,7 @@ Amounts = NDArray[np.float64]
 
 @dataclass(frozen=True)
 class Material:
-    """The blocks of a schedule, by bench and parcel.
+    """The blocks of a schedule, by bench and parcel. Values are of cells, followed by the lots that lie on stockpiles at the start.
 
     Attributes
     ----------
@@ -37,9 +38,15 @@ class Material:
 
     @cached_property
     def costs(self) -> CostLines:
-        """The costs of each cell by line."""
-        plan = self.plan
-        return cost_lines(plan.table, plan.grid, plan.project, plan.values)
+        """The costs of each cell and lot by line."""
+        found = costs_of(self.plan)
+        return found if self.schedule.lots is None else with_lots(found, costs_of(self.schedule.lots.plan))
+
+    @cached_property
+    def feed(self) -> NDArray[np.float64]:
+        """The mill feed of each cell and lot."""
+        lots, feed = self.schedule.lots, self.plan.values.feed
+        return np.asarray(feed if lots is None else np.append(feed, lots.plan.values.feed))
 
     @cached_property
     def cells(self) -> NDArray[np.int64]:
@@ -53,14 +60,16 @@ class Material:
 
     @cached_property
     def contained(self) -> dict[str, NDArray[np.float64]]:
-        """Metal in the mill feed of each cell, in tonnes or grams, by metal."""
-        everywhere = np.arange(self.plan.grid.count)
-        return {
+        """Metal in the mill feed of each cell and lot, in tonnes or grams, by metal."""
+        everywhere, lots = np.arange(self.plan.grid.count), self.schedule.lots
+        found = {
             metal.name: column_of(self.plan, metal.column, everywhere)
             * self.plan.values.undiluted
             * float(GRADE_UNITS[metal.unit])
             for metal in self.plan.project.metals
         }
+        lying = {} if lots is None else contained(lots)
+        return {name: np.append(values, lying.get(name, np.zeros(0))) for name, values in found.items()}
 
     def of_benches(self, values: NDArray[np.float64]) -> NDArray[np.float64]:
         """Returns the sums of values of cells by bench."""
@@ -99,7 +108,10 @@ class Operation:
 
     def fed(self, values: NDArray[np.float64], process: int) -> Amounts:
         """Returns what a process takes, from the pit and from stockpiles."""
-        return np.asarray(self.material.of_parcels(values) @ self.flows.fed[process])
+        lots = values[self.material.plan.grid.count :] if self.flows.opened.shape[1] else np.zeros(0)
+        return np.asarray(
+            self.material.of_parcels(values) @ self.flows.fed[process] + lots @ self.flows.opened[process]
+        )
 
     def fed_anywhere(self, values: NDArray[np.float64]) -> Amounts:
         """Returns what all processes take."""
@@ -107,7 +119,10 @@ class Operation:
 
     def recovered(self, metal: str) -> Amounts:
         """Returns the recovered metal, after what stockpiles lose."""
-        return np.asarray(self.flows.processed(f"recovered_{metal}").sum(axis=(0, 1)))
+        name = f"recovered_{metal}"
+        return np.asarray(
+            (self.flows.processed(name).sum(axis=1) + self.flows.from_opening(name).sum(axis=1)).sum(axis=0)
+        )
 
     @cached_property
     def stacking(self) -> Amounts:
@@ -119,4 +134,21 @@ class Operation:
         """The cost of reclaiming it."""
         a_tonne = np.array([it.reclaim_cost for it in self.flows.model.stockpiles])
         feed = np.einsum("p,skpt->st", self.flows.model.ore.feed, self.flows.reclaimed)
-        return np.asarray(a_tonne @ feed)
+        opening = self.flows.model.opening
+        lay = opening.ore.feed * a_tonne[opening.stockpile]
+        return np.asarray(a_tonne @ feed + lay @ self.flows.opened.sum(axis=0))
+
+
+def costs_of(plan: Plan) -> CostLines:
+    return cost_lines(plan.table, plan.grid, plan.project, plan.values)
+
+
+def with_lots(cells: CostLines, lots: CostLines) -> CostLines:
+    """Returns the costs of cells followed by those of lots, which only processing has; hauling these costs nothing."""
+    nothing = np.zeros(len(lots.mining_rounding))
+    processing = tuple(
+        {name: np.append(values, more.get(name, nothing)) for name, values in lines.items()}
+        for lines, more in zip(cells.processing, lots.processing)
+    )
+    rounding = tuple(map(np.append, cells.processing_rounding, lots.processing_rounding))
+    return CostLines(cells.mining, processing, cells.mining_rounding, rounding)

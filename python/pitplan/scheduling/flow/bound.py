@@ -2,8 +2,8 @@
 
 With a price on each limit in each year no schedule earns more than the sum of the prices times the limits, and the greatest value of benches
 that are mined in order, a linear programme. There each block of a mined bench goes where it earns most, less the prices of what it uses: to a
-process, to a stockpile until its best later year, or to waste. A share of a bench is the same share of each of its blocks. A real stockpile,
-which blends, returns no block better than that. This holds for any prices; those of the linear programme of parcels give nearly the least bound.
+process, to a stockpile until its best later year, or to waste. What lies on a stockpile at the start goes where and when it earns most. A share
+of a bench is the same share of each of its blocks. A real stockpile, which blends, returns no block better than that. This holds for any prices; those of the linear programme of parcels give nearly the least bound.
 """
 
 from __future__ import annotations
@@ -119,9 +119,19 @@ class Lagrangian:
         return -float(found.fun) * unit
 
     @property
+    def of_opening(self) -> float:
+        """What the lots that lie on stockpiles at the start earn at most. A lot that is reclaimed frees the capacity of its stockpile from then on."""
+        model, lots, nothing = self.model, self.model.opening, np.zeros(self.model.years)
+        earned = self.priced(lots.ore.amounts, model.opening_gains * model.discounts)
+        for number, it in enumerate(model.stockpiles):
+            rent = self.prices.get((f"{STOCK}{it.name}", MAX), nothing)[::-1].cumsum()[::-1]
+            earned = earned + lots.on(number)[:, None] * rent
+        return float(np.maximum(earned.max(axis=(0, 2), initial=0.0), 0.0).sum())
+
+    @property
     def value(self) -> float:
         """The bound. To mine nothing earns nothing, unless a minimum forbids it."""
-        found = self.of_limits + self.of_running + self.of_benches
+        found = self.of_limits + self.of_running + self.of_benches + self.of_opening
         return found if self.model.problem.limits.least else max(found, 0.0)
 
 

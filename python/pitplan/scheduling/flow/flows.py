@@ -16,6 +16,7 @@ from .programme import FlowProgramme, Prices
 
 # A share that may be the solver's tolerance alone.
 SLIGHT = 1e-7
+PARTS = ("dug", "direct", "stocked", "reclaimed", "opened")
 
 
 @dataclass(frozen=True)
@@ -33,6 +34,8 @@ class Flows:
         Shares that go to stockpiles.
     reclaimed : array, shape (stockpiles, processes, parcels, years)
         Shares that processes take from stockpiles.
+    opened : array, shape (processes, lots, years)
+        Shares of what lies on stockpiles at the start that processes take.
     prices : dict
         The price of each limit, if a linear programme chose the flows.
     """
@@ -42,6 +45,7 @@ class Flows:
     direct: NDArray[np.float64]
     stocked: NDArray[np.float64]
     reclaimed: NDArray[np.float64]
+    opened: NDArray[np.float64]
     prices: Optional[Prices] = None
 
     @property
@@ -69,8 +73,20 @@ class Flows:
         np.add.at(flows[:, :, model.benches.names.index(CASH)], ore.bench, gained)
         return flows
 
+    @cached_property
+    def of_opening(self) -> NDArray[np.float64]:
+        """What flows in each year of what lay on stockpiles at the start, by the names of the benches, shape (years, names). Cash is not discounted."""
+        model, names = self.model, self.model.benches.names
+        found = np.stack([self.from_opening(name).sum(axis=(0, 1)) for name in names], axis=1)
+        found[:, names.index(CASH)] = (model.opening_gains[..., : self.years] * self.opened).sum(axis=(0, 1))
+        return found
+
+    def from_opening(self, name: str) -> NDArray[np.float64]:
+        """Returns what processing what lay on stockpiles at the start adds to an amount, shape (processes, lots, years)."""
+        return np.asarray(self.model.opening.ore.of(name)[:, :, None] * self.opened)
+
     def processed(self, name: str) -> NDArray[np.float64]:
-        """Returns what processing adds to an amount, shape (processes, parcels, years)."""
+        """Returns what processing parcels adds to an amount, shape (processes, parcels, years)."""
         model = self.model
         again = np.einsum("skp,skpt->kpt", model.reclaimed_of(name), self.reclaimed)
         return np.asarray(model.ore.of(name)[:, :, None] * self.direct + again)
@@ -78,7 +94,8 @@ class Flows:
     def lying(self, number: int) -> NDArray[np.float64]:
         """Returns the tonnes of feed on a stockpile at the end of each year, shape (years,)."""
         moved = self.stocked[number] - self.reclaimed[number].sum(axis=0)
-        return np.asarray(np.cumsum(self.model.ore.feed @ moved))
+        lay = self.model.opening.on(number)
+        return np.asarray(lay.sum() + np.cumsum(self.model.ore.feed @ moved - lay @ self.opened.sum(axis=0)))
 
     @property
     def years(self) -> int:
@@ -86,11 +103,12 @@ class Flows:
 
     def used(self, name: str) -> NDArray[np.float64]:
         """Returns what flows of a limited amount in each year, shape (years,)."""
-        return np.asarray(self.model.dug(name) @ self.dug + self.processed(name).sum(axis=(0, 1)))
+        fed = self.processed(name).sum(axis=(0, 1)) + self.from_opening(name).sum(axis=(0, 1))
+        return np.asarray(self.model.dug(name) @ self.dug + fed)
 
     def used_in(self, name: str, process: int) -> NDArray[np.float64]:
         """Returns what a process takes of an amount in each year, shape (years,)."""
-        return np.asarray(self.processed(name)[process].sum(axis=0))
+        return np.asarray(self.processed(name)[process].sum(axis=0) + self.from_opening(name)[process].sum(axis=0))
 
     @property
     def earned(self) -> NDArray[np.float64]:
@@ -100,35 +118,38 @@ class Flows:
     @property
     def value(self) -> float:
         """The net present value, in the currency."""
-        return float(self.earned.sum() - self.model.problem.costs(self.moved).sum())
+        opened = self.of_opening[:, self.model.benches.names.index(CASH)] @ self.model.discounts[: self.years]
+        return float(self.earned.sum() + opened - self.model.problem.costs(self.moved).sum())
 
     @property
     def moved(self) -> NDArray[np.float64]:
         """What is mined and fed by year, in rows: shape (rows, years)."""
-        return np.concatenate([self.dug, self.fed.reshape(np.prod(self.fed.shape[:2]), self.years)])
+        fed = [it.reshape(np.prod(it.shape[:2], dtype=int), self.years) for it in (self.fed, self.opened)]
+        return np.concatenate([self.dug, *fed])
 
     def until(self, year: int) -> Flows:
         """Returns the flows up to a year; nothing moves in later years."""
         runs = np.arange(self.years) < year
-        parts = {name: getattr(self, name) * runs for name in ("dug", "direct", "stocked", "reclaimed")}
+        parts = {name: getattr(self, name) * runs for name in PARTS}
         return replace(self, **parts)
 
     def cut(self, years: int) -> Flows:
         """Returns the flows of the first years only."""
-        parts = {name: getattr(self, name)[..., :years] for name in ("dug", "direct", "stocked", "reclaimed")}
+        parts = {name: getattr(self, name)[..., :years] for name in PARTS}
         return replace(self, **parts)
 
     @property
     def last(self) -> int:
         """The last year, from 1, in which anything moves; 0 if nothing does."""
-        moved = self.dug.any(axis=0) | self.fed.any(axis=(0, 1))
+        moved = self.moved.any(axis=0)
         return int(np.flatnonzero(moved)[-1]) + 1 if moved.any() else 0
 
 
 def none_of(model: FlowModel, dug: NDArray[np.float64]) -> Flows:
     """Returns flows in which all that is mined is waste."""
     shape, count = (model.ore.processes, len(model.ore), model.years), len(model.stockpiles)
-    return Flows(model, dug, np.zeros(shape), np.zeros((count, *shape[1:])), np.zeros((count, *shape)))
+    opened = np.zeros((model.ore.processes, len(model.opening.ore), model.years))
+    return Flows(model, dug, np.zeros(shape), np.zeros((count, *shape[1:])), np.zeros((count, *shape)), opened)
 
 
 def best(model: FlowModel, dug: NDArray[np.float64]) -> Flows:
@@ -149,19 +170,21 @@ def best(model: FlowModel, dug: NDArray[np.float64]) -> Flows:
     empty.direct[model.direct.index] = found.direct
     empty.reclaimed[model.reclaimed.index] = found.reclaimed
     empty.stocked[model.stocked.index] = found.stocked
+    empty.opened[model.opened.index] = found.opened
     return replace(within(empty), prices=found.prices)
 
 
 def within(flows: Flows) -> Flows:
     """Returns the flows without the solver's tolerance: within what is mined, what is stocked, and the maxima of each year."""
     dug = flows.dug[flows.model.ore.bench]
-    direct, stocked, reclaimed = (
-        np.where(part > SLIGHT, part, 0.0) for part in (flows.direct, flows.stocked, flows.reclaimed)
+    direct, stocked, reclaimed, opened = (
+        np.where(part > SLIGHT, part, 0.0) for part in (flows.direct, flows.stocked, flows.reclaimed, flows.opened)
     )
+    opened *= share_of(np.ones(opened.shape[1]), opened.sum(axis=(0, 2)))[:, None]
     direct *= share_of(dug, direct.sum(axis=0))
     stocked *= share_of(np.maximum(dug - direct.sum(axis=0), 0.0), stocked.sum(axis=0))
     stock = np.zeros(stocked.shape[:2])
-    found = replace(flows, direct=direct, stocked=stocked, reclaimed=reclaimed)
+    found = replace(flows, direct=direct, stocked=stocked, reclaimed=reclaimed, opened=opened)
     for year in range(flows.years):
         reclaimed[..., year] *= share_of(stock, reclaimed[..., year].sum(axis=1))[:, None]
         keep_maxima(found, year)
@@ -177,18 +200,20 @@ def share_of(most: NDArray[np.float64], used: NDArray[np.float64]) -> NDArray[np
 def keep_maxima(flows: Flows, year: int) -> None:
     """Scales, in place, what is fed in a year down to each maximum above 0. Limits on grades, whose maximum is 0, hold for any scale."""
     model, ore = flows.model, flows.model.ore
-    limits = model.problem.limits
+    limits, blended = model.problem.limits, model.blended
     for name, most in zip(limits.most, limits.of_year(year + 1)):
-        amounts = ore.of(name)
-        if not amounts.any() or (amounts < 0).any():
+        if not model.is_of_ore(name) or name in blended:
             continue
+        amounts = ore.of(name)
         again = model.reclaimed_of(name) * flows.reclaimed[..., year]
-        fed = (amounts * flows.direct[:, :, year]).sum() + again.sum()
+        lay = model.opening.ore.of(name) * flows.opened[..., year]
+        fed = (amounts * flows.direct[:, :, year]).sum() + again.sum() + lay.sum()
         free = max(float(most - model.dug(name) @ flows.dug[:, year]), 0.0)
         if fed > free:
-            takes = (amounts > 0).any(axis=1)
+            takes = (amounts > 0).any(axis=1) | (model.opening.ore.of(name) > 0).any(axis=1)
             flows.direct[takes, :, year] *= free / fed
             flows.reclaimed[:, takes, :, year] *= free / fed
+            flows.opened[takes, :, year] *= free / fed
 
 
 def richest_first(model: FlowModel, dug: NDArray[np.float64], prices: Optional[Prices] = None) -> Flows:

@@ -80,10 +80,12 @@ def amounts_of(schedule: YearlySchedule, flows: Flows, name: str) -> tuple[Float
 
 
 def of_stockpile(schedule: YearlySchedule, flows: Flows, name: str) -> tuple[Floats, Floats, Floats]:
-    """Returns the tonnes of feed on a stockpile at the end of each year, no minimum, and its capacity. The rule places nothing there."""
+    """Returns the tonnes of feed on a stockpile at the end of each year, no minimum, and its capacity. The rule places nothing there, and leaves
+    what lay there at the start."""
     number = [f"{STOCK}{it.name}" for it in schedule.model.stockpiles].index(name)
     capacity, nothing = schedule.model.stockpiles[number].capacity, np.full(flows.years, np.nan)
-    lies = flows.lying(number) if flows.model.stockpiles else np.zeros(flows.years)
+    lay = float(schedule.model.opening.on(number).sum())
+    lies = flows.lying(number) if flows.model.stockpiles else np.full(flows.years, lay)
     return lies, nothing, np.full(flows.years, capacity, dtype=float)
 
 

@@ -4,6 +4,7 @@ from __future__ import annotations
 
 from dataclasses import dataclass, replace
 from functools import cached_property
+from typing import Optional
 
 import numpy as np
 from numpy.typing import NDArray
@@ -41,6 +42,26 @@ class Uses:
 
 
 @dataclass(frozen=True)
+class OpeningOre:
+    """What lies on stockpiles at the start, in lots.
+
+    Attributes
+    ----------
+    ore : Ore
+        The lots as the stockpiles give them back; they are of no bench.
+    stockpile : int array, shape (lots,)
+        The number of the stockpile of each.
+    """
+
+    ore: Ore
+    stockpile: NDArray[np.int64]
+
+    def on(self, stockpile: int) -> NDArray[np.float64]:
+        """Returns the tonnes of feed of each lot on a stockpile, 0 of the others, shape (lots,)."""
+        return np.where(self.stockpile == stockpile, self.ore.feed, 0.0)
+
+
+@dataclass(frozen=True)
 class FlowModel:
     """A problem of material flow.
 
@@ -53,12 +74,15 @@ class FlowModel:
     years : int
         How many years there are.
     stockpiles : tuple of Stockpile
+    lots : OpeningOre, optional
+        What lies there at the start; None: nothing.
     """
 
     problem: Problem
     ore: Ore
     years: int
     stockpiles: tuple[Stockpile, ...] = ()
+    lots: Optional[OpeningOre] = None
 
     @property
     def benches(self) -> PushbackBenches:
@@ -116,15 +140,45 @@ class FlowModel:
         found[stockpile, parcel] = True
         return Uses(np.nonzero(found))
 
-    def useful(self, gains: NDArray[np.float64]) -> NDArray[np.bool_]:
-        """Returns whether each process takes each parcel: if it gains in some year, or if a limit may ask for ore that does not."""
+    @cached_property
+    def opening(self) -> OpeningOre:
+        """The lots that lie on stockpiles at the start; none without stockpiles."""
+        if self.lots is not None and self.stockpiles:
+            return self.lots
+        nothing, nowhere = np.zeros((self.ore.processes, 0)), np.zeros(0, dtype=np.int64)
+        empty = Ore(nowhere, nowhere, nothing, dict.fromkeys(self.ore.amounts, nothing))
+        return OpeningOre(empty, nowhere)
+
+    @cached_property
+    def opening_gains(self) -> NDArray[np.float64]:
+        """Gain of whole lots by process and year, not discounted, shape (processes, lots, years)."""
+        return self.opening.ore.gains(self.problem.money, self.years)
+
+    @cached_property
+    def opened(self) -> Uses:
+        """Process and lot of what lies on stockpiles at the start, likewise."""
+        return Uses(np.nonzero(self.useful(self.opening_gains, self.opening.ore)))
+
+    def useful(self, gains: NDArray[np.float64], ore: Optional[Ore] = None) -> NDArray[np.bool_]:
+        """Returns whether each process takes each unit of ore, by default each parcel: if it gains in some year, or if a limit may ask for ore
+        that does not."""
         pays = gains.max(axis=2, initial=-np.inf) > 0
-        return pays | (self.ore.gain != 0) if self.asks_ore else pays
+        return pays | ((self.ore if ore is None else ore).gain != 0) if self.asks_ore else pays
 
     @property
     def asks_ore(self) -> bool:
         """Whether a limit may ask for ore that does not pay by itself: a minimum, or a limit on a grade."""
-        return bool(self.problem.limits.least) or any((self.ore.of(name) < 0).any() for name in self.limits)
+        return bool(self.problem.limits.least) or bool(self.blended)
+
+    @property
+    def blended(self) -> list[str]:
+        """The limits of which processing some ore uses less than nothing, so that blends keep them."""
+        ores = (self.ore, self.opening.ore)
+        return [name for name in self.limits if any((ore.of(name) < 0).any() for ore in ores)]
+
+    def is_of_ore(self, name: str) -> bool:
+        """Returns whether processing changes an amount."""
+        return bool(self.ore.of(name).any() or self.opening.ore.of(name).any())
 
     @property
     def limits(self) -> list[str]:
@@ -140,7 +194,7 @@ class FlowModel:
     def of_mining(self) -> Limits:
         """The limits of mining alone: those to which processing adds nothing, and the vertical advance rate."""
         limits = self.problem.limits
-        most = {name: amount for name, amount in limits.most.items() if not self.ore.of(name).any()}
+        most = {name: amount for name, amount in limits.most.items() if not self.is_of_ore(name)}
         return replace(limits, most=most, least={})
 
     @property

@@ -86,3 +86,16 @@ class Ore:
             accepted = np.zeros((len(self.accepted), len(bench)), dtype=bool)
             accepted[:, parcel] = self.accepted
         return Ore(bench, bins, sums(self.gain), amounts, accepted)
+
+    def unit(self, number: int) -> Ore:
+        """Returns one unit alone, whatever accepts it."""
+        some = slice(number, number + 1)
+        amounts = {name: values[:, some] for name, values in self.amounts.items()}
+        return Ore(self.bench[some], self.bin[some], self.gain[:, some], amounts)
+
+
+def joined(parts: list[Ore]) -> Ore:
+    """Returns the units of all parts, whatever accepts them. The parts have the same amounts."""
+    amounts = {name: np.concatenate([part.amounts[name] for part in parts], axis=1) for name in parts[0].amounts}
+    bench, bins = (np.concatenate([getattr(part, name) for part in parts]) for name in ("bench", "bin"))
+    return Ore(bench, bins, np.concatenate([part.gain for part in parts], axis=1), amounts)

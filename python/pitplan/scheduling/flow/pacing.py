@@ -64,7 +64,7 @@ class Pacing:
     def blended(self) -> dict[str, NDArray[np.float64]]:
         """By limit on a head grade its price in each year, not discounted, shape (years,)."""
         model = self.model
-        names = [name for name in model.problem.limits.most if (model.ore.of(name) < 0).any()]
+        names = [name for name in model.blended if name in model.problem.limits.most]
         nothing = np.zeros(model.years)
         return {name: self.prices.get((name, MAX), nothing)[: model.years] / model.discounts for name in names}
 

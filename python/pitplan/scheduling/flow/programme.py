@@ -1,8 +1,9 @@
 """The linear programme of material flow.
 
 Unknowns, each by year: the share of a bench that is mined by the end of the year; the share of a parcel that a process takes as it is mined,
-that goes to a stockpile, that lies there at the end of the year, and that a process takes from there; and, if years cost anything, whether the
-mine runs. What a parcel sends nowhere is waste. A stockpile gives each parcel back as it was placed.
+that goes to a stockpile, that lies there at the end of the year, and that a process takes from there; the share of a lot that lies on a
+stockpile at the start and that a process takes; and, if years cost anything, whether the mine runs. What a parcel sends nowhere is waste. A
+stockpile gives each parcel back as it was placed.
 """
 
 from __future__ import annotations
@@ -10,6 +11,7 @@ from __future__ import annotations
 from collections.abc import Iterator
 from dataclasses import dataclass, field
 from functools import cached_property
+from itertools import zip_longest
 from typing import Optional
 
 import numpy as np
@@ -66,8 +68,8 @@ class FlowOptimum:
     ----------
     cumulative : array, shape (benches, years)
         The share of each bench that is mined by the end of each year.
-    direct, stocked, reclaimed : array, shape (uses, years)
-        Shares of parcels by the uses of `FlowModel.direct`, `FlowModel.stocked` and `FlowModel.reclaimed`.
+    direct, stocked, reclaimed, opened : array, shape (uses, years)
+        Shares of parcels and lots by the uses of `FlowModel.direct`, `FlowModel.stocked`, `FlowModel.reclaimed` and `FlowModel.opened`.
     running : array, shape (years,)
         How far the mine runs in each year; 1 if years cost nothing.
     value : float
@@ -82,6 +84,7 @@ class FlowOptimum:
     direct: NDArray[np.float64]
     stocked: NDArray[np.float64]
     reclaimed: NDArray[np.float64]
+    opened: NDArray[np.float64]
     running: NDArray[np.float64]
     value: float
     cash: NDArray[np.float64]
@@ -101,15 +104,17 @@ class FlowProgramme:
 
     @cached_property
     def sizes(self) -> list[int]:
-        """The number of unknowns: of mining, direct feed, to the stockpiles, in them and from them."""
+        """The number of unknowns: of mining, direct feed, to the stockpiles, in them, from them, and from what lies there at the start."""
         model, stocked = self.model, len(self.model.stocked)
         counts = [0 if self.dug is not None else len(model.benches), len(model.direct)]
-        return [count * self.years for count in (*counts, stocked, stocked, len(model.reclaimed))]
+        counts += [stocked, stocked, len(model.reclaimed), len(model.opened)]
+        return [count * self.years for count in counts]
 
     def row(self, *parts: Optional[csr_matrix]) -> csr_matrix:
-        """Returns rows of all unknowns from rows of those of mining, direct feed, to, in and from the stockpiles."""
+        """Returns rows of all unknowns from rows of those of mining, direct feed, to, in and from the stockpiles, and from what lies there at the
+        start; the last ones may be left out."""
         height = next(part.shape[0] for part in parts if part is not None)
-        wide = [csr_matrix((height, size)) if part is None else part for part, size in zip(parts, self.sizes)]
+        wide = [csr_matrix((height, size)) if part is None else part for part, size in zip_longest(parts, self.sizes)]
         return csr_matrix(hstack(wide, format="csr"))
 
     @cached_property
@@ -123,6 +128,7 @@ class FlowProgramme:
             (-model.stocked.of(model.stacking)[:, None] * model.discounts).ravel(),
             np.zeros(self.sizes[3]),
             (model.reclaimed.of(model.reclaim_gains) * model.discounts).ravel(),
+            (model.opened.of(model.opening_gains) * model.discounts).ravel(),
         ]
         return np.concatenate(parts)
 
@@ -166,6 +172,13 @@ class FlowProgramme:
         yield self.row(None, None, -kron(each, self.each_year), kron(each, self.step), leaves), nothing
         yield self.row(None, None, None, -kron(each, before), leaves), nothing
 
+    def opening_rows(self) -> Iterator[tuple[csr_matrix, NDArray[np.float64]]]:
+        """No more of a lot is reclaimed in all years than lies there at the start."""
+        count = len(self.model.opening.ore)
+        if len(self.model.opened):
+            whole = kron(incidence(self.model.opened.parcel, count), np.ones((1, self.years)))
+            yield self.row(None, None, None, None, None, whole), np.ones(count)
+
     @cached_property
     def limits(self) -> list[Limit]:
         """All limits of years, with the capacities of stockpiles; without those of mining if it is given."""
@@ -177,7 +190,7 @@ class FlowProgramme:
             found = [
                 Limit(it.name, it.side, it.used, it.amount - model.dug(it.name) @ self.dug)
                 for it in found
-                if model.ore.of(it.name).any()
+                if model.is_of_ore(it.name)
             ]
         elif np.isfinite(limits.vertical_advance_rate):
             found += [self.advance(pushback) for pushback in np.unique(model.benches.pushback)]
@@ -190,7 +203,8 @@ class FlowProgramme:
         amounts = model.ore.of(name)
         direct = kron(csr_matrix(model.direct.of(amounts)[None]), self.each_year)
         again = kron(csr_matrix(model.reclaimed.of(model.reclaimed_of(name))[None]), self.each_year)
-        return self.row(mined, direct, None, None, again)
+        opened = kron(csr_matrix(model.opened.of(model.opening.ore.of(name))[None]), self.each_year)
+        return self.row(mined, direct, None, None, again, opened)
 
     def advance(self, pushback: int) -> Limit:
         """The limit of the vertical advance of a pushback, in benches."""
@@ -199,16 +213,18 @@ class FlowProgramme:
         return Limit(f"{ADVANCE}{pushback}", MAX, self.row(mined, None, None, None, None), most)
 
     def capacities_of_stockpiles(self) -> Iterator[Limit]:
-        """The limits of what lies on each stockpile at the end of each year, in tonnes of feed."""
-        model = self.model
+        """The limits of what lies on each stockpile at the end of each year, in tonnes of feed: of what is placed there, beside what is left of what
+        lay there at the start."""
+        model, until = self.model, csr_matrix(np.tril(np.ones((self.years, self.years))))
         stockpile, parcel = model.stocked.index
         for number, it in enumerate(model.stockpiles):
             if it.capacity is not None:
                 feed = np.where(stockpile == number, model.ore.feed[parcel], 0.0)
                 lies = kron(csr_matrix(feed[None]), self.each_year)
-                yield Limit(
-                    f"{STOCK}{it.name}", MAX, self.row(None, None, None, lies, None), np.full(self.years, it.capacity)
-                )
+                lay = model.opening.on(number)
+                gone = kron(csr_matrix(-lay[model.opened.parcel][None]), until)
+                used = self.row(None, None, None, lies, None, gone)
+                yield Limit(f"{STOCK}{it.name}", MAX, used, np.full(self.years, it.capacity - lay.sum()))
 
     @cached_property
     def costs(self) -> NDArray[np.float64]:
@@ -217,9 +233,9 @@ class FlowProgramme:
 
     @cached_property
     def programme(self) -> Programme:
-        """All rows: order, parcels, stockpile, then limits, and limits of running years."""
+        """All rows: order, parcels, stockpile, lots, then limits, and limits of running years."""
         parts = [] if self.dug is not None else [self.order_rows()]
-        parts += [self.parcel_rows(), *self.stock_rows()]
+        parts += [self.parcel_rows(), *self.stock_rows(), *self.opening_rows()]
         parts += [(it.used * (it.sign / it.scale), it.sign * it.amount / it.scale) for it in self.limits]
         matrix, most = vstack([rows for rows, _ in parts], format="csr"), np.concatenate([right for _, right in parts])
         size = sum(self.sizes)
@@ -311,7 +327,7 @@ class FlowProgramme:
         if value < 0 and self.dug is None and not self.model.problem.limits.least:
             unknowns, value = np.zeros_like(unknowns), 0.0
         ends = np.cumsum(self.sizes)
-        by_end_of_years, direct, stocked, _, reclaimed = (
+        by_end_of_years, direct, stocked, _, reclaimed, opened = (
             part.reshape(-1, self.years) for part in np.split(unknowns[: ends[-1]], ends[:-1])
         )
         running = unknowns[ends[-1] :] if len(unknowns) > ends[-1] else np.ones(self.years)
@@ -321,7 +337,7 @@ class FlowProgramme:
             (self.model.mining_cash * np.diff(cumulative, axis=1, prepend=0.0)).sum(axis=0) if len(cumulative) else 0.0
         )
         cash = (mined + fed - self.costs * running) / self.model.discounts
-        return FlowOptimum(cumulative, direct, stocked, reclaimed, running, value, cash, prices)
+        return FlowOptimum(cumulative, direct, stocked, reclaimed, opened, running, value, cash, prices)
 
     def prices(self, of_rows: NDArray[np.float64]) -> Prices:
         """Returns the prices of the limits, from the dual value of each row."""

@@ -99,7 +99,7 @@ def by_rule(model: FlowModel, pace: Pace, years: Optional[int]) -> tuple[Flows, 
     """
     found = list(pace.schedules(years))
     longest = max(shares.shape[1] for _, shares in found)
-    model = replace(model, years=longest, stockpiles=())
+    model = replace(model, years=longest, stockpiles=(), lots=None)
     pacing = Pacing(model)
     lead, shares = max(found, key=lambda pair: pacing.value(padded(pair[1], longest)))
     flows = richest_first(model, padded(shares, longest))
@@ -157,7 +157,7 @@ def mined(model: FlowModel, order: NDArray[np.int64], optimum: FlowOptimum) -> I
 def feasible(model: FlowModel, dug: NDArray[np.float64]) -> Optional[Flows]:
     """Returns the best flows of what is mined; None if they cannot meet the minimums, or what is mined does not."""
     least = model.problem.limits.least_of_years(model.years)
-    of_mining = {name: amounts for name, amounts in least.items() if not model.ore.of(name).any()}
+    of_mining = {name: amounts for name, amounts in least.items() if not model.is_of_ore(name)}
     if any((model.dug(name) @ dug < amounts * (1 - TOLERATED)).any() for name, amounts in of_mining.items()):
         return None
     try:

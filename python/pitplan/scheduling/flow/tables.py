@@ -20,6 +20,7 @@ from pitplan.pushbacks.bench_table import benches_of_cells
 
 from .cutoffs import cutoffs
 from .flows import Flows
+from .opening_table import balance_at_start, of_opening
 from .parcels import column_of
 
 if TYPE_CHECKING:
@@ -128,7 +129,8 @@ def flow_table(schedule: YearlySchedule) -> pd.DataFrame:
 
     Columns: method, year, pushback, bench (elevation), bin, rock type and class if the table has them, source, destination, total_tonnes,
     in_situ_METAL, feed_tonnes and contained_METAL in what goes to a process or a stockpile, recovered_METAL, and cash_flow: revenue less the
-    costs of processing, selling, stacking and reclaiming, at the year's prices.
+    costs of processing, selling, stacking and reclaiming, at the year's prices. What lay on a stockpile at the start has pushback and bin 0,
+    and no bench.
     """
     lots = Lots(schedule)
     found = [of_method(schedule, method, lots) for method in schedule.flows]
@@ -138,7 +140,7 @@ def flow_table(schedule: YearlySchedule) -> pd.DataFrame:
 def of_method(schedule: YearlySchedule, method: str, lots: Lots) -> pd.DataFrame:
     flows = schedule.flows[method]
     parts = [of_move(flows, move, lots) for move in moves_of(flows, schedule.names)]
-    parts.append(of_waste(flows, lots))
+    parts += [of_waste(flows, lots), of_opening(schedule, flows)]
     table = pd.concat(parts, ignore_index=True)
     order = ["year", "pushback", "bench", "bin", *lots.codes, "source", "destination"]
     table = table.sort_values(order, ascending=[True, True, False, *[True] * (len(order) - 3)], kind="stable")
@@ -260,12 +262,13 @@ def balance_of(schedule: YearlySchedule, method: str, name: str, flows: pd.DataF
         flows[flows[side] == name].groupby("year")[amounts].sum().reindex(years, fill_value=0.0)
         for side in ("destination", "source")
     )
-    lies = (placed - out).cumsum()
+    start = balance_at_start(schedule, name)
+    lies = (placed - out).cumsum() + start
     # What the sums of floats leave is nothing.
-    lies = lies.where(lies["feed_tonnes"] > EMPTY * placed["feed_tonnes"].sum(), 0.0)
+    lies = lies.where(lies["feed_tonnes"] > EMPTY * (placed["feed_tonnes"].sum() + start["feed_tonnes"]), 0.0)
     closing = lies["feed_tonnes"]
     columns = {
-        "opening_tonnes": closing.shift(1, fill_value=0.0),
+        "opening_tonnes": closing.shift(1, fill_value=start["feed_tonnes"]),
         "in_tonnes": placed["feed_tonnes"],
         "out_tonnes": out["feed_tonnes"],
         "closing_tonnes": closing,

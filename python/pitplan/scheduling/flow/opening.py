@@ -1,0 +1,94 @@
+"""What lies on stockpiles at the start: lots that are valued as blocks of the table are, as mill feed that needs no mining."""
+
+from __future__ import annotations
+
+from dataclasses import dataclass, replace
+from decimal import Decimal
+from typing import Any, Optional
+
+import numpy as np
+import pandas as pd
+from numpy.typing import NDArray
+
+from pitplan.blockmodel.grid import Grid
+from pitplan.config.project import Project
+from pitplan.config.schedule import ScheduleRules
+from pitplan.config.stockpiles import Opening
+from pitplan.economics import block_values
+from pitplan.plan import Plan
+
+from .model import OpeningOre
+from .ore import joined
+from .parcels import ore_of
+
+SOURCE = "[schedule.stockpiles] opening"
+
+
+@dataclass(frozen=True)
+class Lots:
+    """The lots that lie on stockpiles at the start.
+
+    Attributes
+    ----------
+    plan : Plan
+        The plan of a table with a row per lot: the project without mining costs, haulage, mining losses, dilution and adjustment factors.
+    stockpile : int array, shape (lots,)
+        The number of the stockpile of each.
+    """
+
+    plan: Plan
+    stockpile: NDArray[np.int64]
+
+    def __len__(self) -> int:
+        return len(self.stockpile)
+
+    def ore(self, rules: ScheduleRules, net_prices: dict[str, float]) -> OpeningOre:
+        """Returns the lots as their stockpiles give them back."""
+        cells = np.arange(len(self))
+        ore = ore_of(self.plan, replace(rules, stockpiles=()), cells, np.zeros(len(self), dtype=np.int64))
+        parts = [
+            ore.unit(lot).reclaimed(rules.stockpiles[number], net_prices) for lot, number in enumerate(self.stockpile)
+        ]
+        return OpeningOre(joined(parts), self.stockpile)
+
+
+def of_plan(plan: Plan, rules: ScheduleRules) -> Optional[Lots]:
+    """Returns what lies on the stockpiles of a project at the start; None if nothing does. Raises PlanError if a lot has no value."""
+    given = [(number, it.opening) for number, it in enumerate(rules.stockpiles) if it.opening and it.opening.tonnes > 0]
+    if not given:
+        return None
+    project = as_feed(plan.project)
+    table = pd.DataFrame([row_of(opening, project) for _, opening in given])
+    grid = Grid((1, 1, len(given)), (0.0, 0.0, 0.0), (1.0, 1.0, 1.0), np.arange(len(given)))
+    values = block_values.values_of(table, grid, project, f"{plan.project.path}: {SOURCE}")
+    lots = Plan(project, table, grid, values, plan.walls, np.zeros(len(given), dtype=bool), SOURCE)
+    return Lots(lots, np.array([number for number, _ in given], dtype=np.int64))
+
+
+def as_feed(project: Project) -> Project:
+    """Returns the project for ore that is mined, hauled and diluted already."""
+    money = replace(
+        project.economics,
+        mining_cost=Decimal(0),
+        mining_cost_per_bench=Decimal(0),
+        mining_cost_reference=None,
+        mining_cost_by_elevation=(),
+        mining_recovery=Decimal(1),
+        dilution=Decimal(0),
+        mcaf=None,
+        pcaf=None,
+    )
+    return replace(project, economics=money, haulage=None)
+
+
+def row_of(opening: Opening, project: Project) -> dict[str, Any]:
+    """Returns a lot as a row of the table."""
+    table = project.table
+    codes = {
+        table.rock_type: opening.rock_type,
+        table.domain: opening.domain,
+        table.resource_class: opening.resource_class,
+    }
+    named = {column: code for column, code in codes.items() if column}
+    limited = dict.fromkeys(project.limited_columns, 0.0)
+    return named | limited | opening.grades | {table.tonnes: opening.tonnes}

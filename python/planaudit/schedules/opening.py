@@ -1,0 +1,153 @@
+"""What lies on stockpiles at the start, recomputed from the project: each lot as mill feed of its codes and grades."""
+
+from __future__ import annotations
+
+from dataclasses import dataclass, replace
+from decimal import Decimal
+from functools import cached_property
+from typing import Any
+
+import numpy as np
+import pandas as pd
+
+from planaudit.inputs.answer import Answer
+from planaudit.inputs.matching import own_name
+from planaudit.inputs.project import GRADE_UNITS, Opening, Project, Stockpile
+from planaudit.money.feed import by_code, recovered
+from planaudit.money.prices import converted
+from planaudit.schedules.lots import BlockAmounts, grade_name
+
+# Lots are of pushback and bin 0. The level of that of the first stockpile is FIRST, and falls.
+FIRST = -1
+
+
+@dataclass(frozen=True)
+class OpeningLots:
+    """The lots of the stockpiles with an opening balance, with the same amounts as `BlockAmounts`.
+
+    Attributes
+    ----------
+    blocks : BlockAmounts
+    """
+
+    blocks: BlockAmounts
+
+    @property
+    def answer(self) -> Answer:
+        return self.blocks.answer
+
+    @cached_property
+    def given(self) -> list[tuple[int, Stockpile, Opening]]:
+        """The number of each stockpile on which anything lies, and what lies there."""
+        piles = enumerate(self.blocks.stockpiles)
+        return [(number, it, it.opening) for number, it in piles if it.opening and it.opening.tonnes > 0]
+
+    @cached_property
+    def project(self) -> Project:
+        """The project without mining losses and dilution."""
+        money = replace(self.answer.project.economics, mining_recovery=Decimal(1), dilution=Decimal(0))
+        return replace(self.answer.project, economics=money)
+
+    @cached_property
+    def rows(self) -> pd.DataFrame:
+        """The lots as rows of the table."""
+        table = self.project.table
+        found: list[dict[str, Any]] = []
+        for _, _, it in self.given:
+            pairs = (
+                (table.rock_type, it.rock_type),
+                (table.domain, it.domain),
+                (table.resource_class, it.resource_class),
+            )
+            codes = {column: code for column, code in pairs if column}
+            found.append({**codes, **it.grades, table.tonnes: it.tonnes})
+        return pd.DataFrame(found)
+
+    @cached_property
+    def feed(self) -> np.ndarray:
+        return np.array([it.tonnes for _, _, it in self.given])
+
+    @cached_property
+    def recovered(self) -> dict[str, np.ndarray]:
+        """Recovered metal by metal, before what the stockpile loses, shape (processes, lots)."""
+        found = {}
+        for number, metal in enumerate(self.project.metals):
+            grades = np.stack([recovered(way.metals[number], self.rows, way) for way in self.project.by_process])
+            found[metal.name] = grades * self.feed * float(GRADE_UNITS[metal.unit])
+        return found
+
+    @cached_property
+    def money(self) -> tuple[np.ndarray, np.ndarray]:
+        """Revenue less royalty, and the cost of processing and selling, rounded as block values are, shape (processes, lots)."""
+        economics, revenue, cost = self.project.economics, [], []
+        for number, way in enumerate(self.project.by_process):
+            gained, spent = np.zeros(len(self.feed)), self.processing(number) + self.feed * float(
+                economics.royalty_per_tonne
+            )
+            for metal in way.metals:
+                amount = self.recovered[metal.name][number]
+                gained = gained + amount * float(converted(metal, metal.price) * (1 - economics.royalty))
+                spent = spent + amount * float(converted(metal, metal.selling_cost))
+            revenue.append(gained)
+            cost.append(spent)
+        return np.round(np.stack(revenue), economics.decimals), np.round(np.stack(cost), economics.decimals)
+
+    def processing(self, process: int) -> np.ndarray:
+        """Returns the cost of processing whole lots, without royalty and selling."""
+        way = self.project.by_process[process]
+        return self.feed * by_code(way.economics.processing_cost, self.rows, way.table)
+
+    @cached_property
+    def takes(self) -> np.ndarray:
+        """Whether each lot has a revenue in each process, shape (processes, lots)."""
+        return self.money[0] > 0
+
+    @cached_property
+    def gain(self) -> np.ndarray:
+        """Revenue less processing cost of each lot in each process, before what the stockpile costs, shape (processes, lots)."""
+        return (self.money[0] - self.money[1]) * self.takes
+
+    def of_process(self, name: str, process: int) -> np.ndarray:
+        """Returns what processing each lot adds to a limited amount."""
+        called, taken = self.blocks.processes[process], self.takes[process]
+        if name in ("feed_tonnes", f"feed_tonnes_{called}"):
+            return self.feed * taken
+        if name.startswith("recovered_"):
+            return self.recovered[name.removeprefix("recovered_")][process] * taken
+        for it in self.blocks.sums:
+            if name == f"sum_{it.name}" and it.of in ("feed", called):
+                return self.rows[it.column].to_numpy(dtype=float) * self.feed * taken
+        for limit in self.project.feed_grades:
+            for side, grade, sign in (("max", limit.max, 1.0), ("min", limit.min, -1.0)):
+                if name == grade_name(limit.process, limit.column, side) and limit.process == called:
+                    excess = self.rows[limit.column].to_numpy(dtype=float) - (grade or 0.0)
+                    return sign * excess * self.feed * taken
+        return np.zeros(len(self.feed))
+
+    @cached_property
+    def keys(self) -> pd.DataFrame:
+        """The lot of each, as `BlockAmounts.keys` has those of blocks."""
+        found = {"pushback": 0, "level": [FIRST - number for number, _, _ in self.given], "bin": 0}
+        table = self.project.table
+        codes = [(table.rock_type, "rock_type"), (table.resource_class, "resource_class")]
+        texts = {own_name(column): [getattr(it, key) for _, _, it in self.given] for column, key in codes if column}
+        return pd.DataFrame(found | texts)
+
+    @cached_property
+    def lots(self) -> pd.DataFrame:
+        """The amounts of each lot by its key, with the columns of `BlockAmounts.lots`; no lot without opening balances."""
+        blocks = self.blocks.lots
+        if not self.given:
+            return blocks[:0]
+        found = pd.DataFrame(0.0, index=range(len(self.feed)), columns=list(blocks.columns))
+        found["total_tonnes"] = found["feed_tonnes"] = self.feed
+        for metal in self.project.metals:
+            content = self.rows[metal.column].to_numpy(dtype=float) * self.feed * float(GRADE_UNITS[metal.unit])
+            found[f"contained_{metal.name}"] = found[f"in_situ_{metal.name}"] = content
+        for process in range(len(self.takes)):
+            for name, amounts in self.recovered.items():
+                found[f"recovered_{name} {process}"] = amounts[process]
+            found[f"gain {process}"], found[f"not taken {process}"] = self.gain[process], 1.0 - self.takes[process]
+            for name in self.blocks.limited:
+                found[f"{name} {process}"] = self.of_process(name, process)
+        return found.set_index(pd.MultiIndex.from_frame(self.keys))
