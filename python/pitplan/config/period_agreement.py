@@ -19,6 +19,8 @@ def demand_periods(project: Project) -> None:
     for number, period in enumerate(project.shells.calendar.periods, 1):
         for key, why in wrong_with(period, project):
             raise PlanError(f"{project.path}: [[periods]] {number} {key}: {why}")
+        for key, why in wrong_limits(period, project):
+            raise PlanError(f"{project.path}: [[periods]] {number} {key}: {why}")
         for key, name, expected in unknown(period, project):
             raise PlanError(
                 f"{project.path}: [[periods]] {number} {key}: found {name}, expected one of {', '.join(expected)}"
@@ -69,13 +71,42 @@ def wrong_with(period: Period, project: Project) -> Iterator[tuple[str, str]]:
         yield "minimum", "[schedule] years is missing: the minimum applies to each of these years"
 
 
+def wrong_limits(period: Period, project: Project) -> Iterator[tuple[str, str]]:
+    """Yields limits on head grades and stockpiles that do not go with the project, and why."""
+    rules = project.schedule
+    for column in [it.column for it in period.feed if not it.process and project.processes]:
+        name = project.processes[0].name
+        yield "feed", f"{column} is of one process: name the process, such as feed = {{ {name} = {{ {column} = {{ max = 1 }} }} }}"
+    base = {(it.process, it.column): it for it in project.feed_grades}
+    for grade in period.feed:
+        other = base.get((grade.process, grade.column), grade)
+        least, most = merged((grade.min, other.min), (grade.max, other.max))
+        if least is not None and most is not None and least > most:
+            yield "feed", f"{grade.column}: min {least:.10g} is above max {most:.10g}, with those of the other sections"
+    capacities = {it.name: it.capacity for it in (rules.stockpiles if rules else ())}
+    for pile in period.stockpiles:
+        least, most = merged((pile.min, None), (pile.max, capacities.get(pile.name)))
+        if least is not None and most is not None and least > most:
+            yield "stockpiles", f"{pile.name}: min {least:.10g} is above the most that may lie there, {most:.10g}"
+        if least and (rules is None or rules.years is None):
+            yield "stockpiles", f"{pile.name}: [schedule] years is missing: the minimum applies to each of these years"
+
+
+def merged(*sides: tuple[Optional[float], Optional[float]]) -> tuple[Optional[float], ...]:
+    """Returns of each side the value of the period, otherwise that of the other sections."""
+    return tuple(other if own is None else own for own, other in sides)
+
+
 def unknown(period: Period, project: Project) -> Iterator[tuple[str, str, list[str]]]:
     """Yields names of processes and metals that the project does not have, with the key and the names that it has."""
     metals, processes = [metal.name for metal in project.metals], [process.name for process in project.processes]
+    stockpiles = project.schedule.stockpiles if project.schedule else ()
     named: dict[str, tuple[list[str], list[str]]] = {
         "capacity": ([*period.capacity], processes),
         "prices": ([*period.prices], metals),
         "minimum": ([*period.minimum], [FEED, TOTAL, *metals, *processes]),
+        "feed": ([it.process for it in period.feed if it.process], processes or ["columns, as there is one process"]),
+        "stockpiles": ([it.name for it in period.stockpiles], [it.name for it in stockpiles]),
     }
     for key, (values, expected) in named.items():
         yield from ((key, name, expected) for name in values if name not in expected)

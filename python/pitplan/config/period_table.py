@@ -13,10 +13,12 @@ from .toml_section import Section
 
 # The row of a table below its header.
 FIRST_ROW = 2
+# The keys whose values are tables of tables.
+NESTED = ("feed", "stockpiles")
 
 
 def sections_of(path: Path) -> list[Section]:
-    """Reads the entries of a CSV file with a header. A key by name has a point in it, as `capacity.mill`; an empty field is left out.
+    """Reads the entries of a CSV file with a header. A key by name has points in it, as `capacity.mill`; an empty field is left out.
 
     Raises
     ------
@@ -40,15 +42,20 @@ def entry_of(fields: dict[Any, Any], path: Path, row: int) -> dict[str, Any]:
         raise PlanError(f"{path} row {row}: found another number of fields than the header has columns")
     found: dict[str, Any] = {}
     for column, text in fields.items():
-        key, point, name = column.strip().partition(".")
         if not text.strip():
             continue
-        value = number_of(text.strip(), f"{path} row {row} column {column}")
-        if point:
-            found.setdefault(key, {})[name] = value
-        else:
-            found[key] = value
+        value, place = number_of(text.strip(), f"{path} row {row} column {column}"), found
+        *keys, last = keys_of(column.strip())
+        for key in keys:
+            place = place.setdefault(key, {})
+        place[last] = value
     return found
+
+
+def keys_of(column: str) -> list[str]:
+    """Returns the keys from that of the entry down to the one with the number: `feed.mill.as_ppm.max` has four, others two at most."""
+    key, point, rest = column.partition(".")
+    return [key, *(rest.split(".") if key in NESTED else [rest])] if point else [key]
 
 
 def number_of(text: str, where: str) -> Any:

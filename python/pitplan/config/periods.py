@@ -15,6 +15,8 @@ import numpy as np
 from numpy.typing import NDArray
 
 from .economics import MOST_YEARS
+from .feed_grades import FeedGrade, read_feed
+from .stockpiles import StockpileLimit, read_limits
 from .toml_section import Section
 
 Value = TypeVar("Value")
@@ -40,6 +42,10 @@ class Period:
         Tonnes per year of processes, by name.
     minimum : dict of str to float
         Per year, by the names of `[schedule.minimum]`.
+    feed : tuple of FeedGrade
+        Limits on head grades; a side that is None is as in the other sections.
+    stockpiles : tuple of StockpileLimit
+        Tonnes that lie on stockpiles at the end of each of its periods.
     prices : dict of str to Decimal
         By metal, in the unit of its `price`.
     fixed_cost_per_year : Decimal, optional
@@ -53,6 +59,8 @@ class Period:
     processing_capacity: Optional[float] = None
     capacity: dict[str, float] = field(default_factory=dict)
     minimum: dict[str, float] = field(default_factory=dict)
+    feed: tuple[FeedGrade, ...] = ()
+    stockpiles: tuple[StockpileLimit, ...] = ()
     prices: dict[str, Decimal] = field(default_factory=dict)
     fixed_cost_per_year: Optional[Decimal] = None
     capex: Decimal = Decimal(0)
@@ -142,7 +150,7 @@ class Calendar:
 
     def has(self, value: Callable[[Period], object]) -> bool:
         """Whether some period has a value."""
-        return any(value(period) not in (None, {}, 0) for period in self.periods)
+        return any(value(period) not in (None, {}, 0, ()) for period in self.periods)
 
     @property
     def capex(self) -> tuple[tuple[int, Decimal], ...]:
@@ -190,6 +198,8 @@ def read_period(section: Section) -> Period:
         processing_capacity=tonnes("processing_capacity"),
         capacity=by_name("capacity"),
         minimum=by_name("minimum"),
+        feed=read_feeds(section.section("feed")) if section.has("feed") else (),
+        stockpiles=read_limits(section.section("stockpiles")) if section.has("stockpiles") else (),
         prices={name: prices.number(name, least=0) for name in prices.data},
         fixed_cost_per_year=section.number("fixed_cost_per_year", least=0)
         if section.has("fixed_cost_per_year")
@@ -198,6 +208,18 @@ def read_period(section: Section) -> Period:
     )
     section.finish()
     return period
+
+
+def read_feeds(section: Section) -> tuple[FeedGrade, ...]:
+    """Reads limits on head grades by column, or by process and column."""
+    found: list[FeedGrade] = []
+    for name, value in section.data.items():
+        is_process = isinstance(value, dict) and value and all(isinstance(it, dict) for it in value.values())
+        inner = section.section(name) if is_process else Section(section.file, section.name, {name: value})
+        found += read_feed(inner, name if is_process else "")
+        section.get(name)
+    section.finish()
+    return tuple(found)
 
 
 def read_length(section: Section) -> tuple[int, int]:

@@ -82,9 +82,13 @@ class Project:
 
     @property
     def feed_grades(self) -> tuple[FeedGrade, ...]:
-        """The limits on head grades of all processes."""
+        """The limits on head grades of all processes; of one that only periods have, neither side."""
         of_one = self.schedule.feed if self.schedule else ()
-        return (*of_one, *(limit for process in self.processes for limit in process.feed))
+        found = (*of_one, *(limit for process in self.processes for limit in process.feed))
+        known = {(it.process, it.column) for it in found}
+        of_periods = {(it.process, it.column): it for period in self.shells.calendar.periods for it in period.feed}
+        more = (replace(it, min=None, max=None) for key, it in of_periods.items() if key not in known)
+        return (*found, *more)
 
     @property
     def limited_columns(self) -> tuple[str, ...]:

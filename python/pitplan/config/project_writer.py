@@ -254,6 +254,13 @@ def of_feed(limits: tuple[FeedGrade, ...]) -> Any:
     return {it.column: {"min": it.min, "max": it.max} for it in limits} or None
 
 
+def of_feeds(limits: tuple[FeedGrade, ...]) -> Values:
+    """The limits on head grades of a period, by process if there are processes."""
+    names = dict.fromkeys(it.process for it in limits)
+    by_process = {name: of_feed(tuple(it for it in limits if it.process == name)) for name in names}
+    return {**(by_process.pop("", None) or {}), **by_process}
+
+
 def of_slopes(slopes: Slopes) -> Values:
     return {
         "precedence_benches": slopes.precedence_benches,
@@ -293,6 +300,8 @@ def of_period(period: Period) -> Values:
     values = asdict(period) | {
         "capex": period.capex or None,
         "period_months": None if period.period_months == MONTHS else period.period_months,
+        "feed": of_feeds(period.feed),
+        "stockpiles": {it.name: {"min": it.min, "max": it.max} for it in period.stockpiles},
     }
     return {name: None if value == {} else value for name, value in values.items()}
 

@@ -7,6 +7,7 @@ from dataclasses import dataclass, field
 from typing import Optional
 
 from .acceptance import CLASS, CODES, DOMAIN, ROCK_TYPE, Accepts, read_accepts
+from .feed_grades import read_range
 from .toml_section import Section
 
 # The name of the only stockpile if it has none.
@@ -66,6 +67,22 @@ class Stockpile:
     recovery: dict[str, float] = field(default_factory=dict)
     accepts: Accepts = Accepts()
     opening: Optional[Opening] = None
+
+
+@dataclass(frozen=True)
+class StockpileLimit:
+    """The least and the most tonnes of feed on a stockpile at the end of a period; None: as in the other sections."""
+
+    name: str
+    min: Optional[float]
+    max: Optional[float]
+
+
+def read_limits(section: Section) -> tuple[StockpileLimit, ...]:
+    """Reads limits of stockpiles by name. Raises PlanError, with the key, if one has a mistake."""
+    limits = tuple(StockpileLimit(name, *read_range(section, name, "{ max = 2e6 }")) for name in section.data)
+    section.finish()
+    return limits
 
 
 def read_stockpiles(section: Section) -> tuple[Stockpile, ...]:

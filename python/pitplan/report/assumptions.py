@@ -9,6 +9,7 @@ from typing import Any, Optional
 
 from pitplan.config.classes import TREATMENTS
 from pitplan.config.economics import ByDomain, Curve, Metal
+from pitplan.config.feed_grades import FeedGrade
 from pitplan.config.periods import MONTHS, Period
 from pitplan.config.project import Project
 from pitplan.config.shells import IN_WORDS
@@ -152,14 +153,20 @@ def capacities(project: Project) -> Iterator[tuple[str, str]]:
     if rules and rules.ramp_up != (1.0,):
         yield "ramp-up", f"{', '.join(map(percent, rules.ramp_up))} of the processing capacity, by year"
     for grade in project.feed_grades:
-        ends = [
-            f"{word} {number(it)}" for word, it in (("at least", grade.min), ("at most", grade.max)) if it is not None
-        ]
-        yield f"head grade {grade.column}{f' of {grade.process}' if grade.process else ''}", ", ".join(ends)
+        yield head_grade(grade), between(grade.min, grade.max) or "by period"
     for pile in rules.stockpiles if rules else ():
         room = "" if pile.capacity is None else f", {number(pile.capacity)} t"
         lies = "" if pile.opening is None else f", {number(pile.opening.tonnes)} t at the start"
         yield f"stockpile {pile.name}", f"reclaim {number(pile.reclaim_cost)} {project.economics.currency}/t{room}{lies}"
+
+
+def head_grade(grade: FeedGrade) -> str:
+    return f"head grade {grade.column}{f' of {grade.process}' if grade.process else ''}"
+
+
+def between(least: Optional[float], most: Optional[float]) -> str:
+    """Returns a range in words; "" without limits."""
+    return ", ".join(f"{word} {number(it)}" for word, it in (("at least", least), ("at most", most)) if it is not None)
 
 
 def periods(project: Project) -> Iterator[tuple[str, str]]:
@@ -185,6 +192,8 @@ def of_period(entry: Period, project: Project) -> Iterator[str]:
     }
     yield from (f"{name} {number(most)} t a year" for name, most in given.items() if most is not None)
     yield from (f"{name} at least {number(least)} a year" for name, least in entry.minimum.items())
+    yield from (f"{head_grade(it)} {between(it.min, it.max)}" for it in entry.feed)
+    yield from (f"stockpile {it.name} {between(it.min, it.max)} t" for it in entry.stockpiles)
     yield from (f"{name} {number(price)} {currency}" for name, price in entry.prices.items())
     if entry.fixed_cost_per_year is not None:
         yield f"fixed costs {number(entry.fixed_cost_per_year)} {currency} a year"

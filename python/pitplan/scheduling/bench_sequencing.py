@@ -31,6 +31,7 @@ class Limits:
     least         by name the least of an amount, likewise
     most_by_year, least_by_year  by name the limits per year of periods that differ, from the first; the last one continues
     calendar      the lengths of the periods, by which limits per year are multiplied
+    stock_by_year by stockpile the least and the most that lies there at the end of periods that differ, likewise
     """
 
     most: dict[str, float]
@@ -40,6 +41,7 @@ class Limits:
     most_by_year: dict[str, tuple[float, ...]] = field(default_factory=dict)
     least_by_year: dict[str, tuple[float, ...]] = field(default_factory=dict)
     calendar: Calendar = Calendar()
+    stock_by_year: dict[str, tuple[tuple[float, float], ...]] = field(default_factory=dict)
 
     def of_year(self, number: int) -> np.ndarray:
         """The limited amounts of a year, numbered from 1."""

@@ -5,6 +5,8 @@ from __future__ import annotations
 from dataclasses import replace
 from typing import Optional
 
+import numpy as np
+
 from pitplan.config.project import Project
 from pitplan.config.schedule import FEED, TOTAL, ScheduleRules
 from pitplan.pushbacks.bench_table import ORE, ROCK
@@ -32,4 +34,22 @@ def all_limits_of(project: Project, rules: ScheduleRules) -> Limits:
     least = {names[name]: amount for name, amount in rules.minimum.items()}
     least |= {f"{SUM}{it.name}": it.min for it in rules.limits if it.min}
     least = {name: amount for name, amount in least.items() if amount > 0 or name in of_years}
-    return replace(limits, most=most, least=dict.fromkeys(of_years, 0.0) | least, least_by_year=of_years)
+    least = dict.fromkeys(of_years, 0.0) | least
+    return replace(limits, most=most, least=least, least_by_year=of_years, stock_by_year=stock_of(project, rules))
+
+
+def stock_of(project: Project, rules: ScheduleRules) -> dict[str, tuple[tuple[float, float], ...]]:
+    """Returns, by the name of a stockpile that `[[periods]]` limits, the least and the most that lies there at the end of each period."""
+    calendar, found = project.shells.calendar, {}
+    for it in rules.stockpiles:
+        of_periods = [{limit.name: limit for limit in period.stockpiles}.get(it.name) for period in calendar.listed]
+        if any(of_periods):
+            most = np.inf if it.capacity is None else it.capacity
+            found[it.name] = tuple(
+                (
+                    0.0 if limit is None or limit.min is None else limit.min,
+                    most if limit is None or limit.max is None else limit.max,
+                )
+                for limit in of_periods
+            )
+    return found

@@ -179,7 +179,7 @@ def make(pushbacks: Pushbacks, progress: Progress = silent) -> YearlySchedule:
     """
     project, rules = pushbacks.plan.project, rules_of(pushbacks.plan.project)
     material = parcels.of_pushbacks(pushbacks, rules)
-    limits = parcels.with_grades(all_limits_of(project, rules), material.blocks)
+    limits = parcels.with_grades(all_limits_of(project, rules), project)
     problem = Problem(material.benches, limits, project.shells, period_costs.of_project(project))
     most, count = periods_of(project, rules), len(material.benches)
     lots = opening.of_plan(pushbacks.plan, rules)
@@ -189,7 +189,7 @@ def make(pushbacks: Pushbacks, progress: Progress = silent) -> YearlySchedule:
     with progress.step(f"scheduling {count:,} benches of {len(pushbacks.factors)} pushbacks by rule"):
         flows, lead = scheduler.by_rule(model, pace_of(schedule), most)
     model = replace(model, years=most or max(1, math.ceil((1 + MORE_YEARS) * flows.years)))
-    schedule = replace(schedule, model=model, lead=lead, flows={} if limits.least else {RULE: flows})
+    schedule = replace(schedule, model=model, lead=lead, flows={} if model.asks_least else {RULE: flows})
     try:
         for schedule in better(schedule, rules, progress):
             pass
@@ -265,7 +265,7 @@ def relaxed(schedule: YearlySchedule, progress: Progress) -> YearlySchedule:
         try:
             optimum = programme.solved()
         except PlanError as error:
-            lacking = programme.lacking() if model.problem.limits.least else ""
+            lacking = programme.lacking() if model.asks_least else ""
             raise PlanError(f"{schedule.pushbacks.plan.project.path}: {lacking}") from error if lacking else error
         upper, before = bound.upper_bound(model, schedule.material.blocks, optimum.prices), schedule.upper_bound
     found = replace(schedule, optimum=optimum)

@@ -19,9 +19,12 @@ def entries_of(periods: Any, place: Callable[[str], Path]) -> list[Mapping[str, 
             entry: dict[str, Any] = {}
             for column, text in row.items():
                 key, _, name = column.strip().partition(".")
-                if text.strip() and name:
-                    entry.setdefault(key, {})[name] = Decimal(text)
-                elif text.strip():
-                    entry[key] = Decimal(text)
+                if not text.strip():
+                    continue
+                names = name.split(".") if key in ("feed", "stockpiles") else [name] if name else []
+                inner, path = entry, [key, *names]
+                for step in path[:-1]:
+                    inner = inner.setdefault(step, {})
+                inner[path[-1]] = Decimal(text)
             found.append(entry)
     return found

@@ -257,6 +257,9 @@ class Period:
     prices: dict[str, Decimal]
     fixed_cost_per_year: Optional[Decimal]
     capex: Decimal
+    feed: tuple[FeedGrade, ...] = ()
+    # By stockpile the least and the most tonnes of feed.
+    stockpiles: dict[str, tuple[Optional[float], Optional[float]]] = field(default_factory=dict)
 
     @property
     def count(self) -> int:
@@ -480,9 +483,26 @@ class Project:
 
     @property
     def feed_grades(self) -> tuple[FeedGrade, ...]:
-        """The limits on head grades of all processes."""
+        """The limits on head grades of all processes; of one that only periods have, neither side."""
         of_one = self.schedule.feed if self.schedule else ()
-        return (*of_one, *(it for process in self.processes for it in process.feed))
+        found = [*of_one, *(it for process in self.processes for it in process.feed)]
+        for it in [it for period in self.shells.periods for it in period.feed]:
+            if not any((it.process, it.column) == (other.process, other.column) for other in found):
+                found.append(FeedGrade(it.process, it.column, None, None))
+        return tuple(found)
+
+    def grades_by_period(self, limit: FeedGrade, side: str, count: int) -> list[Optional[float]]:
+        """Returns the limit of a head grade, its min or its max, in each of the first periods."""
+        found = []
+        for number in range(1, count + 1):
+            period = self.shells.period(number)
+            own = [
+                getattr(it, side)
+                for it in (period.feed if period else ())
+                if (it.process, it.column) == (limit.process, limit.column)
+            ]
+            found.append(getattr(limit, side) if not own or own[0] is None else own[0])
+        return found
 
     @property
     def cuts_blocks(self) -> bool:

@@ -277,6 +277,15 @@ def feed_of(data: Data, process: str) -> tuple[FeedGrade, ...]:
     return tuple(FeedGrade(process, column, metres(it, "min"), metres(it, "max")) for column, it in data.items())
 
 
+def feeds_of(data: Data) -> tuple[FeedGrade, ...]:
+    """Returns limits by column, or by process and column."""
+    found: list[FeedGrade] = []
+    for name, value in data.items():
+        by_process = all(isinstance(it, Mapping) for it in value.values())
+        found += feed_of(value, name) if by_process else feed_of({name: value}, "")
+    return tuple(found)
+
+
 def slopes_of(data: Data) -> Slopes:
     return Slopes(data.get("precedence_benches"), tuple(wall_of(it) for it in data["domains"]))
 
@@ -323,6 +332,10 @@ def periods_of(entries: list[Data]) -> tuple[Period, ...]:
             prices=amounts(data, "prices"),
             fixed_cost_per_year=number(data["fixed_cost_per_year"]) if "fixed_cost_per_year" in data else None,
             capex=number(data.get("capex", Decimal(0))),
+            feed=feeds_of(data.get("feed", {})),
+            stockpiles={
+                name: (metres(it, "min"), metres(it, "max")) for name, it in data.get("stockpiles", {}).items()
+            },
         )
         for data in entries
     )

@@ -11,8 +11,8 @@ import numpy as np
 from planaudit.inputs.answer import Answer
 from planaudit.inputs.project import FeedGrade
 from planaudit.inputs.tables import YEAR
+from planaudit.schedules.grade_limits import grade_name
 from planaudit.schedules.limits import Shares, shares_of
-from planaudit.schedules.lots import grade_name
 
 CASE = "block"
 # Tolerance of limits, as a share of them, and of the last decimal place of a grade.

@@ -13,7 +13,9 @@ import pandas as pd
 from planaudit.inputs.answer import Answer
 from planaudit.inputs.tables import read_table
 from planaudit.schedules.discounts import discount
-from planaudit.schedules.lots import BlockAmounts, grade_name
+from planaudit.schedules.grade_limits import GradeLimit, grade_limits, most_of
+from planaudit.schedules.lots import BlockAmounts
+from planaudit.schedules.periods import stock_limits
 
 FILE, ADVANCE, STOCK = "limits.csv", "vertical_advance_", "stockpile_"
 # The last decimals of used amounts and limits, of utilisation, and of shadow prices.
@@ -34,21 +36,21 @@ class LimitTable:
         Minimum and maximum of each amount by year.
     prices : DataFrame, optional
         bound.csv; None if the linear programme was not solved.
+    years : int
+        The years that a schedule may have.
     """
 
     answer: Answer
     limits: Limits
     prices: Optional[pd.DataFrame]
+    years: int = 1
 
-    @property
-    def grades(self) -> dict[str, tuple[int, float, float]]:
-        """The limits on head grades by name: the number of the process, the grade, and 1 for a maximum or -1 for a minimum."""
-        found, names = {}, BlockAmounts(self.answer).processes
-        for limit in self.answer.project.feed_grades:
-            for side, grade, sign in (("max", limit.max, 1.0), ("min", limit.min, -1.0)):
-                if grade is not None:
-                    name = grade_name(limit.process, limit.column, side)
-                    found[name] = names.index(limit.process), float(grade), sign
+    @cached_property
+    def grades(self) -> dict[str, list[GradeLimit]]:
+        """The limits on head grades by the name that limits.csv has."""
+        found: dict[str, list[GradeLimit]] = {}
+        for limit in grade_limits(self.answer.project):
+            found.setdefault(limit.shown, []).append(limit)
         return found
 
     def price(self, name: str, year: int) -> float:
@@ -70,8 +72,15 @@ class LimitTable:
         rules = self.answer.project.schedule
         numbers = np.unique(self.answer.said["pushback"].to_numpy())
         sinking = [f"{ADVANCE}{it}" for it in numbers if it > 0] if rules and rules.vertical_advance_rate else []
-        finite = [name for name, (_, most) in self.limits.items() if np.isfinite(most).any() or name in self.minimums]
-        held = [f"{STOCK}{name}" for name in self.capacities]
+        shown = {it.name: name for name, limits in self.grades.items() for it in limits}
+        finite = [
+            shown.get(name, name)
+            for name, (_, most) in self.limits.items()
+            if np.isfinite(most).any() or name in self.minimums or name in shown
+        ]
+        # Limits hold in the years of the linear programme, of which a method may have fewer.
+        piles = stock_limits(self.answer.project, max(last, int(self.years)))
+        held = [f"{STOCK}{name}" for name, (least, most) in piles.items() if least.any() or np.isfinite(most).any()]
         due = {(name, year) for name in [*finite, *sinking, *held] for year in range(1, last + 1)}
         there = list(zip(rows["limit"], rows["year"]))
         if set(there) != due or len(there) != len(due):
@@ -81,44 +90,47 @@ class LimitTable:
             yield from self.unlike_limit(method, rows[rows["limit"] == name].set_index("year"), str(name), used)
 
     @property
-    def capacities(self) -> dict[str, float]:
-        """The capacity of each stockpile that has one, by name."""
-        rules = self.answer.project.schedule
-        return {it.name: it.capacity for it in (rules.stockpiles if rules else ()) if it.capacity is not None}
-
-    @property
     def minimums(self) -> list[str]:
         return [name for name, (least, _) in self.limits.items() if (least > 0).any()]
 
     def unlike_limit(self, method: str, rows: pd.DataFrame, name: str, used: Used) -> Iterator[str]:
         """Yields differences of the rows of a limit, by year."""
-        amounts, slack = used(name)
-        grade = self.grades.get(name)
+        grades = self.grades.get(name)
+        amounts, slack = used(grades[0].name if grades else name)
         for year, row in rows.iterrows():
             number = int(str(year))
-            amount, loose, price = (
-                float(amounts.get(number, 0.0)),
-                float(slack.get(number, 0.0)),
-                self.price(name, number),
-            )
-            least, most = self.bounds(name, number)
-            if grade is not None:
-                process, limit, sign = grade
-                feed = float(used(f"feed {process}")[0].get(number, 0.0))
-                amount, loose = (sign * amount / feed + limit, loose / feed) if feed > AMOUNT else (np.nan, 0.0)
-                least, most, price = (np.nan, limit, price * feed) if sign > 0 else (limit, np.nan, -price * feed)
-            share = amount / most if grade is None and most > 0 else np.nan
+            amount, loose = float(amounts.get(number, 0.0)), float(slack.get(number, 0.0))
+            price, (least, most) = self.price(name, number), (np.nan, np.nan)
+            if grades:
+                amount, loose, least, most, price = self.of_grade(grades, number, (amount, loose), used)
+            else:
+                least, most = self.bounds(name, number)
+            share = amount / most if not grades and most > 0 else np.nan
             expected = {
                 "used": (amount, AMOUNT + loose + 1e-6 * abs(amount)),
                 "minimum": (least, AMOUNT),
                 "maximum": (most, AMOUNT),
                 "utilisation": (share, SHARE + (loose + AMOUNT) / most if most > 0 else SHARE),
-                "shadow_price": (price, PRICE + 1e-6 * abs(price) + (abs(price) * 1e-3 if grade is not None else 0.0)),
+                "shadow_price": (price, PRICE + 1e-6 * abs(price) + (abs(price) * 1e-3 if grades else 0.0)),
             }
             for column, (value, tolerance) in expected.items():
                 said = float(row[column])
                 if not (abs(said - value) <= tolerance or np.isnan(said) and np.isnan(value)):
                     yield f"{FILE}: {method}, year {number}, {name}: {column} {said:.10g} for {value:.10g}"
+
+    def of_grade(
+        self, grades: list[GradeLimit], year: int, excess: tuple[float, float], used: Used
+    ) -> tuple[float, float, float, float, float]:
+        """Returns the head grade of a year with its tolerance, its minimum, its maximum and its price; `excess` is the amount of the first limit."""
+        first, names = grades[0], BlockAmounts(self.answer).processes
+        feed = float(used(f"feed {names.index(first.process)}")[0].get(year, 0.0))
+        grade, loose = (
+            (first.sign * excess[0] / feed + first.grade, excess[1] / feed) if feed > AMOUNT else (np.nan, 0.0)
+        )
+        holds = [it.grade for it in grades if most_of(self.answer.project, it, year)[-1] == 0]
+        limit = holds[0] if holds else np.nan
+        price = sum(self.price(it.name, year) * feed * it.sign for it in grades)
+        return grade, loose, *((np.nan, limit) if first.sign > 0 else (limit, np.nan)), price
 
     def bounds(self, name: str, year: int) -> tuple[float, float]:
         """Returns minimum and maximum of a year; nan where there is none."""
@@ -128,7 +140,9 @@ class LimitTable:
             rate = float(project.schedule.vertical_advance_rate or np.nan)
             return np.nan, rate * project.shells.calendar.length(year)
         if name.startswith(STOCK):
-            return np.nan, self.capacities[name.removeprefix(STOCK)]
+            piles = stock_limits(self.answer.project, max(year, int(self.years)))[name.removeprefix(STOCK)]
+            most = float(piles[1][year - 1])
+            return float(piles[0][year - 1]) if piles[0].any() else np.nan, most if np.isfinite(most) else np.nan
         least, most = (float(values[year - 1]) for values in self.limits[name])
         return least if name in self.minimums else np.nan, most if np.isfinite(most) else np.nan
 

@@ -14,6 +14,7 @@ from planaudit.inputs.matching import BIN, PUSHBACK, own_name
 from planaudit.inputs.project import GRADE_UNITS, Stockpile
 from planaudit.money.feed import recovered
 from planaudit.money.prices import converted
+from planaudit.schedules.grade_limits import GradeLimit, grade_limits
 
 MILL = "mill"
 
@@ -132,11 +133,10 @@ class BlockAmounts:
         for it in self.sums:
             if name == f"sum_{it.name}" and it.of in ("feed", called):
                 return self.column(it.column) * (undiluted if it.per_tonne else 1.0) * self.takes[process]
-        for limit in self.answer.project.feed_grades:
-            for side, grade, sign in (("max", limit.max, 1.0), ("min", limit.min, -1.0)):
-                if name == grade_name(limit.process, limit.column, side) and limit.process == called:
-                    excess = self.column(limit.column) * undiluted - (grade or 0.0) * self.feed
-                    return sign * excess * self.takes[process]
+        for limit in self.grades:
+            if name == limit.name and limit.process == called:
+                excess = self.column(limit.column) * undiluted - limit.grade * self.feed
+                return limit.sign * excess * self.takes[process]
         return np.zeros(len(self.inside))
 
     @property
@@ -177,13 +177,8 @@ class BlockAmounts:
     @property
     def limited(self) -> list[str]:
         """The names of limited sums and head grades."""
-        found = [f"sum_{it.name}" for it in self.sums]
-        for limit in self.answer.project.feed_grades:
-            sides = (("max", limit.max), ("min", limit.min))
-            found += [grade_name(limit.process, limit.column, side) for side, grade in sides if grade is not None]
-        return list(dict.fromkeys(found))
+        return list(dict.fromkeys([*(f"sum_{it.name}" for it in self.sums), *(it.name for it in self.grades)]))
 
-
-def grade_name(process: str, column: str, side: str) -> str:
-    """Returns the name of a limited head grade, such as grade_mill_as_ppm_max."""
-    return "_".join(["grade", *([process] if process else []), column, side])
+    @cached_property
+    def grades(self) -> list[GradeLimit]:
+        return grade_limits(self.answer.project)

@@ -15,7 +15,7 @@ from planaudit.inputs.matching import own_name
 from planaudit.inputs.project import GRADE_UNITS, Opening, Project, Stockpile
 from planaudit.money.feed import by_code, recovered
 from planaudit.money.prices import converted
-from planaudit.schedules.lots import BlockAmounts, grade_name
+from planaudit.schedules.lots import BlockAmounts
 
 # Lots are of pushback and bin 0. The level of that of the first stockpile is FIRST, and falls.
 FIRST = -1
@@ -117,11 +117,9 @@ class OpeningLots:
         for it in self.blocks.sums:
             if name == f"sum_{it.name}" and it.of in ("feed", called):
                 return self.rows[it.column].to_numpy(dtype=float) * self.feed * taken
-        for limit in self.project.feed_grades:
-            for side, grade, sign in (("max", limit.max, 1.0), ("min", limit.min, -1.0)):
-                if name == grade_name(limit.process, limit.column, side) and limit.process == called:
-                    excess = self.rows[limit.column].to_numpy(dtype=float) - (grade or 0.0)
-                    return sign * excess * self.feed * taken
+        for limit in self.blocks.grades:
+            if name == limit.name and limit.process == called:
+                return limit.sign * (self.rows[limit.column].to_numpy(dtype=float) - limit.grade) * self.feed * taken
         return np.zeros(len(self.feed))
 
     @cached_property

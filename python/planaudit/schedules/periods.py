@@ -55,6 +55,17 @@ def minima_of_periods(project: Project, years: int) -> dict[str, np.ndarray]:
     return found
 
 
+def stock_limits(project: Project, years: int) -> dict[str, tuple[np.ndarray, np.ndarray]]:
+    """Returns by stockpile the least and the most tonnes at the end of each period, infinite without a limit."""
+    found = {}
+    for it in project.schedule.stockpiles if project.schedule else ():
+        most = np.inf if it.capacity is None else it.capacity
+        of_periods = [project.shells.period(year) for year in range(1, years + 1)]
+        pairs = [period.stockpiles.get(it.name, (None, None)) if period else (None, None) for period in of_periods]
+        found[it.name] = given([pair[0] for pair in pairs], 0.0), given([pair[1] for pair in pairs], most)
+    return found
+
+
 def amount_of(project: Project, name: str) -> str:
     """Returns the amount that a name of a minimum stands for."""
     if name in {process.name for process in project.processes}:

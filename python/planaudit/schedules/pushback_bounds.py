@@ -25,6 +25,7 @@ from planaudit.rules import Rule, rule
 from planaudit.schedules.discounts import discount, present_costs
 from planaudit.schedules.lots import BlockAmounts
 from planaudit.schedules.opening import OpeningLots
+from planaudit.schedules.periods import stock_limits
 
 FILE = "bound.csv"
 MAX, MIN, RUNNING = "max", "min", "running"
@@ -83,15 +84,29 @@ class Bound:
         """The limits of the project, by name and side."""
         found: Limits = {}
         for name, (least, most) in self.given.items():
-            found |= {(name, MAX): most} if np.isfinite(most).all() else {}
+            found |= {(name, MAX): most} if np.isfinite(most).any() else {}
             found |= {(name, MIN): least} if (least > 0).any() else {}
         rules = self.answer.project.schedule
         if rules and rules.vertical_advance_rate:
             rate = float(rules.vertical_advance_rate) * self.answer.project.shells.calendar.lengths(self.years)
             found |= {(f"{ADVANCE}{number}", MAX): rate for number in np.unique(self.benches["pushback"])}
-        for it in self.blocks.stockpiles:
-            found |= {(f"{STOCK}{it.name}", MAX): np.full(self.years, it.capacity)} if it.capacity else {}
+        for name, (least, most) in stock_limits(self.answer.project, self.years).items():
+            found |= {(f"{STOCK}{name}", MAX): most} if np.isfinite(most).any() else {}
+            found |= {(f"{STOCK}{name}", MIN): least} if least.any() else {}
         return found
+
+    def rent(self, stockpile: Stockpile) -> np.ndarray:
+        """Returns the price of a tonne that lies on a stockpile at the end of each year; below 0 where a minimum asks for it."""
+        nothing = np.zeros(self.years)
+        name = f"{STOCK}{stockpile.name}"
+        return self.by_price.get((name, MAX), nothing) - self.by_price.get((name, MIN), nothing)
+
+    @property
+    def asks_least(self) -> bool:
+        """Whether a year must hold something at least, or a stockpile must be emptied."""
+        lying = {f"{STOCK}{it.name}": it.lying for it in self.blocks.stockpiles}
+        emptied = any((most < lying.get(name, 0.0)).any() for (name, side), most in self.limits.items() if side == MAX)
+        return emptied or any(side == MIN for _, side in self.limits)
 
     @cached_property
     def by_price(self) -> dict[tuple[str, str], np.ndarray]:
@@ -107,6 +122,8 @@ class Bound:
                 yield f"{FILE}: {name} {side} has {len(prices)} years for {self.years}"
             elif not (prices >= 0).all():
                 yield f"{FILE}: {name} {side} has a price below 0"
+            elif prices[~np.isfinite(self.limits[name, MAX if side == RUNNING else side])].any():
+                yield f"{FILE}: {name} {side} has a price in a year without this limit"
 
     @cached_property
     def discounts(self) -> np.ndarray:
@@ -153,8 +170,7 @@ class Bound:
         """What each block earns that is placed on a stockpile in each year, and reclaimed in its best later year or never."""
         blocks = self.blocks
         later = np.max([self.in_process(number, stockpile) for number in range(len(blocks.processes))], axis=0)
-        price = self.by_price.get((f"{STOCK}{stockpile.name}", MAX), np.zeros(self.years))
-        rent = blocks.feed[:, None] * np.cumsum(price)
+        rent = blocks.feed[:, None] * np.cumsum(self.rent(stockpile))
         found = np.empty_like(later)
         for year in range(self.years):
             # By the year of the reclaim, in which it pays no more; or it lies there to the end.
@@ -228,7 +244,10 @@ class Bound:
 
     @property
     def of_limits(self) -> float:
-        signed = {key: (-1.0 if key[1] == MIN else 1.0) * amounts for key, amounts in self.limits.items()}
+        signed = {
+            key: (-1.0 if key[1] == MIN else 1.0) * np.where(np.isfinite(amounts), amounts, 0.0)
+            for key, amounts in self.limits.items()
+        }
         return float(sum(prices @ signed[key] for key, prices in self.by_price.items() if key in signed))
 
     @property
@@ -268,8 +287,7 @@ class Bound:
         lots, found = OpeningLots(self.blocks), 0.0
         for place, (_, it, opening) in enumerate(lots.given):
             ways = [self.in_process(number, it, lots)[place] for number in range(len(self.blocks.processes))]
-            price = self.by_price.get((f"{STOCK}{it.name}", MAX), np.zeros(self.years))
-            paid = opening.tonnes * np.append(0.0, price.cumsum())
+            paid = opening.tonnes * np.append(0.0, self.rent(it).cumsum())
             found += max(float((np.max(ways, axis=0) - paid[:-1]).max()), float(-paid[-1]))
         return found
 
@@ -277,7 +295,7 @@ class Bound:
     def value(self) -> float:
         """The bound; without a minimum to mine nothing earns 0."""
         found = self.of_limits + self.of_running + self.of_benches + self.of_opening
-        return found if any(side == MIN for _, side in self.limits) else max(found, 0.0)
+        return found if self.asks_least else max(found, 0.0)
 
 
 def left_over(takes: np.ndarray, before: np.ndarray, most: np.ndarray) -> np.ndarray:

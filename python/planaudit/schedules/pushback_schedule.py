@@ -27,8 +27,8 @@ from planaudit.schedules import (
     pushback_bounds,
 )
 from planaudit.schedules.discounts import discount, present_costs
+from planaudit.schedules.grade_limits import grade_limits, most_of
 from planaudit.schedules.limits import least_of
-from planaudit.schedules.lots import grade_name
 from planaudit.schedules.material_flow import UNKNOWN, MaterialFlow
 from planaudit.schedules.opening import FIRST
 from planaudit.schedules.periods import counted, maxima_of_periods, minima_of_periods
@@ -129,6 +129,7 @@ def by_year(answer: Answer, years: int) -> dict[str, tuple[np.ndarray, np.ndarra
         return amount * (ramp if name.startswith("feed_tonnes") else np.ones(years))
 
     own = maxima_of_periods(answer.project, years)
+    own |= {it.name: most_of(answer.project, it, years) for it in grade_limits(answer.project)}
     found = {name: (nothing, own.get(name, of_years(name, most))) for name, most in maxima_of(answer).items()}
     minima = {name: of_years(name, least) for name, least in least_of(answer)} | minima_of_periods(
         answer.project, years
@@ -146,9 +147,7 @@ def maxima_of(answer: Answer) -> dict[str, float]:
     found |= {f"feed_tonnes_{process.name}": process.capacity for process in answer.project.processes}
     found |= {f"recovered_{name}": most for name, most in (rules.max_metal_per_year if rules else {}).items()}
     found |= {f"sum_{it.name}": it.max for it in (rules.limits if rules else ()) if it.max is not None}
-    for limit in answer.project.feed_grades:
-        sides = (("max", limit.max), ("min", limit.min))
-        found |= {grade_name(limit.process, limit.column, side): 0.0 for side, grade in sides if grade is not None}
+    found |= {it.name: 0.0 for it in grade_limits(answer.project)}
     return {name: most for name, most in found.items() if most < math.inf}
 
 
@@ -285,7 +284,8 @@ def unlike_limit_table(ways: list[Way], told: dict[str, Any], flow: MaterialFlow
         limits = by_year(way.answer, max(way.last, 1))
         mine = rows[rows["method"] == way.name]
         used = functools.partial(used_rounded, way, flow)
-        yield from limit_table.LimitTable(way.answer, limits, prices).unlike(way.name, mine, used, way.last)
+        table = limit_table.LimitTable(way.answer, limits, prices, int(told["years"]))
+        yield from table.unlike(way.name, mine, used, way.last)
 
 
 def used_of(way: Way, flow: MaterialFlow, name: str) -> tuple[pd.Series, pd.Series]:

@@ -10,6 +10,7 @@ import pandas as pd
 
 from planaudit.inputs.project import GRADE_UNITS, Stockpile
 from planaudit.inputs.tables import read_table
+from planaudit.schedules.periods import stock_limits
 
 if TYPE_CHECKING:
     from planaudit.schedules.material_flow import MaterialFlow
@@ -63,13 +64,25 @@ def unlike_stock(flow: MaterialFlow, stockpile: Stockpile) -> Iterator[str]:
     wrong = out.sub(before).gt(slack, axis=0).any(axis=1)
     for at in out.index[wrong]:
         yield f"flows.csv: {', '.join(map(str, at))}: more is reclaimed from {stockpile.name} than was placed before"
-    if stockpile.capacity is not None:
-        lies = sums["destination", "feed_tonnes"].sub(sums["source", "feed_tonnes"], fill_value=0.0)
-        for method, moved in lies.groupby(level="method").sum().iterrows():
-            of_years = moved + stockpile.lying
-            off = of_years > stockpile.capacity * (1 + SHARE) + AMOUNT * (2 * len(lies) + 1)
-            for year in of_years.index[off]:
-                yield f"flows.csv: {method}, year {year}: {stockpile.name} holds {of_years[year]:.10g} t above its capacity of {stockpile.capacity:.10g}"
+    yield from beyond(flow, stockpile, sums)
+
+
+def beyond(flow: MaterialFlow, stockpile: Stockpile, sums: dict[tuple[str, str], pd.DataFrame]) -> Iterator[str]:
+    """Yields years at whose end a stockpile holds more than its most, or less than its least; `sums` are the flows of lots until each year."""
+    lies = sums["destination", "feed_tonnes"].sub(sums["source", "feed_tonnes"], fill_value=0.0)
+    years = lies.columns
+    least, most = stock_limits(flow.answer.project, len(years))[stockpile.name]
+    for method in dict.fromkeys(flow.rows["method"]):
+        moved = (
+            lies[lies.index.get_level_values("method") == method].sum() if len(lies) else pd.Series(0.0, index=years)
+        )
+        last = int(flow.rows.loc[flow.rows["method"] == method, "year"].max())
+        for year, limits in zip(years[:last], zip(least, most)):
+            holds, slack = moved[year] + stockpile.lying, AMOUNT * (2 * len(lies) + 1)
+            if holds > limits[1] * (1 + SHARE) + slack:
+                yield f"flows.csv: {method}, year {year}: {stockpile.name} holds {holds:.10g} t above its capacity of {limits[1]:.10g}"
+            if holds < limits[0] * (1 - SHARE) - slack:
+                yield f"flows.csv: {method}, year {year}: {stockpile.name} holds {holds:.10g} t below its minimum of {limits[0]:.10g}"
 
 
 def unlike_balance(flow: MaterialFlow, method: str, name: str, rows: pd.DataFrame) -> Iterator[str]:

@@ -12,7 +12,8 @@ import numpy as np
 from numpy.typing import NDArray
 
 from pitplan.plan import Plan
-from pitplan.scheduling.flow.parcels import GRADE, column_of, feed_grades, grade_name
+from pitplan.scheduling.flow.parcels import column_of
+from pitplan.scheduling.grade_limits import GRADE, grade_limits
 
 from .problem import Limit
 from .schedule import BlockSchedule
@@ -69,13 +70,15 @@ class HeadGrade:
 
 
 def head_grades(plan: Plan) -> list[HeadGrade]:
-    """Returns the head grades that `[processes.feed]` and `[schedule.feed]` limit."""
+    """Returns the head grades that `[processes.feed]` and `[schedule.feed]` limit. Those of periods are refused before."""
     values, cells, found = plan.values, np.arange(plan.grid.count), []
-    for number, limit in feed_grades(plan):
-        sides = {"max": (1.0, limit.max), "min": (-1.0, limit.min)}
-        limits = {grade_name(limit, side): (sign, grade) for side, (sign, grade) in sides.items() if grade is not None}
-        name = "head_" + GRADE + "_".join([*([limit.process] if limit.process else []), limit.column])
-        content = column_of(plan, limit.column, cells) * values.undiluted
+    names = [process.name for process in plan.project.processes] or [""]
+    limits = grade_limits(plan.project)
+    for grade in plan.project.feed_grades:
+        number = names.index(grade.process)
+        mine = {it.name: (it.sign, it.grade) for it in limits if (it.process, it.column) == (number, grade.column)}
+        name = "head_" + GRADE + "_".join([*([grade.process] if grade.process else []), grade.column])
+        content = column_of(plan, grade.column, cells) * values.undiluted
         pays = values.by_process[number].revenue > 0
-        found.append(HeadGrade(name, 1 + number, limits, content, values.feed, pays))
+        found.append(HeadGrade(name, 1 + number, mine, content, values.feed, pays))
     return found

@@ -95,7 +95,7 @@ class Lagrangian:
     @property
     def of_limits(self) -> float:
         """The prices times the limits."""
-        limits = {(it.name, it.side): it.sign * it.amount for it in self.programme.limits}
+        limits = {(it.name, it.side): it.sign * it.finite for it in self.programme.limits}
         return float(sum(price @ limits[key] for key, price in self.prices.items() if key in limits))
 
     @property
@@ -132,7 +132,7 @@ class Lagrangian:
     def value(self) -> float:
         """The bound. To mine nothing earns nothing, unless a minimum forbids it."""
         found = self.of_limits + self.of_running + self.of_benches + self.of_opening
-        return found if self.model.problem.limits.least else max(found, 0.0)
+        return found if self.model.asks_least else max(found, 0.0)
 
 
 def upper_bound(model: FlowModel, blocks: Ore, prices: Prices) -> float:

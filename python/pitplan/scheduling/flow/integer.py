@@ -60,7 +60,7 @@ def best_schedule(model: FlowModel, effort: Effort) -> tuple[Optional[Flows], fl
     most = found.bound * flow.unit - flow.costs[0]
     if found.unknowns is None:
         return None, most
-    if most < 0 and not model.problem.limits.least:
+    if most < 0 and not model.asks_least:
         most = 0.0
     dug = whole_shares(found.unknowns[: flow.sizes[0]].reshape(-1, model.years))
     flows = scheduler.feasible(model, dug) if keeps(model, dug) else None

@@ -8,9 +8,10 @@ import numpy as np
 import pandas as pd
 from numpy.typing import NDArray
 
+from pitplan.scheduling.grade_limits import GradeLimit, grade_limits
+
 from .flows import Flows
 from .ore import FEED
-from .parcels import feed_grades, grade_name
 from .programme import ADVANCE, MAX, MIN, STOCK
 
 if TYPE_CHECKING:
@@ -41,29 +42,42 @@ def limit_table(schedule: YearlySchedule) -> pd.DataFrame:
 
 
 def names_of(schedule: YearlySchedule) -> list[str]:
-    """The limits: amounts, head grades, the vertical advance of each pushback, and the capacity of stockpiles."""
-    limits = schedule.problem.limits
-    found = list(dict.fromkeys([*limits.most, *limits.least]))
+    """The limits: amounts, head grades, the vertical advance of each pushback, and what lies on stockpiles."""
+    limits, grades = schedule.problem.limits, grades_of(schedule)
+    shown = {it.name: name for name, found in grades.items() for it in found}
+    found = list(dict.fromkeys(shown.get(name, name) for name in (*limits.most, *limits.least)))
     if np.isfinite(limits.vertical_advance_rate):
         found += [f"{ADVANCE}{number}" for number in np.unique(schedule.benches.pushback)]
-    return [*found, *(f"{STOCK}{it.name}" for it in schedule.model.stockpiles if it.capacity is not None)]
+    model = schedule.model
+    limited = [np.isfinite(most).any() or least.any() for least, most in model.rooms]
+    return [*found, *(f"{STOCK}{it.name}" for it, is_limited in zip(model.stockpiles, limited) if is_limited)]
 
 
 def rows_of(schedule: YearlySchedule, method: str, name: str) -> pd.DataFrame:
-    flows = schedule.flows[method]
-    years = np.arange(flows.years)
-    used, least, most = amounts_of(schedule, flows, name)
-    price = shadow_prices(schedule, name)[: flows.years]
-    grade = grades_of(schedule).get(name)
-    if grade is not None:
-        number, limit, sign = grade
-        feed = flows.used_in(FEED, number)
-        used = np.divide(sign * used, feed, out=np.full(len(years), np.nan), where=feed > 0) + limit
-        least, most = (np.full(len(years), limit if side == sign else np.nan) for side in (-1.0, 1.0))
-        price = price * feed * sign
-    share = np.divide(used, most, out=np.full(len(years), np.nan), where=most > 0)
-    columns = (method, years + 1, name, used, least, most, np.full(len(years), np.nan) if grade else share, price)
+    flows, grades = schedule.flows[method], grades_of(schedule).get(name)
+    years, nothing = np.arange(flows.years), np.full(flows.years, np.nan)
+    if grades is not None:
+        used, least, most, price = of_grade(schedule, flows, grades)
+    else:
+        used, least, most = amounts_of(schedule, flows, name)
+        price = shadow_prices(schedule, name)[: flows.years]
+    share = nothing if grades else np.divide(used, most, out=nothing.copy(), where=most > 0)
+    columns = (method, years + 1, name, used, least, most, share, price)
     return pd.DataFrame(dict(zip(COLUMNS, columns)))
+
+
+def of_grade(schedule: YearlySchedule, flows: Flows, limits: list[GradeLimit]) -> tuple[Floats, Floats, Floats, Floats]:
+    """Returns the head grade of each year, its minimum and maximum, and what a unit more of the limit would earn."""
+    first, years = limits[0], flows.years
+    feed = flows.used_in(FEED, first.process)
+    excess = first.sign * flows.used(first.name)
+    grade = np.divide(excess, feed, out=np.full(years, np.nan), where=feed > 0) + first.grade
+    limit, price = np.full(years, np.nan), np.zeros(years)
+    for it in limits:
+        limit[it.in_years(years)] = it.grade
+        price = price + shadow_prices(schedule, it.name)[:years] * feed * it.sign
+    nothing = np.full(years, np.nan)
+    return grade, *((nothing, limit) if first.sign > 0 else (limit, nothing)), price
 
 
 def amounts_of(schedule: YearlySchedule, flows: Flows, name: str) -> tuple[Floats, Floats, Floats]:
@@ -80,22 +94,22 @@ def amounts_of(schedule: YearlySchedule, flows: Flows, name: str) -> tuple[Float
 
 
 def of_stockpile(schedule: YearlySchedule, flows: Flows, name: str) -> tuple[Floats, Floats, Floats]:
-    """Returns the tonnes of feed on a stockpile at the end of each year, no minimum, and its capacity. The rule places nothing there, and leaves
-    what lay there at the start."""
+    """Returns the tonnes of feed on a stockpile at the end of each year, their minimum and their maximum. The rule places nothing there, and
+    leaves what lay there at the start."""
     number = [f"{STOCK}{it.name}" for it in schedule.model.stockpiles].index(name)
-    capacity, nothing = schedule.model.stockpiles[number].capacity, np.full(flows.years, np.nan)
+    least, most = schedule.model.rooms[number]
     lay = float(schedule.model.opening.on(number).sum())
     lies = flows.lying(number) if flows.model.stockpiles else np.full(flows.years, lay)
-    return lies, nothing, np.full(flows.years, capacity, dtype=float)
+    nothing = np.full(flows.years, np.nan)
+    has_least, most = least.any(), most[: flows.years]
+    return lies, least[: flows.years] if has_least else nothing, np.where(np.isfinite(most), most, nothing)
 
 
-def grades_of(schedule: YearlySchedule) -> dict[str, tuple[int, float, float]]:
-    """Returns the limits on head grades by name: the number of the process, the grade, and 1 for a maximum or -1 for a minimum."""
-    found = {}
-    for number, limit in feed_grades(schedule.pushbacks.plan):
-        for side, grade, sign in (("max", limit.max, 1.0), ("min", limit.min, -1.0)):
-            if grade is not None:
-                found[grade_name(limit, side)] = number, float(grade), sign
+def grades_of(schedule: YearlySchedule) -> dict[str, list[GradeLimit]]:
+    """Returns the limits on head grades by the name that is shown."""
+    found: dict[str, list[GradeLimit]] = {}
+    for limit in grade_limits(schedule.pushbacks.plan.project):
+        found.setdefault(limit.shown, []).append(limit)
     return found
 
 

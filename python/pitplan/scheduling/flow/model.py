@@ -168,7 +168,25 @@ class FlowModel:
     @property
     def asks_ore(self) -> bool:
         """Whether a limit may ask for ore that does not pay by itself: a minimum, or a limit on a grade."""
-        return bool(self.problem.limits.least) or bool(self.blended)
+        return self.asks_least or bool(self.blended)
+
+    @property
+    def asks_least(self) -> bool:
+        """Whether a year must hold something at least, or a stockpile must be emptied."""
+        lying = [self.opening.on(number).sum() for number in range(len(self.stockpiles))]
+        due = [least.any() or (most < lay).any() for (least, most), lay in zip(self.rooms, lying)]
+        return bool(self.problem.limits.least) or any(due)
+
+    @cached_property
+    def rooms(self) -> tuple[tuple[NDArray[np.float64], NDArray[np.float64]], ...]:
+        """The least and the most tonnes of feed on each stockpile at the end of each year, infinite without a limit, each of shape (years,)."""
+        found = []
+        for it in self.stockpiles:
+            most = np.inf if it.capacity is None else it.capacity
+            by_year = np.array(self.problem.limits.stock_by_year.get(it.name, ((0.0, most),)))
+            least, greatest = by_year[np.minimum(np.arange(self.years), len(by_year) - 1)].T
+            found.append((least, greatest))
+        return tuple(found)
 
     @property
     def blended(self) -> list[str]:

@@ -8,7 +8,7 @@ from typing import Optional
 import numpy as np
 from numpy.typing import NDArray
 
-from pitplan.config.feed_grades import FeedGrade
+from pitplan.config.project import Project
 from pitplan.config.schedule import FEED as OF_FEED, TOTAL, ScheduleRules
 from pitplan.economics import period_costs
 from pitplan.economics.acceptance import accepted_by
@@ -18,13 +18,13 @@ from pitplan.pushbacks import bench_table
 from pitplan.pushbacks.bench_table import CASH, ROCK, PushbackBenches
 from pitplan.pushbacks.nested import Pushbacks
 from pitplan.scheduling.bench_sequencing import Limits
+from pitplan.scheduling.grade_limits import AT, GRADE, grade_limits
 from pitplan.scheduling.limits import SUM
 
 from .ore import FEED, Ore
 
 # A limit on a grade divides ore by that grade into this number of parts of even feed, so that parcels can be blended.
 GRADE_PARTS = 3
-GRADE = "grade_"
 
 
 @dataclass(frozen=True)
@@ -174,24 +174,11 @@ def sums_of(
 def grades_of(plan: Plan, cells: NDArray[np.int64], takes: NDArray[np.float64]) -> dict[str, NDArray[np.float64]]:
     """Returns by limited head grade what processing adds to the content above the maximum, or below the minimum: at most 0 in each year."""
     found = {}
-    for number, limit in feed_grades(plan):
+    for limit in grade_limits(plan.project):
         content = column_of(plan, limit.column, cells) * plan.values.undiluted[cells]
-        for side, grade, sign in (("max", limit.max, 1.0), ("min", limit.min, -1.0)):
-            if grade is not None:
-                excess = sign * (content - grade * plan.values.feed[cells])
-                found[grade_name(limit, side)] = alone(takes * excess, number)
+        excess = limit.sign * (content - limit.grade * plan.values.feed[cells])
+        found[limit.name] = alone(takes * excess, limit.process)
     return found
-
-
-def grade_name(limit: FeedGrade, side: str) -> str:
-    """The name of the amount of a limited head grade, such as grade_mill_as_ppm_max."""
-    return GRADE + "_".join([*([limit.process] if limit.process else []), limit.column, side])
-
-
-def feed_grades(plan: Plan) -> list[tuple[int, FeedGrade]]:
-    """Returns the limited head grades with the number of their process."""
-    names = names_of(plan)
-    return [(names.index(limit.process), limit) for limit in plan.project.feed_grades]
 
 
 def kinds_of(
@@ -227,7 +214,9 @@ def takers_of(blocks: Ore) -> NDArray[np.int64]:
 def grade_parts(blocks: Ore) -> NDArray[np.int64]:
     """Returns the part of each block by its limited grades."""
     part = np.zeros(len(blocks), dtype=np.int64)
-    for name in [name for name in blocks.amounts if name.startswith(GRADE)]:
+    # Limits of other periods differ by a constant.
+    once = {name.partition(AT)[0]: name for name in blocks.amounts if name.startswith(GRADE)}
+    for name in once.values():
         grade = blocks.amounts[name].sum(axis=0) / np.where(blocks.feed > 0, blocks.feed, 1.0)
         edges = edges_of(grade, blocks.feed, GRADE_PARTS)
         part = part * (len(edges) + 1) + np.searchsorted(edges, grade)
@@ -248,6 +237,9 @@ def mined_alone(pushbacks: Pushbacks, assigned: PushbackBenches, rules: Schedule
     return PushbackBenches(assigned.pushback, assigned.level, tuple(flows), sums, assigned.lag)
 
 
-def with_grades(limits: Limits, blocks: Ore) -> Limits:
+def with_grades(limits: Limits, project: Project) -> Limits:
     """Returns the limits with those on head grades: the content above a maximum, or below a minimum, is at most 0."""
-    return replace(limits, most=limits.most | {name: 0.0 for name in blocks.amounts if name.startswith(GRADE)})
+    grades = grade_limits(project)
+    by_year = {it.name: it.most for it in grades if not all(it.applies)}
+    most = limits.most | {it.name: 0.0 for it in grades}
+    return replace(limits, most=most, most_by_year=limits.most_by_year | by_year)

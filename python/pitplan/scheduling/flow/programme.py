@@ -43,6 +43,7 @@ class Limit:
         The limited amount, and MAX or MIN.
     used : csr matrix, shape (years, unknowns)
     amount : array, shape (years,)
+        Infinite where there is no limit.
     """
 
     name: str
@@ -57,7 +58,24 @@ class Limit:
     @property
     def scale(self) -> float:
         """A unit in which the limit is near 1."""
-        return float(np.abs(self.amount).max(initial=0.0)) or float(np.abs(self.used.data).max(initial=0.0)) or 1.0
+        greatest = float(np.abs(self.amount[self.holds]).max(initial=0.0))
+        return greatest or float(np.abs(self.used.data).max(initial=0.0)) or 1.0
+
+    @property
+    def holds(self) -> NDArray[np.bool_]:
+        """Whether there is a limit in each year."""
+        return np.isfinite(self.amount)
+
+    @property
+    def finite(self) -> NDArray[np.float64]:
+        """The amount, 0 where there is no limit."""
+        return np.where(self.holds, self.amount, 0.0)
+
+    @property
+    def rows(self) -> tuple[csr_matrix, NDArray[np.float64]]:
+        """The rows of the programme, at most; of years without a limit 0 is at most 0."""
+        unit = self.sign / self.scale
+        return diags(self.holds * unit) @ self.used, self.finite * unit
 
 
 @dataclass(frozen=True)
@@ -217,14 +235,15 @@ class FlowProgramme:
         lay there at the start."""
         model, until = self.model, csr_matrix(np.tril(np.ones((self.years, self.years))))
         stockpile, parcel = model.stocked.index
-        for number, it in enumerate(model.stockpiles):
-            if it.capacity is not None:
-                feed = np.where(stockpile == number, model.ore.feed[parcel], 0.0)
-                lies = kron(csr_matrix(feed[None]), self.each_year)
-                lay = model.opening.on(number)
-                gone = kron(csr_matrix(-lay[model.opened.parcel][None]), until)
-                used = self.row(None, None, None, lies, None, gone)
-                yield Limit(f"{STOCK}{it.name}", MAX, used, np.full(self.years, it.capacity - lay.sum()))
+        for number, (it, (least, most)) in enumerate(zip(model.stockpiles, model.rooms)):
+            feed = np.where(stockpile == number, model.ore.feed[parcel], 0.0)
+            lies, lay = kron(csr_matrix(feed[None]), self.each_year), model.opening.on(number)
+            gone = kron(csr_matrix(-lay[model.opened.parcel][None]), until)
+            used = self.row(None, None, None, lies, None, gone)
+            if np.isfinite(most).any():
+                yield Limit(f"{STOCK}{it.name}", MAX, used, most - lay.sum())
+            if least.any():
+                yield Limit(f"{STOCK}{it.name}", MIN, used, least - lay.sum())
 
     @cached_property
     def costs(self) -> NDArray[np.float64]:
@@ -236,7 +255,7 @@ class FlowProgramme:
         """All rows: order, parcels, stockpile, lots, then limits, and limits of running years."""
         parts = [] if self.dug is not None else [self.order_rows()]
         parts += [self.parcel_rows(), *self.stock_rows(), *self.opening_rows()]
-        parts += [(it.used * (it.sign / it.scale), it.sign * it.amount / it.scale) for it in self.limits]
+        parts += [it.rows for it in self.limits]
         matrix, most = vstack([rows for rows, _ in parts], format="csr"), np.concatenate([right for _, right in parts])
         size = sum(self.sizes)
         upper = np.ones(size)
@@ -324,7 +343,7 @@ class FlowProgramme:
 
     def optimum(self, unknowns: NDArray[np.float64], value: float, prices: Prices) -> FlowOptimum:
         """Returns the optimum by its parts; nothing is mined if that is worth more."""
-        if value < 0 and self.dug is None and not self.model.problem.limits.least:
+        if value < 0 and self.dug is None and not self.model.asks_least:
             unknowns, value = np.zeros_like(unknowns), 0.0
         ends = np.cumsum(self.sizes)
         by_end_of_years, direct, stocked, _, reclaimed, opened = (
@@ -346,9 +365,9 @@ class FlowProgramme:
             if self.costs[1:].any()
             else len(of_rows)
         )
-        tagged = [(it.name, it.side, it.scale) for it in self.limits]
-        before = np.split(of_rows[first - len(tagged) * self.years : first], max(len(tagged), 1))
-        found = {(name, side): part * self.unit / scale for (name, side, scale), part in zip(tagged, before)}
+        count = len(self.limits)
+        before = np.split(of_rows[first - count * self.years : first], max(count, 1))
+        found = {(it.name, it.side): part * it.holds * self.unit / it.scale for it, part in zip(self.limits, before)}
         if self.costs[1:].any():
             after = np.split(of_rows[first:], len(self.bounding) + 1)
             found |= {(it.name, RUNNING): part * self.unit / it.scale for it, part in zip(self.bounding, after)}

@@ -115,12 +115,12 @@ def from_optimum(model: FlowModel, optimum: FlowOptimum, rule: Optional[Flows] =
     NoSchedule
         If none of them meets the minimums.
     """
-    tries = TRIED_WITH_MINIMUMS if model.problem.limits.least else TRIED
+    tries = TRIED_WITH_MINIMUMS if model.asks_least else TRIED
     given = None if rule is None else feasible(model, padded(rule.dug, model.years))
     made = [] if given is None else [given]
     for found in orders_of(model, optimum)[:tries]:
         made += [it for it in (feasible(model, dug) for dug in mined(model, found.order, optimum)) if it is not None]
-        if model.problem.limits.least and len(made) >= TRIED:
+        if model.asks_least and len(made) >= TRIED:
             break
     if not made:
         raise NoSchedule("no schedule that was tried meets the minimums: lower them, or set [schedule] milp")
@@ -149,7 +149,7 @@ def mined(model: FlowModel, order: NDArray[np.int64], optimum: FlowOptimum) -> I
     pace does not know, also at the pace of the optimum."""
     mining = Problem(model.benches, model.of_mining, model.problem.settings, model.problem.money)
     paces = [Pacing(model, optimum.prices).best(order).tonnes]
-    paces += [model.rock @ optimum.cumulative] if model.problem.limits.least or model.stockpiles else []
+    paces += [model.rock @ optimum.cumulative] if model.asks_least or model.stockpiles else []
     for pace in paces:
         yield padded(dig(mining, Sequence(order, pace=pace), model.years), model.years)
 
@@ -163,7 +163,7 @@ def feasible(model: FlowModel, dug: NDArray[np.float64]) -> Optional[Flows]:
     try:
         return best(model, dug)
     except PlanError:
-        if model.problem.limits.least:
+        if model.asks_least:
             return None
         raise
 
@@ -171,7 +171,7 @@ def feasible(model: FlowModel, dug: NDArray[np.float64]) -> Optional[Flows]:
 def without_loss(flows: Flows) -> Flows:
     """Returns the schedule without benches that do not pay with all that waits for them."""
     pays = paying(flows.earned, flows.model.benches)
-    if pays.all() or flows.model.problem.limits.least:
+    if pays.all() or flows.model.asks_least:
         return flows
     less = best(flows.model, flows.dug * pays[:, None])
     return max(less, flows, key=lambda it: it.value)
@@ -180,6 +180,6 @@ def without_loss(flows: Flows) -> Flows:
 def ended(flows: Flows) -> Flows:
     """Returns the schedule up to the year with whose end it is worth most: the last, unless years cost more than they earn."""
     model = flows.model
-    if model.problem.costs_of_years(model.years).any() and not model.problem.limits.least:
+    if model.problem.costs_of_years(model.years).any() and not model.asks_least:
         flows = max((flows.until(year) for year in range(model.years, -1, -1)), key=lambda it: it.value)
     return flows.cut(flows.last)
