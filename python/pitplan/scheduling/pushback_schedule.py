@@ -24,6 +24,7 @@ from pitplan.pushbacks.nested import Pushbacks
 
 from .bench_sequencing import Problem, running
 from .flow import bound, integer, opening, parcels, scheduler, tables
+from .flow.conflicts import Conflict
 from .flow.flows import Flows
 from .flow.model import FlowModel
 from .flow.opening import Lots
@@ -265,7 +266,7 @@ def relaxed(schedule: YearlySchedule, progress: Progress) -> YearlySchedule:
         try:
             optimum = programme.solved()
         except PlanError as error:
-            lacking = programme.lacking() if model.asks_least else ""
+            lacking = Conflict(programme).message() if model.asks_least else ""
             raise PlanError(f"{schedule.pushbacks.plan.project.path}: {lacking}") from error if lacking else error
         upper, before = bound.upper_bound(model, schedule.material.blocks, optimum.prices), schedule.upper_bound
     found = replace(schedule, optimum=optimum)

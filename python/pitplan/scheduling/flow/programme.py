@@ -27,8 +27,6 @@ from .rows import by_end, furthest, order_rows
 
 MAX, MIN, RUNNING = "max", "min", "running"
 ADVANCE, STOCK = "vertical_advance_", "stockpile_"
-# A share of a minimum that may lack by the solver's tolerance alone.
-LACKING = 1e-6
 # By name of the limit and side the price of a unit in each year, discounted: shape (years,).
 Prices = dict[tuple[str, str], NDArray[np.float64]]
 
@@ -306,40 +304,12 @@ class FlowProgramme:
         value = found.bound * self.unit - self.costs[0]
         return self.optimum(found.unknowns, value, self.prices(found.prices))
 
-    def lacking(self) -> str:
-        """Says, if minimums are infeasible, by how much which ones lack in which years at least; "" if they can be met.
-
-        An elastic programme lets each minimum lack at the cost of the share that lacks.
-        """
-        given, elastic = self.programme, [it for it in self.limits if it.side == MIN]
-        rows = given.matrix.shape[0] - (self.years * (len(self.bounding) + 1) if self.costs[1:].any() else 0)
-        first = rows - len(self.limits) * self.years
-        at = np.concatenate([first + self.limits.index(it) * self.years + np.arange(self.years) for it in elastic])
-        more = csr_matrix((-np.ones(len(at)), (at, np.arange(len(at)))), shape=(given.matrix.shape[0], len(at)))
-        found = solve(
-            Programme(
-                np.concatenate([np.zeros(len(given.gain)), -np.ones(len(at))]),
-                csr_matrix(hstack([given.matrix, more])),
-                given.most,
-                np.concatenate([given.upper, np.full(len(at), np.inf)]),
-                np.zeros(len(given.gain) + len(at), dtype=bool),
-            ),
-            Effort(),
-        )
-        assert found.unknowns is not None
-        short = found.unknowns[len(given.gain) :].reshape(len(elastic), self.years)
-        word = self.model.problem.limits.calendar.word
-        lacks_of = [
-            f"{it.name} in {word} {year + 1} by {lacks * it.scale:,.6g} of {it.amount[year]:,.6g}"
-            for it, of_years in zip(elastic, short)
-            for year, lacks in enumerate(of_years)
-            if lacks > LACKING
-        ]
-        return (
-            f"infeasible: no schedule of these pushbacks meets the minimum of {'; of '.join(lacks_of)}"
-            if lacks_of
-            else ""
-        )
+    @property
+    def first_limit(self) -> int:
+        """The row of the first limit; each limit has a row per year."""
+        last = self.programme.matrix.shape[0]
+        last -= self.years * (len(self.bounding) + 1) if self.costs[1:].any() else 0
+        return last - len(self.limits) * self.years
 
     def optimum(self, unknowns: NDArray[np.float64], value: float, prices: Prices) -> FlowOptimum:
         """Returns the optimum by its parts; nothing is mined if that is worth more."""
@@ -360,13 +330,9 @@ class FlowProgramme:
 
     def prices(self, of_rows: NDArray[np.float64]) -> Prices:
         """Returns the prices of the limits, from the dual value of each row."""
-        first = (
-            self.programme.matrix.shape[0] - self.years * (len(self.bounding) + 1)
-            if self.costs[1:].any()
-            else len(of_rows)
-        )
         count = len(self.limits)
-        before = np.split(of_rows[first - count * self.years : first], max(count, 1))
+        first = self.first_limit + count * self.years
+        before = np.split(of_rows[self.first_limit : first], max(count, 1))
         found = {(it.name, it.side): part * it.holds * self.unit / it.scale for it, part in zip(self.limits, before)}
         if self.costs[1:].any():
             after = np.split(of_rows[first:], len(self.bounding) + 1)

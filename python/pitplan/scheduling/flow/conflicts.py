@@ -1,0 +1,137 @@
+"""Which limits conflict if no schedule meets the minimums: by an elastic programme and its dual values.
+
+Each minimum, and each maximum of a stockpile, may be missed at the cost of the share that is missed. The dual values of the optimum prove that
+so much is missed: the limits that have one conflict with each other, whatever the other limits are (Farkas' lemma).
+"""
+
+from __future__ import annotations
+
+from dataclasses import dataclass
+from functools import cached_property
+
+import numpy as np
+from numpy.typing import NDArray
+from scipy.sparse import csr_matrix, hstack
+
+from pitplan.config.schedule import Effort
+from pitplan.scheduling.bench_sequencing import HAIR
+from pitplan.scheduling.highs import Optimum, Programme
+from pitplan.scheduling.highs_process import solve
+
+from .programme import ADVANCE, MAX, MIN, STOCK, FlowProgramme, Limit
+
+# A share of a limit, or of the greatest dual value, that may be the solver's tolerance alone.
+SLIGHT = 1e-6
+SIDES = {MAX: "maximum", MIN: "minimum"}
+
+
+@dataclass(frozen=True)
+class Conflict:
+    """The elastic programme of a programme without a solution."""
+
+    flow: FlowProgramme
+
+    @property
+    def elastic(self) -> list[int]:
+        """The numbers of the limits that may be missed."""
+        return [number for number, it in enumerate(self.flow.limits) if it.side == MIN or it.name.startswith(STOCK)]
+
+    def rows_of(self, number: int) -> NDArray[np.int64]:
+        """Returns the rows of a limit by its number."""
+        return self.flow.first_limit + number * self.flow.years + np.arange(self.flow.years)
+
+    @cached_property
+    def programme(self) -> Programme:
+        given, at = self.flow.programme, np.concatenate([self.rows_of(number) for number in self.elastic])
+        missed = csr_matrix((-np.ones(len(at)), (at, np.arange(len(at)))), shape=(given.matrix.shape[0], len(at)))
+        return Programme(
+            np.concatenate([np.zeros(len(given.gain)), -np.ones(len(at))]),
+            csr_matrix(hstack([given.matrix, missed])),
+            given.most,
+            np.concatenate([given.upper, np.full(len(at), np.inf)]),
+            np.zeros(len(given.gain) + len(at), dtype=bool),
+        )
+
+    @cached_property
+    def found(self) -> Optimum:
+        return solve(self.programme, Effort())
+
+    @property
+    def missed(self) -> list[tuple[Limit, NDArray[np.float64]]]:
+        """The limits that are missed, and by how much in each year."""
+        assert self.found.unknowns is not None
+        shares = self.found.unknowns[len(self.flow.programme.gain) :].reshape(len(self.elastic), self.flow.years)
+        limits = [self.flow.limits[number] for number in self.elastic]
+        return [
+            (limit, np.where(share > SLIGHT, share * limit.scale, 0.0))
+            for limit, share in zip(limits, shares)
+            if (share > SLIGHT).any()
+        ]
+
+    @property
+    def priced(self) -> dict[tuple[str, str], NDArray[np.bool_]]:
+        """By name and side of a limit whether it has a dual value in each year."""
+        assert self.found.prices is not None
+        slight = SLIGHT * float(self.found.prices.max(initial=0.0))
+        found = {
+            (it.name, it.side): (self.found.prices[self.rows_of(number)] > slight) & it.holds
+            for number, it in enumerate(self.flow.limits)
+        }
+        for key, years in self.reaching(slight).items():
+            found[key] = found.get(key, np.zeros(self.flow.years, dtype=bool)) | years
+        return {key: years for key, years in found.items() if years.any()}
+
+    def reaching(self, slight: float) -> dict[tuple[str, str], NDArray[np.bool_]]:
+        """Returns the limits of mining that keep benches from being mined in time, where that has a dual value, by year."""
+        flow, benches, programme = self.flow, self.flow.model.benches, self.programme
+        size = flow.sizes[0]
+        reduced = (programme.gain - programme.matrix.T @ self.found.prices)[:size].reshape(len(benches), flow.years)
+        held = (reduced > slight) & (programme.upper[:size].reshape(reduced.shape) < 1 - HAIR)
+        limits, found = flow.model.of_mining, dict[tuple[str, str], NDArray[np.bool_]]()
+        for bench, year in np.argwhere(held):
+            before = [*np.flatnonzero(benches.before[bench]), bench]
+            for name, until in zip(limits.most, limits.of_years(flow.years).cumsum(axis=0).T):
+                if flow.model.dug(name)[before].sum() > until[year]:
+                    found.setdefault((name, MAX), np.zeros(flow.years, dtype=bool))[: year + 1] = True
+            above = [other for other in before if benches.pushback[other] == benches.pushback[bench]]
+            if len(above) > limits.sinking(flow.years).cumsum()[year]:
+                name = f"{ADVANCE}{benches.pushback[bench]}"
+                found.setdefault((name, MAX), np.zeros(flow.years, dtype=bool))[: year + 1] = True
+        return found
+
+    def message(self) -> str:
+        """Says which limits are missed by how much at least, and which others they conflict with; "" if none is missed."""
+        missed = self.missed
+        if not missed:
+            return ""
+        word = self.flow.model.problem.limits.calendar.word
+        parts = [
+            f"the {SIDES[limit.side]} of {limit.name} in {word} {year + 1} by {by[year]:,.6g} of {self.given(limit)[year]:,.6g}"
+            for limit, by in missed
+            for year in np.flatnonzero(by)
+        ]
+        taken = {(limit.name, limit.side) for limit, _ in missed}
+        others = [
+            f"the {SIDES[side]} of {name} in {in_words(years, word)}"
+            for (name, side), years in self.priced.items()
+            if (name, side) not in taken
+        ]
+        conflict = f"; this conflicts with {', '.join(others)}" if others else ""
+        return f"infeasible: no schedule of these pushbacks keeps all limits; at least it misses {'; '.join(parts)}{conflict}"
+
+    def given(self, limit: Limit) -> NDArray[np.float64]:
+        """Returns a limit as the project gives it; of a stockpile with what lies there at the start."""
+        if not limit.name.startswith(STOCK):
+            return limit.amount
+        model = self.flow.model
+        number = [it.name for it in model.stockpiles].index(limit.name.removeprefix(STOCK))
+        return limit.amount + model.opening.on(number).sum()
+
+
+def in_words(years: NDArray[np.bool_], word: str) -> str:
+    """Returns years, numbered from 1, as runs: years 1 to 3 and 7."""
+    numbers = np.flatnonzero(years) + 1
+    runs = np.split(numbers, np.flatnonzero(np.diff(numbers) > 1) + 1)
+    texts = [f"{run[0]}" if len(run) == 1 else f"{run[0]} to {run[-1]}" for run in runs]
+    listed = texts[0] if len(texts) == 1 else f"{', '.join(texts[:-1])} and {texts[-1]}"
+    return f"{word}{'s' * (len(numbers) > 1)} {listed}"
