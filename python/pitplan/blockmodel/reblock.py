@@ -196,7 +196,7 @@ def amounts(frame: pd.DataFrame, parts: Parts, project: Project) -> dict[str, np
         *(metal.column for metal in project.metals),
         *project.economics.factor_columns,
         *rules.columns_of(per_tonne=True),
-        *(it.column for it in project.feed_grades),
+        *project.graded_columns,
     }
     whole = rules.columns_of(per_tonne=False)
     found = {name: parts.means if name in means else parts.sums for name in frame.columns if name in (*means, *whole)}

@@ -6,11 +6,9 @@ from collections.abc import Iterator
 from dataclasses import dataclass
 from typing import Optional
 
+from .codes import CLASS, CODES, DOMAIN, ROCK_TYPE
 from .feed_grades import read_range
 from .toml_section import Section
-
-# The keys of codes, which name columns of [table].
-ROCK_TYPE, DOMAIN, CLASS = CODES = "rock_type", "domain", "class"
 
 
 @dataclass(frozen=True)

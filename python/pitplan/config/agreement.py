@@ -8,8 +8,9 @@ from typing import TYPE_CHECKING, Any
 from pitplan.errors import PlanError
 
 from . import toml_text
-from .acceptance import CLASS, DOMAIN, ROCK_TYPE, Accepts
+from .acceptance import Accepts
 from .classes import REFUSE
+from .codes import CLASS, DOMAIN, ROCK_TYPE
 from .economics import ByDomain
 from .opening_agreement import demand_opening
 from .overrides import scaled
@@ -26,6 +27,7 @@ def demand_agreement(project: Project) -> None:
     """Raises PlanError if sections that are valid each do not fit together."""
     path = project.path
     demand_codes(project)
+    demand_shares(project)
     demand_classes(project)
     has_volume = project.table.volume or project.table.rules.cell_size
     if project.table.density and not has_volume and project.grid.size is None:
@@ -103,6 +105,16 @@ def demand_codes(project: Project) -> None:
         raise PlanError(f"{path}: [table] domain: is missing, and mining recovery or dilution is given by domain")
 
 
+def demand_shares(project: Project) -> None:
+    """Refuses shares of codes in feed whose column the project does not name."""
+    table = project.table
+    columns = {ROCK_TYPE: table.rock_type, DOMAIN: table.domain, CLASS: table.resource_class}
+    for it in project.feed_grades:
+        if it.code is not None and columns[it.column] is None:
+            why = f"[table] {it.column} names no column: name it"
+            raise PlanError(f"{project.path}: feed {it.column}: limits the share of {it.code}, and {why}")
+
+
 def demand_classes(project: Project) -> None:
     """Refuses rules of resource classes without their column, and missing blocks of a class that is refused."""
     path, column, missing = project.path, project.table.resource_class, project.table.missing_blocks
@@ -169,8 +181,8 @@ def demand_sums_agree(project: Project) -> None:
 
 def demand_sums_of_parts(project: Project, rules: ScheduleRules) -> None:
     """Refuses sums of whole blocks where a topography cuts these, and where those that are put together have the means of that column."""
-    graded = (it.column for it in project.feed_grades)
-    of_a_tonne = (*(metal.column for metal in project.metals), *project.economics.factor_columns, *graded)
+    metals = (metal.column for metal in project.metals)
+    of_a_tonne = (*metals, *project.economics.factor_columns, *project.graded_columns)
     means = {*rules.columns_of(per_tonne=True), *of_a_tonne}
     for it in [it for it in rules.limits if not it.per_tonne]:
         if project.table.topography:

@@ -6,8 +6,8 @@ from typing import TYPE_CHECKING
 
 from pitplan.errors import PlanError
 
-from .acceptance import CLASS, DOMAIN, ROCK_TYPE
 from .classes import ORE
+from .codes import CLASS, DOMAIN, ROCK_TYPE
 from .schedule import TOTAL
 from .stockpiles import Opening, Stockpile
 
@@ -41,6 +41,7 @@ def demand_codes(project: Project, opening: Opening, where: str) -> None:
     table = project.table
     columns = {ROCK_TYPE: table.rock_type, DOMAIN: table.domain, CLASS: table.resource_class}
     by_domain = any(it.accepts.domain for it in project.processes)
+    by_domain = by_domain or any(it.column == DOMAIN and it.code is not None for it in project.feed_grades)
     needed = {ROCK_TYPE: bool(table.rock_type), DOMAIN: by_domain, CLASS: bool(table.resource_class)}
     for key, code in opening.codes.items():
         if code and columns[key] is None:
@@ -57,6 +58,6 @@ def needed_columns(project: Project) -> list[str]:
     """Returns the columns that value or limit mill feed: grades of metals, of limits on feed, and of what processes accept."""
     sums = project.schedule.limits if project.schedule else ()
     found = [metal.column for metal in project.metals]
-    found += [it.column for it in project.feed_grades] + [it.column for it in sums if it.of != TOTAL]
+    found += [*project.graded_columns] + [it.column for it in sums if it.of != TOTAL]
     found += [it.column for process in project.processes for it in process.accepts.grades]
     return list(dict.fromkeys(found))

@@ -74,15 +74,15 @@ def wrong_with(period: Period, project: Project) -> Iterator[tuple[str, str]]:
 def wrong_limits(period: Period, project: Project) -> Iterator[tuple[str, str]]:
     """Yields limits on head grades and stockpiles that do not go with the project, and why."""
     rules = project.schedule
-    for column in [it.column for it in period.feed if not it.process and project.processes]:
+    for column in dict.fromkeys(it.column for it in period.feed if not it.process and project.processes):
         name = project.processes[0].name
         yield "feed", f"{column} is of one process: name the process, such as feed = {{ {name} = {{ {column} = {{ max = 1 }} }} }}"
-    base = {(it.process, it.column): it for it in project.feed_grades}
+    base = {it.key: it for it in project.feed_grades}
     for grade in period.feed:
-        other = base.get((grade.process, grade.column), grade)
+        other = base.get(grade.key, grade)
         least, most = merged((grade.min, other.min), (grade.max, other.max))
         if least is not None and most is not None and least > most:
-            yield "feed", f"{grade.column}: min {least:.10g} is above max {most:.10g}, with those of the other sections"
+            yield "feed", f"{grade.code or grade.column}: min {least:.10g} is above max {most:.10g}, with those of the other sections"
     capacities = {it.name: it.capacity for it in (rules.stockpiles if rules else ())}
     for pile in period.stockpiles:
         least, most = merged((pile.min, None), (pile.max, capacities.get(pile.name)))

@@ -14,6 +14,7 @@ from typing import Optional, TypeVar
 import numpy as np
 from numpy.typing import NDArray
 
+from .codes import CODES
 from .economics import MOST_YEARS
 from .feed_grades import FeedGrade, read_feed
 from .stockpiles import StockpileLimit, read_limits
@@ -214,7 +215,10 @@ def read_feeds(section: Section) -> tuple[FeedGrade, ...]:
     """Reads limits on head grades by column, or by process and column."""
     found: list[FeedGrade] = []
     for name, value in section.data.items():
-        is_process = isinstance(value, dict) and value and all(isinstance(it, dict) for it in value.values())
+        is_process = (
+            name not in CODES and isinstance(value, dict) and all(isinstance(it, dict) for it in value.values())
+        )
+        is_process = is_process and bool(value)
         inner = section.section(name) if is_process else Section(section.file, section.name, {name: value})
         found += read_feed(inner, name if is_process else "")
         section.get(name)

@@ -85,16 +85,21 @@ class Project:
         """The limits on head grades of all processes; of one that only periods have, neither side."""
         of_one = self.schedule.feed if self.schedule else ()
         found = (*of_one, *(limit for process in self.processes for limit in process.feed))
-        known = {(it.process, it.column) for it in found}
-        of_periods = {(it.process, it.column): it for period in self.shells.calendar.periods for it in period.feed}
+        known = {it.key for it in found}
+        of_periods = {it.key: it for period in self.shells.calendar.periods for it in period.feed}
         more = (replace(it, min=None, max=None) for key, it in of_periods.items() if key not in known)
         return (*found, *more)
+
+    @property
+    def graded_columns(self) -> tuple[str, ...]:
+        """The columns of the table whose head grades are limited."""
+        return tuple(dict.fromkeys(it.column for it in self.feed_grades if it.code is None))
 
     @property
     def limited_columns(self) -> tuple[str, ...]:
         """The columns of the table that schedules limit by sums or head grades."""
         sums = self.schedule.limits if self.schedule else ()
-        return tuple(dict.fromkeys([*(it.column for it in sums), *(it.column for it in self.feed_grades)]))
+        return tuple(dict.fromkeys([*(it.column for it in sums), *self.graded_columns]))
 
     @property
     def cuts_blocks(self) -> bool:

@@ -251,7 +251,11 @@ def of_accepts(accepts: Accepts) -> Any:
 
 
 def of_feed(limits: tuple[FeedGrade, ...]) -> Any:
-    return {it.column: {"min": it.min, "max": it.max} for it in limits} or None
+    found: Values = {}
+    for it in limits:
+        place, key = (found, it.column) if it.code is None else (found.setdefault(it.column, {}), it.code)
+        place[key] = {"min": it.min, "max": it.max}
+    return found or None
 
 
 def of_feeds(limits: tuple[FeedGrade, ...]) -> Values:

@@ -6,7 +6,8 @@ import re
 from dataclasses import dataclass, field
 from typing import Optional
 
-from .acceptance import CLASS, CODES, DOMAIN, ROCK_TYPE, Accepts, read_accepts
+from .acceptance import Accepts, read_accepts
+from .codes import CLASS, CODES, DOMAIN, ROCK_TYPE
 from .feed_grades import read_range
 from .toml_section import Section
 

@@ -6,7 +6,8 @@ import numpy as np
 import pandas as pd
 from numpy.typing import NDArray
 
-from pitplan.config.acceptance import CLASS, DOMAIN, ROCK_TYPE, Accepts
+from pitplan.config.acceptance import Accepts
+from pitplan.config.codes import CLASS, DOMAIN, ROCK_TYPE
 from pitplan.config.project import Project
 
 

@@ -161,7 +161,8 @@ def capacities(project: Project) -> Iterator[tuple[str, str]]:
 
 
 def head_grade(grade: FeedGrade) -> str:
-    return f"head grade {grade.column}{f' of {grade.process}' if grade.process else ''}"
+    limited = f"head grade {grade.column}" if grade.code is None else f"share of {grade.code} in the feed"
+    return f"{limited}{f' of {grade.process}' if grade.process else ''}"
 
 
 def between(least: Optional[float], most: Optional[float]) -> str:

@@ -1,4 +1,5 @@
-"""Limits on head grades by process and period: an amount, at most 0, for each side and each grade that applies in some period."""
+"""Limits on head grades and on shares of codes in feed, by process and period: an amount, at most 0, for each side and each value that applies
+in some period."""
 
 from __future__ import annotations
 
@@ -9,6 +10,7 @@ from typing import Optional
 import numpy as np
 from numpy.typing import NDArray
 
+from pitplan.config.codes import CLASS, DOMAIN, ROCK_TYPE
 from pitplan.config.feed_grades import FeedGrade
 from pitplan.config.periods import Period
 from pitplan.config.project import Project
@@ -32,7 +34,9 @@ class GradeLimit:
     process : int
         The number of the process.
     column : str
-        The column of the table with the grade.
+        The column of the table with the grade, or with codes.
+    code : str, optional
+        The code whose share of the feed is limited.
     sign : float
         1 for a maximum, -1 for a minimum.
     grade : float
@@ -47,6 +51,7 @@ class GradeLimit:
     sign: float
     grade: float
     applies: tuple[bool, ...] = (True,)
+    code: Optional[str] = None
 
     @property
     def most(self) -> tuple[float, ...]:
@@ -76,12 +81,15 @@ def of_side(
     (limit, process), (word, sign) = of, side
 
     def of_period(period: Period) -> Optional[float]:
-        mine = [it for it in period.feed if (it.process, it.column) == (limit.process, limit.column)]
+        mine = [it for it in period.feed if it.key == limit.key]
         return getattr(mine[0], word) if mine else None
 
-    shown = GRADE + "_".join([*([limit.process] if limit.process else []), limit.column, word])
+    shown, table = GRADE + "_".join([*limit.words, word]), project.table
+    of_codes = {ROCK_TYPE: table.rock_type, DOMAIN: table.domain, CLASS: table.resource_class}
+    column = limit.column if limit.code is None else str(of_codes[limit.column])
     by_period = [base if own is None else own for own in map(of_period, project.shells.calendar.listed)] or [base]
     grades = list(dict.fromkeys(grade for grade in by_period if grade is not None))
     for grade in grades:
         name = shown if set(by_period) == {grade} else f"{shown}{AT}{grade:.10g}"
-        yield GradeLimit(name, shown, process, limit.column, sign, float(grade), tuple(it == grade for it in by_period))
+        applies = tuple(it == grade for it in by_period)
+        yield GradeLimit(name, shown, process, column, sign, float(grade), applies, limit.code)

@@ -147,12 +147,18 @@ class Metal:
 
 @dataclass(frozen=True)
 class FeedGrade:
-    """An entry of `[processes.feed]` or `[schedule.feed]`; the process is "" if the project names none."""
+    """An entry of `[processes.feed]` or `[schedule.feed]`; the process is "" if the project names none. With a code the share of that code in the
+    feed is limited, and the column is the key of `[table]`."""
 
     process: str
     column: str
     min: Optional[float]
     max: Optional[float]
+    code: Optional[str] = None
+
+    @property
+    def key(self) -> tuple[str, str, Optional[str]]:
+        return self.process, self.column, self.code
 
 
 @dataclass(frozen=True)
@@ -487,8 +493,8 @@ class Project:
         of_one = self.schedule.feed if self.schedule else ()
         found = [*of_one, *(it for process in self.processes for it in process.feed)]
         for it in [it for period in self.shells.periods for it in period.feed]:
-            if not any((it.process, it.column) == (other.process, other.column) for other in found):
-                found.append(FeedGrade(it.process, it.column, None, None))
+            if not any(it.key == other.key for other in found):
+                found.append(FeedGrade(it.process, it.column, None, None, it.code))
         return tuple(found)
 
     def grades_by_period(self, limit: FeedGrade, side: str, count: int) -> list[Optional[float]]:
@@ -496,11 +502,7 @@ class Project:
         found = []
         for number in range(1, count + 1):
             period = self.shells.period(number)
-            own = [
-                getattr(it, side)
-                for it in (period.feed if period else ())
-                if (it.process, it.column) == (limit.process, limit.column)
-            ]
+            own = [getattr(it, side) for it in (period.feed if period else ()) if it.key == limit.key]
             found.append(getattr(limit, side) if not own or own[0] is None else own[0])
         return found
 
@@ -522,7 +524,7 @@ class Project:
         tonnes = [table.density, table.volume] if table.density else [table.tonnes]
         marks = [rules.must_mine, rules.exclude] if rules else []
         limited = [it.column for it in self.schedule.limits] if self.schedule else []
-        limited += [it.column for it in self.feed_grades]
+        limited += [it.column for it in self.feed_grades if it.code is None]
         grades = [metal.column for metal in self.metals]
         named = [table.x, table.y, table.z, *tonnes, *self.codes, *grades, *self.economics.adjusting, *marks, *limited]
         return [name for name in dict.fromkeys(named) if name]

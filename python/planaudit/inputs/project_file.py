@@ -274,14 +274,22 @@ def accepts_of(data: Data) -> Accepts:
 
 
 def feed_of(data: Data, process: str) -> tuple[FeedGrade, ...]:
-    return tuple(FeedGrade(process, column, metres(it, "min"), metres(it, "max")) for column, it in data.items())
+    """Returns limits on the grades of columns, and on the shares of codes by the keys of these in [table]."""
+    found: list[FeedGrade] = []
+    for column, limits in data.items():
+        by_code = limits if column in ("rock_type", "domain", "class") else {None: limits}
+        found += [
+            FeedGrade(process, column, metres(it, "min"), metres(it, "max"), code) for code, it in by_code.items()
+        ]
+    return tuple(found)
 
 
 def feeds_of(data: Data) -> tuple[FeedGrade, ...]:
     """Returns limits by column, or by process and column."""
     found: list[FeedGrade] = []
     for name, value in data.items():
-        by_process = all(isinstance(it, Mapping) for it in value.values())
+        is_code = name in ("rock_type", "domain", "class")
+        by_process = not is_code and all(isinstance(it, Mapping) for it in value.values())
         found += feed_of(value, name) if by_process else feed_of({name: value}, "")
     return tuple(found)
 

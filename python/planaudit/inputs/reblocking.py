@@ -24,7 +24,7 @@ def together(parts: pd.DataFrame, project: Project, grid: dict[str, Any]) -> pd.
     frame = parts.assign(east_=east, north_=north, up_=up + grid["shape"][0] - 1)
     sums = project.schedule.limits if project.schedule else ()
     of_a_tonne = {*(metal.column for metal in project.metals), *(it.column for it in sums if it.per_tonne)}
-    of_a_tonne |= {*project.economics.adjusting, *(it.column for it in project.feed_grades)}
+    of_a_tonne |= {*project.economics.adjusting, *(it.column for it in project.feed_grades if it.code is None)}
     for name in of_a_tonne:
         frame[f"content_{name}"] = frame[name] * frame[columns.tonnes]
     by = frame.groupby(["up_", "north_", "east_"], sort=True)

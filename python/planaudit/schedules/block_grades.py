@@ -11,7 +11,7 @@ import numpy as np
 from planaudit.inputs.answer import Answer
 from planaudit.inputs.project import FeedGrade
 from planaudit.inputs.tables import YEAR
-from planaudit.schedules.grade_limits import grade_name
+from planaudit.schedules.grade_limits import codes_of, grade_name
 from planaudit.schedules.limits import Shares, shares_of
 
 CASE = "block"
@@ -39,14 +39,14 @@ class Graded:
 
     @property
     def called(self) -> str:
-        return "_".join([*([self.limit.process] if self.limit.process else []), self.limit.column])
+        return "_".join(word for word in self.limit.key if word)
 
     def excess(self) -> Iterator[tuple[str, np.ndarray]]:
         """Yields each limit and the content of blocks above the maximum or below the minimum; without revenue never below 0."""
         for side, grade, sign in (("max", self.limit.max, 1.0), ("min", self.limit.min, -1.0)):
             if grade is not None:
                 found = sign * (self.content - grade * self.feed)
-                name = grade_name(self.limit.process, self.limit.column, side)
+                name = grade_name(self.limit, side)
                 yield name, np.where(self.pays, found, np.maximum(found, 0.0))
 
 
@@ -56,7 +56,10 @@ def graded(answer: Answer, shares: Shares) -> Iterator[Graded]:
     for limit in answer.project.feed_grades:
         number = next(number for number, (name, _) in enumerate(shares) if name == limit.process)
         share = shares[number][1]
-        content = np.asarray(answer.rows[limit.column].to_numpy(), dtype=float) * answer.undiluted
+        if limit.code is None:
+            content = np.asarray(answer.rows[limit.column].to_numpy(), dtype=float) * answer.undiluted
+        else:
+            content = np.where(codes_of(answer.rows, answer.project, limit.column) == limit.code, answer.feed, 0.0)
         yield Graded(limit, share * content, share * answer.feed, (answer.said[revenues[number]] > 0).to_numpy())
 
 
@@ -65,7 +68,7 @@ def limits_of(answer: Answer) -> dict[str, float]:
     found: dict[str, float] = {}
     for limit in answer.project.feed_grades:
         sides = (("max", limit.max), ("min", limit.min))
-        found |= {grade_name(limit.process, limit.column, side): it for side, it in sides if it is not None}
+        found |= {grade_name(limit, side): it for side, it in sides if it is not None}
     return found
 
 

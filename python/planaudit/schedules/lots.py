@@ -135,8 +135,8 @@ class BlockAmounts:
                 return self.column(it.column) * (undiluted if it.per_tonne else 1.0) * self.takes[process]
         for limit in self.grades:
             if name == limit.name and limit.process == called:
-                excess = self.column(limit.column) * undiluted - limit.grade * self.feed
-                return limit.sign * excess * self.takes[process]
+                content = limit.content(self.rows, self.answer.project, undiluted, self.feed)
+                return limit.sign * (content - limit.grade * self.feed) * self.takes[process]
         return np.zeros(len(self.inside))
 
     @property
@@ -178,6 +178,11 @@ class BlockAmounts:
     def limited(self) -> list[str]:
         """The names of limited sums and head grades."""
         return list(dict.fromkeys([*(f"sum_{it.name}" for it in self.sums), *(it.name for it in self.grades)]))
+
+    @cached_property
+    def rows(self) -> pd.DataFrame:
+        """The rows of the table of these blocks."""
+        return self.answer.rows.iloc[self.inside]
 
     @cached_property
     def grades(self) -> list[GradeLimit]:

@@ -119,7 +119,8 @@ class OpeningLots:
                 return self.rows[it.column].to_numpy(dtype=float) * self.feed * taken
         for limit in self.blocks.grades:
             if name == limit.name and limit.process == called:
-                return limit.sign * (self.rows[limit.column].to_numpy(dtype=float) - limit.grade) * self.feed * taken
+                content = limit.content(self.rows, self.project, self.feed, self.feed)
+                return limit.sign * (content - limit.grade * self.feed) * taken
         return np.zeros(len(self.feed))
 
     @cached_property

@@ -12,7 +12,7 @@ import numpy as np
 from numpy.typing import NDArray
 
 from pitplan.plan import Plan
-from pitplan.scheduling.flow.parcels import column_of
+from pitplan.scheduling.flow.parcels import content_of
 from pitplan.scheduling.grade_limits import GRADE, grade_limits
 
 from .problem import Limit
@@ -76,9 +76,10 @@ def head_grades(plan: Plan) -> list[HeadGrade]:
     limits = grade_limits(plan.project)
     for grade in plan.project.feed_grades:
         number = names.index(grade.process)
-        mine = {it.name: (it.sign, it.grade) for it in limits if (it.process, it.column) == (number, grade.column)}
-        name = "head_" + GRADE + "_".join([*([grade.process] if grade.process else []), grade.column])
-        content = column_of(plan, grade.column, cells) * values.undiluted
+        prefix = GRADE + "_".join(grade.words)
+        mine = [it for it in limits if it.shown in (f"{prefix}_max", f"{prefix}_min")]
+        sides = {it.name: (it.sign, it.grade) for it in mine}
         pays = values.by_process[number].revenue > 0
-        found.append(HeadGrade(name, 1 + number, mine, content, values.feed, pays))
+        content = content_of(plan, mine[0], cells)
+        found.append(HeadGrade(f"head_{prefix}", 1 + number, sides, content, values.feed, pays))
     return found

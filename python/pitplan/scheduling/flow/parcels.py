@@ -18,7 +18,7 @@ from pitplan.pushbacks import bench_table
 from pitplan.pushbacks.bench_table import CASH, ROCK, PushbackBenches
 from pitplan.pushbacks.nested import Pushbacks
 from pitplan.scheduling.bench_sequencing import Limits
-from pitplan.scheduling.grade_limits import AT, GRADE, grade_limits
+from pitplan.scheduling.grade_limits import AT, GRADE, GradeLimit, grade_limits
 from pitplan.scheduling.limits import SUM
 
 from .ore import FEED, Ore
@@ -175,10 +175,17 @@ def grades_of(plan: Plan, cells: NDArray[np.int64], takes: NDArray[np.float64]) 
     """Returns by limited head grade what processing adds to the content above the maximum, or below the minimum: at most 0 in each year."""
     found = {}
     for limit in grade_limits(plan.project):
-        content = column_of(plan, limit.column, cells) * plan.values.undiluted[cells]
-        excess = limit.sign * (content - limit.grade * plan.values.feed[cells])
+        excess = limit.sign * (content_of(plan, limit, cells) - limit.grade * plan.values.feed[cells])
         found[limit.name] = alone(takes * excess, limit.process)
     return found
+
+
+def content_of(plan: Plan, limit: GradeLimit, cells: NDArray[np.int64]) -> NDArray[np.float64]:
+    """Returns what the feed of cells adds to the content of a limited head grade, or to the tonnes of a limited code."""
+    if limit.code is None:
+        return np.asarray(column_of(plan, limit.column, cells) * plan.values.undiluted[cells])
+    is_of_code = plan.grid.spread(plan.table[limit.column].astype(str).to_numpy() == limit.code)[cells]
+    return np.where(is_of_code, plan.values.feed[cells], 0.0)
 
 
 def kinds_of(

@@ -145,11 +145,11 @@ def orders_of(model: FlowModel, optimum: FlowOptimum) -> list[Ordered]:
 
 
 def mined(model: FlowModel, order: NDArray[np.int64], optimum: FlowOptimum) -> Iterator[NDArray[np.float64]]:
-    """Yields the shares of benches by year of an order at its best pace, at the prices of the optimum; with minimums or stockpiles, which this
-    pace does not know, also at the pace of the optimum."""
+    """Yields the shares of benches by year of an order at its best pace, at the prices of the optimum; with minimums, stockpiles or blends, which
+    this pace does not know, also at the pace of the optimum."""
     mining = Problem(model.benches, model.of_mining, model.problem.settings, model.problem.money)
     paces = [Pacing(model, optimum.prices).best(order).tonnes]
-    paces += [model.rock @ optimum.cumulative] if model.asks_least or model.stockpiles else []
+    paces += [model.rock @ optimum.cumulative] if model.asks_ore or model.stockpiles else []
     for pace in paces:
         yield padded(dig(mining, Sequence(order, pace=pace), model.years), model.years)
 
