@@ -5,7 +5,17 @@ from dataclasses import replace
 import numpy as np
 import pytest
 from helpers.benches import benches_of, demand_diggable, problem_of
-from helpers.flows import complete_optimum, linear_optimum, mine_of, mines, model_of, plain, processes, stockpiles
+from helpers.flows import (
+    blending,
+    complete_optimum,
+    linear_optimum,
+    mine_of,
+    mines,
+    model_of,
+    plain,
+    processes,
+    stockpiles,
+)
 from helpers.programmes import limits
 from helpers.random_tests import examples
 from hypothesis import given, strategies as st
@@ -241,7 +251,7 @@ def without_last_process(ore, limited):
 
 
 @examples(14)
-@given(mines, limits, processes, stockpiles, st.sampled_from(["process", "stockpile", "capacity", "opening"]))
+@given(mines, limits, processes, stockpiles, st.sampled_from(["process", "stockpile", "capacity", "opening", "room"]))
 def test_more_freedom_never_lowers_the_optimum(pits, limits, several, piles, more):
     """Nor the bound, which is the optimum where each parcel is one block. With what lies on it at the start a stockpile may have less room."""
     wide = model_of(mine_of(pits, 0), several, limits, 4, piles)
@@ -258,18 +268,42 @@ def test_more_freedom_never_lowers_the_optimum(pits, limits, several, piles, mor
             replace(it, capacity=it.capacity and it.capacity - 12.0 * bool(it.opening)) for it in wide.stockpiles
         )
         narrow = replace(wide, lots=None, stockpiles=rooms)
+    elif more == "room":
+        # What lies there at the start fits, and from the second year on a tonne must lie there.
+        narrow = with_rooms(wide, {it.name: ((0.0, 13.0), (1.0, 14.0)) for it in wide.stockpiles if it.opening})
     else:
         least = {name: 0.8 * most for name, most in limits_of(wide).most.items()}
         narrow = replace(wide, problem=replace(wide.problem, limits=replace(limits_of(wide), most=least)))
     found = [FlowProgramme(it).solved() for it in (narrow, wide)]
     slack = slack_of(wide)
     assert found[0].value <= found[1].value + slack
+    assert found[0].value == pytest.approx(linear_optimum(narrow), abs=slack)
     bounds = [upper_bound(it, it.ore, one.prices) for it, one in zip((narrow, wide), found)]
     assert bounds[0] <= bounds[1] + slack
 
 
+@examples(10)
+@given(mines, limits, processes, stockpiles, st.lists(st.sampled_from([-1.0, 0.4, 1.0]), min_size=1, max_size=4))
+def test_a_blend_in_some_years_is_worth_no_less_than_in_all(pits, limits, several, piles, a_tonne):
+    """And no more than in none. The optimum is that of the stated programme, and the bound that of single blocks."""
+    model = model_of(mine_of(pits, 0), several, limits, 4, piles)
+    cases = [blending(model, a_tonne, by_year) for by_year in ((0.0,), (np.inf, 0.0, np.inf), (np.inf,))]
+    found, slack = [FlowProgramme(it).solved() for it in cases], slack_of(model)
+    assert found[0].value <= found[1].value + slack and found[1].value <= found[2].value + slack
+    for case, optimum in zip(cases, found):
+        assert optimum.value == pytest.approx(linear_optimum(case), abs=slack)
+        assert upper_bound(case, case.ore, optimum.prices) == pytest.approx(optimum.value, abs=slack)
+        flows = scheduler.from_optimum(case, optimum)
+        demand_kept(flows)
+        assert flows.value <= optimum.value + slack
+
+
 def limits_of(model):
     return model.problem.limits
+
+
+def with_rooms(model, rooms):
+    return replace(model, problem=replace(model.problem, limits=replace(limits_of(model), stock_by_year=rooms)))
 
 
 @examples(8)

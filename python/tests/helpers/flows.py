@@ -1,6 +1,7 @@
 """Random problems of material flow, and their optima by programmes that the tests state themselves."""
 
 from dataclasses import replace
+from typing import Optional
 
 import numpy as np
 from helpers.benches import benches_of, problem_of
@@ -36,6 +37,24 @@ stockpiles = st.lists(stockpile, max_size=2)
 COPPER, NET_PRICE = 0.02, 50.0
 # What a tonne gains that lies on a stockpile at the start, before reclaim, in the first process, and by how much less in each later one.
 LYING, LESS = 4.0, 1.5
+
+
+# A limit on a blend in the first process, and what a tonne that lies on a stockpile at the start adds to it.
+BLEND, OF_LOTS = "grade_x_max", -0.5
+
+
+def blending(model, a_tonne, by_year):
+    """The model with a limit on a blend in the first process: what tonnes of parcels add to it, in turn, and its most in each year."""
+    first = np.zeros((model.ore.processes, 1))
+    first[0] = 1.0
+    excess = first * model.ore.feed * np.resize(a_tonne, len(model.ore))
+    ore, lots = replace(model.ore, amounts=model.ore.amounts | {BLEND: excess}), model.lots
+    if lots is not None:
+        of_lots = {BLEND: first * lots.ore.feed * OF_LOTS}
+        lots = replace(lots, ore=replace(lots.ore, amounts=lots.ore.amounts | of_lots))
+    limits = model.problem.limits
+    limits = replace(limits, most=limits.most | {BLEND: 0.0}, most_by_year=limits.most_by_year | {BLEND: by_year})
+    return replace(model, ore=ore, lots=lots, problem=replace(model.problem, limits=limits))
 
 
 def mine_of(pits, lag):
@@ -179,9 +198,16 @@ class Statement:
                             terms[self.again(pile, process, unit, year)] = kept * amount
                     for pile, rules in enumerate(model.stockpiles):
                         a_tonne = {"feed_tonnes": 1.0, f"feed_tonnes_{process}": 1.0}
-                        a_tonne["recovered_copper"] = COPPER * rules.recovery["copper"]
+                        a_tonne |= {
+                            "recovered_copper": COPPER * rules.recovery["copper"],
+                            BLEND: OF_LOTS * (process == 0),
+                        }
                         terms[self.opened(pile, process, year)] = a_tonne.get(name, 0.0) * self.lay(pile, process)
-                self.add(most * (ramp[year] if name.startswith("feed") else 1.0), terms)
+                by_year = limits.most_by_year.get(name)
+                most = most * (ramp[year] if name.startswith("feed") else 1.0)
+                most = by_year[min(year, len(by_year) - 1)] if by_year else most
+                if most < np.inf:
+                    self.add(most, terms)
             if np.isfinite(limits.vertical_advance_rate):
                 for pushback in set(benches.pushback.tolist()):
                     some = np.flatnonzero(benches.pushback == pushback)
@@ -196,7 +222,7 @@ class Statement:
 
     def state_stockpile(self, pile: int, year: int) -> None:
         """No more is reclaimed than was placed before, and what lies there at the year's end is within the capacity."""
-        model, ore, lies = self.model, self.model.ore, {}
+        ore, lies = self.model.ore, {}
         for unit in range(len(ore)):
             out = {self.again(pile, k, unit, t): 1.0 for k in range(ore.processes) for t in range(year + 1)}
             self.add(0.0, out | {self.stocked(pile, unit, t): -1.0 for t in range(year)})
@@ -205,10 +231,18 @@ class Statement:
             lies |= {place: sign * ore.feed[unit] for place, sign in balance.items()}
         gone = {self.opened(pile, k, t): self.lay(pile) for k in range(ore.processes) for t in range(year + 1)}
         self.add(self.lay(pile), gone)
-        if model.stockpiles[pile].capacity is not None:
-            self.add(
-                model.stockpiles[pile].capacity - self.lay(pile), lies | {k: -tonnes for k, tonnes in gone.items()}
-            )
+        lies |= {place: -tonnes for place, tonnes in gone.items()}
+        least, most = self.room(pile, year)
+        if most is not None:
+            self.add(most - self.lay(pile), lies)
+        if least:
+            self.add(self.lay(pile) - least, {place: -tonnes for place, tonnes in lies.items()})
+
+    def room(self, pile: int, year: int) -> tuple[float, Optional[float]]:
+        """The least and the most that may lie on a stockpile at the end of a year."""
+        rules = self.model.stockpiles[pile]
+        by_year = self.model.problem.limits.stock_by_year.get(rules.name, ((0.0, rules.capacity),))
+        return by_year[min(year, len(by_year) - 1)]
 
     def state_order(self) -> None:
         model = self.model
