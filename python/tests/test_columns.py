@@ -35,6 +35,20 @@ discount_rates = [0.05]
 closure_cost = 5
 tax_rate = 0.3
 """
+GOLD = """[[metals]]
+name = "gold"
+column = "au"
+unit = "gram_per_tonne"
+price = 60
+recovery = 0.7
+[metals.smelter]
+concentrate_grade = 30
+treatment_charge = 80
+refining_charge = 0.2
+freight = 50
+price_participation = { base = 50, share = 0.1 }
+penalties = [{ column = "cu", steps = [[1, 2]] }]
+"""
 PROCESSES = """[[processes]]
 name = "mill"
 cost = 10
@@ -60,6 +74,7 @@ def written(tmp_path_factory):
     grades = {(3, 4, 1): 6, (7, 4, 1): 2, (5, 2, 2): 0.9, (4, 4, 2): 1.7}
     varied = {
         "cu": lambda i, j, k: grades.get((i, j, k), 0),
+        "au": lambda i, j, k: grades.get((i, j, k), 0) / 10,
         "due": lambda i, j, k: int((i, j, k) == (1, 1, 3)),
         "tonnes": lambda i, j, k: 100 + 7 * i + j,
         "cls": lambda i, j, k: "measured" if k else "inferred",
@@ -68,7 +83,7 @@ def written(tmp_path_factory):
     money = "mining_cost_per_bench = 0.01\nfixed_cost_per_year = 77\ncapex = [[1, 10]]\n"
     one = PROJECT.replace("mining_cost = 2\n", f"mining_cost = 2\n{money}") + WIDE
     one = one.replace("processing_capacity = 100\n", "processing_capacity = 100\nspecified = { pushbacks = [0.5] }\n")
-    one = one.replace("[table]\n", '[table]\nclass = "cls"\n')
+    one = one.replace("[table]\n", '[table]\nclass = "cls"\n').replace("[slopes]\n", f"{GOLD}[slopes]\n")
     several = PROJECT.replace("processing_cost = 10\n", "").replace("recovery = 0.5\n", "")
     several = several.replace("processing_capacity = 100\n", "") + PROCESSES
     place = tmp_path_factory.mktemp("columns")

@@ -48,6 +48,7 @@ def named(project: Project) -> list[str]:
         *project.economics.factor_columns,
         *fixed,
         *sums,
+        *project.penalty_columns,
     ]
     return [name for name in columns if name]
 

@@ -183,6 +183,7 @@ def demand_sums_of_parts(project: Project, rules: ScheduleRules) -> None:
     """Refuses sums of whole blocks where a topography cuts these, and where those that are put together have the means of that column."""
     metals = (metal.column for metal in project.metals)
     of_a_tonne = (*metals, *project.economics.factor_columns, *project.graded_columns)
+    of_a_tonne += project.penalty_columns
     means = {*rules.columns_of(per_tonne=True), *of_a_tonne}
     for it in [it for it in rules.limits if not it.per_tonne]:
         if project.table.topography:

@@ -9,6 +9,7 @@ from typing import Any, Optional, Union
 
 from .acceptance import Accepts, read_accepts
 from .feed_grades import FeedGrade, read_feed
+from .smelter import Smelter, read_smelter
 from .toml_section import Section
 
 # A price or a cost: one for every rock, or one for each rock by its code.
@@ -63,6 +64,7 @@ class Metal:
     recovery    the share that is recovered of what comes to the mill, less the fixed tail; one, or by rock
     tail_grade  the grade, in the column's unit, of what is lost of each tonne that comes to the mill, whatever it holds
     prices      of each year from the first, in years and schedules, the last one staying; none: the price, as in the worth of blocks
+    smelter     what a smelter pays and charges, in place of the selling cost
     """
 
     name: str
@@ -74,6 +76,7 @@ class Metal:
     tail_grade: ByRock = Decimal(0)
     prices: tuple[Decimal, ...] = ()
     price_per: Optional[str] = None
+    smelter: Optional[Smelter] = None
 
     @property
     def price_unit(self) -> str:
@@ -227,18 +230,22 @@ def read_metal(section: Section, has_processes: bool = False) -> Metal:
     for key in ("recovery", "tail_grade") if has_processes else ():
         if section.has(key):
             raise section.wrong(key, "give the recoveries of each of the [[processes]], not this")
+    unit = section.choice("unit", tuple(GRADE_UNITS), None)
     metal = Metal(
         name=section.text("name"),
         column=section.text("column"),
-        unit=section.choice("unit", tuple(GRADE_UNITS), None),
+        unit=unit,
         price=section.number("price", least=0),
         selling_cost=section.number("selling_cost", Decimal(0), least=0),
         recovery=Decimal(0) if has_processes else read_recovery(section, "recovery"),
         tail_grade=section.by_rock("tail_grade") if section.has("tail_grade") else Decimal(0),
         prices=section.amounts("prices", "of prices, one a year, such as [8000, 8200]; the last one stays"),
         price_per=section.choice("price_per", tuple(GRAMS), None) if section.has("price_per") else None,
+        smelter=read_smelter(section.section("smelter"), unit) if section.has("smelter") else None,
     )
     section.finish()
+    if metal.smelter and section.has("selling_cost"):
+        raise section.wrong("selling_cost", "give it or [metals.smelter], not both: the terms have all charges")
     # A block without revenue at the price as given costs nothing to process.
     if not metal.price and any(metal.prices):
         raise section.wrong("price", "must be above 0: it sets the cut-off; yearly prices affect only the cash flow")

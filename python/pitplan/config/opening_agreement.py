@@ -55,9 +55,10 @@ def demand_codes(project: Project, opening: Opening, where: str) -> None:
 
 
 def needed_columns(project: Project) -> list[str]:
-    """Returns the columns that value or limit mill feed: grades of metals, of limits on feed, and of what processes accept."""
+    """Returns the columns that value or limit mill feed: grades of metals and penalised elements, of limits on feed, and of what
+    processes accept."""
     sums = project.schedule.limits if project.schedule else ()
-    found = [metal.column for metal in project.metals]
+    found = [*(metal.column for metal in project.metals), *project.penalty_columns]
     found += [*project.graded_columns] + [it.column for it in sums if it.of != TOTAL]
     found += [it.column for process in project.processes for it in process.accepts.grades]
     return list(dict.fromkeys(found))

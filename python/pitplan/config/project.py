@@ -102,6 +102,12 @@ class Project:
         return tuple(dict.fromkeys([*(it.column for it in sums), *self.graded_columns]))
 
     @property
+    def penalty_columns(self) -> tuple[str, ...]:
+        """The columns of the table with elements that smelters penalise, each once."""
+        terms = [metal.smelter for metal in self.metals if metal.smelter]
+        return tuple(dict.fromkeys(penalty.column for it in terms for penalty in it.penalties))
+
+    @property
     def cuts_blocks(self) -> bool:
         """Whether blocks have less than the table's tonnes, by a topography or an as-mined surface."""
         return bool(self.table.topography or self.constraints and self.constraints.as_mined)

@@ -1,4 +1,5 @@
-"""Costs of blocks by line, of which block values have the sums: mining, depth and haulage; processing, royalty per tonne and haulage of ore."""
+"""Costs of blocks by line, of which block values have the sums: mining, depth and haulage; processing, royalty per tonne, haulage of ore and
+penalties of smelters."""
 
 from __future__ import annotations
 
@@ -9,12 +10,12 @@ import pandas as pd
 from numpy.typing import NDArray
 
 from pitplan.blockmodel.grid import Grid
-from pitplan.config.economics import Metal
 from pitplan.config.project import Project
 from pitplan.core.decimals import Exact
 
 from .block_values import Values
 from .process_routing import Way
+from .smelter_terms import PENALTIES, net
 from .weighing import HAULAGE, MILLIONTHS, Rows
 
 PROCESSING, ROYALTY = "processing", "royalty"
@@ -31,8 +32,8 @@ class CostLines:
     mining : dict of str to array
         Of mining the whole block: mining, depth, and with `[haulage]` haulage.
     processing : tuple of dict
-        By process, of a block that is processed there: processing, royalty (per tonne of feed), and with `[haulage]` haulage, which is below 0
-        if ore costs less to haul than waste. 0 where the block has no revenue.
+        By process, of a block that is processed there: processing, royalty (per tonne of feed), with `[haulage]` haulage, which is below 0 if
+        ore costs less to haul than waste, and `penalties METAL` of smelters that penalise elements. 0 where the block has no revenue.
     mining_rounding, processing_rounding : array and tuple of arrays
         What rounding the block values to the decimals of the project adds to the cash flow of mining, and of processing by process.
     """
@@ -58,29 +59,24 @@ def cost_lines(frame: pd.DataFrame, grid: Grid, project: Project, values: Values
 
 
 def of_process(rows: Rows, values: Values, way: Way) -> Lines:
-    """Returns the costs of the only process of the rows' project by line, without selling."""
+    """Returns the costs of the only process of the rows' project by line, without selling and the other charges of smelters."""
     needed, money = np.zeros(len(rows.frame), dtype=bool), rows.project.economics
     rates = {PROCESSING: rows.processing_rate(needed), ROYALTY: rows.every(money.royalty_per_tonne)}
     rates |= {HAULAGE: rows.roads.ore_more} if rows.roads else {}
     feed = np.where(way.revenue > 0, values.feed, 0.0)
-    return {name: feed * rows.grid.spread(rate.floats()) for name, rate in rates.items()}
+    found = {name: feed * rows.grid.spread(rate.floats()) for name, rate in rates.items()}
+    for metal in rows.project.metals:
+        if metal.smelter and metal.smelter.penalties:
+            whole = rows.feed()
+            charged = rows.penalties(metal, rows.recovered(metal, whole), whole).floats()
+            found[f"{PENALTIES} {metal.name}"] = np.where(way.revenue > 0, rows.grid.spread(charged), 0.0)
+    return found
 
 
 def rounding_of(project: Project, lines: Lines, way: Way) -> NDArray[np.float64]:
     """Returns what a process earns in the block values beyond the products of metal, prices and costs."""
-    royalty = float(project.economics.royalty)
     earned = np.zeros(len(way.revenue))
     for metal in project.metals:
-        a_unit = price_of(metal) * (1 - royalty) - selling_of(metal)
+        a_unit = float(net(metal, metal.price, project.economics.royalty))
         earned += np.where(way.revenue > 0, way.metal[metal.name], 0.0) * a_unit
     return np.asarray((way.revenue - way.cost) / 10**MILLIONTHS - (earned - sum(lines.values())))
-
-
-def price_of(metal: Metal) -> float:
-    """Returns the base price of a tonne or gram of a metal."""
-    return float(metal.by_quantity(metal.price))
-
-
-def selling_of(metal: Metal) -> float:
-    """Returns the selling cost of a tonne or gram of a metal."""
-    return float(metal.by_quantity(metal.selling_cost))

@@ -10,6 +10,8 @@ import numpy as np
 from pitplan.config.economics import Metal
 from pitplan.config.project import Project
 
+from .smelter_terms import net
+
 
 @dataclass(frozen=True)
 class YearlyMoney:
@@ -22,9 +24,10 @@ class YearlyMoney:
     capex : tuple of pairs
         Period, from 1, and the amount that is spent at its start if the mine still runs, in the currency.
     premiums : dict of str to tuple
-        By amount of metal, what a unit of it earns beyond the base price, less royalty, in each year from 1; the last one continues.
+        By amount of metal, what a unit of it earns beyond the base price, less royalty and price participation, in each year from 1; the last one
+        continues.
     net_prices : dict of str to float
-        By amount of metal, what a unit of it earns at the base price, less royalty and selling cost.
+        By amount of metal, what a unit of it earns at the base price, less royalty and selling cost or smelter charges.
     """
 
     fixed_cost: tuple[float, ...] = (0.0,)
@@ -70,12 +73,10 @@ def of_project(project: Project) -> YearlyMoney:
     money, calendar = project.economics, project.shells.calendar
     premiums = {}
     for metal in project.metals:
-        prices = metal.prices
-        if calendar.has(lambda it: it.prices):
-            prices = calendar.by_name(lambda it: it.prices, metal.name, metal.price)
-        more = [metal.by_quantity(price) - metal.by_quantity(metal.price) for price in prices]
+        base = net_price(metal, money.royalty)
+        more = [net(metal, price, money.royalty) - base for price in yearly_prices(project, metal)]
         if metal.prices or any(more):
-            premiums[f"recovered_{metal.name}"] = tuple(float(it * (1 - money.royalty)) for it in more)
+            premiums[f"recovered_{metal.name}"] = tuple(map(float, more))
     capex = calendar.capex or money.capex
     per_year = calendar.by_year(lambda it: it.fixed_cost_per_year, money.fixed_cost_per_year)
     fixed = [float(amount) * length for amount, length in zip(per_year, calendar.lengths(len(per_year)))]
@@ -84,9 +85,17 @@ def of_project(project: Project) -> YearlyMoney:
     return YearlyMoney(tuple(fixed), spent, premiums, net_prices)
 
 
+def yearly_prices(project: Project, metal: Metal) -> tuple[Decimal, ...]:
+    """Returns the price of a metal in each year from 1, in the unit of its price; the last one continues. None: it is that of `price`."""
+    calendar = project.shells.calendar
+    if calendar.has(lambda it: it.prices):
+        return tuple(calendar.by_name(lambda it: it.prices, metal.name, metal.price))
+    return metal.prices
+
+
 def net_price(metal: Metal, royalty: Decimal) -> Decimal:
-    """Returns what a unit of a metal's quantity earns at the base price, less royalty and selling cost."""
-    return metal.by_quantity(metal.price) * (1 - royalty) - metal.by_quantity(metal.selling_cost)
+    """Returns what a unit of a metal's quantity earns at the base price, less royalty and selling cost or smelter charges."""
+    return net(metal, metal.price, royalty)
 
 
 def notes(project: Project) -> list[str]:

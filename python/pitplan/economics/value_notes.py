@@ -11,6 +11,7 @@ import pandas as pd
 from pitplan.config.economics import ByCode, ByDomain, Curve, Metal
 from pitplan.config.project import Project
 
+from .smelter_terms import charge, net, payable_share
 from .weighing import HIGH_GRADES, Feed, Rows
 
 
@@ -30,7 +31,13 @@ def grade_notes(rows: Rows) -> list[str]:
 def notes_of(rows: Rows, feed: Feed) -> tuple[str, ...]:
     """Returns warnings about grades, and notes on rock types, mill feed and recoveries."""
     solid, project = np.array(rows.tonnes.whole > 0, dtype=bool), rows.project
-    notes = [*grade_notes(rows), *feed_notes(project), *factor_notes(rows), *haulage_notes(rows)]
+    notes = [
+        *grade_notes(rows),
+        *feed_notes(project),
+        *smelter_notes(project),
+        *factor_notes(rows),
+        *haulage_notes(rows),
+    ]
     for process, way in zip([process.name for process in project.processes] or [""], project.by_process):
         of_way = [*rock_notes(way, rows.rock, solid), *recovery_notes(replace(rows, project=way), feed)]
         notes += [f"{process}: {note}" for note in of_way] if process else of_way
@@ -54,6 +61,19 @@ def feed_notes(project: Project) -> list[str]:
         notes.append(
             f"royalty {money.royalty_per_tonne:f} {money.currency} per tonne of ore, as part of the processing cost"
         )
+    return notes
+
+
+def smelter_notes(project: Project) -> list[str]:
+    """Returns the net smelter return of each metal with smelter terms, with a warning if it is not above 0."""
+    notes, currency = [], project.economics.currency
+    for metal in [metal for metal in project.metals if metal.smelter and metal.price]:
+        whole, left = metal.by_quantity(metal.price), net(metal, metal.price, Decimal(0))
+        said = (
+            f"the smelter pays {100 * payable_share(metal):.5g} % of the {metal.name} and charges {charge(metal, metal.price):.6g} {currency} per "
+            f"recovered {metal.quantity}: the net smelter return is {100 * left / whole:.4g} % of the price, before penalties and royalty"
+        )
+        notes.append(said if left > 0 else f"WARNING: {said}: check the units of [metals.smelter]")
     return notes
 
 

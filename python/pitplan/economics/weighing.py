@@ -21,6 +21,7 @@ from . import recovery_curves
 from .haulage import Hauled, Roads
 from .process_routing import Way
 from .recovery_curves import Head
+from .smelter_terms import charge, paid, penalty_rates
 
 
 def reference_level(money: Economics, grid: Grid) -> int:
@@ -180,6 +181,19 @@ class Rows:
             grade = Exact(np.maximum(left.whole, 0), left.places)
         return feed.undiluted.times(grade).times(self.every(GRADE_UNITS[metal.unit])).times(share)
 
+    def penalties(self, metal: Metal, quantity: Exact, feed: Feed) -> Exact:
+        """Returns what the smelter charges for other elements in the concentrate of each row with a recovered quantity of a metal."""
+        found = self.every(Decimal(0))
+        has_any = Exact(np.array(quantity.whole > 0, dtype=np.int64), 0)
+        for penalty in metal.smelter.penalties if metal.smelter else ():
+            grade = Exact.of_floats(self.frame[penalty.column].to_numpy())
+            content = feed.undiluted.times(grade).times(self.every(penalty.recovery)).times(has_any)
+            for limit, rate in penalty_rates(metal, penalty):
+                above = content.minus(quantity.times(self.every(limit)))
+                above = Exact(np.maximum(above.whole, 0), above.places)
+                found = found.plus(above.times(self.every(rate)))
+        return found
+
     def weighed(self, feed: Feed) -> Weighed:
         """Returns revenue and cost in the project's own process.
 
@@ -193,8 +207,9 @@ class Rows:
         metal = {m.name: self.recovered(m, feed) for m in metals}
         revenue = selling = self.every(Decimal(0))
         for m in metals:
-            revenue = revenue.plus(metal[m.name].times(self.every(m.by_quantity(m.price) * (1 - costs.royalty))))
-            selling = selling.plus(metal[m.name].times(self.every(m.by_quantity(m.selling_cost))))
+            revenue = revenue.plus(metal[m.name].times(self.every(paid(m, m.price) * (1 - costs.royalty))))
+            selling = selling.plus(metal[m.name].times(self.every(charge(m, m.price))))
+            selling = selling.plus(self.penalties(m, metal[m.name], feed))
         yields = np.array(revenue.whole > 0, dtype=bool)
         a_tonne = self.processing_rate(yields).plus(self.every(costs.royalty_per_tonne))
         if self.roads:

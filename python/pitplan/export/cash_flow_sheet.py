@@ -96,17 +96,42 @@ class CashFlowSheet:
         yield Line(f"head_{name}", f"head grade {name}", metal.sign, formula=grade, total=SAME, form=GRADES)
         recovered = self.table[f"recovered_{name}"].to_numpy()
         yield Line(f"recovered_{name}", f"recovered {name}", metal.quantity, recovered, total=SUM, form=PLAIN)
+        yield from self.sold(metal)
         price = self.table[f"price_{name}"].to_numpy()
         yield Line(f"price_{name}", f"price of {name}", f"{self.currency}/{metal.price_unit}", price, form=PLAIN)
+
+    def sold(self, metal: Metal) -> Iterator[Line]:
+        """Yields the payable metal and the concentrate of smelter terms."""
+        for kind, label, unit in (
+            ("payable", "payable", metal.quantity),
+            ("concentrate_tonnes", "concentrate of", "t"),
+        ):
+            column = f"{kind}_{metal.name}"
+            if self.has(column):
+                values = self.table[column].to_numpy()
+                yield Line(column, f"{label} {metal.name}", unit, values, total=SUM, form=PLAIN)
+
+    @property
+    def charges(self) -> list[str]:
+        """The columns of selling costs and of charges of smelters, in order."""
+        columns = list(self.table)
+        return columns[columns.index("royalty") + 1 : columns.index("mining_cost_ore")]
 
     def revenue(self) -> Iterator[Line]:
         metals = [metal.name for metal in self.project.metals]
         yield from section("Revenue")
-        yield from (self.given(f"revenue_{name}") for name in metals)
+        yield from map(self.revenue_of, self.project.metals)
         yield self.sum("gross", "gross revenue", f"=SUM([revenue_{metals[0]}]:[revenue_{metals[-1]}])")
         yield self.given("royalty")
-        yield from (self.given(f"selling_cost_{name}") for name in metals)
-        yield self.sum("net", "net revenue", f"=[gross]-SUM([royalty]:[selling_cost_{metals[-1]}])")
+        yield from map(self.given, self.charges)
+        yield self.sum("net", "net revenue", f"=[gross]-SUM([royalty]:[{self.charges[-1]}])")
+
+    def revenue_of(self, metal: Metal) -> Line:
+        """Returns the revenue of a metal as the product of its quantity and its price."""
+        quantity = f"{'payable' if metal.smelter else 'recovered'}_{metal.name}"
+        column = f"revenue_{metal.name}"
+        formula = f"=[{quantity}]*{units_of(metal)}*[price_{metal.name}]"
+        return Line(column, self.heading(column), self.currency, formula=formula, total=SUM)
 
     @property
     def cost_columns(self) -> list[str]:
@@ -166,8 +191,8 @@ class CashFlowSheet:
         first = self.project.metals[0]
         mining = [name for name in self.cost_columns if name.startswith(("mining_cost", "haulage_cost"))]
         others = "".join(f"-[revenue_{metal.name}]" for metal in self.project.metals[1:])
-        selling = "".join(f"+[selling_cost_{metal.name}]" for metal in self.project.metals)
-        units = f"([recovered_{first.name}]*{units_of(first)})"
+        selling = "".join(f"+[{column}]" for column in self.charges)
+        units = f"([{'payable' if first.smelter else 'recovered'}_{first.name}]*{units_of(first)})"
         yield from section("Unit costs")
         for key, unit, cost, per in (
             ("cost_per_tonne_mined", "t", f"SUM([{mining[0]}]:[{mining[-1]}])", "[total_tonnes]"),

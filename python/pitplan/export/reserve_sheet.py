@@ -9,7 +9,7 @@ from typing import Any, Optional, Union
 import pandas as pd
 
 from pitplan.config.classes import ORE_NAMES
-from pitplan.config.economics import GRADE_UNITS
+from pitplan.config.economics import GRADE_UNITS, Metal
 from pitplan.config.project import Project
 from pitplan.core.optional_packages import load
 from pitplan.plan import shown_name
@@ -92,13 +92,14 @@ class ReserveSheet:
             unit = metal.quantity
             found += [f"head grade {metal.name} ({metal.sign})"]
             found += [f"{metal.name} in the feed ({unit})", f"recovered {metal.name} ({unit})"]
+            found += [f"payable {metal.name} ({unit})"] if metal.smelter else []
         return ["", "", *found]
 
     @property
     def forms(self) -> list[str]:
         found = ["General", "General", "#,##0", "#,##0"]
         for metal in self.project.metals:
-            found += [FORMS[metal.sign], "#,##0.00", "#,##0.00"]
+            found += [FORMS[metal.sign], *["#,##0.00"] * len(kinds_of(metal))]
         return [*found, "#,##0", "#,##0", "0.00", "#,##0"]
 
     def rows(self) -> Iterator[Cells]:
@@ -154,7 +155,7 @@ class ReserveSheet:
         for metal in self.project.metals:
             content = f"{letter(len(found) + 4)}{place}"
             found.append(Formula(f'=IF($D{place}>0,{content}/$D{place}/{GRADE_UNITS[metal.unit]},"")'))
-            found += [self.sum_of(f"{kind}_{metal.name}", conditions) for kind in ("contained", "recovered")]
+            found += [self.sum_of(f"{kind}_{metal.name}", conditions) for kind in kinds_of(metal)]
         return found
 
     def sum_of(self, column: str, conditions: list[Condition]) -> str:
@@ -169,6 +170,11 @@ class ReserveSheet:
         letter = load("openpyxl.utils", "python3-openpyxl", "a workbook").get_column_letter
         name = letter(self.inventory.columns.get_loc(column) + 1)
         return f"{INVENTORY}!${name}$2:${name}${len(self.inventory) + 1}"
+
+
+def kinds_of(metal: Metal) -> tuple[str, ...]:
+    """Returns the amounts of a metal that the sheet sums."""
+    return ("contained", "recovered", *(["payable"] if metal.smelter else []))
 
 
 def sheet_rows(inventory: pd.DataFrame, project: Project) -> pd.DataFrame:

@@ -14,6 +14,7 @@ from pitplan.config.periods import MONTHS, Period
 from pitplan.config.project import Project
 from pitplan.config.shells import IN_WORDS
 from pitplan.config.slopes import DIP, Wall
+from pitplan.config.smelter import Smelter
 from pitplan.core.revenue_factors import factor_text
 
 WORDS = {TREATMENTS[0]: "may be ore", TREATMENTS[1]: "waste", TREATMENTS[2]: "not allowed"}
@@ -70,6 +71,8 @@ def prices(project: Project) -> Iterator[tuple[str, str]]:
         yield f"price of {metal.name}", f"{number(metal.price)} {unit}{listed}"
         if metal.selling_cost:
             yield f"selling cost of {metal.name}", f"{number(metal.selling_cost)} {unit}"
+        if metal.smelter:
+            yield from smelter(metal, metal.smelter, project.economics.currency)
     money = project.economics
     if money.royalty:
         yield "royalty", f"{percent(money.royalty)} of revenue"
@@ -77,6 +80,28 @@ def prices(project: Project) -> Iterator[tuple[str, str]]:
         yield "royalty per tonne", f"{number(money.royalty_per_tonne)} {money.currency}/t of mill feed"
     shells = project.shells
     yield "discount rate", f"{percent(shells.discount_rate)} a year, discounted {IN_WORDS[shells.discounting]}"
+
+
+def smelter(metal: Metal, terms: Smelter, currency: str) -> Iterator[tuple[str, str]]:
+    """Yields the smelter terms of a metal."""
+    less = f", less at least {number(terms.minimum_deduction)} {metal.sign}" if terms.minimum_deduction else ""
+    yield f"payable {metal.name}", f"{percent(terms.payable)}{less}"
+    if terms.concentrate_grade is not None:
+        water = f", {percent(terms.moisture)} moisture" if terms.moisture else ""
+        yield f"concentrate of {metal.name}", f"{number(terms.concentrate_grade)} {metal.sign}{water}"
+    a_tonne, a_unit = f"{currency}/t", f"{currency}/{metal.price_unit}"
+    charges = {
+        f"treatment charge of {metal.name}": (terms.treatment_charge, f"{a_tonne} of dry concentrate"),
+        f"refining charge of {metal.name}": (terms.refining_charge, f"{a_unit} payable"),
+        f"freight of {metal.name}": (terms.freight, f"{a_tonne} of wet concentrate"),
+    }
+    yield from ((name, f"{number(amount)} {unit}") for name, (amount, unit) in charges.items() if amount)
+    if rule := terms.price_participation:
+        yield f"price participation of {metal.name}", f"{percent(rule.share)} above {number(rule.base)} {a_unit}"
+    for penalty in terms.penalties:
+        steps = ", ".join(f"{number(charge)} above {number(grade)}" for grade, charge in penalty.steps)
+        per = f"{a_tonne} of dry concentrate for each {number(penalty.per)} of grade"
+        yield f"penalties for {penalty.column}", f"{steps} {per}; {percent(penalty.recovery)} comes into the concentrate"
 
 
 def costs(project: Project) -> Iterator[tuple[str, str]]:

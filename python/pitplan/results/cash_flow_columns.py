@@ -4,9 +4,9 @@ from __future__ import annotations
 
 from dataclasses import replace
 
-from .column_types import MONEY, RATIO, YEARS, Column, Table, Unit
+from .column_types import MONEY, RATIO, TONNES, YEARS, Column, Table, Unit
 from .common_columns import DISCOUNTS, FEED, FLOWS, HEAD_GRADE, METHOD, MINED, NPV, RECOVERED, SPENT, TONNAGES, YEAR
-from .flow_columns import CONTAINED
+from .flow_columns import CONTAINED, PAYABLE, WITH_SMELTER
 
 WITH_TAX = "with `[cash_flow] tax_rate`"
 A_TONNE = Unit("currency per t", 6, 2, "#,##0.00")
@@ -23,12 +23,37 @@ PHYSICALS = (
     replace(HEAD_GRADE, holds="head grade of that feed; empty without feed"),
     replace(CONTAINED, holds="metal in that feed"),
     RECOVERED,
+    PAYABLE,
+    Column(
+        "concentrate_tonnes_METAL",
+        TONNES,
+        "dry concentrate: recovered metal by the grade of the concentrate",
+        "concentrate of METAL",
+        "if the terms have charges per tonne of it",
+    ),
     Column("price_METAL", OF_PRICE, "price of the year", "price of METAL"),
 )
 LINES = (
-    Column("revenue_METAL", MONEY, "recovered metal at the price of the year", "revenue METAL"),
+    Column("revenue_METAL", MONEY, "recovered metal, or its payable part, at the price of the year", "revenue METAL"),
     Column("royalty", MONEY, "of revenue and per tonne of feed", "royalty"),
-    Column("selling_cost_METAL", MONEY, "selling cost of the recovered metal", "selling METAL"),
+    Column(
+        "selling_cost_METAL",
+        MONEY,
+        "selling cost of the recovered metal",
+        "selling METAL",
+        "without `[metals.smelter]`",
+    ),
+    Column("treatment_charge_METAL", MONEY, "per dry tonne of concentrate", "treatment METAL", WITH_SMELTER),
+    Column("refining_charge_METAL", MONEY, "per payable unit", "refining METAL", WITH_SMELTER),
+    Column(
+        "participation_METAL",
+        MONEY,
+        "the smelter's share of the price above its base",
+        "price participation METAL",
+        WITH_SMELTER,
+    ),
+    Column("freight_METAL", MONEY, "per wet tonne of concentrate", "freight METAL", WITH_SMELTER),
+    Column("penalties_METAL", MONEY, "for elements in the concentrate", "penalties METAL", WITH_SMELTER),
     Column("mining_cost_ore", MONEY, "mining of what is processed or stockpiled", "mining ore"),
     Column("mining_cost_waste", MONEY, "mining of the rest", "mining waste"),
     Column(
@@ -92,7 +117,7 @@ RESULTS = (
     Column(
         "c1_cost",
         OF_PRICE,
-        "these and selling costs, less revenue of the other metals, per unit of the first metal",
+        "these and selling costs or charges of smelters, less revenue of the other metals, per unit of the first metal that is sold",
         "C1 cost",
     ),
 )

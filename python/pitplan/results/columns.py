@@ -252,8 +252,8 @@ BLOCK_TABLE = Table(
     "a row per block, with your columns and these",
     (
         Column("mining_cost", MONEY, "all its costs as waste"),
-        Column("revenue", MONEY, "at the base price, less selling cost and royalty"),
-        Column("processing_cost", MONEY, "what it costs more as mill feed"),
+        Column("revenue", MONEY, "of recovered metal, or its payable part, at the base price less royalty"),
+        Column("processing_cost", MONEY, "what it costs more as mill feed, with selling costs or charges of smelters"),
         Column("revenue_PROCESS", MONEY, "revenue in a process", when=SEVERAL),
         Column("processing_cost_PROCESS", MONEY, "processing cost in a process", when=SEVERAL),
         Column("haul_distance", METRES, "one way", when="with `[haulage]`"),

@@ -12,6 +12,8 @@ OF_PUSHBACK = replace(PUSHBACK, holds="from 1; 0: what lay on a stockpile at the
 OF_BENCH = replace(BENCH, holds="elevation of its centroids; empty in pushback 0")
 CONTAINED = Column("contained_METAL", METAL, "metal in the feed", "contained METAL")
 IN_SITU = Column("in_situ_METAL", METAL, "metal in the in-situ tonnes", "METAL in situ")
+WITH_SMELTER = "with `[metals.smelter]`"
+PAYABLE = Column("payable_METAL", METAL, "part of the recovered metal that is paid", "payable METAL", WITH_SMELTER)
 BIN = Column("bin", COUNT, "value bin of ore: by process, from the poorest; 0: no ore")
 MATERIAL_FLOWS = Table(
     "flows.csv",
@@ -50,7 +52,7 @@ INVENTORY = Table(
         replace(IN_SITU, holds="metal in these"),
         replace(FEED, holds="mill feed, if a process or a stockpile takes them"),
         replace(HEAD_GRADE, holds="its grade; empty for waste"),
-        *(CONTAINED, RECOVERED),
+        *(CONTAINED, RECOVERED, PAYABLE),
     ),
 )
 GRADE_TONNAGE = Table(

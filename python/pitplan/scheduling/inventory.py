@@ -9,6 +9,7 @@ from numpy.typing import NDArray
 from pitplan.config.economics import GRADE_UNITS
 from pitplan.config.places import MILL, WASTE
 from pitplan.config.project import Project
+from pitplan.economics.smelter_terms import payable_share
 from pitplan.pits import grade_tonnage, shell_tables
 from pitplan.plan import shown_name
 
@@ -31,7 +32,7 @@ def inventory_table(schedule: YearlySchedule) -> pd.DataFrame:
     start is of pushback 0 and of no bench.
 
     Columns: these; category: ore, not_reserve (mill feed of inferred and unclassified material), stockpile or waste; total_tonnes with
-    grade_METAL and in_situ_METAL; feed_tonnes with head_grade_METAL, contained_METAL and recovered_METAL.
+    grade_METAL and in_situ_METAL; feed_tonnes with head_grade_METAL, contained_METAL, recovered_METAL and, with smelter terms, payable_METAL.
     """
     project, flows = schedule.pushbacks.plan.project, schedule.material_flows
     names = [metal.name for metal in project.metals]
@@ -48,6 +49,8 @@ def inventory_table(schedule: YearlySchedule) -> pd.DataFrame:
         for grade, content, whole in (("grade", "in_situ", "total_tonnes"), ("head_grade", "contained", "feed_tonnes")):
             values = shell_tables.ratio(sums[f"{content}_{name}"].to_numpy() / unit, sums[whole].to_numpy())
             sums.insert(sums.columns.get_loc(f"{content}_{names[0]}"), f"{grade}_{name}", values)
+    for metal in [metal for metal in project.metals if metal.smelter]:
+        sums[f"payable_{metal.name}"] = sums[f"recovered_{metal.name}"] * float(payable_share(metal))
     return sums
 
 

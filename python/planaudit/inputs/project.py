@@ -131,6 +131,39 @@ class Economics:
 
 
 @dataclass(frozen=True)
+class Penalty:
+    """An entry of `[[metals.smelter.penalties]]`: pairs of a grade in the concentrate and a charge per dry tonne for each `per` above it."""
+
+    column: str
+    recovery: Decimal
+    steps: tuple[tuple[Decimal, Decimal], ...]
+    per: Decimal
+
+
+@dataclass(frozen=True)
+class Participation:
+    """The share of the price above a base that the smelter keeps."""
+
+    base: Decimal
+    share: Decimal
+
+
+@dataclass(frozen=True)
+class Smelter:
+    """`[metals.smelter]`."""
+
+    payable: Decimal
+    concentrate_grade: Optional[Decimal]
+    minimum_deduction: Decimal
+    treatment_charge: Decimal
+    refining_charge: Decimal
+    moisture: Decimal
+    freight: Decimal
+    price_participation: Optional[Participation]
+    penalties: tuple[Penalty, ...]
+
+
+@dataclass(frozen=True)
 class Metal:
     """An entry of `[[metals]]`."""
 
@@ -143,6 +176,7 @@ class Metal:
     tail_grade: ByRock
     prices: tuple[Decimal, ...]
     price_per: Optional[str]
+    smelter: Optional[Smelter] = None
 
 
 @dataclass(frozen=True)
@@ -475,6 +509,8 @@ class Project:
     cash_flow: CashFlowRules = CashFlowRules()
     # What the process accepts, in a project with one process of several.
     accepts: Accepts = Accepts()
+    # Columns of the table that are kept besides those that the sections name.
+    kept: tuple[str, ...] = ()
 
     @property
     def by_process(self) -> tuple[Project, ...]:
@@ -507,6 +543,17 @@ class Project:
         return found
 
     @property
+    def penalised(self) -> list[str]:
+        """The columns of the elements that smelters penalise, of each metal in turn."""
+        of_metals = [it.column for metal in self.metals if metal.smelter for it in metal.smelter.penalties]
+        return [*self.kept, *of_metals]
+
+    @property
+    def without_grades(self) -> Project:
+        """The project without metals, whose table keeps penalised elements."""
+        return replace(self, metals=(), kept=tuple(self.penalised))
+
+    @property
     def cuts_blocks(self) -> bool:
         """Whether a topography or an as-mined surface cuts blocks."""
         return self.table.topography is not None or bool(self.constraints and self.constraints.as_mined)
@@ -525,6 +572,7 @@ class Project:
         marks = [rules.must_mine, rules.exclude] if rules else []
         limited = [it.column for it in self.schedule.limits] if self.schedule else []
         limited += [it.column for it in self.feed_grades if it.code is None]
+        limited += self.penalised
         grades = [metal.column for metal in self.metals]
         named = [table.x, table.y, table.z, *tonnes, *self.codes, *grades, *self.economics.adjusting, *marks, *limited]
         return [name for name in dict.fromkeys(named) if name]

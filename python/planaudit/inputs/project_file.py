@@ -34,6 +34,8 @@ from planaudit.inputs.project import (
     Metal,
     MissingRock,
     Opening,
+    Participation,
+    Penalty,
     Period,
     Process,
     Project,
@@ -45,6 +47,7 @@ from planaudit.inputs.project import (
     ScheduleRules,
     ShellRules,
     Slopes,
+    Smelter,
     SpecifiedCase,
     Stockpile,
     Sum,
@@ -257,7 +260,29 @@ def metal_of(data: Data) -> Metal:
         tail_grade=by_rock(data.get("tail_grade", Decimal(0))),
         prices=tuple(map(number, data.get("prices", ()))),
         price_per=data.get("price_per"),
+        smelter=smelter_of(data["smelter"]) if "smelter" in data else None,
     )
+
+
+def smelter_of(data: Data) -> Smelter:
+    zero, kept = Decimal(0), data.get("price_participation")
+    return Smelter(
+        payable=number(data.get("payable", Decimal(1))),
+        concentrate_grade=number(data["concentrate_grade"]) if "concentrate_grade" in data else None,
+        minimum_deduction=number(data.get("minimum_deduction", zero)),
+        treatment_charge=number(data.get("treatment_charge", zero)),
+        refining_charge=number(data.get("refining_charge", zero)),
+        moisture=number(data.get("moisture", zero)),
+        freight=number(data.get("freight", zero)),
+        price_participation=Participation(number(kept["base"]), number(kept["share"])) if kept else None,
+        penalties=tuple(map(penalty_of, data.get("penalties", ()))),
+    )
+
+
+def penalty_of(data: Data) -> Penalty:
+    whole = Decimal(1)
+    recovery, per = number(data.get("recovery", whole)), number(data.get("per", whole))
+    return Penalty(data["column"], recovery, pairs(data["steps"]), per)
 
 
 def process_of(data: Data) -> Process:

@@ -16,9 +16,8 @@ from planaudit.inputs.answer import Answer
 from planaudit.inputs.block_table import columns_of
 from planaudit.inputs.matching import PROCESS
 from planaudit.inputs.project import GRADE_UNITS, Curve, Project, Recovery
-from planaudit.money import haulage
+from planaudit.money import haulage, smelter
 from planaudit.money.feed import at_grade, by_code, of_code
-from planaudit.money.prices import converted
 from planaudit.rules import TOLD, Rule, rule
 
 # Blocks of which the amounts are near a half of the last decimal, so that floats do not tell its rounding: so many are computed exactly, and so
@@ -170,12 +169,14 @@ class Costs:
 
 @dataclass(frozen=True)
 class Place:
-    """What changes the costs of a block besides its codes: its level from the top, its haul distance, and its cost adjustment factors."""
+    """What changes the costs of a block besides its codes: its level from the top, its haul distance, its cost adjustment factors, and by metal the
+    grades of the elements that its smelter penalises."""
 
     level: int
     road: float
     mcaf: float
     pcaf: float
+    elements: tuple[tuple[float, ...], ...]
 
 
 @dataclass(frozen=True)
@@ -187,6 +188,7 @@ class Exactly:
     depths  added mining cost per tonne, by level from the top
     roads   haul distances of blocks, in metres; 0 without haulage
     factors factors of mining and processing cost of each block
+    others  grades of penalised elements of each block, by metal
     weighed a cache of amounts by their numbers, since many blocks of waste are equal
     """
 
@@ -199,6 +201,7 @@ class Exactly:
     depths: list[Decimal]
     roads: list[float]
     factors: list[tuple[float, float]]
+    others: list[tuple[tuple[float, ...], ...]]
     weighed: dict[tuple[Any, ...], Amounts] = field(default_factory=dict)
 
     @staticmethod
@@ -221,12 +224,13 @@ class Exactly:
             zip(*(factors_of(answer, name).tolist() for name in (project.economics.mcaf, project.economics.pcaf)))
         )
         levels = answer.cells[0].tolist()
-        return Exactly(answer, answer.tonnes.tolist(), grades, codes, costs, levels, depths, roads, factors)
+        others = elements_of(answer)
+        return Exactly(answer, answer.tonnes.tolist(), grades, codes, costs, levels, depths, roads, factors, others)
 
     def amounts(self, row: int) -> Amounts:
         """Returns mining cost, revenue and processing cost of a block."""
         grades = tuple(grades[row] for grades in self.grades)
-        at = (self.level[row], self.roads[row], *self.factors[row])
+        at = (self.level[row], self.roads[row], *self.factors[row], self.others[row])
         numbers = (self.tonnes[row], self.codes[row], at, grades)
         found = self.weighed.get(numbers)
         if found is None:
@@ -245,13 +249,15 @@ class Exactly:
         )
         mining = tonnes * (costs.mining * of_mining + self.depths[place.level] + waste)
         revenue = selling = Decimal(0)
-        for number, (metal, told) in enumerate(zip(project.metals, grades)):
+        for number, (metal, told, elements) in enumerate(zip(project.metals, grades, place.elements)):
             if not told:
                 continue
             grade = costs.recovered(number, Decimal(repr(told)))
             quantity = tonnes * costs.mining_recovery * grade * GRADE_UNITS[metal.unit]
-            revenue += quantity * converted(metal, metal.price)
-            selling += quantity * converted(metal, metal.selling_cost)
+            revenue += quantity * smelter.paid(metal, metal.price)
+            selling += quantity * smelter.all_charged(metal, metal.price)
+            contents = [tonnes * costs.mining_recovery * Decimal(repr(it)) for it in elements]
+            selling += smelter.penalty_exactly(metal, quantity, contents)
         unit = Decimal(1).scaleb(-project.economics.decimals)
         processing = (
             tonnes
@@ -262,6 +268,16 @@ class Exactly:
         amounts = (mining, revenue - revenue * project.economics.royalty, processing + selling)
         mining, revenue, processing = (amount.quantize(unit, ROUND_HALF_EVEN) for amount in amounts)
         return mining, revenue, processing if revenue else Decimal(0)
+
+
+def elements_of(answer: Answer) -> list[tuple[tuple[float, ...], ...]]:
+    """Returns the grades of the elements that smelters penalise of each block, by metal."""
+    by_metal = []
+    for metal in answer.project.metals:
+        columns = [it.column for it in metal.smelter.penalties] if metal.smelter else []
+        lists = [answer.rows[name].to_numpy(dtype=float).tolist() for name in columns]
+        by_metal.append(list(zip(*lists)) if lists else [()] * len(answer.rows))
+    return list(zip(*by_metal))
 
 
 def factors_of(answer: Answer, column: Optional[str]) -> np.ndarray:
@@ -292,8 +308,8 @@ def gains_by_floats(answer: Answer) -> tuple[np.ndarray, np.ndarray]:
     revenue, selling = np.zeros(len(answer.rows)), np.zeros(len(answer.rows))
     for metal in project.metals:
         quantity = answer.quantities[metal.name]
-        revenue += quantity * float(converted(metal, metal.price)) * (1 - float(money.royalty))
-        selling += quantity * float(converted(metal, metal.selling_cost))
+        revenue += quantity * float(smelter.paid(metal, metal.price)) * (1 - float(money.royalty))
+        selling += quantity * float(smelter.all_charged(metal, metal.price)) + smelter.penalties(answer, metal)
     adjusted = by_code(money.processing_cost, answer.rows, columns) * factors_of(answer, money.pcaf)
     a_tonne = adjusted + float(money.royalty_per_tonne)
     if rules := project.haulage:

@@ -2,24 +2,35 @@
 
 from __future__ import annotations
 
-from planaudit.inputs.project import Project
-from planaudit.money.prices import converted
+from decimal import Decimal
+
+from planaudit.inputs.project import Metal, Project
+from planaudit.money.smelter import net
 
 HAIR = 1e-9
 
 
 def premiums(project: Project, year: int) -> dict[str, float]:
     """Returns for each amount of metal the gain per unit in a year, from 1, over the base price."""
-    found, period = {}, project.shells.period(year)
-    has_prices = any(it.prices for it in project.shells.periods)
+    found, royalty = {}, project.economics.royalty
     for metal in project.metals:
-        price = metal.prices[min(year, len(metal.prices)) - 1] if metal.prices else metal.price
-        if period is not None and has_prices:
-            price = period.prices.get(metal.name, metal.price)
-        if metal.prices or has_prices:
-            more = converted(metal, price) - converted(metal, metal.price)
-            found[f"recovered_{metal.name}"] = float(more * (1 - project.economics.royalty))
+        if metal.prices or has_prices(project):
+            more = net(metal, price_in(project, metal, year), royalty) - net(metal, metal.price, royalty)
+            found[f"recovered_{metal.name}"] = float(more)
     return found
+
+
+def has_prices(project: Project) -> bool:
+    """Whether periods have prices."""
+    return any(it.prices for it in project.shells.periods)
+
+
+def price_in(project: Project, metal: Metal, year: int) -> Decimal:
+    """Returns the price of a metal in a year, from 1, in its own unit."""
+    period = project.shells.period(year)
+    if period is not None and has_prices(project):
+        return period.prices.get(metal.name, metal.price)
+    return metal.prices[min(year, len(metal.prices)) - 1] if metal.prices else metal.price
 
 
 def years_of_prices(project: Project) -> int:

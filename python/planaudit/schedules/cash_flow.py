@@ -2,9 +2,10 @@
 
 from __future__ import annotations
 
-from collections.abc import Iterator
-from dataclasses import dataclass
-from functools import cached_property
+from collections.abc import Callable, Iterator
+from dataclasses import dataclass, replace
+from decimal import Decimal
+from functools import cached_property, partial
 
 import numpy as np
 import pandas as pd
@@ -12,11 +13,11 @@ import pandas as pd
 from planaudit.inputs.answer import Answer
 from planaudit.inputs.project import GRADE_UNITS, Metal, Project
 from planaudit.inputs.tables import read_table
-from planaudit.money import haulage
+from planaudit.money import haulage, smelter
 from planaudit.money.block_values import factors_of, more_for_depth
 from planaudit.money.feed import by_code
-from planaudit.money.period_costs import has_costs, premiums
-from planaudit.money.prices import KILOGRAMS, converted
+from planaudit.money.period_costs import has_costs, price_in
+from planaudit.money.prices import KILOGRAMS
 from planaudit.rules import TOLD, Rule, rule
 from planaudit.schedules import valuation
 from planaudit.schedules.lots import MILL
@@ -26,12 +27,10 @@ FILE = "cash_flow.csv"
 # Amounts by column, each of shape (rows,).
 Lines = dict[str, np.ndarray]
 # The columns of costs besides the royalty.
-COSTS, OTHER_COSTS = ("selling_cost_", "mining_cost_", "processing_cost_"), (
-    "haulage_cost",
-    "stacking_cost",
-    "reclaim_cost",
-    "fixed_cost",
-)
+CHARGES = ("treatment_charge", "refining_charge", "participation", "freight", smelter.PENALTIES)
+OF_SELLING = tuple(f"{name}_" for name in (smelter.SELLING, *CHARGES))
+COSTS = (*OF_SELLING, "mining_cost_", "processing_cost_")
+OTHER_COSTS = ("haulage_cost", "stacking_cost", "reclaim_cost", "fixed_cost")
 # With so many decimals the rounding of block values is no line.
 MOST_DECIMALS = 6
 
@@ -76,6 +75,10 @@ class CashFlow:
             more = haulage.rate(roads, rules.ore, rules.waste)[at] if rules else 0.0
             feed = blocks.feed * blocks.takes[number]
             found |= {f"processing {number}": cost[at] * feed, f"hauled {number}": more * feed}
+            alone = replace(answer, project=way)
+            for metal in [metal for metal in way.metals if metal.smelter and metal.smelter.penalties]:
+                charged = smelter.penalties(alone, metal)[at] * blocks.takes[number]
+                found[f"{smelter.PENALTIES} {metal.name} {number}"] = charged
         keys = self.flow.keys
         sums = pd.concat([blocks.keys, pd.DataFrame(found)], axis=1).groupby(keys).sum()
         sums = pd.concat([sums, self.of_opening(list(sums))]) if self.flow.opening.given else sums
@@ -87,6 +90,10 @@ class CashFlow:
         found = pd.DataFrame(0.0, index=pd.MultiIndex.from_frame(lots.keys), columns=columns).assign(blocks=1.0)
         for number in range(len(lots.takes)):
             found[f"processing {number}"] = lots.processing(number) * lots.takes[number]
+            for metal in lots.project.metals:
+                if f"{smelter.PENALTIES} {metal.name} {number}" in found:
+                    charged = lots.penalties(number, metal) * lots.takes[number]
+                    found[f"{smelter.PENALTIES} {metal.name} {number}"] = charged
         return found
 
     def by_process(self, name: str) -> np.ndarray:
@@ -108,11 +115,12 @@ class CashFlow:
         found["feed_tonnes"] = fed * feed
         found["royalty"] = fed * feed * float(project.economics.royalty_per_tonne)
         for metal in project.metals:
-            price, recovered = prices(project, metal, flow.rows["year"]), flow.recovered(metal.name)
+            recovered = flow.recovered(metal.name)
+            earned = recovered * self.by_year(metal, partial(smelter.paid, metal))
             found[f"contained_{metal.name}"] = fed * lot[f"contained_{metal.name}"]
-            found |= {f"recovered_{metal.name}": recovered, f"revenue_{metal.name}": recovered * price}
-            found["royalty"] = found["royalty"] + recovered * price * float(project.economics.royalty)
-            found[f"selling_cost_{metal.name}"] = recovered * float(converted(metal, metal.selling_cost))
+            found |= {f"recovered_{metal.name}": recovered, f"revenue_{metal.name}": earned}
+            found["royalty"] = found["royalty"] + earned * float(project.economics.royalty)
+            found |= self.sold(metal, recovered)
         found["mining_cost_ore"] = from_pit * ~waste * whole["mining"]
         found["mining_cost_waste"] = waste * whole["mining"]
         found["mining_cost_depth"], found["mining_cost_added"] = from_pit * whole["depth"], from_pit * whole["added"]
@@ -123,6 +131,25 @@ class CashFlow:
         found["stacking_cost"] = np.where(fed, 0.0, flow.of_stockpile(lambda it: it.stacking_cost, 0.0)) * feed
         found["reclaim_cost"] = np.where(fed, flow.of_stockpile(lambda it: it.reclaim_cost, 0.0), 0.0) * feed
         return {name: np.asarray(values) for name, values in found.items()}
+
+    def by_year(self, metal: Metal, value: Callable[[Decimal], Decimal]) -> np.ndarray:
+        """Returns a value at the price of each row's year."""
+        years = self.flow.rows["year"]
+        by_year = {year: float(value(price_in(self.project, metal, int(year)))) for year in years.unique()}
+        return years.map(by_year).to_numpy(dtype=float)
+
+    def sold(self, metal: Metal, recovered: np.ndarray) -> Lines:
+        """Returns the selling cost, or what the smelter pays for and charges."""
+        found = {}
+        if metal.smelter:
+            found[f"payable_{metal.name}"] = recovered * float(smelter.paid_share(metal))
+            dry = float(smelter.dry_tonnes(metal))
+            found |= {f"concentrate_tonnes_{metal.name}": recovered * dry} if dry else {}
+        for name in smelter.charged(metal, metal.price):
+            found[f"{name}_{metal.name}"] = recovered * self.by_year(metal, partial(smelter.charged_as, metal, name))
+        if metal.smelter and metal.smelter.penalties:
+            found[f"{smelter.PENALTIES}_{metal.name}"] = self.by_process(f"{smelter.PENALTIES} {metal.name}")
+        return found
 
     def of(self, method: str, years: pd.Series) -> tuple[pd.DataFrame, pd.DataFrame]:
         """Returns the lines of a method by year, and their tolerances."""
@@ -154,10 +181,8 @@ class CashFlow:
 
 
 def prices(project: Project, metal: Metal, years: pd.Series) -> np.ndarray:
-    """Returns the price of a tonne or gram of a metal in given years."""
-    kept, name = 1 - float(project.economics.royalty), f"recovered_{metal.name}"
-    more = {year: premiums(project, year).get(name, 0.0) / kept for year in years.unique()}
-    return float(converted(metal, metal.price)) + years.map(more).to_numpy(dtype=float)
+    """Returns the price of a metal in given years, in its own unit."""
+    return years.map({year: float(price_in(project, metal, int(year))) for year in years.unique()}).to_numpy(float)
 
 
 def units_of(metal: Metal) -> float:
@@ -227,22 +252,23 @@ def ratios(project: Project, said: pd.DataFrame) -> tuple[Lines, Lines]:
     first, found = project.metals[0], {}
     mining = [name for name in said if name.startswith("mining_cost_") or name == "haulage_cost"]
     site = [name for name in said if name in OTHER_COSTS or name.startswith(("mining_cost_", "processing_cost_"))]
-    selling = [f"selling_cost_{metal.name}" for metal in project.metals]
+    selling = [name for name in said if name.startswith(OF_SELLING)]
     credit = said[[f"revenue_{metal.name}" for metal in project.metals[1:]]].sum(axis=1)
     whole, feed, ore = said[site].sum(axis=1), said["feed_tonnes"], said["total_tonnes"] - said["waste_tonnes"]
     parts = {"strip_ratio": (said["waste_tonnes"], ore, 1.0)}
     for metal in project.metals:
         parts[f"head_grade_{metal.name}"] = (said[f"contained_{metal.name}"], feed, float(GRADE_UNITS[metal.unit]))
-        found[f"price_{metal.name}"] = prices(project, metal, said["year"]) / units_of(metal)
+        found[f"price_{metal.name}"] = prices(project, metal, said["year"])
     parts["cost_per_tonne_mined"] = (said[mining].sum(axis=1), said["total_tonnes"], 1.0)
     parts["cost_per_tonne_fed"] = (whole, feed, 1.0)
     c1 = whole + said[selling].sum(axis=1) - credit
-    parts["c1_cost"] = (c1, said[f"recovered_{first.name}"], units_of(first))
+    sold = "payable" if first.smelter else "recovered"
+    parts["c1_cost"] = (c1, said[f"{sold}_{first.name}"], units_of(first))
     loose = {}
     with np.errstate(divide="ignore", invalid="ignore"):
         for name, (amount, per, unit) in parts.items():
             found[name] = (amount / per / unit).to_numpy(dtype=float)
             # All are sums of rounded amounts.
-            slack = AMOUNT * (len(site) + len(project.metals) * 2 + 2 * np.abs(amount / per)) / per / unit
+            slack = AMOUNT * (len(site) + len(project.metals) * 7 + 2 * np.abs(amount / per)) / per / unit
             loose[name] = 2e-6 + np.nan_to_num(slack.to_numpy(dtype=float), posinf=0.0)
     return found, loose

@@ -16,7 +16,7 @@ from planaudit.inputs.project import GRADE_UNITS, ByDomain, Metal, Project
 from planaudit.inputs.tables import read_table
 from planaudit.money.feed import by_grade
 from planaudit.money.period_costs import premiums
-from planaudit.money.prices import converted
+from planaudit.money.smelter import net
 from planaudit.schedules.lots import MILL, BlockAmounts
 
 FILE = "cutoffs.csv"
@@ -45,10 +45,8 @@ class Material:
         return float(by_grade(self.recovery(metal), np.array([head]))[0][0])
 
     def earned(self, metal: Metal, head: float, premium: float) -> float:
-        """What a head grade of a metal earns per tonne of feed, after royalty and selling cost."""
-        price = float(
-            converted(metal, metal.price) * (1 - self.project.economics.royalty) - converted(metal, metal.selling_cost)
-        )
+        """What a head grade of a metal earns per tonne of feed, after royalty and charges, without penalties."""
+        price = float(net(metal, metal.price, self.project.economics.royalty))
         recovered = max(head - self.of(metal.tail_grade), 0.0) * self.share(metal, head)
         return recovered * float(GRADE_UNITS[metal.unit]) * (price + premium)
 

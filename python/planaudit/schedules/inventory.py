@@ -11,6 +11,7 @@ from planaudit.inputs.classes import NOT_A_RESERVE
 from planaudit.inputs.matching import own_name
 from planaudit.inputs.project import GRADE_UNITS
 from planaudit.inputs.tables import read_table
+from planaudit.money.smelter import paid_share
 from planaudit.rules import TOLD, Rule, rule
 from planaudit.schedules.material_flow import AMOUNT, PIT, WASTE, MaterialFlow
 
@@ -50,6 +51,12 @@ def unlike_rows(flow: MaterialFlow) -> Iterator[str]:
             with np.errstate(divide="ignore", invalid="ignore"):
                 due = np.where(tonnes > slack, amount / tonnes, np.nan)
                 expected[f"{grade}_{metal.name}"] = due, GRADE + slack * (1 / unit + due) / tonnes
+    for metal in [metal for metal in metals if metal.smelter]:
+        values, loose = expected[f"recovered_{metal.name}"]
+        expected[f"payable_{metal.name}"] = values * float(paid_share(metal)), loose + AMOUNT
+    if missing := set(expected) - set(said.columns):
+        yield f"{FILE}: columns {sorted(missing)} are missing"
+        return
     for name, (values, loose) in expected.items():
         off = np.flatnonzero(np.abs(said[name].to_numpy(dtype=float) - values) > loose)
         yield from (

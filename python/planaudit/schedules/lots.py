@@ -13,7 +13,7 @@ from planaudit.inputs.answer import Answer
 from planaudit.inputs.matching import BIN, PUSHBACK, own_name
 from planaudit.inputs.project import GRADE_UNITS, Stockpile
 from planaudit.money.feed import recovered
-from planaudit.money.prices import converted
+from planaudit.money.smelter import net
 from planaudit.schedules.grade_limits import GradeLimit, grade_limits
 
 MILL = "mill"
@@ -73,13 +73,9 @@ class BlockAmounts:
 
     @cached_property
     def net_prices(self) -> dict[str, float]:
-        """What a tonne or gram of each metal earns at the base price, less royalty and selling cost."""
+        """What a tonne or gram of each metal earns at the base price, less royalty and charges."""
         project = self.answer.project
-        kept = 1 - project.economics.royalty
-        return {
-            metal.name: float(converted(metal, metal.price) * kept - converted(metal, metal.selling_cost))
-            for metal in project.metals
-        }
+        return {it.name: float(net(it, it.price, project.economics.royalty)) for it in project.metals}
 
     @cached_property
     def gain(self) -> np.ndarray:

@@ -12,9 +12,9 @@ import pandas as pd
 
 from planaudit.inputs.answer import Answer
 from planaudit.inputs.matching import own_name
-from planaudit.inputs.project import GRADE_UNITS, Opening, Project, Stockpile
+from planaudit.inputs.project import GRADE_UNITS, Metal, Opening, Project, Stockpile
+from planaudit.money import smelter
 from planaudit.money.feed import by_code, recovered
-from planaudit.money.prices import converted
 from planaudit.schedules.lots import BlockAmounts
 
 # Lots are of pushback and bin 0. The level of that of the first stockpile is FIRST, and falls.
@@ -86,8 +86,8 @@ class OpeningLots:
             )
             for metal in way.metals:
                 amount = self.recovered[metal.name][number]
-                gained = gained + amount * float(converted(metal, metal.price) * (1 - economics.royalty))
-                spent = spent + amount * float(converted(metal, metal.selling_cost))
+                gained = gained + amount * float(smelter.paid(metal, metal.price) * (1 - economics.royalty))
+                spent = spent + amount * float(smelter.all_charged(metal, metal.price)) + self.penalties(number, metal)
             revenue.append(gained)
             cost.append(spent)
         return np.round(np.stack(revenue), economics.decimals), np.round(np.stack(cost), economics.decimals)
@@ -96,6 +96,10 @@ class OpeningLots:
         """Returns the cost of processing whole lots, without royalty and selling."""
         way = self.project.by_process[process]
         return self.feed * by_code(way.economics.processing_cost, self.rows, way.table)
+
+    def penalties(self, process: int, metal: Metal) -> np.ndarray:
+        """Returns what the smelter charges for other elements in whole lots."""
+        return smelter.penalties_of(metal, self.recovered[metal.name][process], self.rows, self.feed)
 
     @cached_property
     def takes(self) -> np.ndarray:

@@ -218,7 +218,7 @@ def read(folder: Path, written: Path) -> Simulated:
     except ValueError as error:
         raise AuditError(f"{folder}: not an output folder of pitplan scenarios: {error}") from error
     table = read_table(project)
-    bare = replace(project, metals=())
+    bare = project.without_grades
     named = [name for name in (*bare.columns, project.table.tonnes) if name in table]
     frame, parts = table[list(dict.fromkeys(named))], None
     if project.table.reblock:
@@ -260,7 +260,7 @@ def matching(name: str, header: list[str]) -> list[str]:
 def read_table(project: Project) -> pd.DataFrame:
     """Reads the table with every column of grades of a realisation."""
     if asked(project).folder is not None:
-        return block_table.read(replace(project, metals=()))
+        return block_table.read(project.without_grades)
     metals = {metal.name: metal for metal in project.metals}
     wanted = {(name, column) for model in models_of(project) for name, column in model.columns.items()}
     wanted |= {(name, metal.column) for name, metal in metals.items() if name not in asked(project).columns}

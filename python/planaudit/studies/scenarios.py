@@ -90,7 +90,7 @@ class Verification:
 
     def reblocked(self) -> Rule:
         """Verifies that blocks hold the rows that lie in them, and have the means of their grades in sampled scenarios."""
-        of_rows = reblocked.verify(replace(self.ground, project=replace(self.ground.project, metals=())))
+        of_rows = reblocked.verify(replace(self.ground, project=self.ground.project.without_grades))
         differences, count = list(of_rows.differences), of_rows.count
         for scenario in self.sample:
             said, expected = self.folder.solved_grades(scenario), self.folder.grades(scenario.model)

@@ -34,6 +34,8 @@ from planaudit.studies import cases
 
 SHARES = ("-0.2", "-0.1", "0.1", "0.2")
 AXES = ("parameter", "change", "second_parameter", "second_change")
+# Keys of [metals.smelter] that are charges.
+CHARGES = ("treatment_charge", "refining_charge", "freight")
 # The pits of which a case has amounts: its own, that of the base case, and the skin of this.
 CASE, KEPT_PIT, SKIN = "case", "kept", "skin"
 KEPT = ("undiscounted_cash_flow", "npv_best", "npv_worst", "npv_specified", "years")
@@ -307,7 +309,7 @@ def share_of(text: Text) -> Decimal:
 def is_given(text: Text, name: str) -> bool:
     data = text.data
     if name == "selling_cost":
-        return any(metal.get(name, 0) != 0 for metal in data["metals"])
+        return any(metal.get(name, 0) != 0 or charges_in(metal) for metal in data["metals"])
     if name == "haulage":
         return "haulage" in data
     return name != "slopes" or any({"angle", "azimuths", "bench"} & {*wall} for wall in data["slopes"]["domains"])
@@ -386,6 +388,22 @@ def in_metals(*keys: str, most: Decimal = Decimal("Infinity")) -> Any:
     return change
 
 
+def charges_in(metal: Data) -> bool:
+    """Whether smelter terms of a metal charge anything but a share of the price."""
+    terms = metal.get("smelter", {})
+    return any(terms.get(key, 0) != 0 for key in CHARGES) or "penalties" in terms
+
+
+def in_charges(data: Data, by: Decimal, metal: str) -> None:
+    """Changes selling costs, or the charges of smelters and their penalties."""
+    in_metals("selling_cost")(data, by, metal)
+    for one in data["metals"]:
+        terms = one.get("smelter", {}) if metal in ("", one["name"]) else {}
+        terms |= {key: times(terms[key], by) for key in CHARGES if key in terms}
+        for penalty in terms.get("penalties", []):
+            penalty["steps"] = times(penalty["steps"], by)
+
+
 def in_recoveries(data: Data, by: Decimal, metal: str) -> None:
     """Changes recoveries of metals, or of these in each process."""
     in_metals("recovery", most=Decimal(1))(data, by, metal)
@@ -408,7 +426,7 @@ NUMBERS: dict[str, Any] = {
     "price": in_periods(in_metals("price", "prices"), "prices"),
     "mining_cost": in_section("economics", "mining_cost", "mining_cost_per_bench", "mining_cost_by_elevation"),
     "processing_cost": in_section("economics", "processing_cost", of_process="cost"),
-    "selling_cost": in_metals("selling_cost"),
+    "selling_cost": in_charges,
     "recovery": in_recoveries,
     "slopes": in_walls,
     "capacity": in_periods(

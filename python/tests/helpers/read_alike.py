@@ -22,9 +22,9 @@ def differences(audit, planner, where="project"):
     if isinstance(audit, RowRules):
         planner = as_audited(planner)
     if is_dataclass(audit):
-        # What the only process accepts is read with the process.
-        of_process = {"accepts"} if isinstance(audit, Project) else set()
-        for field in [it for it in fields(audit) if it.name not in of_process]:
+        # What the only process accepts is read with the process, and columns are kept for scenarios.
+        own = {"accepts", "kept"} if isinstance(audit, Project) else set()
+        for field in [it for it in fields(audit) if it.name not in own]:
             yield from differences(getattr(audit, field.name), getattr(planner, field.name), f"{where}.{field.name}")
     elif isinstance(audit, (tuple, list)) and isinstance(planner, (tuple, list)) and len(audit) == len(planner):
         for number, (one, other) in enumerate(zip(audit, planner)):

@@ -24,10 +24,9 @@ BASE, BINS, MOST_WAITING = Fraction(1), 8, 3
 
 def premiums(mine: Mine, year: int) -> dict[str, Fraction]:
     """What a unit of each metal gains in a year, from 1, above the base price."""
-    found, royalty = {}, Fraction(mine.project["economics"].get("royalty", 0))
+    found = {}
     for metal in mine.project["metals"]:
-        more = mine.price(metal, price_of(mine, metal, year)) - mine.price(metal, metal["price"])
-        found[metal["name"]] = more * (1 - royalty)
+        found[metal["name"]] = mine.earned(metal, price_of(mine, metal, year)) - mine.earned(metal, metal["price"])
     return found
 
 

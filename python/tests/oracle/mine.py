@@ -14,7 +14,9 @@ from typing import Any, Optional, TypeVar
 
 import tomllib
 
+from . import smelter
 from .ground import profile_of, share_below
+from .numbers import UNITS, rounded
 from .slopes import Step, steps_of
 
 GRAMS = {
@@ -24,7 +26,6 @@ GRAMS = {
     "lb": Fraction("453.59237"),
     "oz": Fraction("31.1034768"),
 }
-UNITS = {"percent": Fraction(1, 100), "fraction": Fraction(1), "gram_per_tonne": Fraction(1)}
 Place = Step
 Number = TypeVar("Number", int, float, Fraction)
 
@@ -33,11 +34,6 @@ def three(numbers: Iterable[Number]) -> tuple[Number, Number, Number]:
     """East, north and up."""
     east, north, up = numbers
     return east, north, up
-
-
-def rounded(amount: Fraction, decimals: int) -> Fraction:
-    """To so many decimals, halves to the even one."""
-    return Fraction(round(amount * 10**decimals), 10**decimals)
 
 
 @dataclass(frozen=True)
@@ -191,14 +187,21 @@ class Mine:
                 share = self.recovery(process["recovery"][name], row, grade / dilution)
             tail = self.by_code(process.get("tail", {}).get(name, 0), row) * dilution
             metals[name] = undiluted * max(grade - tail, Fraction(0)) * UNITS[metal["unit"]] * share
-            revenue += metals[name] * self.price(metal, metal["price"]) * (1 - Fraction(money.get("royalty", 0)))
-            selling += metals[name] * self.price(metal, metal.get("selling_cost", 0))
+            kept = 1 - Fraction(money.get("royalty", 0))
+            revenue += metals[name] * smelter.paid(metal, metal["price"], self.price) * kept
+            selling += metals[name] * smelter.charged(metal, metal["price"], self.price)
+            selling += smelter.penalties(metal, metals[name], lambda column: undiluted * Fraction(row[column]))
         decimals = money.get("decimals", 6)
         earned = rounded(revenue, decimals)
         a_tonne = self.by_code(process["cost"], row) * self.factor("pcaf", row)
         a_tonne += Fraction(money.get("royalty_per_tonne", 0))
         spent = rounded(undiluted * dilution * a_tonne + selling, decimals)
         return Way(earned, spent if earned else Fraction(0), metals)
+
+    def earned(self, metal: dict[str, Any], price: Decimal) -> Fraction:
+        """What a recovered unit earns at a price, less royalty and charges, without penalties."""
+        kept = 1 - Fraction(self.project["economics"].get("royalty", 0))
+        return smelter.paid(metal, price, self.price) * kept - smelter.charged(metal, price, self.price)
 
     def price(self, metal: dict[str, Any], price: Decimal) -> Fraction:
         """For a tonne, or a gram where the grade is in grams a tonne; a price that is converted is rounded to twelve decimals."""

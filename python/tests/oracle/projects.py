@@ -21,14 +21,14 @@ def draw(seed: int) -> Drawn:
     size = (rng.choice([8, 10, 12.5]), rng.choice([8, 10]), rng.choice([5, 8, 10]))
     shape = rng.choice([(3, 2, 2), (5, 4, 3), (6, 5, 4), (7, 3, 5), (7, 6, 6)])
     several = rng.choice([0, 0, 2, 3])
-    files = {"blocks.csv": table(rng, size, shape)}
+    files = {"blocks.csv": with_arsenic(Random(seed), table(rng, size, shape))}
     of_table = table_section(rng, files, size, shape)
     sections = [
         of_table,
         classes(rng) if "class =" in of_table else "",
         f"[grid]\nsize = [{size[0]}, {size[1]}, {size[2]}]",
         economics(rng, several, size[2] * shape[2]),
-        *metals(rng, several),
+        *with_terms(Random(seed), metals(rng, several)),
         *(process(rng, number) for number in range(several)),
         slopes(rng),
         shells(rng, several),
@@ -144,6 +144,32 @@ def metals(rng: Random, several: int) -> list[str]:
         gold += [pick(rng, "price = 60\nselling_cost = 1.5", 'price = 1866.21\nprice_per = "oz"\nselling_cost = 46.5')]
         found.append("\n".join([*gold, *([] if several else [f"recovery = {recovery(rng)}"])]))
     return found
+
+
+def with_arsenic(rng: Random, blocks: str) -> str:
+    """The table with a column of arsenic."""
+    head, *rows = blocks.splitlines()
+    return "\n".join([f"{head},as_ppm", *(f"{row},{rng.choice([0, 12, 85.5, 340])}" for row in rows)]) + "\n"
+
+
+def with_terms(rng: Random, texts: list[str]) -> list[str]:
+    """The metals, of which some are sold by smelter terms and not at a selling cost."""
+    return [smelter(rng, text) if rng.random() < 0.4 else text for text in texts]
+
+
+def smelter(rng: Random, text: str) -> str:
+    kept = "\n".join(line for line in text.splitlines() if not line.startswith("selling_cost"))
+    price, grade = float(text.split("\nprice = ")[1].split("\n")[0]), "26.5" if "percent" in text else "41.7"
+    terms = [f"concentrate_grade = {grade}", pick(rng, "", "payable = 0.965"), pick(rng, "", "minimum_deduction = 1.1")]
+    terms += [pick(rng, "", "treatment_charge = 87.5"), pick(rng, "", f"refining_charge = {round(price * 0.02, 4)}")]
+    terms.append(pick(rng, "", f"price_participation = {{ base = {round(price * 0.9, 3)}, share = 0.07 }}"))
+    terms.append(pick(rng, "", "freight = 61.3", "freight = 61.3\nmoisture = 0.083"))
+    kinds = (
+        'column = "as_ppm"\nrecovery = 0.62\nsteps = [[900, 3], [2000, 5.5]]\nper = 100',
+        'column = "as_ppm"\nsteps = [[0, 0.002]]',
+    )
+    terms.append(pick(rng, "", f"[[metals.smelter.penalties]]\n{pick(rng, *kinds)}"))
+    return "\n".join([kept, "[metals.smelter]", *filter(None, terms)])
 
 
 def process(rng: Random, number: int) -> str:

@@ -2,7 +2,9 @@
 
 from __future__ import annotations
 
+from collections.abc import Callable
 from dataclasses import dataclass
+from decimal import Decimal
 
 import numpy as np
 import pandas as pd
@@ -11,7 +13,9 @@ from numpy.typing import NDArray
 from pitplan.config.economics import GRADE_UNITS, GRAMS, Metal
 from pitplan.config.places import MILL
 from pitplan.config.project import Project
-from pitplan.economics.cost_lines import PROCESSING, ROYALTY, price_of, selling_of
+from pitplan.economics import smelter_terms
+from pitplan.economics.cost_lines import PROCESSING, ROYALTY
+from pitplan.economics.period_costs import yearly_prices
 from pitplan.economics.weighing import DEPTH, HAULAGE, MILLIONTHS, MINING
 from pitplan.pits import shell_tables
 from pitplan.scheduling import pushback_schedule
@@ -21,6 +25,17 @@ from .operation import Amounts, Material, Operation
 
 # Lines by their columns in cash_flow.csv.
 Lines = dict[str, Amounts]
+# Prices by metal and period, in the unit of the metal's price.
+Prices = dict[str, list[Decimal]]
+# How the columns of charges begin.
+COLUMNS = {
+    smelter_terms.SELLING: "selling_cost",
+    smelter_terms.TREATMENT: "treatment_charge",
+    smelter_terms.REFINING: "refining_charge",
+    smelter_terms.PARTICIPATION: "participation",
+    smelter_terms.FREIGHT: "freight",
+    smelter_terms.PENALTIES: "penalties",
+}
 
 
 @dataclass(frozen=True)
@@ -37,7 +52,7 @@ class Statement:
     physicals, prices : dict of str to array
         Tonnes, grades and metals; and the prices of metals, per unit of their `price`.
     revenue, deductions, costs : dict of str to array
-        Revenue by metal; royalty and selling costs; and the operating costs.
+        Revenue by metal; royalty, and selling costs or charges of smelters; and the operating costs.
     rounding : array
         What the rounding of block values adds.
     capex : array
@@ -89,17 +104,17 @@ def statement(operation: Operation, method: str, years: pd.DataFrame) -> Stateme
     of_years = {name: years[name].to_numpy() if name in years else nothing for name in ("fixed_cost", "capex")}
     metals = operation.material.plan.project.metals
     recovered = {metal.name: operation.recovered(metal.name) for metal in metals}
-    prices = prices_of(operation)
-    revenue = {f"revenue_{metal.name}": recovered[metal.name] * prices[metal.name] for metal in metals}
+    prices = {metal.name: prices_of(metal, operation) for metal in metals}
+    revenue = {f"revenue_{it.name}": recovered[it.name] * at_prices(smelter_terms.paid, it, prices) for it in metals}
     costs = mining_costs(operation) | processing_costs(operation) | stockpile_costs(operation)
     return Statement(
         method=method,
         year=years["year"].to_numpy(),
         ends=operation.material.plan.project.shells.calendar.ends(len(years)),
         physicals=physicals(operation, recovered),
-        prices={f"price_{metal.name}": prices[metal.name] / units_of_price(metal) for metal in metals},
+        prices={f"price_{name}": np.array(of_years, dtype=float) for name, of_years in prices.items()},
         revenue=revenue,
-        deductions=deductions(operation, revenue, recovered),
+        deductions=royalties(operation, revenue) | charges(operation, prices, recovered),
         costs=costs | ({"fixed_cost": of_years["fixed_cost"]} if "fixed_cost" in years else {}),
         rounding=rounding_of(operation),
         capex=of_years["capex"],
@@ -113,12 +128,15 @@ def units_of_price(metal: Metal) -> float:
     return float(GRAMS[metal.quantity] / GRAMS[metal.price_unit])
 
 
-def prices_of(operation: Operation) -> Lines:
-    """Returns the price of a tonne or gram of each metal in each period."""
-    project, flows = operation.material.plan.project, operation.flows
-    names = tuple(f"recovered_{metal.name}" for metal in project.metals)
-    premiums = flows.model.problem.money.premium(names, flows.years) / (1 - float(project.economics.royalty))
-    return {metal.name: price_of(metal) + more for metal, more in zip(project.metals, premiums.T)}
+def prices_of(metal: Metal, operation: Operation) -> list[Decimal]:
+    """Returns the price of a metal in each period, in the unit of its price."""
+    listed = yearly_prices(operation.material.plan.project, metal) or (metal.price,)
+    return [listed[min(year, len(listed) - 1)] for year in range(operation.flows.years)]
+
+
+def at_prices(value: Callable[[Metal, Decimal], Decimal], metal: Metal, prices: Prices) -> Amounts:
+    """Returns what a tonne or gram of a metal earns or costs at the price of each period."""
+    return np.array([value(metal, price) for price in prices[metal.name]], dtype=float)
 
 
 def physicals(operation: Operation, recovered: Lines) -> Lines:
@@ -133,16 +151,37 @@ def physicals(operation: Operation, recovered: Lines) -> Lines:
         content = contained[metal.name] / float(GRADE_UNITS[metal.unit])
         found[f"head_grade_{metal.name}"] = shell_tables.ratio(content, feed)
     found |= {f"contained_{name}": amounts for name, amounts in contained.items()}
-    return found | {f"recovered_{name}": amounts for name, amounts in recovered.items()}
+    found |= {f"recovered_{name}": amounts for name, amounts in recovered.items()}
+    for metal in [metal for metal in project.metals if metal.smelter]:
+        payable, dry = (float(value(metal)) for value in (smelter_terms.payable_share, smelter_terms.concentrate))
+        found[f"payable_{metal.name}"] = recovered[metal.name] * payable
+        if dry:
+            found[f"concentrate_tonnes_{metal.name}"] = recovered[metal.name] * dry
+    return found
 
 
-def deductions(operation: Operation, revenue: Lines, recovered: Lines) -> Lines:
-    """Returns the royalty, by revenue and by tonne of feed, and the selling costs by metal."""
+def royalties(operation: Operation, revenue: Lines) -> Lines:
+    """Returns the royalty, by revenue and by tonne of feed."""
     project, costs = operation.material.plan.project, operation.material.costs
     royalty = float(project.economics.royalty) * sum(revenue.values())
     royalty = royalty + sum(operation.fed(lines[ROYALTY], number) for number, lines in enumerate(costs.processing))
-    selling = {f"selling_cost_{it.name}": recovered[it.name] * selling_of(it) for it in project.metals}
-    return {"royalty": np.asarray(royalty)} | selling
+    return {"royalty": np.asarray(royalty)}
+
+
+def charges(operation: Operation, prices: Prices, recovered: Lines) -> Lines:
+    """Returns the selling costs by metal, or the charges of its smelter."""
+    found = {}
+    for metal in operation.material.plan.project.metals:
+        of_years = [smelter_terms.charges(metal, price) for price in prices[metal.name]]
+        for kind in smelter_terms.charges(metal, metal.price):
+            a_unit = np.array([it[kind] for it in of_years], dtype=float)
+            found[f"{COLUMNS[kind]}_{metal.name}"] = recovered[metal.name] * a_unit
+        if metal.smelter and metal.smelter.penalties:
+            of_blocks = f"{smelter_terms.PENALTIES} {metal.name}"
+            costs = enumerate(operation.material.costs.processing)
+            charged = sum(operation.fed(lines[of_blocks], number) for number, lines in costs)
+            found[f"{COLUMNS[smelter_terms.PENALTIES]}_{metal.name}"] = np.asarray(charged)
+    return found
 
 
 def mining_costs(operation: Operation) -> Lines:

@@ -24,8 +24,8 @@ def finances(schedule: YearlySchedule) -> list[Finance]:
 def cash_flow_table(schedule: YearlySchedule, found: list[Finance]) -> pd.DataFrame:
     """Returns one row per method and period; costs, capex, depreciation and tax are positive.
 
-    Columns: method, year; tonnes, grades and metals; price_METAL; revenue_METAL, royalty, selling_cost_METAL, the lines of mining, processing,
-    stockpiles and fixed costs, rounding; operating_cash_flow, capex and cash_flow, that of years.csv; closure_cost, depreciation,
+    Columns: method, year; tonnes, grades and metals; price_METAL; revenue_METAL, royalty, selling_cost_METAL or the charges of smelters, the
+    lines of mining, processing, stockpiles and fixed costs, rounding; operating_cash_flow, capex and cash_flow, that of years.csv; closure_cost, depreciation,
     taxable_income and tax if `[cash_flow]` has them; free_cash_flow; both discounted; and unit costs.
     """
     return pd.concat([rows_of(schedule, it) for it in found], ignore_index=True)
@@ -55,13 +55,15 @@ def taxes(finance: Finance) -> Lines:
 
 
 def unit_costs(it: Statement, project: Project) -> Lines:
-    """Returns the mining cost per tonne mined, the site cost per tonne of feed, and the C1 cost per unit of the first metal."""
+    """Returns the mining cost per tonne mined, the site cost per tonne of feed, and the C1 cost per unit of the first metal
+    that is sold."""
     first = project.metals[0]
     mining = it.total({name: line for name, line in it.costs.items() if name.startswith(OF_MINING)})
     site = it.total(it.costs)
-    selling = it.total({name: line for name, line in it.deductions.items() if name.startswith("selling_cost")})
+    selling = it.total({name: line for name, line in it.deductions.items() if name != "royalty"})
     credit = it.total({name: line for name, line in it.revenue.items() if name != f"revenue_{first.name}"})
-    units = it.physicals[f"recovered_{first.name}"] * units_of_price(first)
+    sold = "recovered" if first.smelter is None else "payable"
+    units = it.physicals[f"{sold}_{first.name}"] * units_of_price(first)
     return {
         "cost_per_tonne_mined": shell_tables.ratio(mining, it.physicals["total_tonnes"]),
         "cost_per_tonne_fed": shell_tables.ratio(site, it.physicals["feed_tonnes"]),

@@ -137,7 +137,8 @@ def arrays_of(base: Base) -> dict[str, np.ndarray]:
     for name in (table.rock_type, table.domain if by_region else None, table.resource_class):
         if name:
             arrays[name] = base.frame[name].to_numpy().astype(str)
-    return arrays | {name: base.frame[name].to_numpy() for name in money.factor_columns}
+    columns = (*money.factor_columns, *base.project.penalty_columns)
+    return arrays | {name: base.frame[name].to_numpy() for name in columns}
 
 
 def arrays_of_settled(plan: Plan) -> dict[str, np.ndarray]:

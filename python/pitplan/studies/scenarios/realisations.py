@@ -258,14 +258,16 @@ def priced(project: Project, prices: dict[str, Decimal]) -> Project:
 
 
 def envelope(base: Base, greatest: np.ndarray) -> Plan:
-    """Returns a plan in which each block is ore if it is in any scenario: by the largest grades and prices, without selling cost. Its
-    precedences and processing nodes serve every scenario."""
+    """Returns a plan in which each block is ore if it is in any scenario: by the largest grades and prices, without selling cost and smelter
+    terms. Its precedences and processing nodes serve every scenario."""
     project = base.project
 
     def dearest(metal: Metal) -> Decimal:
         return max(prices.get(metal.name, metal.price) for prices in scenarios_of(project).prices)
 
-    metals = tuple(replace(metal, price=dearest(metal), selling_cost=Decimal(0)) for metal in project.metals)
+    metals = tuple(
+        replace(metal, price=dearest(metal), selling_cost=Decimal(0), smelter=None) for metal in project.metals
+    )
     blocks = base.prepared.with_grades(base.with_grades(greatest), replace(project, metals=metals))
     plan = plan_of(blocks)
     plan.values = plan.values.with_shared_nodes()

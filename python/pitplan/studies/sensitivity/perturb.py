@@ -11,6 +11,7 @@ from pitplan.config.economics import ByRock, Curve, Metal, Process, Recovery
 from pitplan.config.overrides import scaled
 from pitplan.config.periods import Calendar, Period
 from pitplan.config.project import Project, of_data
+from pitplan.config.smelter import CHARGES, Smelter
 from pitplan.errors import PlanError
 
 # A parameter of `[sensitivity]`, and the share by which it changes: 0.1 is 10 % more.
@@ -100,7 +101,21 @@ def price(project: Project, by: Decimal, metal: str) -> Project:
 
 
 def selling_cost(project: Project, by: Decimal, metal: str) -> Project:
-    return with_metals(project, metal, lambda it: replace(it, selling_cost=it.selling_cost * by))
+    """Changes the selling cost of a metal, or the charges of its smelter with penalties."""
+
+    def change(it: Metal) -> Metal:
+        terms = it.smelter and charged(it.smelter, by)
+        return replace(it, selling_cost=it.selling_cost * by, smelter=terms)
+
+    return with_metals(project, metal, change)
+
+
+def charged(terms: Smelter, by: Decimal) -> Smelter:
+    """Returns smelter terms with all charges times a factor; what is paid and the price participation stay."""
+    penalties = tuple(
+        replace(it, steps=tuple((grade, charge * by) for grade, charge in it.steps)) for it in terms.penalties
+    )
+    return replace(terms, **{name: getattr(terms, name) * by for name in CHARGES}, penalties=penalties)
 
 
 def recovery(project: Project, by: Decimal, metal: str) -> Project:
@@ -189,7 +204,7 @@ VARIED: dict[str, Callable[[Project, Decimal, str], Project]] = {
 def given(project: Project) -> tuple[str, ...]:
     """Returns the parameters that a project has and that can be changed."""
     is_there = {
-        "selling_cost": any(metal.selling_cost for metal in project.metals),
+        "selling_cost": any(it.selling_cost or it.smelter and it.smelter.has_charges for it in project.metals),
         "slopes": any(wall.angles for wall in project.slopes.domains),
         "haulage": project.haulage is not None,
     }

@@ -1,0 +1,86 @@
+"""Net smelter return: what a unit of recovered metal earns and costs by its smelter terms, or by its selling cost.
+
+The grade of a concentrate is fixed, so every charge is a constant per unit of recovered metal. All are rounded to twelve decimals, as
+converted prices are. Penalties depend on the element in each block, so they are a cost of blocks.
+"""
+
+from __future__ import annotations
+
+from decimal import ROUND_HALF_EVEN, Context, Decimal
+
+from pitplan.config.economics import GRADE_UNITS, PRICE_PLACES, Metal
+from pitplan.config.smelter import Penalty, Smelter
+
+SELLING, TREATMENT, REFINING, PARTICIPATION, FREIGHT = "selling", "treatment", "refining", "participation", "freight"
+PENALTIES = "penalties"
+# Enough digits for any amount of a project.
+DIGITS = Context(prec=60)
+
+
+def rounded(value: Decimal) -> Decimal:
+    return value.quantize(PRICE_PLACES, ROUND_HALF_EVEN, DIGITS)
+
+
+def payable_share(metal: Metal) -> Decimal:
+    """Returns the share of the recovered metal that is paid: `payable`, or less by the minimum deduction from the concentrate's grade."""
+    terms = metal.smelter
+    if terms is None or not terms.minimum_deduction:
+        return Decimal(1) if terms is None else terms.payable
+    grade = grade_of(terms)
+    return min(terms.payable, rounded((grade - terms.minimum_deduction) / grade))
+
+
+def grade_of(terms: Smelter) -> Decimal:
+    """Returns the grade of the concentrate, which terms have that depend on it."""
+    assert terms.concentrate_grade is not None
+    return terms.concentrate_grade
+
+
+def paid(metal: Metal, price: Decimal) -> Decimal:
+    """Returns what is paid for a recovered tonne or gram at a price, in the unit of the metal's price."""
+    whole = metal.by_quantity(price)
+    return whole if metal.smelter is None else rounded(payable_share(metal) * whole)
+
+
+def concentrate(metal: Metal) -> Decimal:
+    """Returns the dry tonnes of concentrate per recovered tonne or gram; 0 if the terms do not count them."""
+    terms = metal.smelter
+    if terms is None or not terms.is_shipped:
+        return Decimal(0)
+    return rounded(1 / (grade_of(terms) * GRADE_UNITS[metal.unit]))
+
+
+def charges(metal: Metal, price: Decimal) -> dict[str, Decimal]:
+    """Returns the charges per recovered tonne or gram by line, at a price. Without smelter terms the selling cost is the only one."""
+    terms = metal.smelter
+    if terms is None:
+        return {SELLING: metal.by_quantity(metal.selling_cost)}
+    dry, share = concentrate(metal), payable_share(metal)
+    found = {TREATMENT: rounded(terms.treatment_charge * dry)} if terms.treatment_charge else {}
+    found[REFINING] = rounded(share * metal.by_quantity(terms.refining_charge))
+    if terms.price_participation:
+        above = max(Decimal(0), price - terms.price_participation.base)
+        found[PARTICIPATION] = rounded(share * metal.by_quantity(above * terms.price_participation.share))
+    if terms.freight:
+        found[FREIGHT] = rounded(terms.freight / (1 - terms.moisture) * dry)
+    return found
+
+
+def charge(metal: Metal, price: Decimal) -> Decimal:
+    """Returns the sum of the charges."""
+    return sum(charges(metal, price).values(), Decimal(0))
+
+
+def net(metal: Metal, price: Decimal, royalty: Decimal) -> Decimal:
+    """Returns what a recovered tonne or gram earns at a price, less royalty and charges, without penalties."""
+    return paid(metal, price) * (1 - royalty) - charge(metal, price)
+
+
+def penalty_rates(metal: Metal, penalty: Penalty) -> list[tuple[Decimal, Decimal]]:
+    """Returns for each step the content of the element per recovered tonne or gram above which it applies, and what it adds to the charge per unit
+    of content: the product of the column's unit and tonnes."""
+    dry, found, before = concentrate(metal), [], Decimal(0)
+    for grade, amount in penalty.steps:
+        found.append((rounded(grade * dry), rounded((amount - before) / penalty.per)))
+        before = amount
+    return found
