@@ -204,7 +204,7 @@ def test_the_report_and_the_workbook_have_the_schedule(copied):
         and "data:image/png" not in page
         and "the schedule and its upper bound, the other numbers" in page
     )
-    book = pd.read_excel(copied / "tables/schedule.xlsx", sheet_name=None)
+    book = {name: plain(it) for name, it in pd.read_excel(copied / "tables/schedule.xlsx", sheet_name=None).items()}
     tables = ["feed", "flows", "cutoffs", "inventory", "methods", "schedule", "years", "pushbacks", "shells"]
     assert list(book) == ["cash_flow", "reserves", *tables]
     for name in ("cutoffs", "schedule", "pushbacks", "shells"):
@@ -217,6 +217,11 @@ def test_the_report_and_the_workbook_have_the_schedule(copied):
     )
     told = json.loads((copied / "schedule.json").read_text())["methods"]
     assert book["methods"]["npv"].tolist() == pytest.approx([way["npv"] for way in told.values()], abs=1e-3)
+
+
+def plain(sheet):
+    """A sheet with the names of columns alone, whose headers have their units."""
+    return sheet.rename(columns=lambda head: str(head).partition(" (")[0])
 
 
 def rewrite(path, change):

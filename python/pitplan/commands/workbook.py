@@ -14,6 +14,7 @@ from pitplan.pushbacks import nested
 from pitplan.results import names
 from pitplan.results.conventions import with_discounting, with_outline
 from pitplan.results.rounding import named, shown
+from pitplan.results.sheet_heads import heads_of
 from pitplan.scheduling import pushback_schedule
 
 from .answers import cash_flow_tables, flow_tables
@@ -40,7 +41,8 @@ def write(answered: Answered, stage: Path, table: pd.DataFrame, years: pd.DataFr
     # A schedule that mines nothing has no period.
     first = [CashFlowSheet(project, lines, values).sheet().write] if len(lines) else []
     first += [ReserveSheet(project, method, sheets["inventory"]).write] if len(lines) else []
-    xlsx.write(stage / names.WORKBOOK, {name: named(sheet, project) for name, sheet in sheets.items()}, first)
+    tables = {name: named(sheet, project) for name, sheet in sheets.items()}
+    xlsx.write(stage / names.WORKBOOK, tables, first, heads_of(project))
 
 
 def sheets_of(answered: Answered, table: pd.DataFrame, years: pd.DataFrame) -> dict[str, pd.DataFrame]:

@@ -9,6 +9,7 @@ from typing import Callable, Iterator, Optional
 import numpy as np
 import pandas as pd
 
+from pitplan.config.project_writer import as_run
 from pitplan.core import csv_writer, staging
 from pitplan.core.atomic_files import staged as staged_files, staged_file
 from pitplan.core.optional_packages import load
@@ -17,6 +18,7 @@ from pitplan.errors import PlanError
 from pitplan.results import names
 from pitplan.results.folder import Folder
 from pitplan.results.pit_states import FACTOR, GROUND, Shape, places_of
+from pitplan.results.sheet_heads import heads_of
 
 from . import datamine, dxf, lines, mesh as surfaces, omf, planner_table, xlsx
 from .vtk import PACKAGE, save, write_image
@@ -135,7 +137,8 @@ def write_vtu(path: Path, folder: Folder, shape: Shape) -> None:
 def write_xlsx(path: Path, folder: Folder, shape: Shape) -> None:
     """Writes the tables of the folder as sheets of a workbook. `shape` is not used."""
     there = [folder.path / name for name in SHEETS if name in folder.record["files"]]
-    xlsx.write(path, {table.stem: with_exact_factors(pd.read_csv(table)) for table in there})
+    sheets = {table.stem: with_exact_factors(pd.read_csv(table)) for table in there}
+    xlsx.write(path, sheets, (), heads_of(as_run(folder.path, folder.record["project"])))
 
 
 WRITERS: dict[str, Writer] = {

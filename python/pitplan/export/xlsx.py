@@ -27,8 +27,19 @@ def demand_library() -> None:
     load("openpyxl", "python3-openpyxl", "a workbook")
 
 
-def write(path: Path, sheets: dict[str, pd.DataFrame], first: Sequence[Callable[[Any], None]] = ()) -> None:
-    """Writes a sheet per table, by its name, with a frozen header, after those that `first` adds. Raises MissingPackage without openpyxl."""
+def write(
+    path: Path,
+    sheets: dict[str, pd.DataFrame],
+    first: Sequence[Callable[[Any], None]] = (),
+    head: Callable[[str], str] = str,
+) -> None:
+    """Writes a sheet per table, by its name, with a frozen header, after those that `first` adds; `head` makes the header of a column.
+
+    Raises
+    ------
+    MissingPackage
+        Without openpyxl.
+    """
     openpyxl = load("openpyxl", "python3-openpyxl", "a workbook")
     styles = load("openpyxl.styles", "python3-openpyxl", "a workbook")
     book = openpyxl.Workbook()
@@ -37,7 +48,7 @@ def write(path: Path, sheets: dict[str, pd.DataFrame], first: Sequence[Callable[
         add(book)
     for name, table in sheets.items():
         sheet = book.create_sheet(name)
-        sheet.append(list(table.columns))
+        sheet.append(list(map(head, table.columns)))
         for row in table.itertuples(index=False):
             sheet.append([cell(value) for value in row])
         for text in (it for row in sheet.iter_rows() for it in row if isinstance(it.value, str)):
@@ -45,8 +56,9 @@ def write(path: Path, sheets: dict[str, pd.DataFrame], first: Sequence[Callable[
             text.data_type = "s"
         for number, column in enumerate(table.columns, 1):
             letter = sheet.cell(1, number).column_letter
-            sheet.column_dimensions[letter].width = min(WIDEST, max(12, len(column) + 2))
+            sheet.column_dimensions[letter].width = min(WIDEST, max(12, len(head(column)) + 2))
             sheet.cell(1, number).font = styles.Font(bold=True)
+            sheet.cell(1, number).alignment = styles.Alignment(vertical="top", wrap_text=True)
             for line in range(2, sheet.max_row + 1):
                 sheet.cell(line, number).number_format = format_of(column)
         sheet.freeze_panes = "A2"
