@@ -1,5 +1,6 @@
 """What docs/PLANNING.md says of the example, against the example."""
 
+import json
 import re
 import shutil
 from dataclasses import replace
@@ -202,3 +203,9 @@ def test_the_sensitivity_of_the_page_is_that_of_the_example(tmp_path):
         PAGE,
     )
     assert said.groups() == (npv["", 0.0], npv["price", -0.2], npv["slopes", -0.1])
+    skin = {(row.parameter, row.change): f"{row.skin_value / 1e6:.2f}" for row in table.itertuples()}
+    share = json.loads((tmp_path / "sensitivity.json").read_text())["skin"]["share"]
+    assert (
+        f"has {100 * share:.1f} % of the tonnage and is worth {skin['', 0.0]} M USD, and still {skin['price', -0.1]}"
+        in PAGE
+    )

@@ -84,7 +84,7 @@ def sections_of(rng):
             "[sensitivity]\n",
             '[sensitivity]\nchanges = [-0.15, 0.3]\nparameters = ["price copper", "slopes"]\n',
         )
-        or pick(rng, "", '[sensitivity]\npairs = [["price", "mining_cost"]]\nskin = 0.1\n'),
+        or pick(rng, "", '[sensitivity]\npairs = [["price", "mining_cost"]]\nskin = 0.1\nlargest_increment = 0.02\n'),
         "pictures": pick(
             rng,
             "",

@@ -14,6 +14,7 @@ from pitplan import PlanError, Where, load, verify as verify_folder
 from pitplan.cli import main
 from pitplan.commands.writing import Writing
 from pitplan.figures import sensitivity
+from pitplan.pits import factor_search
 from pitplan.studies.sensitivity import cases, perturb
 
 # Two blocks of ore at the surface, each with 1,000 for processing and 200 for mining: one of 24,000, and one of 1,200, which just does not pay.
@@ -114,6 +115,8 @@ def test_pairs_by_hand(small):
     )
 
 
+# Best and worst case mine the shells of the project's revenue factors, as those of pitplan shells.
+COARSE = "largest_increment = 1\n"
 RICH = {
     "cu": lambda i, j, k: {(3, 3, 1): 6, (5, 3, 1): 1.1, (3, 5, 2): 0.7, (6, 5, 2): 0.5, (6, 1, 2): 0.3}.get(
         (i, j, k), 0
@@ -167,7 +170,9 @@ MORE = (
 )
 def test_a_case_is_the_project_with_this_number_written_there(plan_folder, tmp_path, number, share, changes):
     path = plan_folder(
-        rows(9, 8, 4, **RICH), PROJECT + f'\n[sensitivity]\nchanges = [{share}]\nparameters = ["{number}"]\n', *MORE
+        rows(9, 8, 4, **RICH),
+        PROJECT + f'\n[sensitivity]\nchanges = [{share}]\nparameters = ["{number}"]\n{COARSE}',
+        *MORE,
     )
     demand_as_written(path, tmp_path / "other", number, changes)
 
@@ -202,7 +207,7 @@ def demand_as_written(path, other, number, changes):
 )
 def test_recovery_by_grade_and_prices_of_years_vary(plan_folder, tmp_path, number, share, changes):
     by_grade = ("recovery = 0.5\n", "recovery = [[0.2, 0.4], [1.0, 0.9]]\nprices = [6000, 10000]\n")
-    project = PROJECT + f'\n[sensitivity]\nchanges = [{share}]\nparameters = ["{number}"]\n'
+    project = PROJECT + f'\n[sensitivity]\nchanges = [{share}]\nparameters = ["{number}"]\n{COARSE}'
     path = plan_folder(
         rows(9, 8, 4, **RICH),
         project,
@@ -228,7 +233,7 @@ def test_fixed_blocks_hold_in_every_case_and_ore_may_be_settled(plan_folder):
     blocks, record = pd.read_csv(folder / "tables/blocks.csv"), json.loads((folder / "sensitivity.json").read_text())
     for case in record["cases"]:
         entry = np.load(folder / "cases" / f"{case['key']}.npz")["entry"][blocks["id"]]
-        assert (entry[blocks["must"] == 1] == 0.5).all() and not entry[blocks["never"] == 1].any()
+        assert (entry[blocks["must"] == 1] == 0.001).all() and not entry[blocks["never"] == 1].any()
 
 
 def test_rows_that_are_put_together_are_varied_as_blocks(plan_folder):
@@ -242,6 +247,49 @@ def test_rows_that_are_put_together_are_varied_as_blocks(plan_folder):
     assert found["undiscounted_cash_flow"].tolist() == pytest.approx(
         [4 * 24_000 - 4000 - 6 * 800, 4 * 26_400 - 4000 - 6 * 800]
     )
+
+
+def test_the_revenue_factors_of_the_project_do_not_decide(plan_folder):
+    """With shells as fine as can be, NPVs are those of a project with every thousandth as a revenue factor, whatever factors the project has."""
+    words = '\n[sensitivity]\nchanges = [0.2]\nparameters = "price"\nlargest_increment = 0.0001\n'
+    limits = "processing_capacity = 40\nmining_capacity = 250\nselected = 1.0"
+    changes = (*MORE[:-1], ("processing_capacity = 100", limits))
+    found = []
+    for factors in ("[0.5, 1.0]", "[0.05, 0.3, 0.85, 1.0]"):
+        path = plan_folder(rows(9, 8, 4, **RICH), PROJECT + words, *changes, ("[0.5, 1.0, 1.5]", factors))
+        found.append(pitplan.write_sensitivity(path)[["npv_best", "npv_worst", "kept_npv_best"]])
+    assert found[0].to_numpy().ravel().tolist() == pytest.approx(found[1].to_numpy().ravel().tolist(), abs=1e-6)
+    path.write_text(path.read_text().replace("[0.05, 0.3, 0.85, 1.0]", "{ from = 0.001, to = 1.0, step = 0.001 }"))
+    shells = pitplan.Plan.from_project(path).shells().table.set_index("revenue_factor").loc[1.0]
+    for name in ("npv_best", "npv_worst"):
+        assert found[0].loc[0, name] == pytest.approx(float(shells[name]), abs=1e-6)
+
+
+def test_shells_are_divided_until_none_adds_more_than_its_share():
+    """A pit that grows by 1 t each thousandth, and by 400 t at 0.700: no factor divides that."""
+    asked = []
+
+    def tonnes_at(factors):
+        asked.extend(factors)
+        return {it: 1000 * it + 400 * (it >= 0.7) for it in factors}
+
+    found = factor_search.refined((0.5, 1.0), 0.1, tonnes_at)
+    tonnes = [1000 * it + 400 * (it >= 0.7) for it in found]
+    wide = [pair for pair in zip(found, found[1:]) if tonnes[found.index(pair[1])] - tonnes[found.index(pair[0])] > 140]
+    assert wide == [(0.699, 0.7)] and {0.5, 1.0} <= set(found) and list(found) == sorted(set(found))
+    assert len(asked) == len(set(asked)) < 60
+    # Shells that are equal to the one before are left out, but for those of the project.
+    assert factor_search.refined((0.5, 1.0), 0.1, lambda factors: {it: 100.0 * (it >= 0.9) for it in factors}) == (
+        0.5,
+        0.9,
+        1.0,
+    )
+
+
+@pytest.mark.parametrize("share", ["0", "1.01", "-0.1"])
+def test_an_increment_that_is_no_share_is_named(small, share):
+    with pytest.raises(PlanError, match=f"largest_increment: found {share}, expected a share of the pit's tonnes"):
+        pitplan.load(small(f"largest_increment = {share}"))
 
 
 def test_costs_by_elevation_and_walls_by_azimuth(plan_folder, tmp_path):

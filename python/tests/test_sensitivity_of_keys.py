@@ -14,7 +14,7 @@ from pitplan.config.overrides import scaled
 from pitplan.studies.sensitivity import perturb
 
 ASKED = '[sensitivity]\nchanges = [-0.2, 0.1]\nparameters = ["metals.copper.price", "price copper", "processes.leach.cost", "slopes.domains.1.angle"]\n'
-ASKED += 'pairs = [["metals.copper.price", "economics.mining_cost"]]\n'
+ASKED += 'pairs = [["metals.copper.price", "economics.mining_cost"]]\nlargest_increment = 1\n'
 
 
 @pytest.fixture

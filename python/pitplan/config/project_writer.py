@@ -377,6 +377,7 @@ def of_sensitivity(rules: SensitivityRules) -> Values:
         "parameters": rules.parameters or None,
         "pairs": rules.pairs or None,
         "skin": rules.skin,
+        "largest_increment": rules.largest_increment,
     }
 
 

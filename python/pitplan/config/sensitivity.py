@@ -14,6 +14,8 @@ OF_METALS = ("price", "selling_cost", "recovery")
 SECTIONS = ("economics", "metals", "processes", "slopes", "shells", "periods", "haulage")
 # Of the pit's rock.
 SKIN = Decimal("0.05")
+# The largest share of the pit's tonnes that a shell adds in a case.
+INCREMENT = Decimal("0.03")
 SHARES = (Decimal("-0.2"), Decimal("-0.1"), Decimal("0.1"), Decimal("0.2"))
 MOST_SHARES = 20
 
@@ -21,13 +23,14 @@ MOST_SHARES = 20
 @dataclass(frozen=True)
 class SensitivityRules:
     """Shares by which a number is more or less than the project says, rising, without 0; which numbers are varied, each by itself;
-    pairs that are varied together; and the share of the pit's rock that its skin has at least. Without names those are varied that the
-    project gives."""
+    pairs that are varied together; the share of the pit's rock that its skin has at least; and the share that a shell of a case adds at most,
+    unless a thousandth of the revenue factor adds more. Without names those are varied that the project gives."""
 
     changes: tuple[Decimal, ...] = SHARES
     parameters: tuple[str, ...] = ()
     pairs: tuple[tuple[str, str], ...] = ()
     skin: Decimal = SKIN
+    largest_increment: Decimal = INCREMENT
 
 
 def read_sensitivity(section: Section, metals: tuple[str, ...]) -> SensitivityRules:
@@ -37,6 +40,7 @@ def read_sensitivity(section: Section, metals: tuple[str, ...]) -> SensitivityRu
         parameters=tuple(named(section, "parameters", name, metals) for name in section.names("parameters") or ()),
         pairs=read_pairs(section, metals),
         skin=read_skin(section),
+        largest_increment=read_increment(section),
     )
     section.finish()
     if len(set(rules.parameters)) < len(rules.parameters):
@@ -59,10 +63,21 @@ def read_shares(section: Section) -> tuple[Decimal, ...]:
 
 
 def read_skin(section: Section) -> Decimal:
-    share = section.as_number("skin", section.get("skin")) if section.has("skin") else SKIN
+    share = section.number("skin", SKIN)
     if not 0 < share < 1:
         raise section.wrong(
             "skin", "must be a share of the pit's tonnes above 0 and below 1, such as 0.05 for the last 5 %"
+        )
+    return share
+
+
+def read_increment(section: Section) -> Decimal:
+    """The largest increment; 1 if the shells of the project's revenue factors are fine enough."""
+    share = section.number("largest_increment", INCREMENT)
+    if not 0 < share <= 1:
+        raise section.wrong(
+            "largest_increment",
+            f"found {share}, expected a share of the pit's tonnes above 0 and at most 1, such as 0.03",
         )
     return share
 

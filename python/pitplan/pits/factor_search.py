@@ -2,13 +2,19 @@
 
 from __future__ import annotations
 
+from collections.abc import Callable
 from dataclasses import replace
 
 from pitplan.config.project import Project
+from pitplan.config.pushbacks import LEAST_FACTOR
 from pitplan.core.revenue_factors import of_per_mille, per_mille
 
 # How many factors between two known ones are solved together.
 TRIED = 8
+
+
+# From factors to the tonnes of rock in their shells.
+TonnesAt = Callable[[tuple[float, ...]], dict[float, float]]
 
 
 def with_factors(project: Project, factors: tuple[float, ...]) -> Project:
@@ -29,3 +35,28 @@ def between(low: float, high: float) -> list[float]:
     first, last = per_mille(low), per_mille(high)
     tried = {first + (last - first) * step // (TRIED + 1) for step in range(1, TRIED + 1)} - {first, last}
     return list(map(of_per_mille, sorted(tried)))
+
+
+def refined(factors: tuple[float, ...], share: float, tonnes_at: TonnesAt) -> tuple[float, ...]:
+    """Returns revenue factors with others between them, until no shell adds more than a share of the last one's tonnes, or only a thousandth of
+    the revenue factor does.
+
+    Parameters
+    ----------
+    factors : tuple of float
+        Rising; the result has all of them.
+    share : float
+    tonnes_at : callable
+    """
+    known = tonnes_at(tuple(sorted({LEAST_FACTOR, *factors})))
+    last = max(known)
+    while True:
+        rising = sorted(known)
+        wide = [pair for pair in zip(rising, rising[1:]) if known[pair[1]] - known[pair[0]] > share * known[last]]
+        more = sorted({factor for low, high in wide for factor in between(low, high)})
+        if not more:
+            break
+        known |= tonnes_at(tuple(more))
+    # Of shells that are equal to the one before, none is kept but those of the given factors.
+    grows = [high for low, high in zip(rising, rising[1:]) if known[high] > known[low]]
+    return tuple(sorted({*factors, *grows, *([rising[0]] if known[rising[0]] > 0 else [])}))

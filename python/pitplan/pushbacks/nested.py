@@ -9,7 +9,7 @@ reports the gap.
 from __future__ import annotations
 
 from dataclasses import dataclass, replace
-from typing import Callable, Optional
+from typing import Optional
 
 import numpy as np
 import pandas as pd
@@ -21,7 +21,7 @@ from pitplan.core.progress import Progress, silent
 from pitplan.core.revenue_factors import BASE_PRICE, factor_text, factor_texts
 from pitplan.errors import WARNING, PlanError
 from pitplan.pits import shell_tables
-from pitplan.pits.factor_search import between, neighbours, with_factors
+from pitplan.pits.factor_search import TonnesAt, between, neighbours, with_factors
 from pitplan.plan import Plan
 from pitplan.solver import problem
 from pitplan.solver.problem import Mine
@@ -31,8 +31,6 @@ from . import mining_width
 
 # A shell that misses its share by more than this part of it is told as a gap.
 FAR_OFF = 0.1
-# From factors to the tonnes of rock in their shells.
-TonnesAt = Callable[[tuple[float, ...]], dict[float, float]]
 
 
 @dataclass(frozen=True)

@@ -15,6 +15,7 @@ import pandas as pd
 
 from pitplan.config import project_writer
 from pitplan.config.project import Project
+from pitplan.config.sensitivity import SensitivityRules
 from pitplan.config.shells import IN_WORDS
 from pitplan.core.atomic_files import hash_of, read_json
 from pitplan.core.revenue_factors import BASE_PRICE, factor_text
@@ -331,6 +332,10 @@ def of_way(ways: Written, shown: str, project: Project) -> list[Figure]:
     ]
 
 
+# Of the shells of a sensitivity.
+FINER = ", over finer shells than those of the pit-by-pit analysis"
+
+
 def of_sensitivity(found: Sensitivity, project: Project) -> dict[str, Any]:
     """Returns table and tornado of a sensitivity: the base case, and the cases with one parameter changed."""
     table = read_table(found.folder, SENSITIVITY)
@@ -343,5 +348,6 @@ def of_sensitivity(found: Sensitivity, project: Project) -> dict[str, Any]:
         "revenue_factor": record["revenue_factor"],
         "verified": record["verified"],
         "pairs": len(table.frame) > len(alone),
+        "fine": FINER if (project.sensitivity or SensitivityRules()).largest_increment < 1 else "",
         "sha256": hash_of(found.folder / SENSITIVITY),
     }

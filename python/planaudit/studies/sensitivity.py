@@ -258,7 +258,9 @@ class Told:
         """Returns the blocks with pits, at the parameters of a case."""
         said = self.ground.said.assign(revenue_factor=entry[self.ground.said["id"].to_numpy()])
         record = {**self.ground.record, "walls": patterns}
-        return self.ground.of_same_blocks(said, project=project, record=record, found={})
+        # A case has shells between those of the project.
+        factors = tuple(sorted({*self.ground.factors, *np.unique(entry[entry > 0]).tolist()}))
+        return self.ground.of_same_blocks(said, project=project, record=record, factors=factors, found={})
 
 
 def within(every: Answer, entry: np.ndarray) -> Answer:

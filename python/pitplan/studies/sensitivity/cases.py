@@ -2,6 +2,9 @@
 
 Each case finds the pit of the same revenue factor again. It also values the base case's pit at the parameters of the case: that pit is mined if
 nothing is planned again. There is no such value if the slopes change, since that pit may not be stable.
+
+Best and worst case mine shell by shell. So that their NPVs do not jump where the first shells of a case fall between two revenue factors of the
+project, each case finds shells of its own between these, as fine as `largest_increment` says.
 """
 
 from __future__ import annotations
@@ -25,10 +28,12 @@ from pitplan.core.optional_packages import load
 from pitplan.core.progress import Progress, silent
 from pitplan.errors import PlanError
 from pitplan.pits import shell_tables
+from pitplan.pits.factor_search import refined, with_factors
 from pitplan.pits.skin import Skin, of_pit
 from pitplan.plan import Plan, prepared
 from pitplan.solver import choice as solver, problem
 from pitplan.solver.choice import Solver
+from pitplan.solver.program import Solution
 from pitplan.studies import dask_pool
 from pitplan.studies.scenarios.store import key_of
 
@@ -192,6 +197,7 @@ def solve(project: Project, folder: Path, where: dask_pool.Where | None, progres
         "solver": found_by.sha256,
         "revenue_factor": factor,
         "skin": str(rules.skin),
+        "largest_increment": str(rules.largest_increment),
     }
     cases = cases_of(rules)
     keys = {case: key_of({**begun, "changes": [[name, str(share)] for name, share in case.changes]}) for case in cases}
@@ -240,13 +246,13 @@ def up_to(project: Project, factor: float) -> Project:
 def find(case: Case, asked: Asked) -> Found:
     """Returns the pit of a case, and the values of the base case's pit in it. Raises ProgramError if the solver here is another one."""
     solver.demand_same(asked.solver)
-    plan = prepared(varied(asked.project, case.changes), asked.frame)
-    solution = problem.solve(plan)
+    plan, solution = with_fine_shells(
+        prepared(varied(asked.project, case.changes), asked.frame), rules_of(asked.project)
+    )
     row = of_last(shell_tables.shells(plan, solution))
     entry = solution.entry[: plan.grid.count]
     kept = entry if asked.as_given is None else asked.as_given.entry
-    nodes = np.concatenate([kept, np.zeros(len(plan.values.processed), dtype=kept.dtype)])
-    earned = of_last(shell_tables.shells(plan, replace(solution, entry=nodes)))
+    earned = of_last(shell_tables.shells(*as_pits(plan, kept)))
     row |= {f"kept_{name}": np.nan if case.moves_walls else earned[name] for name in KEPT if name in earned}
     skin = of_pit(plan, rules_of(asked.project).skin) if asked.as_given is None else asked.as_given.skin
     assert skin is not None
@@ -255,6 +261,30 @@ def find(case: Case, asked: Asked) -> Found:
     return Found(
         row, entry, [pattern.as_json() for pattern in plan.walls.patterns], skin if asked.as_given is None else None
     )
+
+
+def with_fine_shells(plan: Plan, rules: SensitivityRules) -> tuple[Plan, Solution]:
+    """Returns the plan with revenue factors between its own, so that no shell adds more than the largest increment, and its shells."""
+    with problem.temporary(plan) as mine:
+
+        def solved(factors: tuple[float, ...]) -> tuple[Plan, Solution]:
+            part = replace(plan, project=with_factors(plan.project, factors))
+            return part, problem.solve(part, mine)
+
+        def tonnes_at(factors: tuple[float, ...]) -> dict[float, float]:
+            part, solution = solved(factors)
+            entry = solution.entry[: plan.grid.count]
+            return dict(zip(factors, shell_tables.within(part, entry, plan.values.tonnes).tolist()))
+
+        return solved(refined(plan.project.shells.revenue_factors, float(rules.largest_increment), tonnes_at))
+
+
+def as_pits(plan: Plan, entry: np.ndarray) -> tuple[Plan, Solution]:
+    """Returns the plan with the revenue factors of given pits and the last one of the plan, and these pits as its shells, without values."""
+    factors = tuple(sorted({*np.unique(entry[entry > 0]).tolist(), plan.project.shells.revenue_factors[-1]}))
+    nodes = np.concatenate([entry, np.zeros(len(plan.values.processed), dtype=entry.dtype)])
+    worth, count = (pd.Series([nothing] * len(factors), index=factors) for nothing in (Decimal(0), 0))
+    return replace(plan, project=with_factors(plan.project, factors)), Solution(worth, count, nodes)
 
 
 def of_last(table: pd.DataFrame) -> dict[str, Any]:
