@@ -13,6 +13,9 @@ from .schedule import FEED, TOTAL
 if TYPE_CHECKING:
     from .project import Project
 
+# Why a factor of the mining cost does not go with haulage.
+HAULED = "[haulage] charges ore for its road to the process, which no period changes"
+
 
 def demand_periods(project: Project) -> None:
     """Raises PlanError if a period names what there is not, or sets what another section sets by year."""
@@ -65,6 +68,8 @@ def wrong_with(period: Period, project: Project) -> Iterator[tuple[str, str]]:
     for metal in project.metals:
         if metal.prices and period.prices:
             yield "prices", f"[[metals]] {metal.name} prices are by year too: remove one of them"
+    if period.mining_cost_factor is not None and project.haulage:
+        yield "mining_cost_factor", f"{HAULED}: remove one of them, or give the costs of all periods in [haulage] cost"
     if period.capex and project.economics.capex:
         yield "capex", "[economics] capex is by year too: remove one of them"
     if period.minimum and (rules is None or rules.years is None):

@@ -49,6 +49,8 @@ class Period:
         Tonnes that lie on stockpiles at the end of each of its periods.
     prices : dict of str to Decimal
         By metal, in the unit of its `price`.
+    mining_cost_factor : Decimal, optional
+        By which the mining cost of what is mined in its periods is multiplied.
     fixed_cost_per_year : Decimal, optional
     capex : Decimal
         Spent at the start of its first period.
@@ -63,6 +65,7 @@ class Period:
     feed: tuple[FeedGrade, ...] = ()
     stockpiles: tuple[StockpileLimit, ...] = ()
     prices: dict[str, Decimal] = field(default_factory=dict)
+    mining_cost_factor: Optional[Decimal] = None
     fixed_cost_per_year: Optional[Decimal] = None
     capex: Decimal = Decimal(0)
 
@@ -202,6 +205,7 @@ def read_period(section: Section) -> Period:
         feed=read_feeds(section.section("feed")) if section.has("feed") else (),
         stockpiles=read_limits(section.section("stockpiles")) if section.has("stockpiles") else (),
         prices={name: prices.number(name, least=0) for name in prices.data},
+        mining_cost_factor=section.number("mining_cost_factor", least=0) if section.has("mining_cost_factor") else None,
         fixed_cost_per_year=section.number("fixed_cost_per_year", least=0)
         if section.has("fixed_cost_per_year")
         else None,

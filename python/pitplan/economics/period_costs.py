@@ -12,6 +12,9 @@ from pitplan.config.project import Project
 
 from .smelter_terms import net
 
+# The amount of money that a factor of a period multiplies, and by which it is among the premiums.
+MINING_COST = "mining_cost"
+
 
 @dataclass(frozen=True)
 class YearlyMoney:
@@ -25,7 +28,7 @@ class YearlyMoney:
         Period, from 1, and the amount that is spent at its start if the mine still runs, in the currency.
     premiums : dict of str to tuple
         By amount of metal, what a unit of it earns beyond the base price, less royalty and price participation, in each year from 1; the last one
-        continues.
+        continues. Of mining cost, what a unit of it saves: 1 less the factor of the year.
     net_prices : dict of str to float
         By amount of metal, what a unit of it earns at the base price, less royalty and selling cost or smelter charges.
     """
@@ -34,6 +37,20 @@ class YearlyMoney:
     capex: tuple[tuple[int, float], ...] = ()
     premiums: dict[str, tuple[float, ...]] = field(default_factory=dict)
     net_prices: dict[str, float] = field(default_factory=dict)
+
+    @property
+    def of_metals(self) -> dict[str, tuple[float, ...]]:
+        """The premiums of metals, by which ore may go elsewhere."""
+        return {name: more for name, more in self.premiums.items() if name != MINING_COST}
+
+    @property
+    def costs_differ(self) -> bool:
+        """Whether the mining cost differs between years."""
+        return MINING_COST in self.premiums
+
+    def mining_factors(self, years: int) -> np.ndarray:
+        """Returns the factor of the mining cost in each year."""
+        return np.asarray(1.0 - self.premium((MINING_COST,), years)[:, 0])
 
     @property
     def columns(self) -> tuple[str, ...]:
@@ -48,6 +65,8 @@ class YearlyMoney:
         """Returns the premium of a unit of each amount, shape (years, names)."""
         found = np.zeros((years, len(names)))
         for name, premiums in self.premiums.items():
+            if name not in names:
+                continue
             year = np.minimum(np.arange(years), len(premiums) - 1)
             found[:, names.index(name)] = np.array(premiums)[year]
         return found
@@ -77,6 +96,8 @@ def of_project(project: Project) -> YearlyMoney:
         more = [net(metal, price, money.royalty) - base for price in yearly_prices(project, metal)]
         if metal.prices or any(more):
             premiums[f"recovered_{metal.name}"] = tuple(map(float, more))
+    savings = tuple(float(1 - factor) for factor in calendar.by_year(lambda it: it.mining_cost_factor, Decimal(1)))
+    premiums |= {MINING_COST: savings} if any(savings) else {}
     capex = calendar.capex or money.capex
     per_year = calendar.by_year(lambda it: it.fixed_cost_per_year, money.fixed_cost_per_year)
     fixed = [float(amount) * length for amount, length in zip(per_year, calendar.lengths(len(per_year)))]
@@ -104,7 +125,8 @@ def notes(project: Project) -> list[str]:
     amounts = " to ".join(f"{amount:,.12g}" for amount in sorted({min(money.fixed_cost), max(money.fixed_cost)}))
     parts = [f"fixed costs of {amounts} {project.economics.currency} a year"] if any(money.fixed_cost) else []
     parts += ["capex"] if money.capex else []
-    parts += ["yearly prices"] if money.premiums else []
+    parts += ["yearly prices"] if money.of_metals else []
+    parts += ["mining costs by period"] if money.costs_differ else []
     if not parts:
         return []
     return [

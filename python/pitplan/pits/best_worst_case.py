@@ -25,7 +25,7 @@ import pandas as pd
 from pitplan.config.economics import MOST_YEARS
 from pitplan.config.project import Project
 from pitplan.config.shells import ShellRules, SpecifiedCase
-from pitplan.economics.period_costs import PLAIN, YearlyMoney
+from pitplan.economics.period_costs import MINING_COST, PLAIN, YearlyMoney
 from pitplan.errors import PlanError
 
 from .destinations import best_shares
@@ -52,8 +52,8 @@ class Benches:
     factors : tuple of float
         Revenue factors, ascending.
     names : tuple of str
-        Names of the amounts: total_tonnes, feed_tonnes, feed_tonnes_NAME of each of several processes, recovered_NAME of each metal, and the
-        cash flow last.
+        Names of the amounts: total_tonnes, feed_tonnes, feed_tonnes_NAME of each of several processes, recovered_NAME of each metal, the mining
+        cost, and the cash flow last.
     amounts : array of float, shape (factors, benches, names)
         Tonnes, tonnes or grams of metal, and money, if each block goes where it earns most.
     kinds : OreKinds, optional
@@ -223,7 +223,12 @@ class Terms:
     @property
     def columns(self) -> list[str]:
         """The names of a year's amounts."""
-        return [*self.names[:CASH], *self.money.columns, self.names[CASH], "discounted_cash_flow"]
+        return [*(self.names[k] for k in self.shown), *self.money.columns, self.names[CASH], "discounted_cash_flow"]
+
+    @property
+    def shown(self) -> list[int]:
+        """The numbers of the amounts that tables have, except the cash flow."""
+        return [k for k, name in enumerate(self.names[:CASH]) if name != MINING_COST]
 
     def earned(self, years: Years) -> Years:
         """Returns the years of a course with their period costs and discounted cash flow. A pit without material has no period costs."""
@@ -235,7 +240,7 @@ class Terms:
         starts = (1 + self.settings.discount_rate) ** -calendar.starts(len(amounts))
         worth = (cash - fixed) * discounts_of(parts, self.settings) - spent * starts
         of_years = [fixed, spent] if self.money.columns else []
-        found = np.column_stack([amounts[:, :CASH], *of_years, cash - fixed - spent, worth])
+        found = np.column_stack([amounts[:, self.shown], *of_years, cash - fixed - spent, worth])
         return Years(calendar.time(years.end), found)
 
     def processed(self, kinds: OreKinds, pits: list[Years]) -> list[Years]:
@@ -253,7 +258,8 @@ class Terms:
         fed = np.einsum("rk,rkp->rp", feed, share)
         flows = np.einsum("rmkp,rkp->rm", by_process, share)
         columns = [rows[:, 0], fed.sum(axis=1), *(fed.T if self.settings.per_process else ()), *flows[:, 1:].T]
-        found = np.column_stack([*columns, rows[:, 1] + flows[:, 0]])
+        mining = [-rows[:, 1]] if MINING_COST in self.names else []
+        found = np.column_stack([*columns, *mining, rows[:, 1] + flows[:, 0]])
         ends = np.cumsum([len(it.amounts) for it in pits])[:-1]
         return [Years(it.end, amounts) for it, amounts in zip(pits, np.split(found, ends))]
 

@@ -15,6 +15,7 @@ from pitplan.config.economics import PER_REVENUE_FACTOR
 from pitplan.config.shells import ShellRules
 from pitplan.core.revenue_factors import BASE_PRICE, factor_text
 from pitplan.economics import period_costs
+from pitplan.economics.period_costs import MINING_COST
 from pitplan.errors import PlanError
 from pitplan.plan import MILLION, Plan
 from pitplan.solver.program import Solution
@@ -208,14 +209,15 @@ def benches_of(plan: Plan, cells: Cells, more: Optional[np.ndarray] = None) -> B
     flows = {"total_tonnes": cells.tonnes[inside], "feed_tonnes": np.where(ore, cells.feed[inside], 0.0)}
     flows |= {name: feed[inside] for name, feed in feeds_of(plan, cells).items()}
     flows |= {f"recovered_{name}": np.where(ore, metal[inside], 0.0) for name, metal in plan.values.metal.items()}
-    flows["cash_flow"] = cells.worth[inside] - (0.0 if more is None else more[inside])
+    added = np.zeros(len(inside)) if more is None else more[inside]
+    flows[MINING_COST] = plan.values.mining[inside] / MILLION + added
+    flows["cash_flow"] = cells.worth[inside] - added
     count = len(factors) * levels
     sums = np.column_stack([np.bincount(piece, flow, minlength=count) for flow in flows.values()])
     benches = Benches(factors, tuple(flows), sums.reshape(len(factors), levels, len(flows)))
     if has_choice(plan):
         kinds, of_ore = ore_kinds.by_piece(plan, OreCells(inside[ore], piece[ore]), count)
-        mining = -plan.values.mining[inside] / MILLION - (0.0 if more is None else more[inside])
-        columns = np.column_stack([sums[:, 0], np.bincount(piece, mining, minlength=count), of_ore])
+        columns = np.column_stack([sums[:, 0], -sums[:, -2], of_ore])
         benches = replace(benches, kinds=kinds, by_kind=columns.reshape(len(factors), levels, -1))
     best_worst_case.demand_few_years(benches, plan.project)
     return benches
@@ -224,7 +226,7 @@ def benches_of(plan: Plan, cells: Cells, more: Optional[np.ndarray] = None) -> B
 def has_choice(plan: Plan) -> bool:
     """Whether ore may go elsewhere than to its best process: to another one, or to waste in a year of lower prices."""
     money = period_costs.of_project(plan.project)
-    return len(plan.values.by_process) > 1 or any(min(more) < 0 for more in money.premiums.values())
+    return len(plan.values.by_process) > 1 or any(min(more) < 0 for more in money.of_metals.values())
 
 
 def feeds_of(plan: Plan, cells: Cells) -> dict[str, np.ndarray]:

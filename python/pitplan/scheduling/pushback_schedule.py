@@ -16,6 +16,7 @@ from pitplan.config.schedule import ScheduleRules
 from pitplan.config.shells import ShellRules
 from pitplan.core.progress import Progress, silent
 from pitplan.economics import period_costs
+from pitplan.economics.period_costs import MINING_COST
 from pitplan.errors import PlanError
 from pitplan.pits.best_worst_case import year_discounts
 from pitplan.pushbacks import bench_table
@@ -154,7 +155,7 @@ class YearlySchedule:
     def amounts(self, method: str) -> dict[str, np.ndarray]:
         """Returns what flows of each bench in each year by the names of tables, each of shape (benches, years)."""
         flows = self.flows[method].of_benches
-        return {name: flows[:, :, number] for number, name in enumerate(self.benches.names) if not name.startswith(SUM)}
+        return {name: flows[:, :, number] for number, name in enumerate(self.benches.names) if is_shown(name)}
 
     def from_opening(self, method: str) -> dict[str, np.ndarray]:
         """Returns what flows in each year of what lay on stockpiles at the start, by the names of tables, each of shape (years,)."""
@@ -163,6 +164,11 @@ class YearlySchedule:
     def left(self, method: str) -> float:
         """Returns the tonnes of the pushbacks that a method leaves unmined."""
         return float(self.benches.of(ROCK) @ (1 - self.shares[method].sum(axis=1)))
+
+
+def is_shown(name: str) -> bool:
+    """Returns whether an amount of benches is a column of tables."""
+    return name != MINING_COST and not name.startswith(SUM)
 
 
 def rules_of(project: Project) -> ScheduleRules:
@@ -302,7 +308,7 @@ def table(schedule: YearlySchedule) -> pd.DataFrame:
 
 def rows_of_opening(schedule: YearlySchedule, method: str) -> pd.DataFrame:
     """Returns the rows of a method for what lay on stockpiles at the start."""
-    amounts = {name: values for name, values in schedule.from_opening(method).items() if not name.startswith(SUM)}
+    amounts = {name: values for name, values in schedule.from_opening(method).items() if is_shown(name)}
     year = np.flatnonzero(amounts[ORE])
     head = {"method": np.full(len(year), method, dtype=object), "year": year + 1, "pushback": 0}
     flows = {name: values[year] for name, values in amounts.items()}

@@ -297,6 +297,7 @@ class Period:
     prices: dict[str, Decimal]
     fixed_cost_per_year: Optional[Decimal]
     capex: Decimal
+    mining_cost_factor: Decimal = Decimal(1)
     feed: tuple[FeedGrade, ...] = ()
     # By stockpile the least and the most tonnes of feed.
     stockpiles: dict[str, tuple[Optional[float], Optional[float]]] = field(default_factory=dict)

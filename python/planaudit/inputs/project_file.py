@@ -365,6 +365,7 @@ def periods_of(entries: list[Data]) -> tuple[Period, ...]:
             prices=amounts(data, "prices"),
             fixed_cost_per_year=number(data["fixed_cost_per_year"]) if "fixed_cost_per_year" in data else None,
             capex=number(data.get("capex", Decimal(0))),
+            mining_cost_factor=number(data.get("mining_cost_factor", Decimal(1))),
             feed=feeds_of(data.get("feed", {})),
             stockpiles={
                 name: (metres(it, "min"), metres(it, "max")) for name, it in data.get("stockpiles", {}).items()

@@ -4,6 +4,8 @@ from __future__ import annotations
 
 from decimal import Decimal
 
+import numpy as np
+
 from planaudit.inputs.project import Metal, Project
 from planaudit.money.smelter import net
 
@@ -45,6 +47,17 @@ def fixed_cost(project: Project, year: int) -> float:
     own = None if period is None else period.fixed_cost_per_year
     of_year = float(project.economics.fixed_cost_per_year if own is None else own)
     return of_year * project.shells.calendar.length(year)
+
+
+def mining_factor(project: Project, year: int) -> float:
+    """Returns by how much the mining cost of what is mined in a year, from 1, is multiplied."""
+    period = project.shells.period(year)
+    return 1.0 if period is None else float(period.mining_cost_factor)
+
+
+def mining_factors(project: Project, years: int) -> np.ndarray:
+    """Returns the same of the years from 1, shape (years,)."""
+    return np.array([mining_factor(project, year) for year in range(1, years + 1)])
 
 
 def has_costs(project: Project) -> bool:

@@ -9,7 +9,7 @@ import numpy as np
 
 from planaudit.inputs.answer import Answer
 from planaudit.inputs.project import MOST_YEARS, Project
-from planaudit.money.period_costs import premiums
+from planaudit.money.period_costs import mining_factors, premiums
 from planaudit.money.yearly_flows import Amounts, money_of, parts_of, shares_of
 from planaudit.pits.capacities import Capacity, Wait, capacities, capacities_by_year, mining_by_year
 from planaudit.pits.ore_kinds import Kinds, Ore, has_choice, shipped
@@ -162,10 +162,7 @@ def earned(benches: Benches, dug: list[Dug]) -> list[Amounts]:
     """Returns the amounts and the money of the years of each shell."""
     project = benches.answer.project
     if benches.kinds is None or not dug:
-        return [
-            money_of({name: it.shares @ amounts for name, amounts in benches.amounts.items()}, it.life, project)
-            for it in dug
-        ]
+        return [money_of(as_mined(benches, it.shares), it.life, project) for it in dug]
     shares = np.concatenate([it.shares for it in dug])
     number = np.concatenate([np.arange(len(it.shares)) for it in dug])
     part = np.concatenate([np.clip(it.life - np.arange(len(it.shares)), 0.0, 1.0) for it in dug])
@@ -176,6 +173,13 @@ def earned(benches: Benches, dug: list[Dug]) -> list[Amounts]:
         money_of({name: values[place] for name, values in split.items()}, it.life, project)
         for place, it in enumerate(dug)
     ]
+
+
+def as_mined(benches: Benches, shares: np.ndarray) -> Amounts:
+    """Returns the amounts of years whose ore all goes to its best process, with the mining costs of the years."""
+    found = {name: shares @ amounts for name, amounts in benches.amounts.items()}
+    dearer = mining_factors(benches.answer.project, len(shares)) - 1
+    return {**found, "cash_flow": found["cash_flow"] + dearer * (shares @ benches.mining)}
 
 
 def processed(benches: Benches, ore: Kinds, shares: np.ndarray, year: np.ndarray, part: np.ndarray) -> Amounts:
@@ -192,4 +196,5 @@ def processed(benches: Benches, ore: Kinds, shares: np.ndarray, year: np.ndarray
     found = {"total_tonnes": shares @ benches.amounts["total_tonnes"], "feed_tonnes": fed.sum(axis=1)}
     found |= {f"feed_tonnes_{process.name}": fed[:, number] for number, process in enumerate(project.processes)}
     found |= {name: sums[:, number + 1] for number, name in enumerate(metals)}
-    return {**found, "cash_flow": shares @ benches.mining + sums[:, 0]}
+    factors = mining_factors(project, int(year.max()))[year - 1]
+    return {**found, "cash_flow": factors * (shares @ benches.mining) + sums[:, 0]}

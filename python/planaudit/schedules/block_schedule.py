@@ -15,7 +15,7 @@ from planaudit.blocks import constraints as fixed
 from planaudit.ground import slopes as walls
 from planaudit.inputs.answer import Answer
 from planaudit.inputs.tables import YEAR
-from planaudit.money.period_costs import capex, fixed_cost, has_costs, premiums
+from planaudit.money.period_costs import capex, fixed_cost, has_costs, mining_factor, premiums
 from planaudit.rules import TOLD, Rule, rule
 from planaudit.schedules import block_grades, bounds, methods as ways_table
 from planaudit.schedules.discounts import discount, present_costs
@@ -68,12 +68,12 @@ def flows_of(answer: Answer) -> pd.DataFrame:
 
 
 def more_by_years(answer: Answer, flows: pd.DataFrame) -> np.ndarray:
-    """Returns the gain of each block by the prices of its year."""
+    """Returns the gain of each block by the prices and the mining costs of its year."""
     year, more = answer.said[YEAR].to_numpy(), np.zeros(len(flows))
     for each in np.unique(year[year > 0]).tolist():
         premium = sum(
             (price * flows[name].to_numpy() for name, price in premiums(answer.project, each).items()),
-            np.zeros(len(flows)),
+            (1 - mining_factor(answer.project, each)) * answer.said["mining_cost"].to_numpy(),
         )
         more += np.where(year == each, premium, 0.0)
     return more

@@ -17,7 +17,7 @@ import pandas as pd
 from planaudit.blocks import constraints
 from planaudit.inputs.answer import Answer
 from planaudit.inputs.tables import TABLES, read_prices
-from planaudit.money.period_costs import premiums
+from planaudit.money.period_costs import mining_factor, premiums
 from planaudit.rules import Rule, rule
 from planaudit.schedules import block_grades
 from planaudit.schedules.closure import Closure, maximum_closure
@@ -153,7 +153,8 @@ class Bound:
         found = np.empty((len(said), self.years))
         for year in self.every_year:
             more = sum(price * amounts[it].to_numpy() for it, price in premiums(answer.project, year).items())
-            found[:, year - 1] = (cash + more) * discount(answer, year)
+            costs = (mining_factor(answer.project, year) - 1) * said["mining_cost"].to_numpy()
+            found[:, year - 1] = (cash + more - costs) * discount(answer, year)
         return found - self.priced(amounts, pays)
 
     def priced(self, amounts: pd.DataFrame, pays: np.ndarray) -> np.ndarray:

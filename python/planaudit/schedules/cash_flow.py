@@ -16,7 +16,7 @@ from planaudit.inputs.tables import read_table
 from planaudit.money import haulage, smelter
 from planaudit.money.block_values import factors_of, more_for_depth
 from planaudit.money.feed import by_code
-from planaudit.money.period_costs import has_costs, price_in
+from planaudit.money.period_costs import has_costs, mining_factor, price_in
 from planaudit.money.prices import KILOGRAMS
 from planaudit.rules import TOLD, Rule, rule
 from planaudit.schedules import valuation
@@ -125,6 +125,8 @@ class CashFlow:
         found["mining_cost_waste"] = waste * whole["mining"]
         found["mining_cost_depth"], found["mining_cost_added"] = from_pit * whole["depth"], from_pit * whole["added"]
         found["haulage_cost"] = from_pit * whole["hauled"] + self.by_process("hauled")
+        for name in ("ore", "waste", "depth", "added"):
+            found[f"mining_cost_{name}"] = found[f"mining_cost_{name}"] * self.dearer
         for number, name in enumerate(flow.blocks.processes):
             of_process = np.where(flow.process == number, self.by_process("processing"), 0.0)
             found[f"processing_cost_{name or MILL}"] = of_process
@@ -151,6 +153,11 @@ class CashFlow:
             found[f"{smelter.PENALTIES}_{metal.name}"] = self.by_process(f"{smelter.PENALTIES} {metal.name}")
         return found
 
+    @cached_property
+    def dearer(self) -> np.ndarray:
+        """The factor of the mining cost in the year of each row."""
+        return np.array([mining_factor(self.project, int(year)) for year in self.flow.rows["year"]])
+
     def of(self, method: str, years: pd.Series) -> tuple[pd.DataFrame, pd.DataFrame]:
         """Returns the lines of a method by year, and their tolerances."""
         mine = (self.flow.rows["method"] == method).to_numpy()
@@ -160,7 +167,7 @@ class CashFlow:
         slack = pd.DataFrame({name: np.abs(values[mine]) * AMOUNT / tonnes for name, values in self.lines.items()})
         fed = (self.flow.process >= 0)[mine]
         # Half of the last decimal of a mining cost, and of a revenue and a processing cost.
-        slack["rounding"] = self.whole["blocks"].to_numpy()[mine] * share * (0.5 + fed)
+        slack["rounding"] = self.whole["blocks"].to_numpy()[mine] * share * (0.5 * self.dearer[mine] + fed)
         slack["rounding"] *= 10.0**-self.project.economics.decimals
         sums = (it.groupby(year).sum().reindex(years, fill_value=0.0).reset_index(drop=True) for it in (found, slack))
         lines, loose = sums

@@ -20,7 +20,7 @@ from scipy.sparse import coo_matrix
 from planaudit.inputs.answer import Answer
 from planaudit.inputs.project import Stockpile
 from planaudit.inputs.tables import TABLES, read_prices
-from planaudit.money.period_costs import premiums
+from planaudit.money.period_costs import mining_factors, premiums
 from planaudit.rules import Rule, rule
 from planaudit.schedules.discounts import discount, present_costs
 from planaudit.schedules.lots import BlockAmounts
@@ -188,7 +188,7 @@ class Bound:
         best = np.maximum(best, 0.0)
         for stockpile in blocks.stockpiles:
             best = np.maximum(best, self.in_stockpile(stockpile))
-        best = best + blocks.mining_cash[:, None] * self.discounts
+        best = best + blocks.mining_cash[:, None] * self.discounts * mining_factors(self.answer.project, self.years)
         for name, side in self.by_price:
             best -= self.charged(name, side, blocks.of_mining(name))
         return best

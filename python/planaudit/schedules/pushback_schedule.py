@@ -14,7 +14,7 @@ import numpy as np
 import pandas as pd
 
 from planaudit.inputs.answer import Answer
-from planaudit.money.period_costs import capex, fixed_cost
+from planaudit.money.period_costs import capex, fixed_cost, mining_factor
 from planaudit.revenue_factors import factor_texts
 from planaudit.rules import TOLD, Rule, rule
 from planaudit.schedules import (
@@ -157,6 +157,7 @@ def verify_amounts(ways: list[Way], flow: MaterialFlow, sums: pd.DataFrame, misp
     for way in ways:
         rows = way.rows.reset_index(drop=True)
         whole = sums.reindex(pd.MultiIndex.from_frame(rows[["pushback", "level"]])).fillna(0.0).reset_index(drop=True)
+        whole["cash_flow"] *= [mining_factor(way.answer.project, int(year)) for year in rows["year"]]
         mined, slack = whole.mul(rows["share"], axis=0), AMOUNT + SHARE * whole.abs()
         flowed, loose = flows_of(way, rows, flow)
         expected = flowed.assign(total_tonnes=mined["total_tonnes"], cash_flow=flowed["cash_flow"] + mined["cash_flow"])

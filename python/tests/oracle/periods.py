@@ -60,6 +60,11 @@ def fixed_of(mine: Mine, year: int) -> Fraction:
     return length_of(mine, year) * Fraction(of_year)
 
 
+def mining_factor(mine: Mine, year: int) -> Fraction:
+    """By how much the mining cost of what a year mines is multiplied."""
+    return Fraction(period(mine, year).get("mining_cost_factor", 1))
+
+
 def capex_of(mine: Mine, year: int) -> Fraction:
     """What is spent at the start of a year."""
     found, first = (

@@ -224,6 +224,7 @@ def periods(rng: Random, several: int, text: str) -> list[str]:
         prices = {"copper": 'price_per = "lb"' in text and 3.9 or 'price_per = "kg"' in text and 8.6 or 7300}
         lines.append("" if "\nprices" in text else pick(rng, "", f"prices = {{ copper = {prices['copper']} }}"))
         lines.append(pick(rng, "", "fixed_cost_per_year = 450"))
+        lines.append(pick(rng, "", "mining_cost_factor = 1.25", "mining_cost_factor = 0.9"))
         lines.append("" if "\ncapex" in text else pick(rng, "", "capex = 1234.5"))
         is_by_year = "\nprices" in text or "\ncapex" in text
         lines.append("" if is_by_year else pick(rng, "", "", "period_months = 6", "period_months = 24"))

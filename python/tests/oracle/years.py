@@ -10,7 +10,7 @@ from typing import Any, Optional
 
 from .destinations import Amounts, Limits, Ore, premiums
 from .mine import Mine, Place
-from .periods import capex_of, fixed_of, length_of, mining_of, start_of
+from .periods import capex_of, fixed_of, length_of, mining_factor, mining_of, start_of
 
 TOTAL, FEED, CASH, MINING = "total_tonnes", "feed_tonnes", "cash_flow", "mining"
 
@@ -95,7 +95,8 @@ def best_years(mine: Mine, pieces: list[Amounts], ore: Ore) -> list[Year]:
 def shipped(ore: Ore, number: int, year: Year) -> Year:
     flows = ore.ship(number, year.amounts, year.length)
     cash = year.amounts.get(MINING, Fraction(0)) + flows.get("gain", Fraction(0))
-    return Year(year.length, {TOTAL: year.amounts.get(TOTAL, Fraction(0)), **flows, CASH: cash})
+    mining = {name: year.amounts.get(name, Fraction(0)) for name in (TOTAL, MINING)}
+    return Year(year.length, {**mining, **flows, CASH: cash})
 
 
 def npv(mine: Mine, years: list[Year]) -> float:
@@ -141,8 +142,8 @@ def between(rate: float, start: float, end: float) -> float:
 
 
 def cash_of(mine: Mine, year: int, amounts: Amounts) -> Fraction:
-    """The cash flow of a year, from 1, at its own prices."""
-    found = amounts.get(CASH, Fraction(0))
+    """The cash flow of a year, from 1, at its own prices and mining costs."""
+    found = amounts.get(CASH, Fraction(0)) + (mining_factor(mine, year) - 1) * amounts.get(MINING, Fraction(0))
     for name, more in premiums(mine, year).items():
         found += amounts.get(f"recovered_{name}", 0) * more
     return found

@@ -11,7 +11,7 @@ import pitshell
 from pitplan.config.places import MILL, WASTE
 from pitplan.config.project import Project
 from pitplan.config.schedule import FEED, MOST_YEARS, TOTAL, ScheduleRules, Sum
-from pitplan.economics.period_costs import YearlyMoney, of_project
+from pitplan.economics.period_costs import MINING_COST, YearlyMoney, of_project
 from pitplan.errors import PlanError
 from pitplan.pits.best_worst_case import year_discounts
 from pitplan.plan import MILLION, Plan
@@ -44,7 +44,7 @@ class PlannedBlocks:
     cells         the grid's number of each block of the problem, rising
     destinations  where a block may go: waste, and each process by its name
     limits        of a year, by the names of amounts
-    flows         what each block holds of each name where it goes to a destination, and last cash at the price as given
+    flows         what each block holds of each name where it goes to a destination, cash at the price as given and mining cost among them
     pays          whether each block yields anything in each destination, shape (blocks, destinations)
     grades        head grades that are limited
     """
@@ -164,9 +164,10 @@ def destinations_of(project: Project) -> tuple[str, ...]:
 
 
 def flows_of(plan: Plan) -> Flows:
-    """What each cell holds of each amount that may be limited, and its cash at the price as given."""
-    flows = of_money(plan)
-    rules = plan.project.schedule
+    """What each cell holds of each amount that may be limited, its cash at the price as given, and its mining cost if years differ in it."""
+    flows, rules = of_money(plan), plan.project.schedule
+    if of_project(plan.project).costs_differ:
+        flows[MINING_COST] = np.repeat(plan.values.mining[:, None] / MILLION, flows[CASH].shape[1], axis=1)
     return flows | {f"{SUM}{it.name}": sum_of(plan, it) for it in (rules.limits if rules else ())}
 
 

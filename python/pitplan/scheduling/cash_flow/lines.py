@@ -198,7 +198,8 @@ def mining_costs(operation: Operation) -> Lines:
         found["haulage_cost"] = np.asarray(hauled + sum(of_ore))
     if project.pushbacks and project.pushbacks.mining_cost_added:
         found["mining_cost_added"] = operation.mined(material.schedule.pushbacks.mining_cost_added)
-    return found
+    factors = operation.mining_factors
+    return {name: cost * factors for name, cost in found.items()}
 
 
 def costs_more_below(project: Project) -> bool:
@@ -226,7 +227,7 @@ def stockpile_costs(operation: Operation) -> Lines:
 def rounding_of(operation: Operation) -> Amounts:
     """Returns what rounding the block values to the decimals of the project adds to the cash flow."""
     costs = operation.material.costs
-    found = operation.mined(costs.mining_rounding)
+    found = operation.mined(costs.mining_rounding) * operation.mining_factors
     for number, values in enumerate(costs.processing_rounding):
         found = found + operation.fed(values, number)
     return np.asarray(found)

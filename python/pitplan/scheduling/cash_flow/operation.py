@@ -124,6 +124,11 @@ class Operation:
             (self.flows.processed(name).sum(axis=1) + self.flows.from_opening(name).sum(axis=1)).sum(axis=0)
         )
 
+    @property
+    def mining_factors(self) -> Amounts:
+        """The factor of the mining cost in each period."""
+        return self.flows.model.problem.money.mining_factors(self.flows.years)
+
     @cached_property
     def stacking(self) -> Amounts:
         """The cost of placing ore on stockpiles."""

@@ -57,7 +57,7 @@ class Ore:
 
     def gains(self, money: YearlyMoney, years: int) -> NDArray[np.float64]:
         """Returns the gain of whole units by process and year, at the year's prices, shape (processes, units, years)."""
-        names, found = tuple(money.premiums), np.repeat(self.gain[:, :, None], years, axis=2)
+        names, found = tuple(money.of_metals), np.repeat(self.gain[:, :, None], years, axis=2)
         for name, premium in zip(names, money.premium(names, years).T):
             found += self.of(name)[:, :, None] * premium
         return found

@@ -100,7 +100,7 @@ class Pacing:
 
     @property
     def premiums(self) -> dict[str, tuple[float, ...]]:
-        return self.model.problem.money.premiums
+        return self.model.problem.money.of_metals
 
     def value(self, dug: NDArray[np.float64]) -> float:
         """Returns nearly the net present value of shares of benches in all years, shape (benches, years), with the richest bins first."""

@@ -121,7 +121,7 @@ def ore_cells(pushbacks: Pushbacks, rules: ScheduleRules) -> NDArray[np.int64]:
     if asks_least or plan.project.feed_grades:
         return inside
     money = period_costs.of_project(plan.project)
-    years = 1 + max((len(more) for more in money.premiums.values()), default=0)
+    years = 1 + max((len(more) for more in money.of_metals.values()), default=0)
     ore = ore_of(plan, rules, inside, np.zeros(len(inside), dtype=np.int64))
     return inside[ore.gains(money, years).max(axis=(0, 2), initial=-np.inf) > 0]
 
@@ -237,7 +237,8 @@ def mined_alone(pushbacks: Pushbacks, assigned: PushbackBenches, rules: Schedule
     bench = bench_table.benches_of_cells(pushbacks, assigned, inside)
     tonnes = plan.values.tonnes[inside]
     flows = {name: np.zeros(len(inside)) for name in assigned.names} | {ROCK: tonnes}
-    flows[CASH] = -plan.values.mining[inside] / MILLION - pushbacks.mining_cost_added[inside]
+    cost = plan.values.mining[inside] / MILLION + pushbacks.mining_cost_added[inside]
+    flows |= {CASH: -cost, period_costs.MINING_COST: cost}
     for it in [it for it in rules.limits if it.of == TOTAL]:
         flows[f"{SUM}{it.name}"] = column_of(plan, it.column, inside) * (tonnes if it.per_tonne else 1.0)
     sums = np.column_stack([np.bincount(bench, flow, minlength=len(assigned)) for flow in flows.values()])
