@@ -1,18 +1,33 @@
 """`mining_cost_factor` of periods: cases worked by hand, two notations of one mine, monotone optima, and the verification."""
 
+import numpy as np
 import pandas as pd
 import pytest
 from conftest import PROJECT
 from helpers import block_commands as blocks
+from helpers.flows import (
+    complete_optimum,
+    linear_optimum,
+    mine_of,
+    mines,
+    model_of,
+    processes,
+    stockpiles,
+    with_mining_costs,
+)
 from helpers.periods import column, entries, periods, solved
 from helpers.pushbacks import PUSHBACKS, pillars
+from helpers.random_tests import examples
 from helpers.verified import UNVERIFIED, wrong
+from hypothesis import given, strategies as st
 
 import pitplan
 from pitplan import Plan, PlanError
 from pitplan.pushbacks import nested
 from pitplan.scheduling import pushback_schedule
-from pitplan.scheduling.flow.bound import Lagrangian
+from pitplan.scheduling.bench_sequencing import Limits
+from pitplan.scheduling.flow import scheduler
+from pitplan.scheduling.flow.bound import Lagrangian, upper_bound
 from pitplan.scheduling.flow.programme import FlowProgramme
 
 # The pillars earn 4000 - 1400, 2800 - 1400 and 2000 - 1400, of which 400 is the cost of mining 200 t. One is mined a year.
@@ -149,6 +164,29 @@ def test_a_higher_factor_never_raises_optimum_and_bound(plan_folder):
             assert max(above) <= values[low] * (1 + 1e-9)
     assert all(optima[key] <= bounds[key] * (1 + 1e-9) for key in optima)
     assert optima[2.5, 2.5] < optima[1.3, 1.3] < optima[1, 1]
+
+
+@examples(14)
+@given(
+    mines,
+    processes,
+    st.integers(0, 1),
+    stockpiles,
+    st.lists(st.sampled_from([0.5, 1.0, 1.7, 3.0]), min_size=2, max_size=3),
+)
+def test_random_optima_and_bounds(pits, several, lag, piles, factors):
+    """The optimum is that of a programme that the tests state, bound and schedule lie around that of whole benches, and dearer mining raises
+    neither optimum nor bound."""
+    plain = model_of(mine_of(pits, lag), several, Limits({"feed_tonnes": 70.0, "total_tonnes": 150.0}), 3, piles)
+    model, dearer = with_mining_costs(plain, factors), with_mining_costs(
+        plain, [factors[0], *(1.4 * it for it in factors[1:])]
+    )
+    slack = 1e-5 * max(1.0, np.abs(plain.benches.amounts).sum() + np.abs(plain.ore.gain).sum())
+    optimum, other = FlowProgramme(model).solved(), FlowProgramme(dearer).solved()
+    assert optimum.value == pytest.approx(max(0.0, linear_optimum(model, factors)), abs=slack)
+    bound, best = upper_bound(model, model.ore, optimum.prices), complete_optimum(model, factors)
+    assert scheduler.from_optimum(model, optimum).value <= best + slack and best <= bound + slack
+    assert other.value <= optimum.value + slack and upper_bound(dearer, model.ore, other.prices) <= bound + slack
 
 
 def changed(folder):

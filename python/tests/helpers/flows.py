@@ -1,5 +1,6 @@
 """Random problems of material flow, and their optima by programmes that the tests state themselves."""
 
+from collections.abc import Sequence
 from dataclasses import replace
 from typing import Optional
 
@@ -9,7 +10,7 @@ from hypothesis import strategies as st
 from scipy.optimize import Bounds, LinearConstraint, linprog, milp
 
 from pitplan.config.stockpiles import Opening, Stockpile
-from pitplan.economics.period_costs import YearlyMoney
+from pitplan.economics.period_costs import MINING_COST, YearlyMoney
 from pitplan.scheduling.bench_sequencing import Limits
 from pitplan.scheduling.flow.model import FlowModel, OpeningOre
 from pitplan.scheduling.flow.ore import Ore, joined
@@ -121,11 +122,24 @@ def model_of(mine, processes, limits, years, stockpiles=(), favour=3):
     return FlowModel(problem, ore, years, piles, lots_of(piles, len(processes)))
 
 
-class Statement:
-    """The programme by what is mined, fed, stocked and reclaimed in each year: gains, and rows of at most."""
+def with_mining_costs(model: FlowModel, factors: Sequence[float]) -> FlowModel:
+    """The model with factors of the mining cost by year, of which the last one continues. Its benches have no cash but this cost."""
+    benches, money = model.benches, model.problem.money
+    names, amounts = (*benches.names, MINING_COST), np.column_stack([benches.amounts, -benches.of("cash_flow")])
+    money = replace(money, premiums=money.premiums | {MINING_COST: tuple(1 - factor for factor in factors)})
+    return replace(
+        model, problem=replace(model.problem, benches=replace(benches, names=names, amounts=amounts), money=money)
+    )
 
-    def __init__(self, model: FlowModel) -> None:
-        self.model, ore, piles = model, model.ore, len(model.stockpiles)
+
+class Statement:
+    """The programme by what is mined, fed, stocked and reclaimed in each year: gains, and rows of at most.
+
+    Factors are those of the mining cost by year; the last one continues.
+    """
+
+    def __init__(self, model: FlowModel, factors: Sequence[float] = (1.0,)) -> None:
+        self.model, self.factors, ore, piles = model, factors, model.ore, len(model.stockpiles)
         counts = [len(model.benches), ore.processes * len(ore), piles * len(ore), piles * ore.processes * len(ore)]
         counts.append(piles * ore.processes)
         self.starts = np.concatenate([[0], np.cumsum(counts)]) * model.years
@@ -270,7 +284,7 @@ class Statement:
         for year in range(model.years):
             present = 1.1 ** -(year + 1)
             for bench, cash in enumerate(model.benches.of("cash_flow")):
-                found[self.dug(bench, year)] = cash * present
+                found[self.dug(bench, year)] = cash * self.factors[min(year, len(self.factors) - 1)] * present
             for unit in range(len(ore)):
                 for process in range(ore.processes):
                     found[self.fed(process, unit, year)] = ore.gain[process, unit] * present
@@ -298,18 +312,18 @@ class Statement:
         return found
 
 
-def linear_optimum(model: FlowModel) -> float:
+def linear_optimum(model: FlowModel, factors: Sequence[float] = (1.0,)) -> float:
     """The optimum of the linear programme."""
-    stated = Statement(model)
+    stated = Statement(model, factors)
     bounds = np.column_stack([np.zeros(stated.size), stated.upper])
     found = linprog(-stated.gain, A_ub=np.array(stated.rows), b_ub=stated.most, bounds=bounds, method="highs-ipm")
     assert found.status == 0, found.message
     return -float(found.fun)
 
 
-def complete_optimum(model: FlowModel) -> float:
+def complete_optimum(model: FlowModel, factors: Sequence[float] = (1.0,)) -> float:
     """The optimum where a bench starts only once all that it waits for is mined: whole unknowns say by which year it may start."""
-    stated, years, count = Statement(model), model.years, len(model.benches)
+    stated, years, count = Statement(model, factors), model.years, len(model.benches)
     size, rows, most = stated.size, [], []
 
     def add(right: float, terms: dict[int, float]) -> None:
