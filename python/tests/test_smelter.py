@@ -227,7 +227,7 @@ def short(tmp_path_factory):
 def test_terms_that_are_a_selling_cost_change_no_table(tmp_path, short, terms):
     """All is paid, and charges are 500 per tonne of copper and 2 per gram of gold."""
     text = worked_cash_flow.TEXT + worked_cash_flow.MONEY
-    text = text.replace("selling_cost = 500", f"[metals.smelter]\n{PLAIN[terms]}")
+    text = text.replace("selling_cost = 500", f'[metals.smelter]\nprocesses = "all"\n{PLAIN[terms]}')
     text = text.replace("selling_cost = 2", "[metals.smelter]\nrefining_charge = 2")
     folder = written_to(tmp_path, text, worked_cash_flow.table())
     names = {path.name for path in (short / "tables").glob("*.csv")}

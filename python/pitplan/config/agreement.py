@@ -17,6 +17,7 @@ from .overrides import scaled
 from .period_agreement import demand_periods
 from .places import MILL, PIT, WASTE
 from .schedule import FEED, TOTAL, ScheduleRules
+from .smelter_agreement import demand_smelters
 from .table import MissingRock
 
 if TYPE_CHECKING:
@@ -39,6 +40,7 @@ def demand_agreement(project: Project) -> None:
     names = [metal.name for metal in project.metals]
     if len(set(names)) < len(names):
         raise PlanError(f"{path}: two [[metals]] have one name")
+    demand_smelters(project)
     demand_sums_agree(project)
     demand_stockpiles(project)
     demand_periods(project)

@@ -3,7 +3,7 @@
 from __future__ import annotations
 
 import re
-from dataclasses import dataclass
+from dataclasses import dataclass, replace
 from decimal import ROUND_HALF_EVEN, Decimal
 from typing import Any, Optional, Union
 
@@ -64,7 +64,7 @@ class Metal:
     recovery    the share that is recovered of what comes to the mill, less the fixed tail; one, or by rock
     tail_grade  the grade, in the column's unit, of what is lost of each tonne that comes to the mill, whatever it holds
     prices      of each year from the first, in years and schedules, the last one staying; none: the price, as in the worth of blocks
-    smelter     what a smelter pays and charges, in place of the selling cost
+    smelter     what a smelter pays and charges, in place of the selling cost, for the metal of all processes or of some
     """
 
     name: str
@@ -77,6 +77,10 @@ class Metal:
     prices: tuple[Decimal, ...] = ()
     price_per: Optional[str] = None
     smelter: Optional[Smelter] = None
+
+    def sold_by(self, process: str) -> Metal:
+        """The metal as a process sells it, by name: by the smelter terms, or at the selling cost if these do not apply to it."""
+        return self if self.smelter is None or self.smelter.apply_to(process) else replace(self, smelter=None)
 
     @property
     def price_unit(self) -> str:
@@ -244,12 +248,21 @@ def read_metal(section: Section, has_processes: bool = False) -> Metal:
         smelter=read_smelter(section.section("smelter"), unit) if section.has("smelter") else None,
     )
     section.finish()
-    if metal.smelter and section.has("selling_cost"):
-        raise section.wrong("selling_cost", "give it or [metals.smelter], not both: the terms have all charges")
+    demand_one_sale(section, metal)
     # A block without revenue at the price as given costs nothing to process.
     if not metal.price and any(metal.prices):
         raise section.wrong("price", "must be above 0: it sets the cut-off; yearly prices affect only the cash flow")
     return metal
+
+
+def demand_one_sale(section: Section, metal: Metal) -> None:
+    """Refuses a selling cost next to smelter terms that apply to all processes, and terms of some processes without one."""
+    if metal.smelter is None or metal.smelter.is_of_some == section.has("selling_cost"):
+        return
+    if metal.smelter.is_of_some:
+        raise section.wrong("selling_cost", "is missing: [metals.smelter] names processes, and the others sell at it")
+    why = "give it or [metals.smelter], not both: the terms have all charges, unless they name their processes"
+    raise section.wrong("selling_cost", why)
 
 
 def read_process(section: Section) -> Process:

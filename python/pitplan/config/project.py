@@ -167,7 +167,10 @@ class Project:
         return replace(found, folder=self.folder, solver=self.solver)
 
     def of_process(self, process: Process) -> Project:
-        metals = tuple(replace(metal, recovery=process.recovery.get(metal.name, Decimal(0))) for metal in self.metals)
+        metals = tuple(
+            replace(metal.sold_by(process.name), recovery=process.recovery.get(metal.name, Decimal(0)))
+            for metal in self.metals
+        )
         return replace(
             self, economics=replace(self.economics, processing_cost=process.cost), metals=metals, processes=()
         )

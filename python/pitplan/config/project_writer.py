@@ -235,11 +235,12 @@ def of_recovery(value: Any) -> Any:
 
 def of_metal(metal: Metal, has_processes: bool) -> Values:
     values = {name: getattr(metal, name) for name in ("name", "column", "unit", "price")}
-    if metal.smelter is None:
+    if metal.smelter is None or metal.smelter.is_of_some:
         values["selling_cost"] = metal.selling_cost
-    else:
+    if metal.smelter is not None:
         values["smelter"] = asdict(metal.smelter) | {
-            "penalties": [asdict(it) for it in metal.smelter.penalties] or None
+            "penalties": [asdict(it) for it in metal.smelter.penalties] or None,
+            "processes": metal.smelter.processes or None,
         }
     recovery = {} if has_processes else {"recovery": of_recovery(metal.recovery), "tail_grade": metal.tail_grade}
     return {**values, **recovery, "prices": metal.prices or None, "price_per": metal.price_per}

@@ -4,9 +4,9 @@ from __future__ import annotations
 
 from dataclasses import dataclass
 from decimal import Decimal
-from typing import Optional
+from typing import Optional, Union
 
-from .toml_section import Section
+from .toml_section import Section, shown
 
 # By unit of the metal's column: the grade of a concentrate that is nothing but metal.
 PURE = {"percent": Decimal(100), "fraction": Decimal(1), "gram_per_tonne": Decimal(10**6)}
@@ -14,6 +14,8 @@ PURE = {"percent": Decimal(100), "fraction": Decimal(1), "gram_per_tonne": Decim
 CHARGES = ("treatment_charge", "refining_charge", "freight")
 # The keys that are for each tonne of concentrate, or for its grade.
 OF_CONCENTRATE = ("treatment_charge", "freight", "minimum_deduction", "penalties")
+# The terms apply to the metal of all processes.
+ALL = "all"
 
 
 @dataclass(frozen=True)
@@ -68,6 +70,9 @@ class Smelter:
         Per wet tonne of concentrate.
     price_participation : Participation, optional
     penalties : tuple of Penalty
+    processes : tuple of str, or str
+        The processes whose metal is sold by these terms; "all", or "" if none are named and only one recovers the metal. The metal of the others is
+        sold at the selling cost.
     """
 
     payable: Decimal = Decimal(1)
@@ -79,6 +84,16 @@ class Smelter:
     freight: Decimal = Decimal(0)
     price_participation: Optional[Participation] = None
     penalties: tuple[Penalty, ...] = ()
+    processes: Union[str, tuple[str, ...]] = ""
+
+    @property
+    def is_of_some(self) -> bool:
+        """Whether the terms name processes, and the others sell at the selling cost."""
+        return isinstance(self.processes, tuple)
+
+    def apply_to(self, process: str) -> bool:
+        """Returns whether a process, by name, sells its metal by these terms."""
+        return not isinstance(self.processes, tuple) or process in self.processes
 
     @property
     def is_shipped(self) -> bool:
@@ -105,6 +120,7 @@ def read_smelter(section: Section, unit: str) -> Smelter:
         if section.has("price_participation")
         else None,
         penalties=tuple(map(read_penalty, section.sections("penalties"))) if section.has("penalties") else (),
+        processes=read_processes(section) if section.has("processes") else "",
     )
     section.finish()
     needs = [key for key in OF_CONCENTRATE if getattr(terms, key)]
@@ -118,6 +134,16 @@ def read_smelter(section: Section, unit: str) -> Smelter:
     if terms.moisture >= 1:
         raise section.wrong("moisture", f"found {terms.moisture}, expected a share below 1, such as 0.08 for 8 %")
     return terms
+
+
+def read_processes(section: Section) -> Union[str, tuple[str, ...]]:
+    """Returns the names of processes, or "all". Raises PlanError if they are neither."""
+    value = section.get("processes")
+    if value == ALL:
+        return ALL
+    if not isinstance(value, list) or not value or not all(isinstance(name, str) for name in value):
+        raise section.wrong("processes", f'found {shown(value)}, expected "{ALL}" or names, such as ["mill"]')
+    return tuple(value)
 
 
 def read_share(section: Section, key: str, default: Optional[Decimal] = None) -> Decimal:

@@ -54,7 +54,7 @@ def cost_lines(frame: pd.DataFrame, grid: Grid, project: Project, values: Values
         of_process(replace(rows, project=alone), values, way)
         for alone, way in zip(project.by_process, values.by_process)
     )
-    of_processes = [rounding_of(project, lines, way) for lines, way in zip(processing, values.by_process)]
+    of_processes = list(map(rounding_of, project.by_process, processing, values.by_process))
     return CostLines(mining, processing, np.asarray(rounding), tuple(of_processes))
 
 
@@ -74,7 +74,7 @@ def of_process(rows: Rows, values: Values, way: Way) -> Lines:
 
 
 def rounding_of(project: Project, lines: Lines, way: Way) -> NDArray[np.float64]:
-    """Returns what a process earns in the block values beyond the products of metal, prices and costs."""
+    """Returns what the only process of a project earns in the block values beyond the products of metal, prices and costs."""
     earned = np.zeros(len(way.revenue))
     for metal in project.metals:
         a_unit = float(net(metal, metal.price, project.economics.royalty))

@@ -29,14 +29,14 @@ class YearlyMoney:
     premiums : dict of str to tuple
         By amount of metal, what a unit of it earns beyond the base price, less royalty and price participation, in each year from 1; the last one
         continues. Of mining cost, what a unit of it saves: 1 less the factor of the year.
-    net_prices : dict of str to float
-        By amount of metal, what a unit of it earns at the base price, less royalty and selling cost or smelter charges.
+    net_prices : dict of str to tuple
+        By amount of metal, what a unit of it earns in each process at the base price, less royalty and selling cost or smelter charges.
     """
 
     fixed_cost: tuple[float, ...] = (0.0,)
     capex: tuple[tuple[int, float], ...] = ()
     premiums: dict[str, tuple[float, ...]] = field(default_factory=dict)
-    net_prices: dict[str, float] = field(default_factory=dict)
+    net_prices: dict[str, tuple[float, ...]] = field(default_factory=dict)
 
     @property
     def of_metals(self) -> dict[str, tuple[float, ...]]:
@@ -91,6 +91,7 @@ PLAIN = YearlyMoney()
 def of_project(project: Project) -> YearlyMoney:
     money, calendar = project.economics, project.shells.calendar
     premiums = {}
+    # Terms that differ by process are refused with prices by year, so each premium holds for all processes.
     for metal in project.metals:
         base = net_price(metal, money.royalty)
         more = [net(metal, price, money.royalty) - base for price in yearly_prices(project, metal)]
@@ -101,7 +102,10 @@ def of_project(project: Project) -> YearlyMoney:
     capex = calendar.capex or money.capex
     per_year = calendar.by_year(lambda it: it.fixed_cost_per_year, money.fixed_cost_per_year)
     fixed = [float(amount) * length for amount, length in zip(per_year, calendar.lengths(len(per_year)))]
-    net_prices = {f"recovered_{metal.name}": float(net_price(metal, money.royalty)) for metal in project.metals}
+    net_prices = {
+        f"recovered_{metal.name}": tuple(float(net_price(it.metals[k], money.royalty)) for it in project.by_process)
+        for k, metal in enumerate(project.metals)
+    }
     spent = tuple((year, float(amount)) for year, amount in capex)
     return YearlyMoney(tuple(fixed), spent, premiums, net_prices)
 

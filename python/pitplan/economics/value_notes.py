@@ -70,11 +70,17 @@ def smelter_notes(project: Project) -> list[str]:
     for metal in [metal for metal in project.metals if metal.smelter and metal.price]:
         whole, left = metal.by_quantity(metal.price), net(metal, metal.price, Decimal(0))
         said = (
-            f"the smelter pays {100 * payable_share(metal):.5g} % of the {metal.name} and charges {charge(metal, metal.price):.6g} {currency} per "
+            f"the smelter pays {100 * payable_share(metal):.5g} % of the {metal.name}{of_processes(metal)} and charges {charge(metal, metal.price):.6g} {currency} per "
             f"recovered {metal.quantity}: the net smelter return is {100 * left / whole:.4g} % of the price, before penalties and royalty"
         )
         notes.append(said if left > 0 else f"WARNING: {said}: check the units of [metals.smelter]")
     return notes
+
+
+def of_processes(metal: Metal) -> str:
+    """Returns the processes whose metal is sold by smelter terms, if these do not apply to all."""
+    terms = metal.smelter
+    return f" of {', '.join(terms.processes)}" if terms is not None and isinstance(terms.processes, tuple) else ""
 
 
 def factor_notes(rows: Rows) -> list[str]:

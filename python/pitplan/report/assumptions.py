@@ -2,7 +2,7 @@
 
 from __future__ import annotations
 
-from collections.abc import Iterator
+from collections.abc import Iterator, Sequence
 from dataclasses import dataclass
 from decimal import Decimal
 from typing import Any, Optional
@@ -69,10 +69,12 @@ def prices(project: Project) -> Iterator[tuple[str, str]]:
         unit = f"{project.economics.currency}/{metal.price_unit}"
         listed = f"; {', '.join(map(number, metal.prices))} by year" if metal.prices else ""
         yield f"price of {metal.name}", f"{number(metal.price)} {unit}{listed}"
-        if metal.selling_cost:
-            yield f"selling cost of {metal.name}", f"{number(metal.selling_cost)} {unit}"
-        if metal.smelter:
-            yield from smelter(metal, metal.smelter, project.economics.currency)
+        terms = metal.smelter
+        if metal.selling_cost or terms and terms.is_of_some:
+            others = [it.name for it in project.processes if terms and not terms.apply_to(it.name)]
+            yield f"selling cost of {metal.name}", f"{number(metal.selling_cost)} {unit}{of_processes(others)}"
+        if terms:
+            yield from smelter(metal, terms, project.economics.currency)
     money = project.economics
     if money.royalty:
         yield "royalty", f"{percent(money.royalty)} of revenue"
@@ -82,10 +84,16 @@ def prices(project: Project) -> Iterator[tuple[str, str]]:
     yield "discount rate", f"{percent(shells.discount_rate)} a year, discounted {IN_WORDS[shells.discounting]}"
 
 
+def of_processes(names: Sequence[str]) -> str:
+    """Returns the processes that a number is of, after a comma; nothing if none are named."""
+    return f", metal of {' and '.join(names)}" if names else ""
+
+
 def smelter(metal: Metal, terms: Smelter, currency: str) -> Iterator[tuple[str, str]]:
     """Yields the smelter terms of a metal."""
     less = f", less at least {number(terms.minimum_deduction)} {metal.sign}" if terms.minimum_deduction else ""
-    yield f"payable {metal.name}", f"{percent(terms.payable)}{less}"
+    some = of_processes(terms.processes) if isinstance(terms.processes, tuple) else ""
+    yield f"payable {metal.name}", f"{percent(terms.payable)}{less}{some}"
     if terms.concentrate_grade is not None:
         water = f", {percent(terms.moisture)} moisture" if terms.moisture else ""
         yield f"concentrate of {metal.name}", f"{number(terms.concentrate_grade)} {metal.sign}{water}"

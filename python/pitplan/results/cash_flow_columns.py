@@ -41,7 +41,7 @@ LINES = (
         MONEY,
         "selling cost of the recovered metal",
         "selling METAL",
-        "without `[metals.smelter]`",
+        "unless `[metals.smelter]` applies to all processes",
     ),
     Column("treatment_charge_METAL", MONEY, "per dry tonne of concentrate", "treatment METAL", WITH_SMELTER),
     Column("refining_charge_METAL", MONEY, "per payable unit", "refining METAL", WITH_SMELTER),

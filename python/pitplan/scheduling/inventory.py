@@ -49,9 +49,18 @@ def inventory_table(schedule: YearlySchedule) -> pd.DataFrame:
         for grade, content, whole in (("grade", "in_situ", "total_tonnes"), ("head_grade", "contained", "feed_tonnes")):
             values = shell_tables.ratio(sums[f"{content}_{name}"].to_numpy() / unit, sums[whole].to_numpy())
             sums.insert(sums.columns.get_loc(f"{content}_{names[0]}"), f"{grade}_{name}", values)
-    for metal in [metal for metal in project.metals if metal.smelter]:
-        sums[f"payable_{metal.name}"] = sums[f"recovered_{metal.name}"] * float(payable_share(metal))
+    for number, metal in enumerate(project.metals):
+        if metal.smelter:
+            share = payable_by_destination(schedule, number, sums["destination"])
+            sums[f"payable_{metal.name}"] = sums[f"recovered_{metal.name}"] * share
     return sums
+
+
+def payable_by_destination(schedule: YearlySchedule, metal: int, destination: pd.Series) -> pd.Series:
+    """Returns the share of a metal, by number, that is paid in the process of each row; 0 where nothing is recovered."""
+    ways = zip(schedule.names, schedule.pushbacks.plan.project.by_process)
+    shares = {name or MILL: float(payable_share(alone.metals[metal])) for name, alone in ways}
+    return destination.map(shares).fillna(0.0)
 
 
 def blocks_shares(schedule: YearlySchedule) -> dict[str, NDArray[np.float64]]:

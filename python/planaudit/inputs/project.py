@@ -161,6 +161,8 @@ class Smelter:
     freight: Decimal
     price_participation: Optional[Participation]
     penalties: tuple[Penalty, ...]
+    # The names of the processes that sell by these terms; a text: all.
+    processes: Union[str, tuple[str, ...]] = ""
 
 
 @dataclass(frozen=True)
@@ -520,9 +522,13 @@ class Project:
 
     def with_process(self, process: Process) -> Project:
         """Returns the project with one process."""
-        metals = tuple(replace(it, recovery=process.recovery.get(it.name, Decimal(0))) for it in self.metals)
+        metals = [replace(it, recovery=process.recovery.get(it.name, Decimal(0))) for it in self.metals]
+        for number, metal in enumerate(metals):
+            named = metal.smelter.processes if metal.smelter else ""
+            if isinstance(named, tuple) and process.name not in named:
+                metals[number] = replace(metal, smelter=None)
         economics = replace(self.economics, processing_cost=process.cost)
-        return replace(self, economics=economics, metals=metals, processes=(), accepts=process.accepts)
+        return replace(self, economics=economics, metals=tuple(metals), processes=(), accepts=process.accepts)
 
     @property
     def feed_grades(self) -> tuple[FeedGrade, ...]:

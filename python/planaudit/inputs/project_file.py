@@ -265,7 +265,7 @@ def metal_of(data: Data) -> Metal:
 
 
 def smelter_of(data: Data) -> Smelter:
-    zero, kept = Decimal(0), data.get("price_participation")
+    zero, kept, named = Decimal(0), data.get("price_participation"), data.get("processes", "")
     return Smelter(
         payable=number(data.get("payable", Decimal(1))),
         concentrate_grade=number(data["concentrate_grade"]) if "concentrate_grade" in data else None,
@@ -276,6 +276,7 @@ def smelter_of(data: Data) -> Smelter:
         freight=number(data.get("freight", zero)),
         price_participation=Participation(number(kept["base"]), number(kept["share"])) if kept else None,
         penalties=tuple(map(penalty_of, data.get("penalties", ()))),
+        processes=tuple(named) if isinstance(named, list) else named,
     )
 
 

@@ -101,7 +101,9 @@ class CashFlow:
         found = np.zeros(len(self.flow.rows))
         for number in range(len(self.flow.blocks.processes)):
             mine = self.flow.process == number
-            found[mine] = self.whole[f"{name} {number}"].to_numpy()[mine]
+            # A process without smelter terms has no penalties.
+            if f"{name} {number}" in self.whole:
+                found[mine] = self.whole[f"{name} {number}"].to_numpy()[mine]
         return found
 
     @cached_property
@@ -114,13 +116,11 @@ class CashFlow:
         found: Lines = {"total_tonnes": from_pit * lot["total_tonnes"], "waste_tonnes": waste * lot["total_tonnes"]}
         found["feed_tonnes"] = fed * feed
         found["royalty"] = fed * feed * float(project.economics.royalty_per_tonne)
-        for metal in project.metals:
-            recovered = flow.recovered(metal.name)
-            earned = recovered * self.by_year(metal, partial(smelter.paid, metal))
+        for number, metal in enumerate(project.metals):
             found[f"contained_{metal.name}"] = fed * lot[f"contained_{metal.name}"]
-            found |= {f"recovered_{metal.name}": recovered, f"revenue_{metal.name}": earned}
-            found["royalty"] = found["royalty"] + earned * float(project.economics.royalty)
-            found |= self.sold(metal, recovered)
+            found[f"recovered_{metal.name}"] = flow.recovered(metal.name)
+            found |= self.sold(number)
+            found["royalty"] = found["royalty"] + found[f"revenue_{metal.name}"] * float(project.economics.royalty)
         found["mining_cost_ore"] = from_pit * ~waste * whole["mining"]
         found["mining_cost_waste"] = waste * whole["mining"]
         found["mining_cost_depth"], found["mining_cost_added"] = from_pit * whole["depth"], from_pit * whole["added"]
@@ -140,15 +140,16 @@ class CashFlow:
         by_year = {year: float(value(price_in(self.project, metal, int(year)))) for year in years.unique()}
         return years.map(by_year).to_numpy(dtype=float)
 
-    def sold(self, metal: Metal, recovered: np.ndarray) -> Lines:
-        """Returns the selling cost, or what the smelter pays for and charges."""
-        found = {}
-        if metal.smelter:
-            found[f"payable_{metal.name}"] = recovered * float(smelter.paid_share(metal))
-            dry = float(smelter.dry_tonnes(metal))
-            found |= {f"concentrate_tonnes_{metal.name}": recovered * dry} if dry else {}
-        for name in smelter.charged(metal, metal.price):
-            found[f"{name}_{metal.name}"] = recovered * self.by_year(metal, partial(smelter.charged_as, metal, name))
+    def sold(self, number: int) -> Lines:
+        """Returns for a metal, by number, its revenue and selling cost, and what a smelter pays for and charges: in the process of each row."""
+        found: Lines = {}
+        for process, way in enumerate(self.project.by_process):
+            recovered = np.where(self.flow.process == process, self.flow.recovered(way.metals[number].name), 0.0)
+            for name, values in self.sold_by(way.metals[number], recovered).items():
+                found[name] = found.get(name, 0.0) + values
+        metal = self.project.metals[number]
+        if metal.smelter is None:
+            found.pop(f"payable_{metal.name}")
         if metal.smelter and metal.smelter.penalties:
             found[f"{smelter.PENALTIES}_{metal.name}"] = self.by_process(f"{smelter.PENALTIES} {metal.name}")
         return found
@@ -157,6 +158,16 @@ class CashFlow:
     def dearer(self) -> np.ndarray:
         """The factor of the mining cost in the year of each row."""
         return np.array([mining_factor(self.project, int(year)) for year in self.flow.rows["year"]])
+
+    def sold_by(self, metal: Metal, recovered: np.ndarray) -> Lines:
+        """Returns the same for a metal as one process sells it, without penalties."""
+        found = {f"revenue_{metal.name}": recovered * self.by_year(metal, partial(smelter.paid, metal))}
+        found[f"payable_{metal.name}"] = recovered * float(smelter.paid_share(metal))
+        dry = float(smelter.dry_tonnes(metal))
+        found |= {f"concentrate_tonnes_{metal.name}": recovered * dry} if dry else {}
+        for name in smelter.charged(metal, metal.price):
+            found[f"{name}_{metal.name}"] = recovered * self.by_year(metal, partial(smelter.charged_as, metal, name))
+        return found
 
     def of(self, method: str, years: pd.Series) -> tuple[pd.DataFrame, pd.DataFrame]:
         """Returns the lines of a method by year, and their tolerances."""

@@ -51,9 +51,12 @@ def unlike_rows(flow: MaterialFlow) -> Iterator[str]:
             with np.errstate(divide="ignore", invalid="ignore"):
                 due = np.where(tonnes > slack, amount / tonnes, np.nan)
                 expected[f"{grade}_{metal.name}"] = due, GRADE + slack * (1 / unit + due) / tonnes
-    for metal in [metal for metal in metals if metal.smelter]:
-        values, loose = expected[f"recovered_{metal.name}"]
-        expected[f"payable_{metal.name}"] = values * float(paid_share(metal)), loose + AMOUNT
+    process = said["destination"].map(flow.names).fillna(0).to_numpy(dtype=int)
+    for number, metal in enumerate(metals):
+        if metal.smelter:
+            values, loose = expected[f"recovered_{metal.name}"]
+            paid = np.array([float(paid_share(way.metals[number])) for way in flow.answer.project.by_process])
+            expected[f"payable_{metal.name}"] = values * paid[process], loose + AMOUNT
     if missing := set(expected) - set(said.columns):
         yield f"{FILE}: columns {sorted(missing)} are missing"
         return

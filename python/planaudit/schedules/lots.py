@@ -72,10 +72,13 @@ class BlockAmounts:
         return {it.name: refused(answer.rows, answer.project, it.accepts)[self.inside] for it in self.stockpiles}
 
     @cached_property
-    def net_prices(self) -> dict[str, float]:
-        """What a tonne or gram of each metal earns at the base price, less royalty and charges."""
-        project = self.answer.project
-        return {it.name: float(net(it, it.price, project.economics.royalty)) for it in project.metals}
+    def net_prices(self) -> dict[str, np.ndarray]:
+        """What a tonne or gram of each metal earns at the base price in each process, less royalty and charges."""
+        found: dict[str, list[float]] = {}
+        for way in self.answer.project.by_process:
+            for metal in way.metals:
+                found.setdefault(metal.name, []).append(float(net(metal, metal.price, way.economics.royalty)))
+        return {name: np.array(values) for name, values in found.items()}
 
     @cached_property
     def gain(self) -> np.ndarray:

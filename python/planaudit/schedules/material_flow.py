@@ -134,7 +134,8 @@ class MaterialFlow:
         gain = self.by_process("gain")
         for metal in self.answer.project.metals:
             lost = self.by_process(f"recovered_{metal.name}") * (1 - self.recovery(metal.name))
-            gain -= lost * self.blocks.net_prices[metal.name]
+            # Rows without a process recover nothing.
+            gain -= lost * self.blocks.net_prices[metal.name][np.maximum(self.process, 0)]
         for year in self.rows["year"].unique():
             mine = (self.rows["year"] == year).to_numpy()
             for name, premium in premiums(self.answer.project, int(year)).items():

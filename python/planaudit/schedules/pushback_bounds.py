@@ -154,7 +154,8 @@ class Bound:
         shares = {f"recovered_{metal}": kept.get(metal, 1.0) for metal in self.blocks.net_prices}
         base = blocks.gain[process] - (stockpile.reclaim_cost if stockpile else 0.0) * blocks.feed
         for metal, share in kept.items():
-            base = base - (1 - share) * self.blocks.net_prices[metal] * blocks.of_process(f"recovered_{metal}", process)
+            lost = (1 - share) * blocks.of_process(f"recovered_{metal}", process)
+            base = base - self.blocks.net_prices[metal][process] * lost
         found = np.empty((len(blocks.feed), self.years))
         for year in range(self.years):
             money = base

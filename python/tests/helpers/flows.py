@@ -89,7 +89,7 @@ def lots_of(stockpiles, processes):
         for process in range(processes):
             amounts[f"feed_tonnes_{process}"] = feed * (np.arange(processes) == process)[:, None]
         ore = Ore(np.zeros(1, dtype=np.int64), np.ones(1, dtype=np.int64), gain, amounts)
-        found.append(ore.reclaimed(stockpiles[number], {"recovered_copper": NET_PRICE}))
+        found.append(ore.reclaimed(stockpiles[number], {"recovered_copper": (NET_PRICE,)}))
     return OpeningOre(joined(found), np.array(numbers)) if found else None
 
 
@@ -117,7 +117,7 @@ def model_of(mine, processes, limits, years, stockpiles=(), favour=3):
     accepted = np.array([np.ones(len(place)), place[:, 1] == 2], dtype=bool)[: len(stockpiles)]
     ore = Ore(place[:, 0], place[:, 1], gains, amounts, accepted)
     limits = Limits(most, limits.ramp_up, limits.vertical_advance_rate)
-    problem = replace(problem_of(benches, limits), money=YearlyMoney(net_prices={"recovered_copper": NET_PRICE}))
+    problem = replace(problem_of(benches, limits), money=YearlyMoney(net_prices={"recovered_copper": (NET_PRICE,)}))
     piles = stockpiles_of(stockpiles)
     return FlowModel(problem, ore, years, piles, lots_of(piles, len(processes)))
 

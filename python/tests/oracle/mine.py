@@ -180,7 +180,7 @@ class Mine:
     def way(self, process: dict[str, Any], row: dict[str, str], undiluted: Fraction, dilution: Fraction) -> Way:
         """Only money is rounded, once: revenue, and the costs of processing and selling together."""
         money, revenue, selling, metals = self.project["economics"], Fraction(0), Fraction(0), {}
-        for metal in self.project["metals"]:
+        for metal in [smelter.sold_by(metal, process) for metal in self.project["metals"]]:
             name, grade = metal["name"], Fraction(row[metal["column"]])
             share = Fraction(0)
             if name in process["recovery"]:

@@ -28,7 +28,7 @@ def draw(seed: int) -> Drawn:
         classes(rng) if "class =" in of_table else "",
         f"[grid]\nsize = [{size[0]}, {size[1]}, {size[2]}]",
         economics(rng, several, size[2] * shape[2]),
-        *with_terms(Random(seed), metals(rng, several)),
+        *with_terms(Random(seed), metals(rng, several), several),
         *(process(rng, number) for number in range(several)),
         slopes(rng),
         shells(rng, several),
@@ -152,9 +152,23 @@ def with_arsenic(rng: Random, blocks: str) -> str:
     return "\n".join([f"{head},as_ppm", *(f"{row},{rng.choice([0, 12, 85.5, 340])}" for row in rows)]) + "\n"
 
 
-def with_terms(rng: Random, texts: list[str]) -> list[str]:
-    """The metals, of which some are sold by smelter terms and not at a selling cost."""
-    return [smelter(rng, text) if rng.random() < 0.4 else text for text in texts]
+def with_terms(rng: Random, texts: list[str], several: int) -> list[str]:
+    """The metals, of which some are sold by smelter terms and not at a selling cost, or by these in some processes."""
+    found = [smelter(rng, text) if rng.random() < 0.4 else text for text in texts]
+    return [of_processes(rng, *pair, several) if several else pair[1] for pair in zip(texts, found)]
+
+
+def of_processes(rng: Random, before: str, text: str, several: int) -> str:
+    """The terms of some of the processes that recover the metal, or of all: the first one recovers no gold."""
+    if before == text:
+        return text
+    names = PROCESSES[0 if "percent" in text else 1 : several]
+    if len(names) < 2 or "\nprices" in text or rng.random() < 0.4:
+        return text.replace("[metals.smelter]", '[metals.smelter]\nprocesses = "all"')
+    some = rng.sample(names, rng.randint(1, len(names) - 1))
+    costs = [line for line in before.splitlines() if line.startswith("selling_cost")] or ["selling_cost = 0.06"]
+    quoted = ", ".join(f'"{name}"' for name in some)
+    return text.replace("[metals.smelter]", f"{costs[0]}\n[metals.smelter]\nprocesses = [{quoted}]")
 
 
 def smelter(rng: Random, text: str) -> str:
@@ -172,11 +186,14 @@ def smelter(rng: Random, text: str) -> str:
     return "\n".join([kept, "[metals.smelter]", *filter(None, terms)])
 
 
+PROCESSES = ("leach", "mill", "fine")
+
+
 def process(rng: Random, number: int) -> str:
     """Each costs more than the one before, and recovers gold but for the first."""
     gold = f", gold = {recovery(rng)}" if number else ""
     cost = pick(rng, str(2 + 5 * number), f"{{ R = {2 + 5 * number}, S = {2.5 + 5 * number} }}")
-    name, copper = ("leach", "mill", "fine")[number], pick(rng, "0.5", recovery(rng))
+    name, copper = PROCESSES[number], pick(rng, "0.5", recovery(rng))
     taken = pick(rng, "", "", "", '\naccepts = { rock_type = "R" }', "\naccepts = { cu = { min = 0.3, max = 2.5 } }")
     return f'[[processes]]\nname = "{name}"\ncost = {cost}\ncapacity = {2500 * (number + 1)}\nrecovery = {{ copper = {copper}{gold} }}{taken}'
 
@@ -222,7 +239,8 @@ def periods(rng: Random, several: int, text: str) -> list[str]:
         lines.append(pick(rng, "", f"capacity = {{ leach = {most} }}" if several else f"processing_capacity = {most}"))
         lines.append(pick(rng, "", "mining_capacity = 5200" if "mining_capacity" in text else ""))
         prices = {"copper": 'price_per = "lb"' in text and 3.9 or 'price_per = "kg"' in text and 8.6 or 7300}
-        lines.append("" if "\nprices" in text else pick(rng, "", f"prices = {{ copper = {prices['copper']} }}"))
+        has_prices = "\nprices" in text or "\nprocesses = [" in text.partition('name = "gold"')[0]
+        lines.append("" if has_prices else pick(rng, "", f"prices = {{ copper = {prices['copper']} }}"))
         lines.append(pick(rng, "", "fixed_cost_per_year = 450"))
         lines.append(pick(rng, "", "mining_cost_factor = 1.25", "mining_cost_factor = 0.9"))
         lines.append("" if "\ncapex" in text else pick(rng, "", "capex = 1234.5"))

@@ -13,6 +13,14 @@ Metal = dict[str, Any]
 Priced = Callable[[Metal, Any], Fraction]
 
 
+def sold_by(metal: Metal, process: dict[str, Any]) -> Metal:
+    """The metal without its terms in a process that they leave out."""
+    named = metal.get("smelter", {}).get("processes", "all")
+    if named == "all" or process["name"] in named:
+        return metal
+    return {key: value for key, value in metal.items() if key != "smelter"}
+
+
 def paid_share(metal: Metal) -> Fraction:
     """The share of the recovered metal that is paid."""
     terms = metal["smelter"]

@@ -2,7 +2,6 @@
 
 from __future__ import annotations
 
-from collections.abc import Callable
 from dataclasses import dataclass
 from decimal import Decimal
 
@@ -22,6 +21,7 @@ from pitplan.scheduling import pushback_schedule
 from pitplan.scheduling.pushback_schedule import YearlySchedule
 
 from .operation import Amounts, Material, Operation
+from .sales import Sale
 
 # Lines by their columns in cash_flow.csv.
 Lines = dict[str, Amounts]
@@ -103,18 +103,18 @@ def statement(operation: Operation, method: str, years: pd.DataFrame) -> Stateme
     nothing = np.zeros(len(years))
     of_years = {name: years[name].to_numpy() if name in years else nothing for name in ("fixed_cost", "capex")}
     metals = operation.material.plan.project.metals
-    recovered = {metal.name: operation.recovered(metal.name) for metal in metals}
     prices = {metal.name: prices_of(metal, operation) for metal in metals}
-    revenue = {f"revenue_{it.name}": recovered[it.name] * at_prices(smelter_terms.paid, it, prices) for it in metals}
+    sales = {metal.name: Sale.of(operation, number, prices[metal.name]) for number, metal in enumerate(metals)}
+    revenue = {f"revenue_{name}": sale.total(smelter_terms.paid) for name, sale in sales.items()}
     costs = mining_costs(operation) | processing_costs(operation) | stockpile_costs(operation)
     return Statement(
         method=method,
         year=years["year"].to_numpy(),
         ends=operation.material.plan.project.shells.calendar.ends(len(years)),
-        physicals=physicals(operation, recovered),
+        physicals=physicals(operation, sales),
         prices={f"price_{name}": np.array(of_years, dtype=float) for name, of_years in prices.items()},
         revenue=revenue,
-        deductions=royalties(operation, revenue) | charges(operation, prices, recovered),
+        deductions=royalties(operation, revenue) | charges(operation, sales),
         costs=costs | ({"fixed_cost": of_years["fixed_cost"]} if "fixed_cost" in years else {}),
         rounding=rounding_of(operation),
         capex=of_years["capex"],
@@ -134,12 +134,7 @@ def prices_of(metal: Metal, operation: Operation) -> list[Decimal]:
     return [listed[min(year, len(listed) - 1)] for year in range(operation.flows.years)]
 
 
-def at_prices(value: Callable[[Metal, Decimal], Decimal], metal: Metal, prices: Prices) -> Amounts:
-    """Returns what a tonne or gram of a metal earns or costs at the price of each period."""
-    return np.array([value(metal, price) for price in prices[metal.name]], dtype=float)
-
-
-def physicals(operation: Operation, recovered: Lines) -> Lines:
+def physicals(operation: Operation, sales: dict[str, Sale]) -> Lines:
     """Returns tonnes, strip ratio, head grades and metals."""
     values, project = operation.material.plan.values, operation.material.plan.project
     total, ore = operation.mined(values.tonnes), operation.ore(values.tonnes)
@@ -151,12 +146,13 @@ def physicals(operation: Operation, recovered: Lines) -> Lines:
         content = contained[metal.name] / float(GRADE_UNITS[metal.unit])
         found[f"head_grade_{metal.name}"] = shell_tables.ratio(content, feed)
     found |= {f"contained_{name}": amounts for name, amounts in contained.items()}
-    found |= {f"recovered_{name}": amounts for name, amounts in recovered.items()}
+    found |= {f"recovered_{name}": sale.recovered.sum(axis=0) for name, sale in sales.items()}
     for metal in [metal for metal in project.metals if metal.smelter]:
-        payable, dry = (float(value(metal)) for value in (smelter_terms.payable_share, smelter_terms.concentrate))
-        found[f"payable_{metal.name}"] = recovered[metal.name] * payable
-        if dry:
-            found[f"concentrate_tonnes_{metal.name}"] = recovered[metal.name] * dry
+        sale = sales[metal.name]
+        found[f"payable_{metal.name}"] = sale.total(lambda it, price: smelter_terms.payable_share(it))
+        if smelter_terms.concentrate(metal):
+            dry = sale.total(lambda it, price: smelter_terms.concentrate(it))
+            found[f"concentrate_tonnes_{metal.name}"] = dry
     return found
 
 
@@ -168,18 +164,15 @@ def royalties(operation: Operation, revenue: Lines) -> Lines:
     return {"royalty": np.asarray(royalty)}
 
 
-def charges(operation: Operation, prices: Prices, recovered: Lines) -> Lines:
-    """Returns the selling costs by metal, or the charges of its smelter."""
-    found = {}
+def charges(operation: Operation, sales: dict[str, Sale]) -> Lines:
+    """Returns the selling costs by metal and the charges of its smelter, each if a process has them."""
+    found: Lines = {}
     for metal in operation.material.plan.project.metals:
-        of_years = [smelter_terms.charges(metal, price) for price in prices[metal.name]]
-        for kind in smelter_terms.charges(metal, metal.price):
-            a_unit = np.array([it[kind] for it in of_years], dtype=float)
-            found[f"{COLUMNS[kind]}_{metal.name}"] = recovered[metal.name] * a_unit
+        found |= {f"{COLUMNS[kind]}_{metal.name}": line for kind, line in sales[metal.name].charges().items()}
         if metal.smelter and metal.smelter.penalties:
             of_blocks = f"{smelter_terms.PENALTIES} {metal.name}"
             costs = enumerate(operation.material.costs.processing)
-            charged = sum(operation.fed(lines[of_blocks], number) for number, lines in costs)
+            charged = sum(operation.fed(lines[of_blocks], number) for number, lines in costs if of_blocks in lines)
             found[f"{COLUMNS[smelter_terms.PENALTIES]}_{metal.name}"] = np.asarray(charged)
     return found
 

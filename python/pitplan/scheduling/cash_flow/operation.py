@@ -118,11 +118,9 @@ class Operation:
         return np.asarray(sum(self.fed(values, process) for process in range(len(self.flows.direct))))
 
     def recovered(self, metal: str) -> Amounts:
-        """Returns the recovered metal, after what stockpiles lose."""
+        """Returns the metal that each process recovers, after what stockpiles lose, shape (processes, periods)."""
         name = f"recovered_{metal}"
-        return np.asarray(
-            (self.flows.processed(name).sum(axis=1) + self.flows.from_opening(name).sum(axis=1)).sum(axis=0)
-        )
+        return np.asarray(self.flows.processed(name).sum(axis=1) + self.flows.from_opening(name).sum(axis=1))
 
     @property
     def mining_factors(self) -> Amounts:

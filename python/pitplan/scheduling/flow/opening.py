@@ -42,7 +42,7 @@ class Lots:
     def __len__(self) -> int:
         return len(self.stockpile)
 
-    def ore(self, rules: ScheduleRules, net_prices: dict[str, float]) -> OpeningOre:
+    def ore(self, rules: ScheduleRules, net_prices: dict[str, tuple[float, ...]]) -> OpeningOre:
         """Returns the lots as their stockpiles give them back."""
         cells = np.arange(len(self))
         ore = ore_of(self.plan, replace(rules, stockpiles=()), cells, np.zeros(len(self), dtype=np.int64))

@@ -66,12 +66,12 @@ class Ore:
         """Returns whether a stockpile, by number, accepts each unit."""
         return np.ones(len(self), dtype=bool) if self.accepted is None else self.accepted[stockpile]
 
-    def reclaimed(self, stockpile: Stockpile, net_prices: dict[str, float]) -> Ore:
+    def reclaimed(self, stockpile: Stockpile, net_prices: dict[str, tuple[float, ...]]) -> Ore:
         """Returns the ore as a stockpile gives it back: reclaiming costs, and less metal may be recovered."""
         gain, amounts = self.gain - stockpile.reclaim_cost * self.feed, dict(self.amounts)
         for metal, share in stockpile.recovery.items():
             name = f"recovered_{metal}"
-            gain = gain - (1 - share) * net_prices[name] * self.of(name)
+            gain = gain - (1 - share) * np.array(net_prices[name])[:, None] * self.of(name)
             amounts[name] = share * self.of(name)
         return replace(self, gain=gain, amounts=amounts)
 

@@ -196,7 +196,7 @@ def handled(found: pd.DataFrame, flows: Flows, move: Move, names: list[str]) -> 
     if stockpile is not None:
         for metal, share in stockpile.recovery.items():
             name = f"recovered_{metal}"
-            found["cash_flow"] -= found[name] * (1 - share) * money.net_prices[name]
+            found["cash_flow"] -= found[name] * (1 - share) * money.net_prices[name][move.process or 0]
             found[name] *= share
         cost = stockpile.stacking_cost if move.process is None else stockpile.reclaim_cost
         found["cash_flow"] -= found["feed_tonnes"] * cost
