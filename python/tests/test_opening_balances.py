@@ -5,6 +5,7 @@ import shutil
 import pandas as pd
 import pytest
 from conftest import PROJECT, rows
+from helpers import office
 from helpers.verified import UNVERIFIED
 
 import pitplan
@@ -70,6 +71,18 @@ def test_tables_have_what_lay_there(written):
     assert limits["used"].tolist() == [20, 0, 0, 0] and (limits["maximum"] == 60).all()
     inventory = table_of(written, "inventory").query("pushback == 0")
     assert inventory["feed_tonnes"].tolist() == [40, 20] and (inventory["category"] == "ore").all()
+
+
+def test_the_sheet_of_reserves_names_it(tmp_path, with_workbooks):
+    """60 t of 1 % copper that lay there, and 100 t of 0.8 % from pushback 1."""
+    pitplan.write_schedule(written_to(tmp_path, PILE), writing=UNVERIFIED)
+    book = office.recalculated(tmp_path / "plan/schedule/tables/schedule.xlsx", tmp_path)
+    cells = [list(row) for row in book["reserves"].iter_rows(values_only=True)]
+    top = [row[0] for row in cells].index("pushback")
+    assert [row[0] for row in cells[top + 1 : top + 5]] == ["opening stock", 1, "all", "all"]
+    assert [row[3] for row in cells[top + 1 : top + 5]] == pytest.approx([60, 100, 160, 160])
+    assert cells[top + 1][4:7] == pytest.approx([1, 0.6, 0.3])
+    assert "Opening stock lay on stockpiles at the start: pushback 0 of the sheet inventory." in cells[1][0]
 
 
 def test_its_costs_are_lines_of_the_cash_flow(written):

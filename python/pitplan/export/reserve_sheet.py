@@ -20,6 +20,8 @@ NAME, INVENTORY = "reserves", "inventory"
 ORE, NOT_RESERVE = "ore", "not_reserve"
 # Blocks without a class.
 NO_CLASS = "unclassified"
+# What lay on stockpiles at the start, which the inventory has as pushback 0.
+OPENING = "opening stock"
 # A condition of a sum: a column of the inventory, and a cell or a text in quotes.
 Condition = tuple[str, str]
 Cells = list[Union[str, int, float]]
@@ -65,7 +67,7 @@ class ReserveSheet:
         sheet, styles = book.create_sheet(NAME), load("openpyxl.styles", "python3-openpyxl", "a workbook")
         for number, row in enumerate(self.rows(), 1):
             # Titles, headers and totals begin with a text.
-            bold = styles.Font(bold=bool(row) and isinstance(row[0], str))
+            bold = styles.Font(bold=bool(row) and isinstance(row[0], str) and row[0] != OPENING)
             for column, value in enumerate(row, 1):
                 place, is_text = sheet.cell(number, column), not isinstance(value, Formula) and isinstance(value, str)
                 if is_text:
@@ -105,7 +107,10 @@ class ReserveSheet:
     def rows(self) -> Iterator[Cells]:
         """Yields the cells of the sheet."""
         yield [f"{self.project.title}: mill feed of the schedule by {self.method}"]
-        yield ["Sums over the sheet inventory. Ore excludes mill feed of inferred and unclassified material."]
+        lay = f" {OPENING.capitalize()} lay on stockpiles at the start: pushback 0 of the sheet inventory."
+        has_any = (self.inventory["pushback"] == 0).any()
+        said = "Sums over the sheet inventory. Ore excludes mill feed of inferred and unclassified material."
+        yield [said + lay if has_any else said]
         row = 3
         for category, title in ((ORE, "Ore"), (NOT_RESERVE, "Not reserves: inferred and unclassified feed")):
             if self.classes(category):
@@ -122,9 +127,10 @@ class ReserveSheet:
         pushbacks: list[Union[int, str]] = sorted(self.inventory["pushback"].unique().tolist())
         for pushback in [*pushbacks, "all"]:
             for name in self.classes(category):
-                conditions = [of_category, *([] if pushback == "all" else [("pushback", f"$A{place}")])]
+                number = "0" if pushback == 0 else f"$A{place}"
+                conditions = [of_category, *([] if pushback == "all" else [("pushback", number)])]
                 conditions += [(self.class_column, f"$B{place}")] if self.class_column else []
-                yield [pushback, name, *self.amounts(place, conditions)]
+                yield [pushback or OPENING, name, *self.amounts(place, conditions)]
                 place += 1
         yield ["all", category.replace("_", " "), *self.amounts(place, [of_category])]
         yield []
