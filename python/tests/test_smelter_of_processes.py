@@ -11,6 +11,8 @@ from helpers.verified import UNVERIFIED
 
 import pitplan
 from pitplan import PlanError, load, verify
+from pitplan.economics import value_notes
+from pitplan.report import assumptions
 
 # Two blocks of ore side by side, each of 10,000 t: an oxide for the leach and a sulphide for the mill. The sulphide has 200 ppm of arsenic.
 TEXT = """
@@ -268,3 +270,16 @@ def test_terms_of_processes_read_back_as_themselves(tmp_path):
     assert [way.metals[0].smelter is None for way in project.by_process] == [True, False]
     demand_read_alike(path, project)
     demand_read_alike(again, project)
+
+
+def test_report_and_notes_say_whose_metal_the_terms_apply_to(tmp_path):
+    """The report has both prices with their processes, and a note has the net smelter return of the mill alone."""
+    (tmp_path / "project.toml").write_text(TEXT)
+    project = load(tmp_path / "project.toml")
+    found = dict(assumptions.prices(project))
+    assert found["selling cost of copper"] == "150 USD/t, metal of leach"
+    assert found["payable copper"] == "96.5 %, less at least 1 %, metal of mill"
+    assert value_notes.smelter_notes(project)[0].startswith("the smelter pays 96.154 % of the copper of mill and")
+    whole = tmp_path / "all.toml"
+    whole.write_text(TEXT.replace("selling_cost = 150\n", "").replace('["mill"]', '"all"'))
+    assert dict(assumptions.prices(load(whole)))["payable copper"] == "96.5 %, less at least 1 %"
