@@ -79,8 +79,8 @@ def test_the_sheet_of_reserves_names_it(tmp_path, with_workbooks):
     book = office.recalculated(tmp_path / "plan/schedule/tables/schedule.xlsx", tmp_path)
     cells = [list(row) for row in book["reserves"].iter_rows(values_only=True)]
     top = [row[0] for row in cells].index("pushback")
-    assert [row[0] for row in cells[top + 1 : top + 5]] == ["opening stock", 1, "all", "all"]
-    assert [row[3] for row in cells[top + 1 : top + 5]] == pytest.approx([60, 100, 160, 160])
+    assert [row[:2] for row in cells[top + 1 : top + 4]] == [["opening stock", "all"], [1, "all"], ["all", "ore"]]
+    assert [row[3] for row in cells[top + 1 : top + 4]] == pytest.approx([60, 100, 160]) and cells[top + 4][0] is None
     assert cells[top + 1][4:7] == pytest.approx([1, 0.6, 0.3])
     assert "Opening stock lay on stockpiles at the start: pushback 0 of the sheet inventory." in cells[1][0]
 

@@ -13,7 +13,7 @@ from .xlsx import cell
 
 # The columns of label, unit, and of the whole life; periods follow.
 LABEL, UNIT, TOTAL, FIRST = 1, 2, 3, 4
-WIDTHS = {LABEL: 34.0, UNIT: 14.0, TOTAL: 18.0}
+WIDTHS = {LABEL: 46.0, UNIT: 14.0, TOTAL: 18.0}
 # A reference in a formula: [key] in the same column, [key<] in the period before, [key:] over all periods, [key!] in the column of the whole life.
 REFERENCE = re.compile(r"\[([^\]<:!]+)([<:!]?)\]")
 SUM, SAME = "=SUM([{key}:])", "same"

@@ -125,8 +125,10 @@ class ReserveSheet:
         yield ["pushback", "class", *self.heads[2:]]
         place, of_category = row + 2, ("category", f'"{category}"')
         pushbacks: list[Union[int, str]] = sorted(self.inventory["pushback"].unique().tolist())
-        for pushback in [*pushbacks, "all"]:
-            for name in self.classes(category):
+        classes = self.classes(category)
+        # The sums of one class alone are those of the last row.
+        for pushback in [*pushbacks, "all"] if len(classes) > 1 else pushbacks:
+            for name in classes:
                 number = "0" if pushback == 0 else f"$A{place}"
                 conditions = [of_category, *([] if pushback == "all" else [("pushback", number)])]
                 conditions += [(self.class_column, f"$B{place}")] if self.class_column else []
