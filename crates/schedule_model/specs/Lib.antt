@@ -1,0 +1,4 @@
+pub mod Problem
+pub mod Schedule
+pub mod Bound
+pub mod ExampleSchedules

@@ -1,0 +1,25 @@
+//! The production scheduling problem of an open pit: definitions in `specs/`, and the laws over them.
+//! Each law is a function with an empty body whose contract is the law.
+#![tactic(auto)]
+
+ghost use Rattle.schedule_model.specs.Bound.{BoundIsOne, ScheduleIsBounded};
+ghost use Rattle.schedule_model.specs.ExampleSchedules.{SchedulesOfTwoBlocks};
+
+mod term;
+
+pub use term::{Effect, Term};
+
+/// For prices that are not negative, no schedule is worth more than the Lagrangian bound at these prices.
+pub fn schedule_is_bounded()
+    ensures { ScheduleIsBounded }
+{}
+
+/// A problem has one Lagrangian bound at given prices.
+pub fn bound_is_one()
+    ensures { BoundIsOne }
+{}
+
+/// What the definitions say of schedules of two blocks in two periods.
+pub fn schedules_of_two_blocks()
+    ensures { SchedulesOfTwoBlocks }
+{}
