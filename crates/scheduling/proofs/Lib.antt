@@ -1,0 +1,10 @@
+pub mod Small
+pub mod Pushed
+pub mod Weighing
+pub mod Exchanged
+pub mod Adding
+pub mod Paired
+pub mod Moving
+pub mod MovedAmounts
+pub mod Priced
+pub mod Ordered
