@@ -1,0 +1,31 @@
+-- The nodes at prices of limits, the worth of their pit, and why there is no bound.
+use Rattle.std.specs.Prelude.{◌≡◌, ℕ, ◌*◌, ◌<◌, ℤ, pos, Bool, List, length, get_or}
+use Rattle.pit_model.specs.Mine.{Instance, IsPit, worth}
+use Rattle.schedule_model.specs.Problem.{Problem}
+use Rattle.schedule_model.specs.Bound.{IsTimeExpanded, node}
+use Rattle.scheduling.specs.declared.bound_error.BoundError.{BoundError}
+use Rattle.scheduling.specs.declared.bound_error.BoundError.TheVariants.{NoMemory, PriceCount, PriceOutOfRange, ValueBeyond}
+use Rattle.scheduling.specs.Gains.{AreBest}
+use Rattle.scheduling.specs.Limits.{IsPrice}
+use Rattle.scheduling.specs.Nodes.{IsBeyond}
+
+-- the best gain of a block in a period, of gains that are listed node by node
+abbrev pub gain_at : Problem → List ℤ → ℕ → ℕ → ℤ
+gain_at problem gains b t = get_or gains (node problem b t) (pos 0)
+
+pub record AreNodesAt (problem : Problem) (prices : List ℤ) (nodes : Instance) : Type 0 where
+  pub gains : List ℤ
+  pub best : AreBest problem prices gains
+  pub expanded : IsTimeExpanded problem (gain_at problem gains) nodes
+
+pub record IsWorthOfPit (nodes : Instance) (amount : ℤ) : Type 0 where
+  pub pit : ℕ → Bool
+  pub is_pit : IsPit nodes pit
+  pub is : amount ≡ worth nodes pit
+
+-- no memory; not a price for each limit in each period; a price or the value of a node out of range
+abbrev pub RefusesBound : Problem → List ℤ → BoundError → Type 0
+RefusesBound problem prices NoMemory = Unit {0}
+RefusesBound problem prices PriceCount = length prices ≡ problem.limits * problem.periods → ⊥
+RefusesBound problem prices (PriceOutOfRange i) = (i < length prices) × (IsPrice (get_or prices i (pos 0)) → ⊥)
+RefusesBound problem prices (ValueBeyond node) = (gains : List ℤ) × AreBest problem prices gains × IsBeyond gains problem.blocks node
