@@ -5,6 +5,7 @@ from __future__ import annotations
 import json
 import sys
 from dataclasses import dataclass, field, replace
+from functools import cached_property
 from typing import Any, Optional
 
 import numpy as np
@@ -22,6 +23,7 @@ from pitplan.core.progress import Progress, silent
 from pitplan.core.revenue_factors import BASE_PRICE, factor_text
 from pitplan.economics import block_values, haulage, period_costs
 from pitplan.economics.block_values import Values
+from pitplan.economics.cost_lines import multiplied_costs
 from pitplan.economics.weighing import reference_level
 from pitplan.precedences import MOST_PAIRS, Needs, Pairs
 from pitplan.preparation import Preparation
@@ -155,6 +157,11 @@ class Plan:
             )
         return frame.sort_values("id").reset_index(drop=True)
 
+    @cached_property
+    def multiplied_costs(self) -> dict[str, NDArray[np.float64]]:
+        """The costs of ore that factors of periods multiply, by their amounts, in the currency, shape (processes, cells)."""
+        return multiplied_costs(self.table, self.grid, self.project, self.values)
+
     @property
     def reference(self) -> float:
         """Elevation in metres below which the mining cost rises by bench: the top of the reference bench."""
@@ -216,7 +223,7 @@ class Plan:
             "cells": self.grid.count,
             "cells_without_a_row": self.grid.count - len(self.table),
             "of_these_not_above_the_highest_of_their_column": len(missing_blocks.unknown_cells(self.grid)),
-            "greatest_shift_of_a_centre": greatest_shift(self.table, self.grid, self.project),
+            "greatest_shift_of_a_centre": self.grid.greatest_shift(self.table, self.project.table),
             **({"rows_left_out": self.left_out} if self.left_out else {}),
         }
 
@@ -380,14 +387,6 @@ def notes_of_cash(project: Project) -> list[str]:
     )
     rate = f"NPV: {100 * settings.discount_rate:.10g} % a year, cash flow discounted {IN_WORDS[settings.discounting]}"
     return [*added, *period_costs.notes(project), rate]
-
-
-def greatest_shift(table: pd.DataFrame, grid: Grid, project: Project) -> float:
-    """The greatest distance in metres, along an axis, from the centroid of a row to that of its cell."""
-    x, y, z = (table[name].to_numpy() for name in (project.table.x, project.table.y, project.table.z))
-    places = (*grid.frame.along(x, y), z)
-    off = [np.abs(place - middle).max() for place, middle in zip(places, grid.middles(grid.rows))]
-    return float(f"{max(off):.3g}")
 
 
 def codes_of(project: Project) -> list[str]:

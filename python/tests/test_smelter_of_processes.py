@@ -120,6 +120,25 @@ def test_cathode_and_concentrate_are_sold_as_worked_out_by_hand(both):
     assert wrong(both) == set()
 
 
+def test_factors_of_a_period_multiply_all_charges_but_the_price_participation(tmp_path):
+    """Mining costs 40,000 x 1.25, processing 140,000 x 1.2, and selling 10,500 x 1.5. The smelter charges 80,700 x 1.5, and 5,000 of the price as
+    before. With 1,332,800 of revenue less royalty that leaves 973,000."""
+    factors = "mining_cost_factor = 1.25\nprocessing_cost_factor = 1.2\nselling_cost_factor = 1.5\n"
+    folder = written_to(tmp_path, TEXT.replace("[schedule]", f"[[periods]]\n{factors}[schedule]"))
+    times = dict.fromkeys(("selling_cost", "treatment_charge", "refining_charge", "freight", "penalties"), 1.5)
+    due = LINES | {f"{name}_copper": factor * LINES[f"{name}_copper"] for name, factor in times.items()}
+    due |= {f"processing_cost_{name}": 1.2 * LINES[f"processing_cost_{name}"] for name in ("leach", "mill")}
+    due |= {"mining_cost_ore": 50_000, "cash_flow": 1_332_800 - 50_000 - 168_000 - 15_750 - 121_050 - 5000}
+    found = sums_of(folder)
+    assert {name: found[name] for name in due if name != "c1_cost"} == pytest.approx(
+        {name: amount for name, amount in due.items() if name != "c1_cost"}, abs=0.001
+    )
+    assert found["c1_cost"] == pytest.approx((50_000 + 168_000 + 15_750 + 121_050 + 5000) / 170)
+    methods = pd.read_csv(folder / "tables/methods.csv")
+    assert methods[["npv", "upper_bound"]].to_numpy() == pytest.approx(973_000 / 1.1, abs=0.01)
+    assert wrong(folder) == set()
+
+
 def test_each_block_has_the_value_of_its_own_terms(both):
     """In the mill the oxide would pay the concentrate's terms, and in the leach the sulphide the selling cost."""
     found = pd.read_csv(both / "tables/blocks.csv").set_index("rock")

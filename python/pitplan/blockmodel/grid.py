@@ -97,6 +97,13 @@ class Grid:
         east, north, up = self.middles(ids)
         return *self.frame.back(east, north), up
 
+    def greatest_shift(self, table: pd.DataFrame, columns: TableColumns) -> float:
+        """The greatest distance in metres, along an axis, from the centroid of a row to that of its cell."""
+        x, y, z = (table[name].to_numpy() for name in (columns.x, columns.y, columns.z))
+        places = (*self.frame.along(x, y), z)
+        off = [np.abs(place - middle).max() for place, middle in zip(places, self.middles(self.rows))]
+        return float(f"{max(off):.3g}")
+
     def steps(self, x: np.ndarray, y: np.ndarray) -> tuple[np.ndarray, np.ndarray]:
         """Returns how many columns and rows the planner's x and y lie from the centre of cell 0, with fractions."""
         east, north = self.frame.along(x, y)

@@ -49,8 +49,9 @@ class Period:
         Tonnes that lie on stockpiles at the end of each of its periods.
     prices : dict of str to Decimal
         By metal, in the unit of its `price`.
-    mining_cost_factor : Decimal, optional
-        By which the mining cost of what is mined in its periods is multiplied.
+    mining_cost_factor, processing_cost_factor, selling_cost_factor : Decimal, optional
+        By which the mining cost of what is mined in its periods, the processing cost of what is processed in them, and the selling cost of what it
+        recovers are multiplied.
     fixed_cost_per_year : Decimal, optional
     capex : Decimal
         Spent at the start of its first period.
@@ -66,6 +67,8 @@ class Period:
     stockpiles: tuple[StockpileLimit, ...] = ()
     prices: dict[str, Decimal] = field(default_factory=dict)
     mining_cost_factor: Optional[Decimal] = None
+    processing_cost_factor: Optional[Decimal] = None
+    selling_cost_factor: Optional[Decimal] = None
     fixed_cost_per_year: Optional[Decimal] = None
     capex: Decimal = Decimal(0)
 
@@ -189,6 +192,9 @@ def read_period(section: Section) -> Period:
     def tonnes(key: str) -> Optional[float]:
         return float(section.number(key, least=0)) if section.has(key) else None
 
+    def money(key: str) -> Optional[Decimal]:
+        return section.number(key, least=0) if section.has(key) else None
+
     def by_name(key: str) -> dict[str, float]:
         inner = section.section(key, optional=True)
         return {name: float(inner.number(name, least=0)) for name in inner.data}
@@ -205,10 +211,10 @@ def read_period(section: Section) -> Period:
         feed=read_feeds(section.section("feed")) if section.has("feed") else (),
         stockpiles=read_limits(section.section("stockpiles")) if section.has("stockpiles") else (),
         prices={name: prices.number(name, least=0) for name in prices.data},
-        mining_cost_factor=section.number("mining_cost_factor", least=0) if section.has("mining_cost_factor") else None,
-        fixed_cost_per_year=section.number("fixed_cost_per_year", least=0)
-        if section.has("fixed_cost_per_year")
-        else None,
+        mining_cost_factor=money("mining_cost_factor"),
+        processing_cost_factor=money("processing_cost_factor"),
+        selling_cost_factor=money("selling_cost_factor"),
+        fixed_cost_per_year=money("fixed_cost_per_year"),
         capex=section.number("capex", Decimal(0), least=0),
     )
     section.finish()

@@ -14,8 +14,9 @@ from pitplan.config.project import Project
 from pitplan.core.decimals import Exact
 
 from .block_values import Values
+from .period_costs import PROCESSING_COST, SELLING_COST, of_project
 from .process_routing import Way
-from .smelter_terms import PENALTIES, net
+from .smelter_terms import PENALTIES, multiplied, net
 from .weighing import HAULAGE, MILLIONTHS, Rows
 
 PROCESSING, ROYALTY = "processing", "royalty"
@@ -56,6 +57,29 @@ def cost_lines(frame: pd.DataFrame, grid: Grid, project: Project, values: Values
     )
     of_processes = list(map(rounding_of, project.by_process, processing, values.by_process))
     return CostLines(mining, processing, np.asarray(rounding), tuple(of_processes))
+
+
+def multiplied_costs(
+    frame: pd.DataFrame, grid: Grid, project: Project, values: Values
+) -> dict[str, NDArray[np.float64]]:
+    """Returns the costs of ore that factors of periods multiply, by their amounts, of each whole cell in each process, shape (processes, cells).
+
+    They are the processing cost, and the selling cost or the charges of smelters with penalties but without price participation; each only if
+    some period multiplies it.
+    """
+    asked = of_project(project).of_ore
+    if not {PROCESSING_COST, SELLING_COST} & set(asked):
+        return {}
+    rows = Rows(frame, grid, project, "table", Exact.of_floats(frame[project.table.tonnes].to_numpy()))
+    found: dict[str, list[NDArray[np.float64]]] = {PROCESSING_COST: [], SELLING_COST: []}
+    for alone, way in zip(project.by_process, values.by_process):
+        lines, sold = of_process(replace(rows, project=alone), values, way), np.zeros(len(way.revenue))
+        for metal in alone.metals:
+            sold += np.where(way.revenue > 0, way.metal[metal.name], 0.0) * float(multiplied(metal))
+            sold += lines.get(f"{PENALTIES} {metal.name}", 0.0)
+        found[PROCESSING_COST].append(lines[PROCESSING])
+        found[SELLING_COST].append(sold)
+    return {name: np.stack(costs) for name, costs in found.items() if name in asked}
 
 
 def of_process(rows: Rows, values: Values, way: Way) -> Lines:

@@ -43,7 +43,11 @@ class RockCosts:
     @property
     def processing(self) -> float:
         """The cost of processing a tonne of feed, with the royalty per tonne, without adjustment factors and haulage."""
-        return (self.of(self.money.processing_cost) or 0.0) + float(self.money.royalty_per_tonne)
+        return self.processing_at(1.0)
+
+    def processing_at(self, factor: float) -> float:
+        """Returns the same with a factor of the processing cost."""
+        return factor * (self.of(self.money.processing_cost) or 0.0) + float(self.money.royalty_per_tonne)
 
     @property
     def mining(self) -> float:

@@ -8,12 +8,14 @@ from decimal import Decimal
 import numpy as np
 
 from pitplan.config.economics import Metal
+from pitplan.config.periods import Calendar
 from pitplan.config.project import Project
 
-from .smelter_terms import net
+from .smelter_terms import multiplied, net
 
-# The amount of money that a factor of a period multiplies, and by which it is among the premiums.
-MINING_COST = "mining_cost"
+# The amounts of money that factors of periods multiply, and by which they are among the premiums.
+MINING_COST, PROCESSING_COST, SELLING_COST = "mining_cost", "processing_cost", "selling_cost"
+COSTS = (MINING_COST, PROCESSING_COST, SELLING_COST)
 
 
 @dataclass(frozen=True)
@@ -28,29 +30,31 @@ class YearlyMoney:
         Period, from 1, and the amount that is spent at its start if the mine still runs, in the currency.
     premiums : dict of str to tuple
         By amount of metal, what a unit of it earns beyond the base price, less royalty and price participation, in each year from 1; the last one
-        continues. Of mining cost, what a unit of it saves: 1 less the factor of the year.
-    net_prices : dict of str to tuple
-        By amount of metal, what a unit of it earns in each process at the base price, less royalty and selling cost or smelter charges.
+        continues. By cost that a factor multiplies, what a unit of it saves: 1 less the factor of the year.
+    net_prices, charges : dict of str to tuple
+        By amount of metal, what a unit of it earns in each process at the base price, less royalty and selling cost or smelter charges; and of these
+        what a factor of selling costs multiplies.
     """
 
     fixed_cost: tuple[float, ...] = (0.0,)
     capex: tuple[tuple[int, float], ...] = ()
     premiums: dict[str, tuple[float, ...]] = field(default_factory=dict)
     net_prices: dict[str, tuple[float, ...]] = field(default_factory=dict)
+    charges: dict[str, tuple[float, ...]] = field(default_factory=dict)
 
     @property
-    def of_metals(self) -> dict[str, tuple[float, ...]]:
-        """The premiums of metals, by which ore may go elsewhere."""
+    def of_ore(self) -> dict[str, tuple[float, ...]]:
+        """The premiums of metals and of the costs of ore, by which ore may go elsewhere."""
         return {name: more for name, more in self.premiums.items() if name != MINING_COST}
 
     @property
-    def costs_differ(self) -> bool:
-        """Whether the mining cost differs between years."""
-        return MINING_COST in self.premiums
+    def differing(self) -> tuple[str, ...]:
+        """The costs that differ between years."""
+        return tuple(name for name in COSTS if name in self.premiums)
 
-    def mining_factors(self, years: int) -> np.ndarray:
-        """Returns the factor of the mining cost in each year."""
-        return np.asarray(1.0 - self.premium((MINING_COST,), years)[:, 0])
+    def factors(self, cost: str, years: int) -> np.ndarray:
+        """Returns the factor of a cost in each year, shape (years,)."""
+        return np.asarray(1.0 - self.premium((cost,), years)[:, 0])
 
     @property
     def columns(self) -> tuple[str, ...]:
@@ -97,17 +101,28 @@ def of_project(project: Project) -> YearlyMoney:
         more = [net(metal, price, money.royalty) - base for price in yearly_prices(project, metal)]
         if metal.prices or any(more):
             premiums[f"recovered_{metal.name}"] = tuple(map(float, more))
-    savings = tuple(float(1 - factor) for factor in calendar.by_year(lambda it: it.mining_cost_factor, Decimal(1)))
-    premiums |= {MINING_COST: savings} if any(savings) else {}
+    premiums |= savings(calendar)
     capex = calendar.capex or money.capex
     per_year = calendar.by_year(lambda it: it.fixed_cost_per_year, money.fixed_cost_per_year)
     fixed = [float(amount) * length for amount, length in zip(per_year, calendar.lengths(len(per_year)))]
-    net_prices = {
-        f"recovered_{metal.name}": tuple(float(net_price(it.metals[k], money.royalty)) for it in project.by_process)
-        for k, metal in enumerate(project.metals)
-    }
+    net_prices, charges = {}, {}
+    for k, metal in enumerate(project.metals):
+        sold = [alone.metals[k] for alone in project.by_process]
+        net_prices[f"recovered_{metal.name}"] = tuple(float(net_price(it, money.royalty)) for it in sold)
+        charges[f"recovered_{metal.name}"] = tuple(float(multiplied(it)) for it in sold)
     spent = tuple((year, float(amount)) for year, amount in capex)
-    return YearlyMoney(tuple(fixed), spent, premiums, net_prices)
+    return YearlyMoney(tuple(fixed), spent, premiums, net_prices, charges)
+
+
+def savings(calendar: Calendar) -> dict[str, tuple[float, ...]]:
+    """Returns by cost that differs between periods what a unit of it saves in each: 1 less its factor; the last one continues."""
+    factors = {
+        MINING_COST: calendar.by_year(lambda it: it.mining_cost_factor, Decimal(1)),
+        PROCESSING_COST: calendar.by_year(lambda it: it.processing_cost_factor, Decimal(1)),
+        SELLING_COST: calendar.by_year(lambda it: it.selling_cost_factor, Decimal(1)),
+    }
+    found = {name: tuple(float(1 - factor) for factor in of_years) for name, of_years in factors.items()}
+    return {name: saved for name, saved in found.items() if any(saved)}
 
 
 def yearly_prices(project: Project, metal: Metal) -> tuple[Decimal, ...]:
@@ -129,8 +144,12 @@ def notes(project: Project) -> list[str]:
     amounts = " to ".join(f"{amount:,.12g}" for amount in sorted({min(money.fixed_cost), max(money.fixed_cost)}))
     parts = [f"fixed costs of {amounts} {project.economics.currency} a year"] if any(money.fixed_cost) else []
     parts += ["capex"] if money.capex else []
-    parts += ["yearly prices"] if money.of_metals else []
-    parts += ["mining costs by period"] if money.costs_differ else []
+    parts += ["yearly prices"] if any(name not in COSTS for name in money.premiums) else []
+    parts += (
+        [f"{' and '.join(it.removesuffix('_cost') for it in money.differing)} costs by period"]
+        if money.differing
+        else []
+    )
     if not parts:
         return []
     return [

@@ -71,6 +71,11 @@ def charge(metal: Metal, price: Decimal) -> Decimal:
     return sum(charges(metal, price).values(), Decimal(0))
 
 
+def multiplied(metal: Metal) -> Decimal:
+    """Returns the charges that a factor of selling costs multiplies: all but the price participation, which follows from the price."""
+    return sum((it for kind, it in charges(metal, metal.price).items() if kind != PARTICIPATION), Decimal(0))
+
+
 def net(metal: Metal, price: Decimal, royalty: Decimal) -> Decimal:
     """Returns what a recovered tonne or gram earns at a price, less royalty and charges, without penalties."""
     return paid(metal, price) * (1 - royalty) - charge(metal, price)

@@ -25,7 +25,7 @@ import pandas as pd
 from pitplan.config.economics import MOST_YEARS
 from pitplan.config.project import Project
 from pitplan.config.shells import ShellRules, SpecifiedCase
-from pitplan.economics.period_costs import MINING_COST, PLAIN, YearlyMoney
+from pitplan.economics.period_costs import COSTS, MINING_COST, PLAIN, YearlyMoney
 from pitplan.errors import PlanError
 
 from .destinations import best_shares
@@ -52,8 +52,8 @@ class Benches:
     factors : tuple of float
         Revenue factors, ascending.
     names : tuple of str
-        Names of the amounts: total_tonnes, feed_tonnes, feed_tonnes_NAME of each of several processes, recovered_NAME of each metal, the mining
-        cost, and the cash flow last.
+        Names of the amounts: total_tonnes, feed_tonnes, feed_tonnes_NAME of each of several processes, recovered_NAME of each metal, the costs
+        that factors of periods multiply, that of mining among them, and the cash flow last.
     amounts : array of float, shape (factors, benches, names)
         Tonnes, tonnes or grams of metal, and money, if each block goes where it earns most.
     kinds : OreKinds, optional
@@ -228,7 +228,7 @@ class Terms:
     @property
     def shown(self) -> list[int]:
         """The numbers of the amounts that tables have, except the cash flow."""
-        return [k for k, name in enumerate(self.names[:CASH]) if name != MINING_COST]
+        return [k for k, name in enumerate(self.names[:CASH]) if name not in COSTS]
 
     def earned(self, years: Years) -> Years:
         """Returns the years of a course with their period costs and discounted cash flow. A pit without material has no period costs."""
@@ -249,7 +249,7 @@ class Terms:
         year = np.concatenate([np.arange(len(it.amounts)) for it in pits])
         part = np.concatenate([np.clip(it.end - np.arange(len(it.amounts)), 0.0, 1.0) for it in pits])
         feed, by_process = kinds.feed(rows), kinds.by_process(rows)
-        premium = self.money.premium(kinds.metals, int(year.max(initial=0)) + 1)[year]
+        premium = self.money.premium(kinds.names, int(year.max(initial=0)) + 1)[year]
         gain = by_process[:, 0] + np.einsum("rm,rmkp->rkp", premium, by_process[:, 1:])
         by_year = np.array(self.settings.capacities_by_year)
         used = part * self.settings.calendar.lengths(int(year.max(initial=0)) + 1)[year]

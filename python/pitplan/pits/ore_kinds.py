@@ -43,19 +43,19 @@ class Wait:
 @dataclass(frozen=True)
 class OreKinds:
     """Columns of amounts by kind of ore: total_tonnes and the cash flow of mining, feed by kind, and by kind and process the gain, which is revenue
-    less processing cost, and each recovered metal.
+    less processing cost, each recovered metal, and each cost that factors of periods multiply.
 
     Attributes
     ----------
-    metals : tuple of str
-        Names of the amounts of metal, recovered_NAME.
+    names : tuple of str
+        Names of the amounts of metal, recovered_NAME, and of such costs.
     pays, best : bool array, shape (kinds, processes)
         Whether the ore pays in a process, and whether it earns most there; several processes may earn the same.
     alike : tuple of tuple of int
         The processes in groups in which each block of ore earns the same.
     """
 
-    metals: tuple[str, ...]
+    names: tuple[str, ...]
     pays: Mask
     best: Mask
     alike: tuple[tuple[int, ...], ...]
@@ -71,15 +71,15 @@ class OreKinds:
     @property
     def width(self) -> int:
         """The number of columns."""
-        return 2 + self.kinds * (1 + self.processes * (1 + len(self.metals)))
+        return 2 + self.kinds * (1 + self.processes * (1 + len(self.names)))
 
     def feed(self, amounts: Floats) -> Floats:
         """Returns the feed, shape (.., kinds)."""
         return amounts[..., 2 : 2 + self.kinds]
 
     def by_process(self, amounts: Floats) -> Floats:
-        """Returns gain and metals, shape (.., 1 + metals, kinds, processes)."""
-        shape = (*amounts.shape[:-1], 1 + len(self.metals), self.kinds, self.processes)
+        """Returns gain and metals, shape (.., 1 + names, kinds, processes)."""
+        shape = (*amounts.shape[:-1], 1 + len(self.names), self.kinds, self.processes)
         return amounts[..., 2 + self.kinds :].reshape(shape)
 
     def waits(self, settings: ShellRules) -> list[Wait]:
@@ -155,6 +155,7 @@ def by_piece(plan: Plan, ore: OreCells, count: int) -> tuple[OreKinds, Floats]:
     amounts = [
         gains_of(plan, ore.cells),
         *(np.stack([way.metal[name][ore.cells] for way in ways]) for name in plan.values.metal),
+        *(costs[:, ore.cells] for costs in plan.multiplied_costs.values()),
     ]
     of_processes = np.stack([np.stack([summed(row) for row in rows], axis=-1) for rows in amounts], axis=1)
     return kinds, np.concatenate([summed(plan.values.feed[ore.cells]), of_processes.reshape(count, -1)], axis=1)
@@ -176,8 +177,8 @@ def kinds_of(plan: Plan, cells: NDArray[np.int64]) -> tuple[OreKinds, NDArray[np
         value[some] = np.searchsorted(edges_of(per_tonne[process, some], feed[some], BINS), per_tonne[process, some])
     keys, kind = np.unique(np.concatenate([pays, best, value[None]]).T.astype(np.int64), axis=0, return_inverse=True)
     masks = keys[:, :-1].astype(bool)
-    metals = tuple(f"recovered_{name}" for name in plan.values.metal)
-    found = OreKinds(metals, masks[:, : len(gain)], masks[:, len(gain) :], alike(gain))
+    names = (*(f"recovered_{name}" for name in plan.values.metal), *plan.multiplied_costs)
+    found = OreKinds(names, masks[:, : len(gain)], masks[:, len(gain) :], alike(gain))
     return found, kind.ravel().astype(np.int64)
 
 

@@ -209,6 +209,7 @@ def benches_of(plan: Plan, cells: Cells, more: Optional[np.ndarray] = None) -> B
     flows = {"total_tonnes": cells.tonnes[inside], "feed_tonnes": np.where(ore, cells.feed[inside], 0.0)}
     flows |= {name: feed[inside] for name, feed in feeds_of(plan, cells).items()}
     flows |= {f"recovered_{name}": np.where(ore, metal[inside], 0.0) for name, metal in plan.values.metal.items()}
+    flows |= {name: costs[inside] for name, costs in costs_of_ore(plan, cells).items()}
     added = np.zeros(len(inside)) if more is None else more[inside]
     flows[MINING_COST] = plan.values.mining[inside] / MILLION + added
     flows["cash_flow"] = cells.worth[inside] - added
@@ -224,9 +225,9 @@ def benches_of(plan: Plan, cells: Cells, more: Optional[np.ndarray] = None) -> B
 
 
 def has_choice(plan: Plan) -> bool:
-    """Whether ore may go elsewhere than to its best process: to another one, or to waste in a year of lower prices."""
+    """Whether ore may go elsewhere than to its best process: to another one, or to waste in a year of lower prices or higher costs."""
     money = period_costs.of_project(plan.project)
-    return len(plan.values.by_process) > 1 or any(min(more) < 0 for more in money.of_metals.values())
+    return len(plan.values.by_process) > 1 or any(min(more) < 0 for more in money.of_ore.values())
 
 
 def feeds_of(plan: Plan, cells: Cells) -> dict[str, np.ndarray]:
@@ -234,6 +235,14 @@ def feeds_of(plan: Plan, cells: Cells) -> dict[str, np.ndarray]:
     return {
         f"feed_tonnes_{process.name}": np.where(cells.ore & (cells.best == number), cells.feed, 0.0)
         for number, process in enumerate(plan.project.processes)
+    }
+
+
+def costs_of_ore(plan: Plan, cells: Cells) -> dict[str, np.ndarray]:
+    """The costs that factors of periods multiply, by their amounts, for each cell of ore in its best process."""
+    return {
+        name: np.where(cells.ore, np.choose(cells.best, list(costs)), 0.0)
+        for name, costs in plan.multiplied_costs.items()
     }
 
 

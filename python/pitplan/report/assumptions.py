@@ -229,8 +229,9 @@ def of_period(entry: Period, project: Project) -> Iterator[str]:
     yield from (f"{head_grade(it)} {between(it.min, it.max)}" for it in entry.feed)
     yield from (f"stockpile {it.name} {between(it.min, it.max)} t" for it in entry.stockpiles)
     yield from (f"{name} {number(price)} {currency}" for name, price in entry.prices.items())
-    if entry.mining_cost_factor is not None:
-        yield f"mining cost times {number(entry.mining_cost_factor)}"
+    for name in ("mining", "processing", "selling"):
+        factor = getattr(entry, f"{name}_cost_factor")
+        yield from () if factor is None else (f"{name} cost times {number(factor)}",)
     if entry.fixed_cost_per_year is not None:
         yield f"fixed costs {number(entry.fixed_cost_per_year)} {currency} a year"
     if entry.capex:

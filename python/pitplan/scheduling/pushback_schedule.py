@@ -190,7 +190,7 @@ def make(pushbacks: Pushbacks, progress: Progress = silent) -> YearlySchedule:
     problem = Problem(material.benches, limits, project.shells, period_costs.of_project(project))
     most, count = periods_of(project, rules), len(material.benches)
     lots = opening.of_plan(pushbacks.plan, rules)
-    ore = lots.ore(rules, problem.money.net_prices) if lots else None
+    ore = lots.ore(rules, problem.money) if lots else None
     model = FlowModel(problem, material.parcels, most or 1, rules.stockpiles, ore)
     schedule = YearlySchedule(pushbacks, material, model, {}, 0, lots=lots)
     with progress.step(f"scheduling {count:,} benches of {len(pushbacks.factors)} pushbacks by rule"):

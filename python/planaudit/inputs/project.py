@@ -300,6 +300,8 @@ class Period:
     fixed_cost_per_year: Optional[Decimal]
     capex: Decimal
     mining_cost_factor: Decimal = Decimal(1)
+    processing_cost_factor: Decimal = Decimal(1)
+    selling_cost_factor: Decimal = Decimal(1)
     feed: tuple[FeedGrade, ...] = ()
     # By stockpile the least and the most tonnes of feed.
     stockpiles: dict[str, tuple[Optional[float], Optional[float]]] = field(default_factory=dict)

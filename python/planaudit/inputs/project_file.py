@@ -367,6 +367,8 @@ def periods_of(entries: list[Data]) -> tuple[Period, ...]:
             fixed_cost_per_year=number(data["fixed_cost_per_year"]) if "fixed_cost_per_year" in data else None,
             capex=number(data.get("capex", Decimal(0))),
             mining_cost_factor=number(data.get("mining_cost_factor", Decimal(1))),
+            processing_cost_factor=number(data.get("processing_cost_factor", Decimal(1))),
+            selling_cost_factor=number(data.get("selling_cost_factor", Decimal(1))),
             feed=feeds_of(data.get("feed", {})),
             stockpiles={
                 name: (metres(it, "min"), metres(it, "max")) for name, it in data.get("stockpiles", {}).items()

@@ -10,16 +10,31 @@ from planaudit.inputs.project import Metal, Project
 from planaudit.money.smelter import net
 
 HAIR = 1e-9
+# The costs of ore that periods multiply.
+PROCESSING, SELLING = "processing_cost", "selling_cost"
 
 
 def premiums(project: Project, year: int) -> dict[str, float]:
-    """Returns for each amount of metal the gain per unit in a year, from 1, over the base price."""
+    """Returns for each amount of metal the gain per unit in a year, from 1, over the base price, and for each cost of ore that differs between
+    periods what a unit of it saves."""
     found, royalty = {}, project.economics.royalty
     for metal in project.metals:
         if metal.prices or has_prices(project):
             more = net(metal, price_in(project, metal, year), royalty) - net(metal, metal.price, royalty)
             found[f"recovered_{metal.name}"] = float(more)
-    return found
+    return found | {cost: 1 - factor_in(project, cost, year) for cost in differing(project)}
+
+
+def differing(project: Project) -> list[str]:
+    """Returns the costs of ore that some period multiplies."""
+    periods = project.shells.periods
+    return [it for it in (PROCESSING, SELLING) if any(getattr(period, f"{it}_factor") != 1 for period in periods)]
+
+
+def factor_in(project: Project, cost: str, year: int) -> float:
+    """Returns by how much a cost of what is mined or processed in a year, from 1, is multiplied."""
+    period = project.shells.period(year)
+    return 1.0 if period is None else float(getattr(period, f"{cost}_factor"))
 
 
 def has_prices(project: Project) -> bool:
@@ -51,8 +66,7 @@ def fixed_cost(project: Project, year: int) -> float:
 
 def mining_factor(project: Project, year: int) -> float:
     """Returns by how much the mining cost of what is mined in a year, from 1, is multiplied."""
-    period = project.shells.period(year)
-    return 1.0 if period is None else float(period.mining_cost_factor)
+    return factor_in(project, "mining_cost", year)
 
 
 def mining_factors(project: Project, years: int) -> np.ndarray:

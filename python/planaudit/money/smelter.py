@@ -13,7 +13,7 @@ from planaudit.inputs.project import GRADE_UNITS, Metal, Smelter
 from planaudit.money.prices import converted
 
 TWELVE = 10**12
-SELLING, PENALTIES = "selling_cost", "penalties"
+SELLING, PARTICIPATION, PENALTIES = "selling_cost", "participation", "penalties"
 
 
 def to_twelve(value: Fraction) -> Decimal:
@@ -65,7 +65,7 @@ def charged(metal: Metal, price: Decimal) -> dict[str, Decimal]:
     if terms.price_participation is not None:
         base = terms.price_participation.base
         more = terms.price_participation.share * (price - base) if price > base else Decimal(0)
-        found["participation"] = to_twelve(share * Fraction(converted(metal, more)))
+        found[PARTICIPATION] = to_twelve(share * Fraction(converted(metal, more)))
     if terms.freight:
         wet = dry / (1 - Fraction(terms.moisture))
         found["freight"] = to_twelve(wet * Fraction(terms.freight))

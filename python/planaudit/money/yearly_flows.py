@@ -8,7 +8,7 @@ import numpy as np
 
 from planaudit.inputs.project import MOST_YEARS, Project
 from planaudit.money.discounts import at_start, factor
-from planaudit.money.period_costs import HAIR, capex, fixed_cost, has_costs, premiums
+from planaudit.money.period_costs import HAIR, capex, differing, fixed_cost, has_costs, premiums
 
 # Amounts by name.
 Amounts = dict[str, np.ndarray]
@@ -70,11 +70,13 @@ def shares_of(parts: Parts, pieces: int) -> np.ndarray:
 
 def money_of(found: Amounts, life: float, project: Project) -> Amounts:
     """Returns the amounts of years with fixed_cost and capex if the project has any, the cash flow after these at the prices of the year, and
-    the discounted cash flow. `found` has the cash flow at the base price."""
+    the discounted cash flow. `found` has the cash flow at the base price, and costs that periods multiply, which are left out.
+    """
     years = np.arange(1, len(found["cash_flow"]) + 1)
     for name in premiums(project, 1):
         gains = np.array([premiums(project, int(year))[name] for year in years])
         found = {**found, "cash_flow": found["cash_flow"] + found[name] * gains}
+    found = {name: amounts for name, amounts in found.items() if name not in differing(project)}
     parts = np.clip(life - (years - 1.0), 0.0, 1.0)
     fixed = np.array([fixed_cost(project, int(year)) for year in years]) * parts
     spent = np.array([capex(project, int(year)) for year in years])

@@ -9,7 +9,8 @@ import numpy as np
 
 from planaudit.inputs.answer import Answer
 from planaudit.inputs.project import MOST_YEARS, Project
-from planaudit.money.period_costs import mining_factors, premiums
+from planaudit.money import ore_costs
+from planaudit.money.period_costs import differing, mining_factors, premiums
 from planaudit.money.yearly_flows import Amounts, money_of, parts_of, shares_of
 from planaudit.pits.capacities import Capacity, Wait, capacities, capacities_by_year, mining_by_year
 from planaudit.pits.ore_kinds import Kinds, Ore, has_choice, shipped
@@ -59,6 +60,7 @@ class Benches:
         there, piece = np.unique(place, return_inverse=True)
         columns = {"total_tonnes": answer.tonnes, "feed_tonnes": np.where(answer.ore, answer.feed, 0.0), **answer.feeds}
         columns |= {f"recovered_{name}": np.where(answer.ore, metal, 0.0) for name, metal in answer.quantities.items()}
+        columns |= ore_costs.at_best(answer)
         gain = np.where(answer.ore, (answer.said["revenue"] - answer.said["processing_cost"]).to_numpy(), 0.0)
         columns |= {"cash_flow": cash, "gross": np.abs(cash), "mining": cash - gain}
         sums = {name: np.bincount(piece, column[rows]) for name, column in columns.items()}
@@ -186,8 +188,8 @@ def processed(benches: Benches, ore: Kinds, shares: np.ndarray, year: np.ndarray
     """Returns the amounts of years, at the base price, whose ore goes to its best destinations at the prices of the year."""
     project = benches.answer.project
     more = [premiums(project, int(number)) for number in year]
-    metals = [f"recovered_{metal.name}" for metal in project.metals]
-    gains = np.array([[it.get(name, 0.0) for name in metals] for it in more]).reshape(len(year), len(metals))
+    names = [*(f"recovered_{metal.name}" for metal in project.metals), *differing(project)]
+    gains = np.array([[it.get(name, 0.0) for name in names] for it in more]).reshape(len(year), len(names))
     gain = ore.amounts[:, 0] + np.einsum("ym,ymkp->ykp", gains, ore.amounts[:, 1:])
     by_year = capacities_by_year(project)
     flows = shipped(ore, gain, part[:, None] * by_year[np.minimum(year, len(by_year)) - 1])
@@ -195,6 +197,6 @@ def processed(benches: Benches, ore: Kinds, shares: np.ndarray, year: np.ndarray
     sums = np.einsum("ymkp,ykp->ym", ore.amounts, flows)
     found = {"total_tonnes": shares @ benches.amounts["total_tonnes"], "feed_tonnes": fed.sum(axis=1)}
     found |= {f"feed_tonnes_{process.name}": fed[:, number] for number, process in enumerate(project.processes)}
-    found |= {name: sums[:, number + 1] for number, name in enumerate(metals)}
+    found |= {name: sums[:, number + 1] for number, name in enumerate(names)}
     factors = mining_factors(project, int(year.max()))[year - 1]
     return {**found, "cash_flow": factors * (shares @ benches.mining) + sums[:, 0]}

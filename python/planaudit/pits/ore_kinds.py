@@ -16,6 +16,7 @@ from scipy.sparse import coo_matrix, vstack
 
 from planaudit.inputs.answer import Answer
 from planaudit.inputs.project import GRADE_UNITS, Project
+from planaudit.money import ore_costs
 from planaudit.money.feed import recovered
 from planaudit.money.period_costs import premiums, years_of_prices
 from planaudit.pits.capacities import Capacity
@@ -73,13 +74,14 @@ class Ore:
 
     @cached_property
     def metal(self) -> np.ndarray:
-        """Recovered metal, shape (metals, processes, blocks)."""
+        """Recovered metal, and the costs that periods multiply, shape (amounts, processes, blocks)."""
         answer = self.answer
         found = [
             np.stack([recovered(way.metals[number], answer.rows, way)[self.rows] for way in answer.project.by_process])
             * (answer.undiluted[self.rows] * float(GRADE_UNITS[metal.unit]))
             for number, metal in enumerate(answer.project.metals)
         ]
+        found += [costs[:, self.rows] for costs in ore_costs.of_blocks(answer).values()]
         return np.stack(found)
 
     @property
@@ -139,8 +141,8 @@ class Kinds:
         Whether two processes earn the same with each block.
     feed : array, shape (pieces, kinds)
         In tonnes.
-    amounts : array, shape (pieces, 1 + metals, kinds, processes)
-        Revenue less processing cost, and recovered metals, if all of the kind goes to the process.
+    amounts : array, shape (pieces, 1 + amounts, kinds, processes)
+        Revenue less processing cost, recovered metals, and costs that periods multiply, if all of the kind goes to the process.
     """
 
     pays: np.ndarray

@@ -15,6 +15,7 @@ from planaudit.blocks import constraints as fixed
 from planaudit.ground import slopes as walls
 from planaudit.inputs.answer import Answer
 from planaudit.inputs.tables import YEAR
+from planaudit.money import ore_costs
 from planaudit.money.period_costs import capex, fixed_cost, has_costs, mining_factor, premiums
 from planaudit.rules import TOLD, Rule, rule
 from planaudit.schedules import block_grades, bounds, methods as ways_table
@@ -70,9 +71,13 @@ def flows_of(answer: Answer) -> pd.DataFrame:
 def more_by_years(answer: Answer, flows: pd.DataFrame) -> np.ndarray:
     """Returns the gain of each block by the prices and the mining costs of its year."""
     year, more = answer.said[YEAR].to_numpy(), np.zeros(len(flows))
+    shares = np.stack([share for _, share in shares_of(answer)])
+    amounts = dict(flows.items()) | {
+        name: (shares * it).sum(axis=0) for name, it in ore_costs.of_blocks(answer).items()
+    }
     for each in np.unique(year[year > 0]).tolist():
         premium = sum(
-            (price * flows[name].to_numpy() for name, price in premiums(answer.project, each).items()),
+            (price * np.asarray(amounts[name]) for name, price in premiums(answer.project, each).items()),
             (1 - mining_factor(answer.project, each)) * answer.said["mining_cost"].to_numpy(),
         )
         more += np.where(year == each, premium, 0.0)

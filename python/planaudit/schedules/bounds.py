@@ -17,7 +17,8 @@ import pandas as pd
 from planaudit.blocks import constraints
 from planaudit.inputs.answer import Answer
 from planaudit.inputs.tables import TABLES, read_prices
-from planaudit.money.period_costs import mining_factor, premiums
+from planaudit.money import ore_costs
+from planaudit.money.period_costs import differing, mining_factor, premiums
 from planaudit.rules import Rule, rule
 from planaudit.schedules import block_grades
 from planaudit.schedules.closure import Closure, maximum_closure
@@ -141,13 +142,20 @@ class Bound:
             best = np.maximum(best, self.earned_as(name))
         return best
 
+    @cached_property
+    def costs(self) -> dict[str, np.ndarray]:
+        """The costs of ore that periods multiply, shape (processes, rows)."""
+        return ore_costs.of_blocks(self.answer)
+
     def earned_as(self, process: str | None) -> np.ndarray:
         """Returns the same of blocks that are all sent to one process, or are waste."""
         answer, said, names = self.answer, self.answer.said, [name for name, _ in shares_of(self.answer)]
         shares = [(name, np.full(len(said), float(name == process))) for name in names]
         amounts, cash, pays = amounts_of(answer, shares), -said["mining_cost"].to_numpy(), np.zeros(len(said), bool)
         amounts = amounts.assign(**dict(it for grade in block_grades.graded(answer, shares) for it in grade.excess()))
+        amounts = amounts.assign(**dict.fromkeys(differing(answer.project), 0.0))
         if process is not None:
+            amounts = amounts.assign(**{name: it[names.index(process)] for name, it in self.costs.items()})
             revenue, cost = answer.amounts_of_ways[names.index(process)]
             cash, pays = cash + (said[revenue] - said[cost]).to_numpy(), (said[revenue] > 0).to_numpy()
         found = np.empty((len(said), self.years))

@@ -16,7 +16,7 @@ from planaudit.inputs.tables import read_table
 from planaudit.money import haulage, smelter
 from planaudit.money.block_values import factors_of, more_for_depth
 from planaudit.money.feed import by_code
-from planaudit.money.period_costs import has_costs, mining_factor, price_in
+from planaudit.money.period_costs import PROCESSING, SELLING, factor_in, has_costs, price_in
 from planaudit.money.prices import KILOGRAMS
 from planaudit.rules import TOLD, Rule, rule
 from planaudit.schedules import valuation
@@ -126,10 +126,10 @@ class CashFlow:
         found["mining_cost_depth"], found["mining_cost_added"] = from_pit * whole["depth"], from_pit * whole["added"]
         found["haulage_cost"] = from_pit * whole["hauled"] + self.by_process("hauled")
         for name in ("ore", "waste", "depth", "added"):
-            found[f"mining_cost_{name}"] = found[f"mining_cost_{name}"] * self.dearer
+            found[f"mining_cost_{name}"] = found[f"mining_cost_{name}"] * self.dearer("mining_cost")
         for number, name in enumerate(flow.blocks.processes):
             of_process = np.where(flow.process == number, self.by_process("processing"), 0.0)
-            found[f"processing_cost_{name or MILL}"] = of_process
+            found[f"processing_cost_{name or MILL}"] = of_process * self.dearer(PROCESSING)
         found["stacking_cost"] = np.where(fed, 0.0, flow.of_stockpile(lambda it: it.stacking_cost, 0.0)) * feed
         found["reclaim_cost"] = np.where(fed, flow.of_stockpile(lambda it: it.reclaim_cost, 0.0), 0.0) * feed
         return {name: np.asarray(values) for name, values in found.items()}
@@ -151,13 +151,14 @@ class CashFlow:
         if metal.smelter is None:
             found.pop(f"payable_{metal.name}")
         if metal.smelter and metal.smelter.penalties:
-            found[f"{smelter.PENALTIES}_{metal.name}"] = self.by_process(f"{smelter.PENALTIES} {metal.name}")
+            penalties = self.by_process(f"{smelter.PENALTIES} {metal.name}")
+            found[f"{smelter.PENALTIES}_{metal.name}"] = penalties * self.dearer(SELLING)
         return found
 
-    @cached_property
-    def dearer(self) -> np.ndarray:
-        """The factor of the mining cost in the year of each row."""
-        return np.array([mining_factor(self.project, int(year)) for year in self.flow.rows["year"]])
+    def dearer(self, cost: str) -> np.ndarray:
+        """Returns the factor of a cost in the year of each row."""
+        years = self.flow.rows["year"]
+        return years.map({year: factor_in(self.project, cost, int(year)) for year in years.unique()}).to_numpy(float)
 
     def sold_by(self, metal: Metal, recovered: np.ndarray) -> Lines:
         """Returns the same for a metal as one process sells it, without penalties."""
@@ -166,7 +167,8 @@ class CashFlow:
         dry = float(smelter.dry_tonnes(metal))
         found |= {f"concentrate_tonnes_{metal.name}": recovered * dry} if dry else {}
         for name in smelter.charged(metal, metal.price):
-            found[f"{name}_{metal.name}"] = recovered * self.by_year(metal, partial(smelter.charged_as, metal, name))
+            line = recovered * self.by_year(metal, partial(smelter.charged_as, metal, name))
+            found[f"{name}_{metal.name}"] = line if name == smelter.PARTICIPATION else line * self.dearer(SELLING)
         return found
 
     def of(self, method: str, years: pd.Series) -> tuple[pd.DataFrame, pd.DataFrame]:
@@ -178,7 +180,9 @@ class CashFlow:
         slack = pd.DataFrame({name: np.abs(values[mine]) * AMOUNT / tonnes for name, values in self.lines.items()})
         fed = (self.flow.process >= 0)[mine]
         # Half of the last decimal of a mining cost, and of a revenue and a processing cost.
-        slack["rounding"] = self.whole["blocks"].to_numpy()[mine] * share * (0.5 * self.dearer[mine] + fed)
+        slack["rounding"] = (
+            self.whole["blocks"].to_numpy()[mine] * share * (0.5 * self.dearer("mining_cost")[mine] + fed)
+        )
         slack["rounding"] *= 10.0**-self.project.economics.decimals
         sums = (it.groupby(year).sum().reindex(years, fill_value=0.0).reset_index(drop=True) for it in (found, slack))
         lines, loose = sums

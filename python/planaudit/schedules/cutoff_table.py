@@ -14,8 +14,9 @@ from planaudit.inputs.answer import Answer
 from planaudit.inputs.matching import own_name
 from planaudit.inputs.project import GRADE_UNITS, ByDomain, Metal, Project
 from planaudit.inputs.tables import read_table
+from planaudit.money import ore_costs
 from planaudit.money.feed import by_grade
-from planaudit.money.period_costs import premiums
+from planaudit.money.period_costs import PROCESSING, SELLING, premiums
 from planaudit.money.smelter import net
 from planaudit.schedules.lots import MILL, BlockAmounts
 
@@ -101,7 +102,10 @@ def unlike(material: Material, row: dict[str, Any], cutoff: float) -> Iterator[s
         name.removeprefix("recovered_"): premium
         for name, premium in premiums(material.project, int(row["year"])).items()
     }
-    costs = material.costs | {"cutoff_grade": material.costs["marginal_grade"] + cutoff}
+    for metal in material.metals:
+        more[metal.name] = more.get(metal.name, 0.0) + more.get(SELLING, 0.0) * ore_costs.charged(metal)
+    saved = more.get(PROCESSING, 0.0) * material.of(material.project.economics.processing_cost)
+    costs = material.costs | {"cutoff_grade": material.costs["marginal_grade"] - saved + cutoff}
     for name, cost in costs.items():
         premium = more.get(first.name, 0.0) if name == "cutoff_grade" else 0.0
         grade = float(row[name])

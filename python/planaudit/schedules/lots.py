@@ -12,6 +12,7 @@ from planaudit.inputs.acceptance import refused
 from planaudit.inputs.answer import Answer
 from planaudit.inputs.matching import BIN, PUSHBACK, own_name
 from planaudit.inputs.project import GRADE_UNITS, Stockpile
+from planaudit.money import ore_costs
 from planaudit.money.feed import recovered
 from planaudit.money.smelter import net
 from planaudit.schedules.grade_limits import GradeLimit, grade_limits
@@ -81,6 +82,16 @@ class BlockAmounts:
         return {name: np.array(values) for name, values in found.items()}
 
     @cached_property
+    def charges(self) -> dict[str, np.ndarray]:
+        """What is charged for a tonne or gram of each metal in each process, whatever the price."""
+        return ore_costs.charges(self.answer)
+
+    @cached_property
+    def costs(self) -> dict[str, np.ndarray]:
+        """The costs of processing and selling each block that periods multiply, shape (processes, blocks)."""
+        return {name: costs[:, self.inside] for name, costs in ore_costs.of_blocks(self.answer).items()}
+
+    @cached_property
     def gain(self) -> np.ndarray:
         """Revenue less processing cost of each block in each process, shape (processes, blocks)."""
         said = self.answer.said
@@ -125,6 +136,8 @@ class BlockAmounts:
     def of_process(self, name: str, process: int) -> np.ndarray:
         """Returns what processing each block adds to a limited amount."""
         called, undiluted = self.processes[process], self.answer.undiluted[self.inside]
+        if name in self.costs:
+            return self.costs[name][process]
         if name in ("feed_tonnes", f"feed_tonnes_{called}"):
             return self.feed * self.takes[process]
         if name.startswith("recovered_"):
@@ -158,7 +171,8 @@ class BlockAmounts:
     @cached_property
     def lots(self) -> pd.DataFrame:
         """The sums of each lot, by its key: total_tonnes, mining cash, feed, metal in situ and in the feed, and by process recovered metal, gain, whether all
-        of its blocks have a revenue there, and limited amounts; and how many blocks each stockpile refuses."""
+        of its blocks have a revenue there, limited amounts, and costs that periods multiply; and how many blocks each stockpile refuses.
+        """
         columns = {"total_tonnes": self.tonnes, "mining_cash": self.mining_cash, "feed_tonnes": self.feed}
         columns |= {f"contained_{name}": amounts for name, amounts in self.contained.items()}
         for metal in self.answer.project.metals:
@@ -167,7 +181,7 @@ class BlockAmounts:
         for process in range(len(self.processes)):
             columns |= {f"recovered_{name} {process}": amounts[process] for name, amounts in self.recovered.items()}
             columns |= {f"gain {process}": self.gain[process], f"not taken {process}": 1.0 - self.takes[process]}
-            columns |= {f"{name} {process}": self.of_process(name, process) for name in self.limited}
+            columns |= {f"{name} {process}": self.of_process(name, process) for name in (*self.limited, *self.costs)}
         columns |= {name: self.of_mining(name) for name in self.limited}
         columns |= {f"refused {name}": mask.astype(float) for name, mask in self.refused.items()}
         keys = list(self.keys)

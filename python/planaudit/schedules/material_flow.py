@@ -13,7 +13,7 @@ import pandas as pd
 from planaudit.inputs.answer import Answer
 from planaudit.inputs.project import GRADE_UNITS, Stockpile
 from planaudit.inputs.tables import read_table
-from planaudit.money.period_costs import premiums
+from planaudit.money.period_costs import SELLING, premiums
 from planaudit.rules import TOLD, Rule, rule
 from planaudit.schedules import cutoff_table, stockpiles
 from planaudit.schedules.lots import MILL, BlockAmounts
@@ -139,10 +139,20 @@ class MaterialFlow:
         for year in self.rows["year"].unique():
             mine = (self.rows["year"] == year).to_numpy()
             for name, premium in premiums(self.answer.project, int(year)).items():
-                gain[mine] += premium * self.recovered(name.removeprefix("recovered_"))[mine]
+                gain[mine] += premium * self.multiplied(name)[mine]
         placed = self.of_stockpile(lambda it: it.stacking_cost, 0.0)
         cost = np.where(self.process >= 0, self.of_stockpile(lambda it: it.reclaim_cost, 0.0), placed)
         return gain, cost * self.whole["feed_tonnes"].to_numpy()
+
+    def multiplied(self, name: str) -> np.ndarray:
+        """Returns an amount of the whole lot of each row that prices or factors of years multiply: what is recovered, or a cost of ore."""
+        if name.startswith("recovered_"):
+            return self.recovered(name.removeprefix("recovered_"))
+        found = self.by_process(name)
+        for metal, charges in self.blocks.charges.items() if name == SELLING else ():
+            lost = self.by_process(f"recovered_{metal}") - self.recovered(metal)
+            found = found - lost * charges[np.maximum(self.process, 0)]
+        return found
 
     def lying(self, name: str, method: str, last: int) -> tuple[pd.Series, pd.Series]:
         """Returns the tonnes of feed on a stockpile at the end of each year of a method, and their tolerance."""

@@ -13,8 +13,9 @@ import pandas as pd
 from planaudit.inputs.answer import Answer
 from planaudit.inputs.matching import own_name
 from planaudit.inputs.project import GRADE_UNITS, Metal, Opening, Project, Stockpile
-from planaudit.money import smelter
+from planaudit.money import ore_costs, smelter
 from planaudit.money.feed import by_code, recovered
+from planaudit.money.period_costs import PROCESSING, SELLING
 from planaudit.schedules.lots import BlockAmounts
 
 # Lots are of pushback and bin 0. The level of that of the first stockpile is FIRST, and falls.
@@ -97,6 +98,14 @@ class OpeningLots:
         way = self.project.by_process[process]
         return self.feed * by_code(way.economics.processing_cost, self.rows, way.table)
 
+    def selling(self, process: int) -> np.ndarray:
+        """Returns what selling the metals of whole lots costs, before what the stockpile loses, without price participation."""
+        sold = self.project.by_process[process].metals
+        amounts = (
+            self.recovered[it.name][process] * ore_costs.charged(it) + self.penalties(process, it) for it in sold
+        )
+        return np.asarray(sum(amounts, np.zeros(len(self.feed))))
+
     def penalties(self, process: int, metal: Metal) -> np.ndarray:
         """Returns what the smelter charges for other elements in whole lots."""
         return smelter.penalties_of(metal, self.recovered[metal.name][process], self.rows, self.feed)
@@ -114,6 +123,10 @@ class OpeningLots:
     def of_process(self, name: str, process: int) -> np.ndarray:
         """Returns what processing each lot adds to a limited amount."""
         called, taken = self.blocks.processes[process], self.takes[process]
+        if name == PROCESSING:
+            return self.processing(process) * taken
+        if name == SELLING:
+            return self.selling(process) * taken
         if name in ("feed_tonnes", f"feed_tonnes_{called}"):
             return self.feed * taken
         if name.startswith("recovered_"):
@@ -151,6 +164,6 @@ class OpeningLots:
             for name, amounts in self.recovered.items():
                 found[f"recovered_{name} {process}"] = amounts[process]
             found[f"gain {process}"], found[f"not taken {process}"] = self.gain[process], 1.0 - self.takes[process]
-            for name in self.blocks.limited:
+            for name in (*self.blocks.limited, *self.blocks.costs):
                 found[f"{name} {process}"] = self.of_process(name, process)
         return found.set_index(pd.MultiIndex.from_frame(self.keys))

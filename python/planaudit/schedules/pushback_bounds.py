@@ -20,7 +20,7 @@ from scipy.sparse import coo_matrix
 from planaudit.inputs.answer import Answer
 from planaudit.inputs.project import Stockpile
 from planaudit.inputs.tables import TABLES, read_prices
-from planaudit.money.period_costs import mining_factors, premiums
+from planaudit.money.period_costs import SELLING, mining_factors, premiums
 from planaudit.rules import Rule, rule
 from planaudit.schedules.discounts import discount, present_costs
 from planaudit.schedules.lots import BlockAmounts
@@ -157,10 +157,15 @@ class Bound:
             lost = (1 - share) * blocks.of_process(f"recovered_{metal}", process)
             base = base - self.blocks.net_prices[metal][process] * lost
         found = np.empty((len(blocks.feed), self.years))
+        unsold = sum(
+            self.blocks.charges[metal][process] * (1 - share) * blocks.of_process(f"recovered_{metal}", process)
+            for metal, share in kept.items()
+        )
         for year in range(self.years):
             money = base
             for name, premium in premiums(self.answer.project, year + 1).items():
-                money = money + premium * shares[name] * blocks.of_process(name, process)
+                amount = shares.get(name, 1.0) * blocks.of_process(name, process)
+                money = money + premium * (amount - unsold if name == SELLING else amount)
             found[:, year] = money * self.discounts[year]
         for name, side in self.by_price:
             found -= self.charged(name, side, shares.get(name, 1.0) * blocks.of_process(name, process))

@@ -10,7 +10,7 @@ from hypothesis import strategies as st
 from scipy.optimize import Bounds, LinearConstraint, linprog, milp
 
 from pitplan.config.stockpiles import Opening, Stockpile
-from pitplan.economics.period_costs import MINING_COST, YearlyMoney
+from pitplan.economics.period_costs import MINING_COST, PROCESSING_COST, SELLING_COST, YearlyMoney
 from pitplan.scheduling.bench_sequencing import Limits
 from pitplan.scheduling.flow.model import FlowModel, OpeningOre
 from pitplan.scheduling.flow.ore import Ore, joined
@@ -36,6 +36,11 @@ stockpile = st.tuples(
 stockpiles = st.lists(stockpile, max_size=2)
 # A tonne of feed holds so much copper, of which a unit earns so much.
 COPPER, NET_PRICE = 0.02, 50.0
+# What processing a tonne of feed and selling a unit of copper cost of these, if years multiply it; and the factors of both by year.
+PROCESSING, SELLING = 0.4, 10.0
+OreCosts = tuple[Sequence[float], Sequence[float]]
+PLAIN_COSTS: OreCosts = ((1.0,), (1.0,))
+PRICED = YearlyMoney(net_prices={"recovered_copper": (NET_PRICE,)})
 # What a tonne gains that lies on a stockpile at the start, before reclaim, in the first process, and by how much less in each later one.
 LYING, LESS = 4.0, 1.5
 
@@ -89,7 +94,7 @@ def lots_of(stockpiles, processes):
         for process in range(processes):
             amounts[f"feed_tonnes_{process}"] = feed * (np.arange(processes) == process)[:, None]
         ore = Ore(np.zeros(1, dtype=np.int64), np.ones(1, dtype=np.int64), gain, amounts)
-        found.append(ore.reclaimed(stockpiles[number], {"recovered_copper": (NET_PRICE,)}))
+        found.append(ore.reclaimed(stockpiles[number], PRICED))
     return OpeningOre(joined(found), np.array(numbers)) if found else None
 
 
@@ -117,7 +122,7 @@ def model_of(mine, processes, limits, years, stockpiles=(), favour=3):
     accepted = np.array([np.ones(len(place)), place[:, 1] == 2], dtype=bool)[: len(stockpiles)]
     ore = Ore(place[:, 0], place[:, 1], gains, amounts, accepted)
     limits = Limits(most, limits.ramp_up, limits.vertical_advance_rate)
-    problem = replace(problem_of(benches, limits), money=YearlyMoney(net_prices={"recovered_copper": (NET_PRICE,)}))
+    problem = replace(problem_of(benches, limits), money=PRICED)
     piles = stockpiles_of(stockpiles)
     return FlowModel(problem, ore, years, piles, lots_of(piles, len(processes)))
 
@@ -132,14 +137,28 @@ def with_mining_costs(model: FlowModel, factors: Sequence[float]) -> FlowModel:
     )
 
 
+def with_costs_of_ore(model: FlowModel, processing: Sequence[float], selling: Sequence[float]) -> FlowModel:
+    """The model with factors of the costs of processing and selling by year, of which the last one continues. A tonne of feed costs PROCESSING in
+    each process, and a unit of copper SELLING; no lot lies on a stockpile at the start."""
+    ore, money = model.ore, model.problem.money
+    amounts = {PROCESSING_COST: PROCESSING * ore.of("feed_tonnes"), SELLING_COST: SELLING * ore.of("recovered_copper")}
+    factors = {PROCESSING_COST: processing, SELLING_COST: selling}
+    premiums = money.premiums | {name: tuple(1 - it for it in of_years) for name, of_years in factors.items()}
+    money = replace(money, premiums=premiums, charges={"recovered_copper": (SELLING,)})
+    piles = tuple(replace(it, opening=None) for it in model.stockpiles)
+    ore, problem = replace(ore, amounts=ore.amounts | amounts), replace(model.problem, money=money)
+    return replace(model, ore=ore, problem=problem, stockpiles=piles, lots=None)
+
+
 class Statement:
     """The programme by what is mined, fed, stocked and reclaimed in each year: gains, and rows of at most.
 
-    Factors are those of the mining cost by year; the last one continues.
+    Factors are those of the mining cost by year, and `ore_costs` those of processing and selling; the last one continues.
     """
 
-    def __init__(self, model: FlowModel, factors: Sequence[float] = (1.0,)) -> None:
+    def __init__(self, model: FlowModel, factors: Sequence[float] = (1.0,), ore_costs: OreCosts = PLAIN_COSTS) -> None:
         self.model, self.factors, ore, piles = model, factors, model.ore, len(model.stockpiles)
+        self.ore_costs = ore_costs
         counts = [len(model.benches), ore.processes * len(ore), piles * len(ore), piles * ore.processes * len(ore)]
         counts.append(piles * ore.processes)
         self.starts = np.concatenate([[0], np.cumsum(counts)]) * model.years
@@ -283,14 +302,18 @@ class Statement:
         found = np.zeros(self.size)
         for year in range(model.years):
             present = 1.1 ** -(year + 1)
+            processing, selling = (it[min(year, len(it) - 1)] - 1 for it in self.ore_costs)
             for bench, cash in enumerate(model.benches.of("cash_flow")):
                 found[self.dug(bench, year)] = cash * self.factors[min(year, len(self.factors) - 1)] * present
             for unit in range(len(ore)):
                 for process in range(ore.processes):
-                    found[self.fed(process, unit, year)] = ore.gain[process, unit] * present
+                    more = ore.feed[unit] * (processing * PROCESSING + selling * SELLING * COPPER)
+                    found[self.fed(process, unit, year)] = (ore.gain[process, unit] - more) * present
                 for pile, rules in enumerate(model.stockpiles):
                     found[self.stocked(pile, unit, year)] = -rules.stacking_cost * ore.feed[unit] * present
                     lost = (1 - rules.recovery["copper"]) * NET_PRICE * COPPER * ore.feed[unit]
+                    sold = COPPER * rules.recovery["copper"]
+                    lost += ore.feed[unit] * (processing * PROCESSING + selling * SELLING * sold)
                     for process in range(ore.processes):
                         gain = ore.gain[process, unit] - rules.reclaim_cost * ore.feed[unit] - lost
                         found[self.again(pile, process, unit, year)] = gain * present
@@ -312,18 +335,18 @@ class Statement:
         return found
 
 
-def linear_optimum(model: FlowModel, factors: Sequence[float] = (1.0,)) -> float:
+def linear_optimum(model: FlowModel, factors: Sequence[float] = (1.0,), ore_costs: OreCosts = PLAIN_COSTS) -> float:
     """The optimum of the linear programme."""
-    stated = Statement(model, factors)
+    stated = Statement(model, factors, ore_costs)
     bounds = np.column_stack([np.zeros(stated.size), stated.upper])
     found = linprog(-stated.gain, A_ub=np.array(stated.rows), b_ub=stated.most, bounds=bounds, method="highs-ipm")
     assert found.status == 0, found.message
     return -float(found.fun)
 
 
-def complete_optimum(model: FlowModel, factors: Sequence[float] = (1.0,)) -> float:
+def complete_optimum(model: FlowModel, factors: Sequence[float] = (1.0,), ore_costs: OreCosts = PLAIN_COSTS) -> float:
     """The optimum where a bench starts only once all that it waits for is mined: whole unknowns say by which year it may start."""
-    stated, years, count = Statement(model, factors), model.years, len(model.benches)
+    stated, years, count = Statement(model, factors, ore_costs), model.years, len(model.benches)
     size, rows, most = stated.size, [], []
 
     def add(right: float, terms: dict[int, float]) -> None:

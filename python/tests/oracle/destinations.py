@@ -13,7 +13,7 @@ import numpy as np
 from scipy.optimize import linprog
 
 from .mine import Mine, Place
-from .periods import most_of, price_of, years_listed
+from .periods import factor_of, most_of, price_of, years_listed
 
 Amounts = dict[str, Fraction]
 # Names of amounts, and what a year, from 1, may hold of their sum.
@@ -23,11 +23,11 @@ BASE, BINS, MOST_WAITING = Fraction(1), 8, 3
 
 
 def premiums(mine: Mine, year: int) -> dict[str, Fraction]:
-    """What a unit of each metal gains in a year, from 1, above the base price."""
+    """What a unit of each metal gains in a year, from 1, above the base price, and what a unit of each cost of ore saves."""
     found = {}
     for metal in mine.project["metals"]:
         found[metal["name"]] = mine.earned(metal, price_of(mine, metal, year)) - mine.earned(metal, metal["price"])
-    return found
+    return found | {cost: 1 - factor_of(mine, cost, year) for cost in ("processing_cost", "selling_cost")}
 
 
 @dataclass
@@ -103,7 +103,7 @@ class Ore:
             parts = {f"feed {kind}": block.feed}
             for number, way in enumerate(block.ways):
                 parts[f"gain {kind} {number}"] = way.gain(BASE)
-                parts |= {f"{name} {kind} {number}": metal for name, metal in way.metal.items()}
+                parts |= {f"{name} {kind} {number}": amount for name, amount in (way.metal | way.costs).items()}
             for name, amount in parts.items():
                 found[name] = found.get(name, Fraction(0)) + amount
         return found

@@ -5,7 +5,7 @@ from __future__ import annotations
 import csv
 import math
 from collections.abc import Iterable
-from dataclasses import dataclass
+from dataclasses import dataclass, field
 from decimal import Decimal
 from fractions import Fraction
 from functools import cached_property
@@ -38,11 +38,12 @@ def three(numbers: Iterable[Number]) -> tuple[Number, Number, Number]:
 
 @dataclass(frozen=True)
 class Way:
-    """A process: revenue and cost of a block, and what is recovered of each metal."""
+    """A process: revenue and cost of a block, what is recovered of each metal, and the costs that periods may multiply, which are not rounded."""
 
     revenue: Fraction
     cost: Fraction
     metal: dict[str, Fraction]
+    costs: dict[str, Fraction] = field(default_factory=dict)
 
     def gain(self, factor: Fraction) -> Fraction:
         return factor * self.revenue - self.cost
@@ -180,6 +181,7 @@ class Mine:
     def way(self, process: dict[str, Any], row: dict[str, str], undiluted: Fraction, dilution: Fraction) -> Way:
         """Only money is rounded, once: revenue, and the costs of processing and selling together."""
         money, revenue, selling, metals = self.project["economics"], Fraction(0), Fraction(0), {}
+        of_price = Fraction(0)
         for metal in [smelter.sold_by(metal, process) for metal in self.project["metals"]]:
             name, grade = metal["name"], Fraction(row[metal["column"]])
             share = Fraction(0)
@@ -190,13 +192,15 @@ class Mine:
             kept = 1 - Fraction(money.get("royalty", 0))
             revenue += metals[name] * smelter.paid(metal, metal["price"], self.price) * kept
             selling += metals[name] * smelter.charged(metal, metal["price"], self.price)
+            of_price += metals[name] * smelter.participation(metal, metal["price"], self.price)
             selling += smelter.penalties(metal, metals[name], lambda column: undiluted * Fraction(row[column]))
         decimals = money.get("decimals", 6)
         earned = rounded(revenue, decimals)
-        a_tonne = self.by_code(process["cost"], row) * self.factor("pcaf", row)
-        a_tonne += Fraction(money.get("royalty_per_tonne", 0))
-        spent = rounded(undiluted * dilution * a_tonne + selling, decimals)
-        return Way(earned, spent if earned else Fraction(0), metals)
+        processing = undiluted * dilution * self.by_code(process["cost"], row) * self.factor("pcaf", row)
+        royalty = undiluted * dilution * Fraction(money.get("royalty_per_tonne", 0))
+        spent = rounded(processing + royalty + selling, decimals)
+        costs = {"processing_cost": processing, "selling_cost": selling - of_price}
+        return Way(earned, spent, metals, costs) if earned else Way(earned, Fraction(0), metals)
 
     def earned(self, metal: dict[str, Any], price: Decimal) -> Fraction:
         """What a recovered unit earns at a price, less royalty and charges, without penalties."""

@@ -60,9 +60,9 @@ def fixed_of(mine: Mine, year: int) -> Fraction:
     return length_of(mine, year) * Fraction(of_year)
 
 
-def mining_factor(mine: Mine, year: int) -> Fraction:
-    """By how much the mining cost of what a year mines is multiplied."""
-    return Fraction(period(mine, year).get("mining_cost_factor", 1))
+def factor_of(mine: Mine, cost: str, year: int) -> Fraction:
+    """By how much a cost is multiplied in a year."""
+    return Fraction(period(mine, year).get(f"{cost}_factor", 1))
 
 
 def capex_of(mine: Mine, year: int) -> Fraction:

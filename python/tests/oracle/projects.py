@@ -243,6 +243,8 @@ def periods(rng: Random, several: int, text: str) -> list[str]:
         lines.append("" if has_prices else pick(rng, "", f"prices = {{ copper = {prices['copper']} }}"))
         lines.append(pick(rng, "", "fixed_cost_per_year = 450"))
         lines.append(pick(rng, "", "mining_cost_factor = 1.25", "mining_cost_factor = 0.9"))
+        lines.append(pick(rng, "", "", "processing_cost_factor = 1.2", "processing_cost_factor = 0.8"))
+        lines.append(pick(rng, "", "", "selling_cost_factor = 1.5", "selling_cost_factor = 0.5"))
         lines.append("" if "\ncapex" in text else pick(rng, "", "capex = 1234.5"))
         is_by_year = "\nprices" in text or "\ncapex" in text
         lines.append("" if is_by_year else pick(rng, "", "", "period_months = 6", "period_months = 24"))

@@ -52,11 +52,17 @@ def charged(metal: Metal, price: Any, priced: Priced) -> Fraction:
     terms, share, dry = metal["smelter"], paid_share(metal), dry_tonnes(metal)
     found = rounded(Fraction(terms.get("treatment_charge", 0)) * dry, PLACES)
     found += rounded(share * priced(metal, terms.get("refining_charge", 0)), PLACES)
-    if "price_participation" in terms:
-        rule = terms["price_participation"]
-        found += rounded(share * priced(metal, max(price - rule["base"], 0) * rule["share"]), PLACES)
+    found += participation(metal, price, priced)
     wet = Fraction(terms.get("freight", 0)) / (1 - Fraction(terms.get("moisture", 0)))
     return found + rounded(wet * dry, PLACES)
+
+
+def participation(metal: Metal, price: Any, priced: Priced) -> Fraction:
+    """The smelter's share of a price above the base."""
+    rule = metal.get("smelter", {}).get("price_participation")
+    if rule is None:
+        return Fraction(0)
+    return rounded(paid_share(metal) * priced(metal, max(price - rule["base"], 0) * rule["share"]), PLACES)
 
 
 def penalties(metal: Metal, quantity: Fraction, content: Callable[[str], Fraction]) -> Fraction:

@@ -10,7 +10,7 @@ from typing import Any, Optional
 
 from .destinations import Amounts, Limits, Ore, premiums
 from .mine import Mine, Place
-from .periods import capex_of, fixed_of, length_of, mining_factor, mining_of, start_of
+from .periods import capex_of, factor_of, fixed_of, length_of, mining_of, start_of
 
 TOTAL, FEED, CASH, MINING = "total_tonnes", "feed_tonnes", "cash_flow", "mining"
 
@@ -33,6 +33,8 @@ def amounts_of(mine: Mine, places: Iterable[Place]) -> Amounts:
             add(FEED, block.feed)
             add("in_situ", block.tonnes)
             add(f"process {block.ways.index(best)}", block.feed)
+            for name, cost in best.costs.items():
+                add(f"recovered_{name}", cost)
             for name, metal in best.metal.items():
                 add(f"recovered_{name}", metal)
                 add(f"content {name}", block.undiluted * block.grades[name])
@@ -143,7 +145,9 @@ def between(rate: float, start: float, end: float) -> float:
 
 def cash_of(mine: Mine, year: int, amounts: Amounts) -> Fraction:
     """The cash flow of a year, from 1, at its own prices and mining costs."""
-    found = amounts.get(CASH, Fraction(0)) + (mining_factor(mine, year) - 1) * amounts.get(MINING, Fraction(0))
+    found = amounts.get(CASH, Fraction(0)) + (factor_of(mine, "mining_cost", year) - 1) * amounts.get(
+        MINING, Fraction(0)
+    )
     for name, more in premiums(mine, year).items():
         found += amounts.get(f"recovered_{name}", 0) * more
     return found

@@ -44,7 +44,7 @@ class PlannedBlocks:
     cells         the grid's number of each block of the problem, rising
     destinations  where a block may go: waste, and each process by its name
     limits        of a year, by the names of amounts
-    flows         what each block holds of each name where it goes to a destination, cash at the price as given and mining cost among them
+    flows         what each block holds of each name where it goes to a destination, cash at the price as given and costs that years multiply among them
     pays          whether each block yields anything in each destination, shape (blocks, destinations)
     grades        head grades that are limited
     """
@@ -164,10 +164,12 @@ def destinations_of(project: Project) -> tuple[str, ...]:
 
 
 def flows_of(plan: Plan) -> Flows:
-    """What each cell holds of each amount that may be limited, its cash at the price as given, and its mining cost if years differ in it."""
+    """What each cell holds of each amount that may be limited, its cash at the price as given, and the costs in which years differ."""
     flows, rules = of_money(plan), plan.project.schedule
-    if of_project(plan.project).costs_differ:
+    if MINING_COST in of_project(plan.project).differing:
         flows[MINING_COST] = np.repeat(plan.values.mining[:, None] / MILLION, flows[CASH].shape[1], axis=1)
+    for name, costs in plan.multiplied_costs.items():
+        flows[name] = np.column_stack([np.zeros(plan.grid.count), *costs])
     return flows | {f"{SUM}{it.name}": sum_of(plan, it) for it in (rules.limits if rules else ())}
 
 

@@ -14,7 +14,7 @@ from pitplan.config.places import MILL
 from pitplan.config.project import Project
 from pitplan.economics import smelter_terms
 from pitplan.economics.cost_lines import PROCESSING, ROYALTY
-from pitplan.economics.period_costs import yearly_prices
+from pitplan.economics.period_costs import MINING_COST, PROCESSING_COST, SELLING_COST, yearly_prices
 from pitplan.economics.weighing import DEPTH, HAULAGE, MILLIONTHS, MINING
 from pitplan.pits import shell_tables
 from pitplan.scheduling import pushback_schedule
@@ -166,14 +166,16 @@ def royalties(operation: Operation, revenue: Lines) -> Lines:
 
 def charges(operation: Operation, sales: dict[str, Sale]) -> Lines:
     """Returns the selling costs by metal and the charges of its smelter, each if a process has them."""
-    found: Lines = {}
+    found, factors = dict[str, Amounts](), operation.factors(SELLING_COST)
     for metal in operation.material.plan.project.metals:
-        found |= {f"{COLUMNS[kind]}_{metal.name}": line for kind, line in sales[metal.name].charges().items()}
+        for kind, line in sales[metal.name].charges().items():
+            is_multiplied = kind != smelter_terms.PARTICIPATION
+            found[f"{COLUMNS[kind]}_{metal.name}"] = line * factors if is_multiplied else line
         if metal.smelter and metal.smelter.penalties:
             of_blocks = f"{smelter_terms.PENALTIES} {metal.name}"
             costs = enumerate(operation.material.costs.processing)
             charged = sum(operation.fed(lines[of_blocks], number) for number, lines in costs if of_blocks in lines)
-            found[f"{COLUMNS[smelter_terms.PENALTIES]}_{metal.name}"] = np.asarray(charged)
+            found[f"{COLUMNS[smelter_terms.PENALTIES]}_{metal.name}"] = np.asarray(charged) * factors
     return found
 
 
@@ -191,7 +193,7 @@ def mining_costs(operation: Operation) -> Lines:
         found["haulage_cost"] = np.asarray(hauled + sum(of_ore))
     if project.pushbacks and project.pushbacks.mining_cost_added:
         found["mining_cost_added"] = operation.mined(material.schedule.pushbacks.mining_cost_added)
-    factors = operation.mining_factors
+    factors = operation.factors(MINING_COST)
     return {name: cost * factors for name, cost in found.items()}
 
 
@@ -202,8 +204,9 @@ def costs_more_below(project: Project) -> bool:
 
 def processing_costs(operation: Operation) -> Lines:
     """Returns the processing cost by process."""
+    factors = operation.factors(PROCESSING_COST)
     return {
-        f"processing_cost_{name or MILL}": operation.fed(lines[PROCESSING], number)
+        f"processing_cost_{name or MILL}": operation.fed(lines[PROCESSING], number) * factors
         for number, (name, lines) in enumerate(
             zip(operation.material.schedule.names, operation.material.costs.processing)
         )
@@ -220,7 +223,7 @@ def stockpile_costs(operation: Operation) -> Lines:
 def rounding_of(operation: Operation) -> Amounts:
     """Returns what rounding the block values to the decimals of the project adds to the cash flow."""
     costs = operation.material.costs
-    found = operation.mined(costs.mining_rounding) * operation.mining_factors
+    found = operation.mined(costs.mining_rounding) * operation.factors(MINING_COST)
     for number, values in enumerate(costs.processing_rounding):
         found = found + operation.fed(values, number)
     return np.asarray(found)

@@ -122,10 +122,9 @@ class Operation:
         name = f"recovered_{metal}"
         return np.asarray(self.flows.processed(name).sum(axis=1) + self.flows.from_opening(name).sum(axis=1))
 
-    @property
-    def mining_factors(self) -> Amounts:
-        """The factor of the mining cost in each period."""
-        return self.flows.model.problem.money.mining_factors(self.flows.years)
+    def factors(self, cost: str) -> Amounts:
+        """Returns the factor of a cost in each period."""
+        return self.flows.model.problem.money.factors(cost, self.flows.years)
 
     @cached_property
     def stacking(self) -> Amounts:

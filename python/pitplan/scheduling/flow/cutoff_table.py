@@ -10,6 +10,7 @@ import pandas as pd
 
 from pitplan.config.places import MILL
 from pitplan.economics.cutoff_grades import RockCosts
+from pitplan.economics.period_costs import PROCESSING_COST, SELLING_COST
 from pitplan.plan import shown_name
 
 from .cutoffs import cutoffs
@@ -23,7 +24,7 @@ def cutoff_table(schedule: YearlySchedule) -> pd.DataFrame:
 
     Columns: `cutoff`, the net value per tonne of feed from which on ore is processed, empty for the rule; `metal`, the first one that is
     recovered, or with several the metal whose equivalent grade the cut-off is; `cutoff_grade`, the head grade that earns processing cost
-    and cut-off at the prices of the year; `marginal_grade` and `break_even_grade`, the head grades that earn the processing cost, and that and the
+    and cut-off at the prices and costs of the year; `marginal_grade` and `break_even_grade`, the head grades that earn the processing cost, and that and the
     mining cost, at the base price; `equivalent_METAL`, what a unit of a metal's grade is worth in units of the first, in the year.
     """
     names, plan = schedule.names, schedule.pushbacks.plan
@@ -66,16 +67,18 @@ def rows_of(
     """Yields the rows of a method and a year, numbered from 0."""
     (method, year), project = at, schedule.pushbacks.plan.project
     found, money = cutoffs(schedule.flows[method], schedule.names), schedule.problem.money
-    metals = [metal.name for metal in project.metals]
-    premium = money.premium(tuple(f"recovered_{name}" for name in metals), year + 1)[year]
-    premiums = dict(zip(metals, premium.tolist()))
+    names = tuple(f"recovered_{metal.name}" for metal in project.metals)
+    premium, factor = money.premium(names, year + 1)[year], money.factors(PROCESSING_COST, year + 1)[year]
+    saved = 1 - money.factors(SELLING_COST, year + 1)[year]
     for process, costs in rocks:
+        more = [price + saved * money.charges[name][process] for name, price in zip(names, premium.tolist())]
+        premiums = {metal.name: float(amount) for metal, amount in zip(project.metals, more)}
         name, first = schedule.names[process], costs.metals[0]
         cutoff = np.nan if found is None else float(found[name][year])
         row = {"method": method, "year": year + 1, "process": name or MILL, "cutoff": cutoff, "metal": first.name}
         if project.table.rock_type:
             row[shown_name(project.table.rock_type)] = costs.rock
-        row["cutoff_grade"] = costs.head_grade(first, costs.processing + cutoff, premiums[first.name])
+        row["cutoff_grade"] = costs.head_grade(first, costs.processing_at(factor) + cutoff, premiums[first.name])
         row["marginal_grade"] = costs.head_grade(first, costs.processing)
         row["break_even_grade"] = costs.head_grade(first, costs.processing + costs.mining)
         yield row | {f"equivalent_{it.name}": costs.equivalent(it, premiums) for it in costs.metals}

@@ -101,7 +101,7 @@ class FlowModel:
     @cached_property
     def reclaims(self) -> tuple[Ore, ...]:
         """The ore as each stockpile gives it back."""
-        return tuple(self.ore.reclaimed(it, self.problem.money.net_prices) for it in self.stockpiles)
+        return tuple(self.ore.reclaimed(it, self.problem.money) for it in self.stockpiles)
 
     @cached_property
     def reclaim_gains(self) -> NDArray[np.float64]:

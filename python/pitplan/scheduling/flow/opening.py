@@ -15,6 +15,7 @@ from pitplan.config.project import Project
 from pitplan.config.schedule import ScheduleRules
 from pitplan.config.stockpiles import Opening
 from pitplan.economics import block_values
+from pitplan.economics.period_costs import YearlyMoney
 from pitplan.plan import Plan
 
 from .model import OpeningOre
@@ -42,13 +43,11 @@ class Lots:
     def __len__(self) -> int:
         return len(self.stockpile)
 
-    def ore(self, rules: ScheduleRules, net_prices: dict[str, tuple[float, ...]]) -> OpeningOre:
+    def ore(self, rules: ScheduleRules, money: YearlyMoney) -> OpeningOre:
         """Returns the lots as their stockpiles give them back."""
         cells = np.arange(len(self))
         ore = ore_of(self.plan, replace(rules, stockpiles=()), cells, np.zeros(len(self), dtype=np.int64))
-        parts = [
-            ore.unit(lot).reclaimed(rules.stockpiles[number], net_prices) for lot, number in enumerate(self.stockpile)
-        ]
+        parts = [ore.unit(lot).reclaimed(rules.stockpiles[number], money) for lot, number in enumerate(self.stockpile)]
         return OpeningOre(joined(parts), self.stockpile)
 
 

@@ -9,7 +9,7 @@ import numpy as np
 from numpy.typing import NDArray
 
 from pitplan.config.stockpiles import Stockpile
-from pitplan.economics.period_costs import YearlyMoney
+from pitplan.economics.period_costs import SELLING_COST, YearlyMoney
 
 FEED = "feed_tonnes"
 
@@ -27,7 +27,8 @@ class Ore:
     gain : array of float, shape (processes, units)
         Revenue less the cost of processing and selling of a whole unit at the base price, in the currency.
     amounts : dict of str to array, shape (processes, units)
-        What a whole unit adds to an amount where it is processed: feed_tonnes, feed_tonnes_PROCESS, recovered_METAL, and limited sums and grades.
+        What a whole unit adds to an amount where it is processed: feed_tonnes, feed_tonnes_PROCESS, recovered_METAL, limited sums and grades, and
+        the costs that factors of years multiply.
     accepted : bool array, shape (stockpiles, units), optional
         Whether each stockpile accepts a unit; None: all do.
     """
@@ -57,7 +58,7 @@ class Ore:
 
     def gains(self, money: YearlyMoney, years: int) -> NDArray[np.float64]:
         """Returns the gain of whole units by process and year, at the year's prices, shape (processes, units, years)."""
-        names, found = tuple(money.of_metals), np.repeat(self.gain[:, :, None], years, axis=2)
+        names, found = tuple(money.of_ore), np.repeat(self.gain[:, :, None], years, axis=2)
         for name, premium in zip(names, money.premium(names, years).T):
             found += self.of(name)[:, :, None] * premium
         return found
@@ -66,12 +67,15 @@ class Ore:
         """Returns whether a stockpile, by number, accepts each unit."""
         return np.ones(len(self), dtype=bool) if self.accepted is None else self.accepted[stockpile]
 
-    def reclaimed(self, stockpile: Stockpile, net_prices: dict[str, tuple[float, ...]]) -> Ore:
-        """Returns the ore as a stockpile gives it back: reclaiming costs, and less metal may be recovered."""
+    def reclaimed(self, stockpile: Stockpile, money: YearlyMoney) -> Ore:
+        """Returns the ore as a stockpile gives it back: reclaiming costs, and less metal may be recovered and sold."""
         gain, amounts = self.gain - stockpile.reclaim_cost * self.feed, dict(self.amounts)
         for metal, share in stockpile.recovery.items():
             name = f"recovered_{metal}"
-            gain = gain - (1 - share) * np.array(net_prices[name])[:, None] * self.of(name)
+            gain = gain - (1 - share) * np.array(money.net_prices[name])[:, None] * self.of(name)
+            if SELLING_COST in amounts:
+                unsold = (1 - share) * np.array(money.charges[name])[:, None] * self.of(name)
+                amounts[SELLING_COST] = amounts[SELLING_COST] - unsold
             amounts[name] = share * self.of(name)
         return replace(self, gain=gain, amounts=amounts)
 

@@ -100,7 +100,7 @@ class Pacing:
 
     @property
     def premiums(self) -> dict[str, tuple[float, ...]]:
-        return self.model.problem.money.of_metals
+        return self.model.problem.money.of_ore
 
     def value(self, dug: NDArray[np.float64]) -> float:
         """Returns nearly the net present value of shares of benches in all years, shape (benches, years), with the richest bins first."""
@@ -266,7 +266,7 @@ class Moves:
 
 
 def with_prices(ore: dict[str, NDArray[np.float64]], premiums: dict[str, Any]) -> dict[str, NDArray[np.float64]]:
-    """Returns the amounts with the gain at premiums per unit of metal, and at prices of limits on grades, below 0."""
+    """Returns the amounts with the gain at premiums per unit of metal or cost, and at prices of limits on grades, below 0."""
     more = sum((premium * ore[name] for name, premium in premiums.items() if name in ore), np.zeros(1))
     return ore | {GAIN: ore[GAIN] + more}
 

@@ -121,7 +121,7 @@ def ore_cells(pushbacks: Pushbacks, rules: ScheduleRules) -> NDArray[np.int64]:
     if asks_least or plan.project.feed_grades:
         return inside
     money = period_costs.of_project(plan.project)
-    years = 1 + max((len(more) for more in money.of_metals.values()), default=0)
+    years = 1 + max((len(more) for more in money.of_ore.values()), default=0)
     ore = ore_of(plan, rules, inside, np.zeros(len(inside), dtype=np.int64))
     return inside[ore.gains(money, years).max(axis=(0, 2), initial=-np.inf) > 0]
 
@@ -136,6 +136,7 @@ def ore_of(plan: Plan, rules: ScheduleRules, cells: NDArray[np.int64], bench: ND
         amounts[f"{FEED}_{process.name}"] = alone(amounts[FEED], number)
     for name in values.metal:
         amounts[f"recovered_{name}"] = takes * np.stack([way.metal[name][cells] for way in ways])
+    amounts |= {name: costs[:, cells] for name, costs in plan.multiplied_costs.items()}
     amounts |= sums_of(plan, rules, cells, takes) | grades_of(plan, cells, takes)
     gain = np.stack([(way.revenue[cells] - way.cost[cells]) / MILLION for way in ways])
     return Ore(bench, np.ones(len(cells), dtype=np.int64), gain, amounts, accepted_of(plan, rules, cells))

@@ -14,6 +14,7 @@ from numpy.typing import NDArray
 from pitplan.config.economics import GRADE_UNITS
 from pitplan.config.places import MILL, PIT, WASTE
 from pitplan.config.stockpiles import Stockpile
+from pitplan.economics.period_costs import SELLING_COST
 from pitplan.pits import shell_tables
 from pitplan.plan import Plan, shown_name
 from pitplan.pushbacks.bench_table import benches_of_cells
@@ -106,7 +107,8 @@ class Lots:
 
     @cached_property
     def sums(self) -> pd.DataFrame:
-        """One row per lot: its key, total_tonnes, in_situ_METAL, feed_tonnes, contained_METAL, and recovered_METAL and gain by process."""
+        """One row per lot: its key, total_tonnes, in_situ_METAL, feed_tonnes, contained_METAL, and by process recovered_METAL,
+        gain, and the costs that factors of periods multiply."""
         plan, cells, values = self.plan, self.cells, self.plan.values
         columns = {"total_tonnes": values.tonnes[cells], "feed_tonnes": values.feed[cells]}
         for metal in plan.project.metals:
@@ -115,6 +117,7 @@ class Lots:
             columns[f"contained_{metal.name}"] = grade * values.undiluted[cells]
         for number, way in enumerate(values.by_process):
             columns |= {f"recovered_{name} {number}": amounts[cells] for name, amounts in way.metal.items()}
+            columns |= {f"{name} {number}": costs[number, cells] for name, costs in plan.multiplied_costs.items()}
             columns[f"gain {number}"] = (way.revenue[cells] - way.cost[cells]) / 1e6
         keys = list(self.keys)
         return pd.concat([self.keys, pd.DataFrame(columns)], axis=1).groupby(keys, sort=True).sum().reset_index()
@@ -183,20 +186,23 @@ def written(flows: Flows, move: Move, lots: Lots, rows: NDArray[np.int64], at: N
     for name in ("feed_tonnes", *(f"contained_{metal.name}" for metal in plan.project.metals)):
         found[name] = sums[name] * moved
     fed = 0.0 if move.process is None else share
-    names = [f"recovered_{metal.name}" for metal in plan.project.metals]
+    names = [*(f"recovered_{metal.name}" for metal in plan.project.metals), *plan.multiplied_costs]
     for name in names:
         found[name] = 0.0 if move.process is None else sums[f"{name} {move.process}"] * fed
     found["cash_flow"] = 0.0 if move.process is None else sums[f"gain {move.process}"] * fed
-    return handled(found, flows, move, names)
+    return handled(found, flows, move, names).drop(columns=list(plan.multiplied_costs))
 
 
 def handled(found: pd.DataFrame, flows: Flows, move: Move, names: list[str]) -> pd.DataFrame:
-    """Returns the rows of a move after what a stockpile costs, and at the prices of the year; `names` are the recovered metals."""
+    """Returns the rows of a move after what a stockpile costs, and at the prices and costs of the year; `names` are the amounts that these multiply."""
     money, stockpile = flows.model.problem.money, move.stockpile
     if stockpile is not None:
         for metal, share in stockpile.recovery.items():
             name = f"recovered_{metal}"
-            found["cash_flow"] -= found[name] * (1 - share) * money.net_prices[name][move.process or 0]
+            lost = found[name] * (1 - share)
+            found["cash_flow"] -= lost * money.net_prices[name][move.process or 0]
+            if SELLING_COST in found:
+                found[SELLING_COST] -= lost * money.charges[name][move.process or 0]
             found[name] *= share
         cost = stockpile.stacking_cost if move.process is None else stockpile.reclaim_cost
         found["cash_flow"] -= found["feed_tonnes"] * cost
