@@ -21,9 +21,10 @@ these:
 - **pit**: all this holds for both rows of pits.csv, and the pit without constraints has no smaller value.
 - **Pushbacks**: they keep the whole cones, hold must-mine blocks in pushback 1 and excluded blocks in none, add up, and have the minimum mining
   width, which is recounted by sums over squares.
-- **Cash flow**: each line of a schedule of pushbacks follows from blocks, prices and costs, and the lines sum to the cash flow of its years. Tax,
+- **Cash flow**: each line of a schedule follows from blocks, prices and costs, and the lines sum to the cash flow of its years. Tax,
   NPVs, internal rates of return and payback are recomputed.
-- **Inventory**: its rows are the sums of flows, no ore is of a class that is no basis of reserves, and the shares of blocks are those of their lots.
+- **Inventory**: its rows are the sums of flows, by block of the shares of blocks. No ore is of a class that is no basis of reserves, and the
+  shares of blocks are those of their lots.
 - **Grade-tonnage curves**: tonnes and metal above each cut-off are those of the blocks, and marked cut-offs earn their costs.
 - **Schedules by block**: no block is mined before its whole cone, no year exceeds a limit, and the NPV does not exceed its bound, which is
   recomputed from its Lagrange multipliers by one maximum closure. For scenarios

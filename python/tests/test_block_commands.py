@@ -21,7 +21,7 @@ from pitplan.figures import block_schedule
 from pitplan.results.folder import read_record
 from pitplan.scheduling.blocks import from_plan, tables
 
-RULES = ["block order", "block limits", "block value", "upper bound"]
+RULES = ["block order", "block limits", "block value", "upper bound", "inventory", "cash flow", "grade tonnage"]
 
 
 def test_three_pillars_by_hand(plan_folder):
@@ -246,7 +246,7 @@ def test_what_is_right_passes(copied, capsys):
     assert wrong(copied) == set()
     assert main(["verify", str(copied)]) == 0
     told = [line.split(":")[0] for line in capsys.readouterr().out.splitlines()]
-    assert told[-4:] == RULES
+    assert told[-7:] == RULES
     record = read_record(copied)
     assert "block_schedule.json" in record["files"] and any(
         line.startswith("block order") for line in record["verified"]

@@ -87,7 +87,6 @@ def test_a_changed_number_is_found(written, tmp_path, name, mark):
 def test_the_figure_is_written(written, tmp_path):
     from pitplan.figures import grade_tonnage
 
-    plan = pitplan.Plan.from_project(written.parent.parent / "project.toml")
-    schedule = plan.shells().pushbacks().schedule()
-    grade_tonnage.write(schedule.found, tmp_path / "picture.png")
+    metal = pitplan.load(written.parent.parent / "project.toml").metals[0]
+    grade_tonnage.write(table(written), metal, tmp_path / "picture.png")
     assert (tmp_path / "picture.png").stat().st_size > 5_000

@@ -14,18 +14,18 @@ from pitplan.figures.style import also_as, files_of
 from .writing import BLOCK_PICTURES, PICTURES, PUSHBACK_PICTURES, SCHEDULE_PICTURES
 
 if TYPE_CHECKING:
-    from .answers import Answered
+    from .answers import Answered, Tables
 
 
-def draw(answered: Answered, table: pd.DataFrame, years: pd.DataFrame, chosen: float, stage: Path) -> list[str]:
+def draw(answered: Answered, tables: Tables, chosen: float, stage: Path) -> list[str]:
     """Draws the pictures of shells, and those of pushbacks and schedules if there are any.
 
     Parameters
     ----------
     answered : Answered
         The answer.
-    table, years : DataFrame
-        Its tables of shells and of years.
+    tables : Tables
+        Its tables.
     chosen : float
         The factor of the chosen shell.
     stage : Path
@@ -39,9 +39,9 @@ def draw(answered: Answered, table: pd.DataFrame, years: pd.DataFrame, chosen: f
     project = answered.plan.project
     formats = project.figures.formats if project.figures else ()
     with also_as(formats):
-        draw_shells(answered, table, chosen, stage)
-        annual.write_years(years, project, chosen, stage / PICTURES["years"])
-        drawn = PICTURES | draw_pushbacks(answered, stage) | draw_schedules(answered, years, stage)
+        draw_shells(answered, tables.shells, chosen, stage)
+        annual.write_years(tables.years, project, chosen, stage / PICTURES["years"])
+        drawn = PICTURES | draw_pushbacks(answered, stage) | draw_schedules(answered, tables, stage)
     return files_of(drawn, formats)
 
 
@@ -63,16 +63,18 @@ def draw_pushbacks(answered: Answered, stage: Path) -> dict[str, str]:
     return PUSHBACK_PICTURES
 
 
-def draw_schedules(answered: Answered, years: pd.DataFrame, stage: Path) -> dict[str, str]:
+def draw_schedules(answered: Answered, tables: Tables, stage: Path) -> dict[str, str]:
     """Draws the schedule of pushbacks or of blocks, if there is one; returns the files of the pictures by name."""
     drawn: dict[str, str] = {}
     if answered.schedule is not None:
         drawn = SCHEDULE_PICTURES
         gantt.write_gantt(answered.schedule, stage / drawn["schedule_gantt"])
         schedule.write_tonnes(answered.schedule, stage / drawn["schedule_tonnes"])
-        schedule.write_cumulative(answered.schedule, years, stage / drawn["schedule_value"])
-        grade_tonnage.write(answered.schedule, stage / drawn["grade_tonnage"])
+        schedule.write_cumulative(answered.schedule, tables.years, stage / drawn["schedule_value"])
     if answered.blocks is not None:
         drawn = drawn | BLOCK_PICTURES
         block_schedule.write(answered.blocks, stage / BLOCK_PICTURES["block_schedule"])
+    if tables.schedule is not None:
+        metal = answered.plan.project.metals[0]
+        grade_tonnage.write(tables.schedule.grade_tonnage, metal, stage / drawn["grade_tonnage"])
     return drawn

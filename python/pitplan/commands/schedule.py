@@ -61,8 +61,8 @@ def write_schedule(project: Source, folder: Optional[Place] = None, writing: Wri
 def write_block_schedule(project: Source, folder: Optional[Place] = None, writing: Writing = Writing()) -> pd.DataFrame:
     """Schedules blocks one by one, as `pitplan schedule --by block` does, with an upper bound on the value of all such schedules.
 
-    The folder gets all files that `write_shells` writes, with the year of each block in blocks.csv and the years in years.csv, and
-    block_schedule.json. An interruption after the bound is found ends the search for better schedules only, and block_schedule.json
+    The folder gets all files that `write_shells` writes, with the year of each block in blocks.csv and the years in years.csv. It also gets
+    block_schedule.json, inventory.csv, grade_tonnage.csv, cash_flow.csv, valuation.csv, and a workbook of the tables. An interruption after the bound is found ends the search for better schedules only, and block_schedule.json
     records it.
 
     Parameters
@@ -82,11 +82,12 @@ def write_block_schedule(project: Source, folder: Optional[Place] = None, writin
     Raises
     ------
     MissingPackage
-        Without the library libpitshell.so.
+        Without the library libpitshell.so, or openpyxl.
     PlanError
         If the project asks for what no schedule by block supports, has too many blocks, or a result differs from its recalculation.
     """
     load_library("a schedule by block")
+    xlsx.demand_library()
     # Its modules import the library themselves.
     from pitplan.scheduling.blocks import tables
     from pitplan.scheduling.blocks.keys import demand_of_blocks

@@ -1,4 +1,4 @@
-"""The workbook of a schedule of pushbacks."""
+"""The workbook of a schedule, of pushbacks or by block."""
 
 from __future__ import annotations
 
@@ -15,49 +15,55 @@ from pitplan.results import names
 from pitplan.results.conventions import with_discounting, with_outline
 from pitplan.results.rounding import named, shown
 from pitplan.results.sheet_heads import heads_of
-from pitplan.scheduling import pushback_schedule
 
-from .answers import cash_flow_tables, flow_tables
+from .schedule_tables import INVENTORY, ScheduleTables
 
 if TYPE_CHECKING:
-    from .answers import Answered
+    from .answers import Answered, Tables
 
 
-def write(answered: Answered, stage: Path, table: pd.DataFrame, years: pd.DataFrame) -> None:
+def write(answered: Answered, tables: Tables, stage: Path) -> None:
     """Writes the workbook: cash flow by line and reserves of the schedule that is shown, with formulas, then the tables.
 
     Parameters
     ----------
     answered : Answered
         With a schedule.
+    tables : Tables
+        Its tables.
     stage : Path
-    table, years : DataFrame
-        The tables of shells and of years.
     """
-    assert answered.schedule is not None
-    method, project = answered.schedule.shown, answered.plan.project
-    lines, values = (it[it["method"] == method] for it in cash_flow_tables(answered.schedule).values())
-    sheets = sheets_of(answered, table, years)
+    found, project = tables.schedule, answered.plan.project
+    assert found is not None
+    lines, values = (it[it["method"] == found.method] for it in (found.cash_flow, found.valuation))
+    sheets = material_sheets(answered, found) | money_sheets(answered, tables)
     # A schedule that mines nothing has no period.
     first = [CashFlowSheet(project, lines, values).sheet().write] if len(lines) else []
-    first += [ReserveSheet(project, method, sheets["inventory"]).write] if len(lines) else []
-    tables = {name: named(sheet, project) for name, sheet in sheets.items()}
-    xlsx.write(stage / names.WORKBOOK, tables, first, heads_of(project))
+    first += [ReserveSheet(project, found.method, sheets[INVENTORY]).write] if len(lines) else []
+    by_name = {name: named(sheet, project) for name, sheet in sheets.items()}
+    xlsx.write(stage / names.WORKBOOK, by_name, first, heads_of(project))
 
 
-def sheets_of(answered: Answered, table: pd.DataFrame, years: pd.DataFrame) -> dict[str, pd.DataFrame]:
-    """The tables of the workbook, by sheet."""
-    assert answered.pushbacks is not None and answered.schedule is not None
-    project = answered.plan.project
-    sheets = {
-        "methods": pushback_schedule.methods(answered.schedule),
-        "schedule": shown(pushback_schedule.table(answered.schedule)),
-        "years": shown(with_outline(years[years["revenue_factor"] == answered.schedule.factor], project)),
-        "pushbacks": shown(nested.table(answered.pushbacks)),
-        "shells": shown(with_outline(table, project)),
-    }
-    of_flows = {name: shown(table) for name, table in flow_tables(answered.schedule).items()}
-    inventory = of_flows["inventory"]
-    mine = inventory[inventory["method"] == answered.schedule.shown].reset_index(drop=True)
-    of_flows["inventory"] = sheet_rows(mine, project)
-    return of_flows | {name: with_discounting(sheet, project) for name, sheet in sheets.items()}
+def material_sheets(answered: Answered, found: ScheduleTables) -> dict[str, pd.DataFrame]:
+    """The tables of material, by sheet: of the inventory the rows of the method that is shown."""
+    sheets = {name: shown(table) for name, table in found.flows.items()}
+    return sheets | {INVENTORY: sheet_rows(shown(found.inventory), answered.plan.project)}
+
+
+def money_sheets(answered: Answered, tables: Tables) -> dict[str, pd.DataFrame]:
+    """The other tables of the workbook, by sheet."""
+    years, project = tables.years, answered.plan.project
+    if answered.schedule is not None and answered.pushbacks is not None:
+        from pitplan.scheduling import pushback_schedule
+
+        sheets = {
+            "methods": pushback_schedule.methods(answered.schedule),
+            "schedule": shown(pushback_schedule.table(answered.schedule)),
+            "years": shown(with_outline(years[years["revenue_factor"] == answered.schedule.factor], project)),
+            "pushbacks": shown(nested.table(answered.pushbacks)),
+        }
+    else:
+        assert answered.blocks is not None
+        sheets = {"methods": shown(answered.blocks.methods), "years": shown(answered.blocks.years)}
+    sheets["shells"] = shown(with_outline(tables.shells, project))
+    return {name: with_discounting(sheet, project) for name, sheet in sheets.items()}

@@ -1,4 +1,5 @@
-"""The sheet `reserves` of a schedule's workbook: mill feed by pushback and resource class, and by period, as sums of the sheet `inventory`."""
+"""The sheet `reserves` of a schedule's workbook: mill feed by pushback, if there are any, and resource class, and by period, as sums of the sheet
+`inventory`."""
 
 from __future__ import annotations
 
@@ -24,7 +25,7 @@ NO_CLASS = "unclassified"
 OPENING = "opening stock"
 # A condition of a sum: a column of the inventory, and a cell or a text in quotes.
 Condition = tuple[str, str]
-Cells = list[Union[str, int, float]]
+Cells = list[Union[str, int, float, None]]
 WIDTH, HEAD_HEIGHT, FORMS = 18.0, 30.0, {"%": "0.000", "g/t": "0.000", "t/t": "0.000000"}
 
 
@@ -53,6 +54,11 @@ class ReserveSheet:
     def class_column(self) -> Optional[str]:
         column = self.project.table.resource_class
         return None if column is None else shown_name(column)
+
+    @property
+    def pushbacks(self) -> list[int]:
+        """The pushbacks of the inventory, 0 for what lay on stockpiles at the start; none of a schedule by block."""
+        return sorted(self.inventory["pushback"].unique().tolist()) if "pushback" in self.inventory else []
 
     def classes(self, category: str) -> list[str]:
         """Returns the classes of a category, measured before indicated; one that stands for all without classes."""
@@ -108,7 +114,7 @@ class ReserveSheet:
         """Yields the cells of the sheet."""
         yield [f"{self.project.title}: mill feed of the schedule by {self.method}"]
         lay = f" {OPENING.capitalize()} lay on stockpiles at the start: pushback 0 of the sheet inventory."
-        has_any = (self.inventory["pushback"] == 0).any()
+        has_any = 0 in self.pushbacks
         said = "Sums over the sheet inventory. Ore excludes mill feed of inferred and unclassified material."
         yield [said + lay if has_any else said]
         row = 3
@@ -122,17 +128,17 @@ class ReserveSheet:
     def by_pushback(self, category: str, title: str, row: int) -> Iterator[Cells]:
         """Yields a table from a row of the sheet on: each pushback and class, all pushbacks by class, and all."""
         yield [title]
-        yield ["pushback", "class", *self.heads[2:]]
+        yield ["pushback" if self.pushbacks else "", "class", *self.heads[2:]]
         place, of_category = row + 2, ("category", f'"{category}"')
-        pushbacks: list[Union[int, str]] = sorted(self.inventory["pushback"].unique().tolist())
-        classes = self.classes(category)
+        classes, every = self.classes(category), "all" if self.pushbacks else None
+        pushbacks: Cells = [*self.pushbacks]
         # The sums of one class alone are those of the last row.
-        for pushback in [*pushbacks, "all"] if len(classes) > 1 else pushbacks:
+        for pushback in [*pushbacks, every] if len(classes) > 1 else pushbacks:
             for name in classes:
                 number = "0" if pushback == 0 else f"$A{place}"
-                conditions = [of_category, *([] if pushback == "all" else [("pushback", number)])]
+                conditions = [of_category, *([] if pushback == every else [("pushback", number)])]
                 conditions += [(self.class_column, f"$B{place}")] if self.class_column else []
-                yield [pushback or OPENING, name, *self.amounts(place, conditions)]
+                yield [OPENING if pushback == 0 else pushback, name, *self.amounts(place, conditions)]
                 place += 1
         yield ["all", category.replace("_", " "), *self.amounts(place, [of_category])]
         yield []

@@ -14,8 +14,6 @@ from matplotlib.figure import Figure
 from pitplan.config.classes import ORE_NAMES
 from pitplan.config.economics import Metal
 from pitplan.pits.grade_tonnage import BREAK_EVEN, MARGINAL, MODEL, PIT
-from pitplan.scheduling.inventory import grade_tonnage_table
-from pitplan.scheduling.pushback_schedule import YearlySchedule
 
 from .style import PLAIN, STYLE, WORST, finish, list_of
 
@@ -25,17 +23,16 @@ COLOURS = ("#1f4e79", "#5b93c7", "#b9d3ea", "#d9d4c8", "#ece8df")
 MARKS = {MARGINAL: ("marginal", ":"), BREAK_EVEN: ("break-even", "--")}
 
 
-def write(schedule: YearlySchedule, path: Path) -> None:
-    """Writes the figure."""
+def write(table: pd.DataFrame, metal: Metal, path: Path) -> None:
+    """Writes the figure of grade_tonnage.csv for the cut-offs of a metal."""
     with matplotlib.rc_context(STYLE):
         figure = Figure(figsize=(9.6, 4.4), constrained_layout=True)
-        plot(schedule, figure.subplots(1, 2))
+        plot(table, metal, figure.subplots(1, 2))
         finish(figure, path)
 
 
-def plot(schedule: YearlySchedule, axes: Any) -> list[Axes]:
-    """Draws the tonnes of the model and of the pit above each cut-off grade of the first metal, and their mean grade, on two axes."""
-    table, metal = grade_tonnage_table(schedule), schedule.pushbacks.plan.project.metals[0]
+def plot(table: pd.DataFrame, metal: Metal, axes: Any) -> list[Axes]:
+    """Draws the tonnes of the model and of the pit above each cut-off grade of a metal, and their mean grade, on two axes."""
     found = list_of(axes, 2)
     for axis, (part, title) in zip(found, TITLES.items()):
         plot_part(axis, table[(table["part"] == part) & (table["metal"] == metal.name)], metal)

@@ -123,13 +123,13 @@ RESULTS = (
 )
 CASH_FLOW = Table(
     "cash_flow.csv",
-    "of a schedule of pushbacks: a row per method and year; costs and tax are positive",
+    "of a schedule: a row per method and year; costs and tax are positive",
     (METHOD, YEAR, *PHYSICALS, *LINES, *RESULTS, DISCOUNTS),
 )
 AFTER = "after closure cost and tax"
 VALUATION = Table(
     "valuation.csv",
-    "of a schedule of pushbacks: a row per method and discount rate",
+    "of a schedule: a row per method and discount rate",
     (
         METHOD,
         Column("discount_rate", RATE, "that of `[shells]`, and `[cash_flow] discount_rates`", "discount rate"),

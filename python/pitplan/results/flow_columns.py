@@ -37,9 +37,9 @@ MATERIAL_FLOWS = Table(
 )
 INVENTORY = Table(
     "inventory.csv",
-    "of a schedule of pushbacks: a row per method, year, pushback, bench, rock type, resource class, source and destination",
+    "of a schedule: a row per method, year, pushback, bench, rock type, resource class, source and destination",
     (
-        *(METHOD, YEAR, OF_PUSHBACK, OF_BENCH),
+        *(METHOD, YEAR, replace(OF_PUSHBACK, when="with pushbacks"), OF_BENCH),
         *MATERIAL_FLOWS.columns[5:7],
         Column(
             "category",
@@ -57,9 +57,14 @@ INVENTORY = Table(
 )
 GRADE_TONNAGE = Table(
     "grade_tonnage.csv",
-    "of a schedule of pushbacks: a row per part, resource class, metal and cut-off grade of that metal",
+    "of a schedule: a row per part, resource class, metal and cut-off grade of that metal",
     (
-        Column("part", TEXT, "`model`: the blocks of `blocks.csv`; `pit`: all pushbacks; or one of these", "part"),
+        Column(
+            "part",
+            TEXT,
+            "`model`: the blocks of `blocks.csv`; `pit`: all pushbacks, or by block what is mined; or a pushback",
+            "part",
+        ),
         Column("class", TEXT, "resource class; `all` without classes", "class"),
         Column("metal", TEXT, "the metal of the cut-off", "metal"),
         Column("cutoff_grade", GRADE, "cut-off grade, in situ", "cut-off grade"),

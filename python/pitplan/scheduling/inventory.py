@@ -1,6 +1,8 @@
-"""Inventory of a schedule of pushbacks: tonnes, grades and metal by bench, rock type, class and destination, and the shares of blocks."""
+"""Inventory of a schedule: tonnes, grades and metal by bench, rock type, class and destination, and the shares of blocks."""
 
 from __future__ import annotations
+
+from collections.abc import Sequence
 
 import numpy as np
 import pandas as pd
@@ -28,22 +30,36 @@ def codes_of(project: Project) -> list[str]:
 
 
 def inventory_table(schedule: YearlySchedule) -> pd.DataFrame:
-    """Returns the sums of flows.csv by method, year, pushback, bench, rock type, class, source and destination. What lay on a stockpile at the
-    start is of pushback 0 and of no bench.
+    """Returns the inventory of a schedule of pushbacks. What lay on a stockpile at the start is of pushback 0 and of no bench."""
+    stockpiles = [it.name for it in schedule.model.stockpiles]
+    return summed(schedule.material_flows, schedule.pushbacks.plan.project, list(schedule.flows), stockpiles)
+
+
+def summed(
+    flows: pd.DataFrame, project: Project, methods: Sequence[str], stockpiles: Sequence[str] = ()
+) -> pd.DataFrame:
+    """Returns the sums of flows by method, year, pushback if they have any, bench, rock type, class, source and destination.
 
     Columns: these; category: ore, not_reserve (mill feed of inferred and unclassified material), stockpile or waste; total_tonnes with
     grade_METAL and in_situ_METAL; feed_tonnes with head_grade_METAL, contained_METAL, recovered_METAL and, with smelter terms, payable_METAL.
+
+    Parameters
+    ----------
+    flows : DataFrame
+        With the keys, total_tonnes, feed_tonnes, and in_situ_METAL, contained_METAL and recovered_METAL.
+    project : Project
+    methods, stockpiles : sequence of str
+        Methods in the order of the rows, and the names of stockpiles.
     """
-    project, flows = schedule.pushbacks.plan.project, schedule.material_flows
     names = [metal.name for metal in project.metals]
-    keys = ["method", "year", "pushback", "bench", *codes_of(project), "source", "destination"]
+    keys = ["method", "year", *(["pushback"] if "pushback" in flows else []), "bench", *codes_of(project)]
+    keys += ["source", "destination"]
     kinds = {kind: [f"{kind}_{name}" for name in names] for kind in ("in_situ", "contained", "recovered")}
     amounts = ["total_tonnes", *kinds["in_situ"], "feed_tonnes", *kinds["contained"], *kinds["recovered"]]
     sums = flows.groupby(keys, sort=False, dropna=False)[amounts].sum().reset_index()
-    methods = {method: number for number, method in enumerate(schedule.flows)}
-    order = sums.assign(method=sums["method"].map(methods), bench=-sums["bench"])
+    order = sums.assign(method=sums["method"].map({name: k for k, name in enumerate(methods)}), bench=-sums["bench"])
     sums = sums.loc[order.sort_values(keys, kind="stable").index].reset_index(drop=True)
-    sums.insert(len(keys), CATEGORY, categories(sums, schedule))
+    sums.insert(len(keys), CATEGORY, categories(sums, project, stockpiles))
     for metal in project.metals:
         unit, name = float(GRADE_UNITS[metal.unit]), metal.name
         for grade, content, whole in (("grade", "in_situ", "total_tonnes"), ("head_grade", "contained", "feed_tonnes")):
@@ -51,16 +67,27 @@ def inventory_table(schedule: YearlySchedule) -> pd.DataFrame:
             sums.insert(sums.columns.get_loc(f"{content}_{names[0]}"), f"{grade}_{name}", values)
     for number, metal in enumerate(project.metals):
         if metal.smelter:
-            share = payable_by_destination(schedule, number, sums["destination"])
+            share = payable_by_destination(project, number, sums["destination"])
             sums[f"payable_{metal.name}"] = sums[f"recovered_{metal.name}"] * share
     return sums
 
 
-def payable_by_destination(schedule: YearlySchedule, metal: int, destination: pd.Series) -> pd.Series:
+def payable_by_destination(project: Project, metal: int, destination: pd.Series) -> pd.Series:
     """Returns the share of a metal, by number, that is paid in the process of each row; 0 where nothing is recovered."""
-    ways = zip(schedule.names, schedule.pushbacks.plan.project.by_process)
-    shares = {name or MILL: float(payable_share(alone.metals[metal])) for name, alone in ways}
+    names = [process.name for process in project.processes] or [MILL]
+    shares = {name: float(payable_share(alone.metals[metal])) for name, alone in zip(names, project.by_process)}
     return destination.map(shares).fillna(0.0)
+
+
+def categories(rows: pd.DataFrame, project: Project, stockpiles: Sequence[str]) -> np.ndarray:
+    """Returns the category of each row."""
+    column, feed = project.table.resource_class, np.full(len(rows), ORE, dtype=object)
+    if column is not None:
+        is_reserve = {code: project.classes.may_be_reserve(code) for code in rows[shown_name(column)].unique()}
+        feed[~rows[shown_name(column)].map(is_reserve).to_numpy(dtype=bool)] = NOT_RESERVE
+    feed[rows["destination"].isin(stockpiles)] = STOCKPILED
+    feed[rows["destination"] == WASTE] = WASTE
+    return feed
 
 
 def blocks_shares(schedule: YearlySchedule) -> dict[str, NDArray[np.float64]]:
@@ -84,15 +111,3 @@ def grade_tonnage_table(schedule: YearlySchedule) -> pd.DataFrame:
     parts = {grade_tonnage.MODEL: np.ones(len(pushback), dtype=bool), grade_tonnage.PIT: pushback > 0}
     parts |= {f"pushback {number}": pushback == number for number in range(1, len(schedule.pushbacks.factors) + 1)}
     return grade_tonnage.grade_tonnage(schedule.pushbacks.plan, parts)
-
-
-def categories(rows: pd.DataFrame, schedule: YearlySchedule) -> np.ndarray:
-    """Returns the category of each row."""
-    project, stockpiles = schedule.pushbacks.plan.project, [it.name for it in schedule.model.stockpiles]
-    column, feed = project.table.resource_class, np.full(len(rows), ORE, dtype=object)
-    if column is not None:
-        is_reserve = {code: project.classes.may_be_reserve(code) for code in rows[shown_name(column)].unique()}
-        feed[~rows[shown_name(column)].map(is_reserve).to_numpy(dtype=bool)] = NOT_RESERVE
-    feed[rows["destination"].isin(stockpiles)] = STOCKPILED
-    feed[rows["destination"] == WASTE] = WASTE
-    return feed

@@ -1,8 +1,10 @@
-"""The methods by which a schedule of pushbacks is found, and their names in figures and reports."""
+"""The methods by which a schedule is found, and their names in figures and reports."""
 
 from __future__ import annotations
 
 RULE, LP, MILP = "rule", "lp", "milp"
+# A schedule by block, in years.csv and methods.csv.
+BLOCK = "block"
 NAMES = {
     "worst": "worst case",
     "specified": "specified case",

@@ -18,18 +18,18 @@ from planaudit.inputs.tables import YEAR
 from planaudit.money import ore_costs
 from planaudit.money.period_costs import capex, fixed_cost, has_costs, mining_factor, premiums
 from planaudit.rules import TOLD, Rule, rule
-from planaudit.schedules import block_grades, bounds, methods as ways_table
+from planaudit.schedules import block_flow, block_grades, bounds, methods as ways_table
 from planaudit.schedules.discounts import discount, present_costs
 from planaudit.schedules.limits import amounts_of, limits_of, minima_of, shares_of
 from planaudit.schedules.periods import counted
 from planaudit.schedules.pushback_schedule import CENT
 
-FILE, CASE = "block_schedule.json", "block"
+FILE, CASE = "block_schedule.json", block_flow.CASE
 SLIGHT = 1e-6
 
 
 def verify(answer: Answer) -> list[Rule]:
-    """Verifies constraints, order, limits and values."""
+    """Verifies constraints, order, limits and values, and the tables of money and material."""
     told = counted(json.loads((answer.folder / FILE).read_text(encoding="utf-8")), answer.project)
     flows = flows_of(answer)
     sums = flows.groupby(answer.said[YEAR].to_numpy()).sum()
@@ -39,6 +39,7 @@ def verify(answer: Answer) -> list[Rule]:
         verify_fixed(answer),
         verify_value(answer, told, sums),
         bounds.verify(answer, told),
+        *block_flow.verify(answer),
     ]
     return [found for found in rules if found is not None]
 

@@ -1,4 +1,4 @@
-"""Verifies cash_flow.csv of a schedule of pushbacks: each line from the blocks, prices and costs, and their sums."""
+"""Verifies cash_flow.csv of a schedule: each line from the blocks, prices and costs, and their sums."""
 
 from __future__ import annotations
 
@@ -177,7 +177,8 @@ class CashFlow:
         share, tonnes = self.flow.share[mine], self.flow.whole["total_tonnes"].to_numpy()[mine]
         year = self.flow.rows["year"].to_numpy()[mine]
         found = pd.DataFrame({name: values[mine] * share for name, values in self.lines.items()})
-        slack = pd.DataFrame({name: np.abs(values[mine]) * AMOUNT / tonnes for name, values in self.lines.items()})
+        rounded = self.flow.rounded / tonnes
+        slack = pd.DataFrame({name: np.abs(values[mine]) * rounded for name, values in self.lines.items()})
         fed = (self.flow.process >= 0)[mine]
         # Half of the last decimal of a mining cost, and of a revenue and a processing cost.
         slack["rounding"] = (
@@ -191,7 +192,7 @@ class CashFlow:
     def due(self, name: str) -> bool:
         """Whether a line is written."""
         project, money = self.project, self.project.economics
-        added = project.pushbacks and project.pushbacks.mining_cost_added
+        added = not self.answer.is_by_block and project.pushbacks and project.pushbacks.mining_cost_added
         optional = {
             "mining_cost_depth": money.mining_cost_per_bench or money.mining_cost_by_elevation,
             "haulage_cost": project.haulage,
@@ -241,7 +242,7 @@ def unlike(found: CashFlow, method: str, said: pd.DataFrame, years: pd.DataFrame
     if (said["operating_cash_flow"] - spent - said["cash_flow"]).abs().max() > 3 * AMOUNT:
         yield "operating_cash_flow less capex is not cash_flow"
     for name, due in expected.items():
-        value = said[name].to_numpy(dtype=float)
+        value, due = said[name].to_numpy(dtype=float), np.asarray(due, dtype=float)
         slack = np.broadcast_to(loose.get(name, 2e-6), len(said)) + 1e-8 * np.abs(due)
         off = (np.abs(value - due) > slack) | (np.isnan(value) != ~np.isfinite(due))
         yield from (f"year {said['year'][k]}: {name} {value[k]:.10g} for {due[k]:.10g}" for k in np.flatnonzero(off))

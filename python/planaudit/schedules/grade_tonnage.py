@@ -1,4 +1,4 @@
-"""Verifies grade_tonnage.csv of a schedule of pushbacks: tonnes and metal above each cut-off, and what marked cut-offs earn."""
+"""Verifies grade_tonnage.csv of a schedule: tonnes and metal above each cut-off, and what marked cut-offs earn."""
 
 from __future__ import annotations
 
@@ -10,7 +10,7 @@ import pandas as pd
 from planaudit.inputs.answer import Answer
 from planaudit.inputs.matching import PUSHBACK
 from planaudit.inputs.project import GRADE_UNITS, Metal
-from planaudit.inputs.tables import read_table
+from planaudit.inputs.tables import YEAR, read_table
 from planaudit.rules import TOLD, Rule, rule
 from planaudit.schedules.cutoff_table import GRADE, MONEY, Material
 from planaudit.schedules.lots import MILL
@@ -29,10 +29,9 @@ def verify(answer: Answer) -> Rule:
 
 def unlike_curves(answer: Answer, said: pd.DataFrame) -> Iterator[str]:
     """Yields rows that differ from the sums over blocks, and missing parts or classes."""
-    pushback, column = answer.said[PUSHBACK].to_numpy(), answer.project.table.resource_class
+    column = answer.project.table.resource_class
     code = answer.rows[column].astype(str).to_numpy() if column else np.full(len(answer.rows), "all")
-    parts = {"model": pushback >= 0, "pit": pushback > 0}
-    parts |= {f"pushback {number}": pushback == number for number in range(1, int(pushback.max()) + 1)}
+    parts = parts_of(answer)
     masks = {(part, name): mask & (code == name) for part, mask in parts.items() for name in sorted(set(code))}
     masks = {key: mask & (answer.tonnes > 0) for key, mask in masks.items() if (mask & (answer.tonnes > 0)).any()}
     metals = {metal.name: metal for metal in answer.project.metals}
@@ -51,6 +50,16 @@ def unlike_curves(answer: Answer, said: pd.DataFrame) -> Iterator[str]:
                 f"{FILE}: {part}, {name}, {of_metal} above {row['cutoff_grade']:.10g}: {text}"
                 for text in unlike(row, answer, (mask, above), tonnes[above])
             )
+
+
+def parts_of(answer: Answer) -> dict[str, np.ndarray]:
+    """Returns by name the blocks of the model, of the pit, and of each pushback; by block the pit is what is mined."""
+    if answer.is_by_block:
+        year = answer.said[YEAR].to_numpy()
+        return {"model": year >= 0, "pit": year > 0}
+    pushback = answer.said[PUSHBACK].to_numpy()
+    of_each = {f"pushback {number}": pushback == number for number in range(1, int(pushback.max()) + 1)}
+    return {"model": pushback >= 0, "pit": pushback > 0} | of_each
 
 
 def unlike(

@@ -1,4 +1,4 @@
-"""Verifies inventory.csv of a schedule of pushbacks, and the shares of blocks in blocks.csv, from flows.csv."""
+"""Verifies inventory.csv of a schedule, and the shares of blocks in blocks.csv, from flows."""
 
 from __future__ import annotations
 
@@ -16,21 +16,28 @@ from planaudit.rules import TOLD, Rule, rule
 from planaudit.schedules.material_flow import AMOUNT, PIT, WASTE, MaterialFlow
 
 FILE, CATEGORY = "inventory.csv", "category"
+# The keys of lots besides their codes.
+OF_LOTS = ("pushback", "level", "bin", "block")
 # The last decimal of grades and of shares.
 GRADE, SHARE = 2e-6, 1e-6
 
 
 def verify(flow: MaterialFlow, shown: str) -> Rule:
     """Verifies the rows of all methods, and the shares of blocks, by the method that is shown."""
-    found = [*unlike_rows(flow), *unlike_shares(flow, shown)]
+    return rule_of([*unlike_rows(flow), *unlike_shares(flow, shown)])
+
+
+def rule_of(found: list[str]) -> Rule:
+    """Returns the rule with its differences."""
     holds = "the inventory and the shares of blocks are the sums of flows, and no ore is of a class that is no basis of reserves"
     return rule("inventory", holds, found[:TOLD], len(found))
 
 
 def unlike_rows(flow: MaterialFlow) -> Iterator[str]:
     """Yields rows of inventory.csv that are not the sums of their flows, or are of another category."""
-    codes = [name for name in flow.keys if name not in ("pushback", "level", "bin")]
-    keys, metals = ["method", "year", "pushback", "bench", *codes, "source", "destination"], flow.answer.project.metals
+    codes, metals = [name for name in flow.keys if name not in OF_LOTS], flow.answer.project.metals
+    places = [name for name in ("pushback",) if name in flow.keys]
+    keys = ["method", "year", *places, "bench", *codes, "source", "destination"]
     texts = ["method", *codes, "source", "destination", CATEGORY]
     said = read_table(flow.answer.folder / "tables" / FILE, texts)
     # What lay on stockpiles at the start is of pushback 0, and of no bench.
@@ -42,7 +49,7 @@ def unlike_rows(flow: MaterialFlow) -> Iterator[str]:
         yield f"{FILE}: has {len(said):,} rows for {len(sums):,} places of flows.csv, or others"
         return
     at = pd.MultiIndex.from_frame(said[keys])
-    sums, slack = sums.reindex(at).reset_index(drop=True), AMOUNT * (count.reindex(at).to_numpy() + 1)
+    sums, slack = sums.reindex(at).reset_index(drop=True), flow.rounded * count.reindex(at).to_numpy() + AMOUNT
     expected = {name: (sums[name].to_numpy(), slack + 1e-9 * sums[name].to_numpy()) for name in sums}
     for metal in metals:
         unit = float(GRADE_UNITS[metal.unit])

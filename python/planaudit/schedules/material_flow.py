@@ -38,11 +38,14 @@ class MaterialFlow:
     blocks : BlockAmounts
     rows : DataFrame
         flows.csv, with the `level` of each bench.
+    rounded : float
+        The last decimal place of the tonnes of rows.
     """
 
     answer: Answer
     blocks: BlockAmounts
     rows: pd.DataFrame
+    rounded: float = AMOUNT
 
     @cached_property
     def keys(self) -> list[str]:
@@ -113,7 +116,7 @@ class MaterialFlow:
         fed = np.where(self.process >= 0, self.share, 0.0)
         moved = np.where((self.rows["destination"] == WASTE).to_numpy(), 0.0, self.share)
         # The share that a rounded tonnage leaves open.
-        open_to = AMOUNT / self.whole["total_tonnes"].to_numpy()
+        open_to = self.rounded / self.whole["total_tonnes"].to_numpy()
         found = {}
         for name in ("feed_tonnes", *(f"contained_{metal.name}" for metal in self.answer.project.metals)):
             whole = self.whole[name].to_numpy()

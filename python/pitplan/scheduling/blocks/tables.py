@@ -18,13 +18,14 @@ from pitplan.economics.period_costs import COSTS, of_project
 from pitplan.pits.best_worst_case import year_discounts
 from pitplan.plan import Plan
 from pitplan.pushbacks.bench_table import CASH, ORE, ROCK
+from pitplan.scheduling.methods import BLOCK
 
 from .from_plan import PlannedBlocks, cash_of, of_plan
 from .keys import unapplied
 from .scheduler import Scheduled, gap_of, solve
 
-# What years.csv calls the case, and how the names of blocks.csv's columns of shares begin.
-CASE, SHARE = "block", "share_"
+# How the names of blocks.csv's columns of shares begin.
+SHARE = "share_"
 # What bound.csv calls the minimum of must-mine blocks.
 MUST_MINE = "must_mine"
 
@@ -71,7 +72,7 @@ class ScheduledBlocks:
         cash = cash_of(self.planned.flows, of_project(project), problem.years)
         dug = np.arange(problem.blocks), slice(None), np.minimum(schedule.year, problem.years - 1)
         flows, count = self.planned.flows | {CASH: cash[dug]}, self.count
-        table = pd.DataFrame({"case": CASE, "revenue_factor": BASE_PRICE, "year": np.arange(1, count + 1)})
+        table = pd.DataFrame({"case": BLOCK, "revenue_factor": BASE_PRICE, "year": np.arange(1, count + 1)})
         for name, amounts in [(name, amounts) for name, amounts in flows.items() if name not in COSTS]:
             of_blocks = (amounts * schedule.share).sum(axis=1)
             table[name] = np.bincount(schedule.year, of_blocks, minlength=problem.years + 1)[:count]
@@ -104,7 +105,7 @@ class ScheduledBlocks:
     def methods(self) -> pd.DataFrame:
         """The same as the row of a way, which is called as its case in years.csv."""
         table = self.table
-        table.insert(0, "method", CASE)
+        table.insert(0, "method", BLOCK)
         return table
 
     @property

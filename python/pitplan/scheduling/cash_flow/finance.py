@@ -9,7 +9,8 @@ import numpy as np
 from scipy.optimize import brentq
 
 from pitplan.config.cash_flow import CashFlowRules
-from pitplan.scheduling.pushback_schedule import YearlySchedule
+from pitplan.config.project import Project
+from pitplan.pits.best_worst_case import year_discounts
 
 from .lines import Statement
 from .operation import Amounts
@@ -24,17 +25,17 @@ class Finance:
 
     Attributes
     ----------
-    schedule : YearlySchedule
-        The schedule, whose discounting applies.
+    project : Project
+        Its discounting applies.
     statement : Statement
     """
 
-    schedule: YearlySchedule
+    project: Project
     statement: Statement
 
     @property
     def rules(self) -> CashFlowRules:
-        return self.schedule.pushbacks.plan.project.cash_flow
+        return self.project.cash_flow
 
     @cached_property
     def closure(self) -> Amounts:
@@ -76,10 +77,8 @@ class Finance:
 
     def factors(self, rate: float) -> tuple[Amounts, Amounts]:
         """Returns the discount factors of the periods at a rate: of their cash, and of capex at their start."""
-        model = self.schedule.model
-        problem = replace(model.problem, settings=replace(model.problem.settings, discount_rate=rate))
-        other = replace(self.schedule, model=replace(model, problem=problem))
-        return other.discounts(len(self.statement.ends)), (1 + rate) ** -self.statement.starts
+        settings = replace(self.project.shells, discount_rate=rate)
+        return year_discounts(settings, len(self.statement.ends)), (1 + rate) ** -self.statement.starts
 
     def npv(self, cash: Amounts, rate: float) -> float:
         """Returns the net present value of cash and of the capex at a rate."""

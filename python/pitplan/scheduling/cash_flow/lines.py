@@ -17,14 +17,10 @@ from pitplan.economics.cost_lines import PROCESSING, ROYALTY
 from pitplan.economics.period_costs import MINING_COST, PROCESSING_COST, SELLING_COST, yearly_prices
 from pitplan.economics.weighing import DEPTH, HAULAGE, MILLIONTHS, MINING
 from pitplan.pits import shell_tables
-from pitplan.scheduling import pushback_schedule
-from pitplan.scheduling.pushback_schedule import YearlySchedule
 
-from .operation import Amounts, Material, Operation
+from .operation import Amounts, Lines, Operation
 from .sales import Sale
 
-# Lines by their columns in cash_flow.csv.
-Lines = dict[str, Amounts]
 # Prices by metal and period, in the unit of the metal's price.
 Prices = dict[str, list[Decimal]]
 # How the columns of charges begin.
@@ -89,28 +85,19 @@ class Statement:
         return np.asarray(sum(lines.values(), np.zeros(len(self.ends))))
 
 
-def statements(schedule: YearlySchedule) -> list[Statement]:
-    """Returns the cash flow of each method by line."""
-    material, years = Material(schedule), pushback_schedule.years(schedule)
-    return [
-        statement(Operation(material, flows), method, years[years["case"] == method])
-        for method, flows in schedule.flows.items()
-    ]
-
-
 def statement(operation: Operation, method: str, years: pd.DataFrame) -> Statement:
     """Returns the cash flow of a method; `years` are its rows of years.csv."""
     nothing = np.zeros(len(years))
     of_years = {name: years[name].to_numpy() if name in years else nothing for name in ("fixed_cost", "capex")}
-    metals = operation.material.plan.project.metals
+    metals = operation.plan.project.metals
     prices = {metal.name: prices_of(metal, operation) for metal in metals}
     sales = {metal.name: Sale.of(operation, number, prices[metal.name]) for number, metal in enumerate(metals)}
     revenue = {f"revenue_{name}": sale.total(smelter_terms.paid) for name, sale in sales.items()}
-    costs = mining_costs(operation) | processing_costs(operation) | stockpile_costs(operation)
+    costs = mining_costs(operation) | processing_costs(operation) | operation.stockpile_costs
     return Statement(
         method=method,
         year=years["year"].to_numpy(),
-        ends=operation.material.plan.project.shells.calendar.ends(len(years)),
+        ends=operation.plan.project.shells.calendar.ends(len(years)),
         physicals=physicals(operation, sales),
         prices={f"price_{name}": np.array(of_years, dtype=float) for name, of_years in prices.items()},
         revenue=revenue,
@@ -130,18 +117,18 @@ def units_of_price(metal: Metal) -> float:
 
 def prices_of(metal: Metal, operation: Operation) -> list[Decimal]:
     """Returns the price of a metal in each period, in the unit of its price."""
-    listed = yearly_prices(operation.material.plan.project, metal) or (metal.price,)
-    return [listed[min(year, len(listed) - 1)] for year in range(operation.flows.years)]
+    listed = yearly_prices(operation.plan.project, metal) or (metal.price,)
+    return [listed[min(year, len(listed) - 1)] for year in range(operation.years)]
 
 
 def physicals(operation: Operation, sales: dict[str, Sale]) -> Lines:
     """Returns tonnes, strip ratio, head grades and metals."""
-    values, project = operation.material.plan.values, operation.material.plan.project
+    values, project = operation.plan.values, operation.plan.project
     total, ore = operation.mined(values.tonnes), operation.ore(values.tonnes)
-    waste, feed = np.maximum(total - ore, 0.0), operation.fed_anywhere(operation.material.feed)
+    waste, feed = np.maximum(total - ore, 0.0), operation.fed_anywhere(operation.amounts.feed)
     found = {"total_tonnes": total, "waste_tonnes": waste, "strip_ratio": shell_tables.ratio(waste, ore)}
     found["feed_tonnes"] = feed
-    contained = {name: operation.fed_anywhere(metal) for name, metal in operation.material.contained.items()}
+    contained = {name: operation.fed_anywhere(metal) for name, metal in operation.amounts.contained.items()}
     for metal in project.metals:
         content = contained[metal.name] / float(GRADE_UNITS[metal.unit])
         found[f"head_grade_{metal.name}"] = shell_tables.ratio(content, feed)
@@ -158,7 +145,7 @@ def physicals(operation: Operation, sales: dict[str, Sale]) -> Lines:
 
 def royalties(operation: Operation, revenue: Lines) -> Lines:
     """Returns the royalty, by revenue and by tonne of feed."""
-    project, costs = operation.material.plan.project, operation.material.costs
+    project, costs = operation.plan.project, operation.amounts.costs
     royalty = float(project.economics.royalty) * sum(revenue.values())
     royalty = royalty + sum(operation.fed(lines[ROYALTY], number) for number, lines in enumerate(costs.processing))
     return {"royalty": np.asarray(royalty)}
@@ -167,13 +154,13 @@ def royalties(operation: Operation, revenue: Lines) -> Lines:
 def charges(operation: Operation, sales: dict[str, Sale]) -> Lines:
     """Returns the selling costs by metal and the charges of its smelter, each if a process has them."""
     found, factors = dict[str, Amounts](), operation.factors(SELLING_COST)
-    for metal in operation.material.plan.project.metals:
+    for metal in operation.plan.project.metals:
         for kind, line in sales[metal.name].charges().items():
             is_multiplied = kind != smelter_terms.PARTICIPATION
             found[f"{COLUMNS[kind]}_{metal.name}"] = line * factors if is_multiplied else line
         if metal.smelter and metal.smelter.penalties:
             of_blocks = f"{smelter_terms.PENALTIES} {metal.name}"
-            costs = enumerate(operation.material.costs.processing)
+            costs = enumerate(operation.amounts.costs.processing)
             charged = sum(operation.fed(lines[of_blocks], number) for number, lines in costs if of_blocks in lines)
             found[f"{COLUMNS[smelter_terms.PENALTIES]}_{metal.name}"] = np.asarray(charged) * factors
     return found
@@ -181,8 +168,7 @@ def charges(operation: Operation, sales: dict[str, Sale]) -> Lines:
 
 def mining_costs(operation: Operation) -> Lines:
     """Returns the cost of mining ore and waste, of depth, of haulage, and what pushbacks add."""
-    material = operation.material
-    costs, project = material.costs, material.plan.project
+    costs, project = operation.amounts.costs, operation.plan.project
     ore = operation.ore(costs.mining[MINING])
     found = {"mining_cost_ore": ore, "mining_cost_waste": operation.mined(costs.mining[MINING]) - ore}
     if costs_more_below(project):
@@ -191,8 +177,8 @@ def mining_costs(operation: Operation) -> Lines:
         hauled = operation.mined(costs.mining[HAULAGE])
         of_ore = [operation.fed(lines[HAULAGE], number) for number, lines in enumerate(costs.processing)]
         found["haulage_cost"] = np.asarray(hauled + sum(of_ore))
-    if project.pushbacks and project.pushbacks.mining_cost_added:
-        found["mining_cost_added"] = operation.mined(material.schedule.pushbacks.mining_cost_added)
+    if operation.added is not None:
+        found["mining_cost_added"] = operation.mined(operation.added)
     factors = operation.factors(MINING_COST)
     return {name: cost * factors for name, cost in found.items()}
 
@@ -207,22 +193,13 @@ def processing_costs(operation: Operation) -> Lines:
     factors = operation.factors(PROCESSING_COST)
     return {
         f"processing_cost_{name or MILL}": operation.fed(lines[PROCESSING], number) * factors
-        for number, (name, lines) in enumerate(
-            zip(operation.material.schedule.names, operation.material.costs.processing)
-        )
+        for number, (name, lines) in enumerate(zip(operation.names, operation.amounts.costs.processing))
     }
-
-
-def stockpile_costs(operation: Operation) -> Lines:
-    """Returns the costs of stacking and reclaiming, if there are stockpiles."""
-    if not operation.material.schedule.is_stocked:
-        return {}
-    return {"stacking_cost": operation.stacking, "reclaim_cost": operation.reclaim}
 
 
 def rounding_of(operation: Operation) -> Amounts:
     """Returns what rounding the block values to the decimals of the project adds to the cash flow."""
-    costs = operation.material.costs
+    costs = operation.amounts.costs
     found = operation.mined(costs.mining_rounding) * operation.factors(MINING_COST)
     for number, values in enumerate(costs.processing_rounding):
         found = found + operation.fed(values, number)

@@ -36,7 +36,7 @@ class Sale:
     @classmethod
     def of(cls, operation: Operation, number: int, prices: list[Decimal]) -> Sale:
         """Returns the sale of a metal of the project, by number."""
-        metals = tuple(alone.metals[number] for alone in operation.material.plan.project.by_process)
+        metals = tuple(alone.metals[number] for alone in operation.plan.project.by_process)
         return cls(metals, operation.recovered(metals[0].name), prices)
 
     def total(self, value: Callable[[Metal, Decimal], Decimal]) -> Amounts:

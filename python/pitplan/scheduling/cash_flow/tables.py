@@ -1,4 +1,4 @@
-"""The tables cash_flow.csv and valuation.csv of a schedule of pushbacks."""
+"""The tables cash_flow.csv and valuation.csv of a schedule."""
 
 from __future__ import annotations
 
@@ -6,38 +6,34 @@ import numpy as np
 import pandas as pd
 
 from pitplan.config.project import Project
+from pitplan.economics import period_costs
 from pitplan.pits import shell_tables
-from pitplan.scheduling.pushback_schedule import YearlySchedule
 
 from .finance import Finance
-from .lines import Lines, Statement, is_rounded, statements, units_of_price
+from .lines import Statement, is_rounded, units_of_price
+from .operation import Lines
 
 # The lines of mining, and those that the unit cost of a tonne of feed leaves out.
 OF_MINING = ("mining_cost", "haulage_cost")
 
 
-def finances(schedule: YearlySchedule) -> list[Finance]:
-    """Returns the free cash flow of each method."""
-    return [Finance(schedule, it) for it in statements(schedule)]
-
-
-def cash_flow_table(schedule: YearlySchedule, found: list[Finance]) -> pd.DataFrame:
+def cash_flow_table(found: list[Finance]) -> pd.DataFrame:
     """Returns one row per method and period; costs, capex, depreciation and tax are positive.
 
     Columns: method, year; tonnes, grades and metals; price_METAL; revenue_METAL, royalty, selling_cost_METAL or the charges of smelters, the
     lines of mining, processing, stockpiles and fixed costs, rounding; operating_cash_flow, capex and cash_flow, that of years.csv; closure_cost, depreciation,
     taxable_income and tax if `[cash_flow]` has them; free_cash_flow; both discounted; and unit costs.
     """
-    return pd.concat([rows_of(schedule, it) for it in found], ignore_index=True)
+    return pd.concat([rows_of(it) for it in found], ignore_index=True)
 
 
-def rows_of(schedule: YearlySchedule, finance: Finance) -> pd.DataFrame:
-    it, project = finance.statement, schedule.pushbacks.plan.project
-    discounts, starts = finance.factors(schedule.settings.discount_rate)
+def rows_of(finance: Finance) -> pd.DataFrame:
+    it, project = finance.statement, finance.project
+    discounts, starts = finance.factors(project.shells.discount_rate)
     head = {"method": np.full(len(it.year), it.method, dtype=object), "year": it.year}
     lines = it.revenue | it.deductions | it.costs | ({"rounding": it.rounding} if is_rounded(project) else {})
     flows: Lines = {"operating_cash_flow": it.operating}
-    flows |= {"capex": it.capex} if schedule.problem.money.columns else {}
+    flows |= {"capex": it.capex} if period_costs.of_project(project).columns else {}
     flows |= {"cash_flow": it.cash_flow} | taxes(finance)
     flows["free_cash_flow"] = finance.after_tax - it.capex
     flows["discounted_cash_flow"] = it.discounted
@@ -71,10 +67,9 @@ def unit_costs(it: Statement, project: Project) -> Lines:
     }
 
 
-def valuation_table(schedule: YearlySchedule, found: list[Finance]) -> pd.DataFrame:
+def valuation_table(project: Project, found: list[Finance]) -> pd.DataFrame:
     """Returns one row per method and discount rate: NPV, internal rate of return and payback, before and after closure cost and tax."""
-    rules = schedule.pushbacks.plan.project.cash_flow
-    rates = sorted({schedule.settings.discount_rate, *map(float, rules.discount_rates)})
+    rates = sorted({project.shells.discount_rate, *map(float, project.cash_flow.discount_rates)})
     return pd.DataFrame([row for it in found for row in values_of(it, rates)])
 
 

@@ -1,0 +1,109 @@
+"""The tables that schedules of pushbacks and by block write: cash flow by line, inventory, grade-tonnage curves, and of pushbacks flows."""
+
+from __future__ import annotations
+
+from dataclasses import dataclass, field
+from pathlib import Path
+from typing import TYPE_CHECKING
+
+import pandas as pd
+
+from pitplan.config.project import Project
+from pitplan.core import layout
+from pitplan.core.atomic_files import write_json
+from pitplan.results import names
+from pitplan.results.rounding import named, shown, write_csv
+from pitplan.scheduling.methods import BLOCK
+
+if TYPE_CHECKING:
+    from pitplan.scheduling.blocks.tables import ScheduledBlocks
+    from pitplan.scheduling.cash_flow.finance import Finance
+    from pitplan.scheduling.pushback_schedule import YearlySchedule
+
+INVENTORY = "inventory"
+
+
+@dataclass(frozen=True)
+class ScheduleTables:
+    """The tables of a schedule.
+
+    Attributes
+    ----------
+    method : str
+        The method that is shown.
+    cash_flow, valuation, grade_tonnage : DataFrame
+    flows : dict of str to DataFrame
+        Tables of material by the names of their files and sheets, the inventory among them.
+    """
+
+    method: str
+    cash_flow: pd.DataFrame
+    valuation: pd.DataFrame
+    grade_tonnage: pd.DataFrame
+    flows: dict[str, pd.DataFrame] = field(default_factory=dict)
+
+    @property
+    def inventory(self) -> pd.DataFrame:
+        """The rows of the inventory of the method that is shown."""
+        table = self.flows[INVENTORY]
+        return table[table["method"] == self.method].reset_index(drop=True)
+
+    def write(self, project: Project, stage: Path) -> None:
+        """Writes the tables."""
+        for path, table in ((names.CASH_FLOW, self.cash_flow), (names.VALUATION, self.valuation)):
+            write_csv(shown(table), stage / path, project)
+        for name, table in self.flows.items():
+            named(shown(table), project).to_csv(stage / layout.TABLES / f"{name}.csv", index=False)
+        shown(self.grade_tonnage).to_csv(stage / names.GRADE_TONNAGE, index=False)
+
+
+def of_pushbacks(schedule: YearlySchedule) -> ScheduleTables:
+    """Returns the tables of a schedule of pushbacks."""
+    from pitplan.scheduling import inventory
+    from pitplan.scheduling.cash_flow.of_pushbacks import finances
+    from pitplan.scheduling.flow import tables
+    from pitplan.scheduling.flow.cutoff_table import cutoff_table
+
+    flows = {"feed": tables.feed_table(schedule), "flows": schedule.material_flows, "cutoffs": cutoff_table(schedule)}
+    flows[INVENTORY] = inventory.inventory_table(schedule)
+    flows |= {"stockpiles": tables.stockpile_table(schedule)} if schedule.is_stocked else {}
+    curves, project = inventory.grade_tonnage_table(schedule), schedule.pushbacks.plan.project
+    return ScheduleTables(schedule.shown, *money(project, finances(schedule)), curves, flows)
+
+
+def of_blocks(blocks: ScheduledBlocks) -> ScheduleTables:
+    """Returns the tables of a schedule by block."""
+    from pitplan.scheduling.blocks import inventory
+    from pitplan.scheduling.cash_flow.of_blocks import finances
+
+    curves, project = inventory.grade_tonnage_table(blocks), blocks.planned.plan.project
+    flows = {INVENTORY: inventory.inventory_table(blocks)}
+    return ScheduleTables(BLOCK, *money(project, finances(blocks)), curves, flows)
+
+
+def money(project: Project, found: list[Finance]) -> tuple[pd.DataFrame, pd.DataFrame]:
+    """Returns the cash flow by line and the valuation."""
+    from pitplan.scheduling.cash_flow import tables
+
+    return tables.cash_flow_table(found), tables.valuation_table(project, found)
+
+
+def write_pushbacks(schedule: YearlySchedule, project: Project, stage: Path) -> None:
+    """Writes the tables that only schedules of pushbacks have: schedule.csv, methods.csv, schedule.json, limits.csv and bound.csv."""
+    from pitplan.scheduling import pushback_record, pushback_schedule
+    from pitplan.scheduling.flow.limit_table import limit_table
+    from pitplan.scheduling.flow.tables import bound_table
+
+    write_csv(shown(pushback_schedule.table(schedule)), stage / names.SCHEDULE, project)
+    write_csv(shown(pushback_schedule.methods(schedule)), stage / names.METHODS, project)
+    write_json(stage / names.SCHEDULE_RECORD, pushback_record.record(schedule))
+    named(shown(limit_table(schedule)), project).to_csv(stage / names.LIMITS, index=False)
+    if schedule.optimum is not None:
+        named(bound_table(schedule), project).to_csv(stage / names.BOUND, index=False)
+
+
+def write_blocks(blocks: ScheduledBlocks, project: Project, stage: Path) -> None:
+    """Writes the tables that only schedules by block have: block_schedule.json, methods.csv and bound.csv."""
+    write_json(stage / names.BLOCK_SCHEDULE, blocks.record)
+    write_csv(shown(blocks.methods), stage / names.METHODS, project)
+    named(blocks.multipliers, project).to_csv(stage / names.BOUND, index=False)

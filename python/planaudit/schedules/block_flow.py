@@ -1,0 +1,79 @@
+"""The flows of a schedule by block: where the shares of each mined block go, by blocks.csv; and what verifies the tables that sum them."""
+
+from __future__ import annotations
+
+from collections.abc import Iterator
+from dataclasses import dataclass, replace
+from functools import cached_property
+
+import numpy as np
+import pandas as pd
+
+from planaudit.inputs.answer import Answer
+from planaudit.inputs.matching import own_name
+from planaudit.inputs.tables import YEAR
+from planaudit.rules import Rule
+from planaudit.schedules import cash_flow, grade_tonnage, inventory
+from planaudit.schedules.limits import shares_of
+from planaudit.schedules.lots import MILL, BlockAmounts
+from planaudit.schedules.material_flow import PIT, WASTE, MaterialFlow
+
+CASE = "block"
+# A share that the tolerance of a solver alone may leave.
+SLIGHT = 1e-9
+
+
+@dataclass(frozen=True)
+class SingleBlocks(BlockAmounts):
+    """What each mined block adds to amounts. Each block is a lot of its own."""
+
+    @cached_property
+    def inside(self) -> np.ndarray:
+        """The rows of mined blocks with tonnes."""
+        return np.flatnonzero((self.answer.said[YEAR].to_numpy() > 0) & (self.answer.tonnes > 0))
+
+    @cached_property
+    def mining_cash(self) -> np.ndarray:
+        """What mining each block earns, below 0. No pushback adds anything to it."""
+        return -self.answer.said["mining_cost"].to_numpy()[self.inside]
+
+    @cached_property
+    def keys(self) -> pd.DataFrame:
+        """The level of each block from the top, its row, and its codes."""
+        answer, table = self.answer, self.answer.project.table
+        codes = [name for name in (table.rock_type, table.resource_class) if name]
+        found = {"level": answer.cells[0][self.inside], "block": self.inside}
+        return pd.DataFrame(found | {own_name(it): answer.rows[it].astype(str).to_numpy()[self.inside] for it in codes})
+
+
+def flow_of(answer: Answer) -> MaterialFlow:
+    """Returns a row per mined block and destination that takes a share of it, with its amounts. No amount is rounded."""
+    blocks = SingleBlocks(answer)
+    shares = [(name or MILL, share[blocks.inside]) for name, share in shares_of(answer)]
+    shares.append((WASTE, 1.0 - np.sum([share for _, share in shares], axis=0)))
+    year = answer.said[YEAR].to_numpy()[blocks.inside]
+    parts = []
+    for destination, share in shares:
+        some = np.flatnonzero(share > SLIGHT)
+        found = {"method": CASE, "year": year[some], "source": PIT, "destination": destination}
+        found["total_tonnes"] = blocks.tonnes[some] * share[some]
+        found["bench"] = answer.elevations[blocks.keys["level"].to_numpy()[some]]
+        parts.append(pd.concat([blocks.keys.iloc[some].reset_index(drop=True), pd.DataFrame(found)], axis=1))
+    flow = MaterialFlow(answer, blocks, pd.concat(parts, ignore_index=True), rounded=0.0)
+    return replace(flow, rows=flow.rows.assign(**{name: due for name, (due, _) in flow.expected.items()}))
+
+
+def verify(answer: Answer) -> list[Rule]:
+    """Verifies inventory.csv, cash_flow.csv, valuation.csv and grade_tonnage.csv."""
+    flow = flow_of(answer)
+    return [
+        inventory.rule_of([*untaken(flow), *inventory.unlike_rows(flow)]),
+        cash_flow.verify(flow, [CASE]),
+        grade_tonnage.verify(answer),
+    ]
+
+
+def untaken(flow: MaterialFlow) -> Iterator[str]:
+    """Yields blocks that go to a process in which they have no revenue."""
+    for row in flow.rows[flow.by_process("not taken") > 0].itertuples():
+        yield f"{flow.answer.called(row.block)}: goes to {row.destination}, where it has no revenue"
