@@ -119,6 +119,7 @@ def tables_of(answered: Answered) -> list[str]:
         found += [names.CASH_FLOW, names.VALUATION, names.GRADE_TONNAGE]
         found += [names.BOUND] if answered.schedule.optimum else []
         found += [names.STOCKPILES] if answered.schedule.is_stocked else []
+        found += [names.DUMPS] if answered.schedule.model.dumps else []
     return found
 
 
@@ -130,7 +131,8 @@ def flow_tables(schedule: YearlySchedule) -> dict[str, pd.DataFrame]:
 
     found = {"feed": tables.feed_table(schedule), "flows": schedule.material_flows, "cutoffs": cutoff_table(schedule)}
     found["inventory"] = inventory_table(schedule)
-    return found | ({"stockpiles": tables.stockpile_table(schedule)} if schedule.is_stocked else {})
+    found |= {"stockpiles": tables.stockpile_table(schedule)} if schedule.is_stocked else {}
+    return found | ({"dumps": tables.dump_table(schedule)} if schedule.model.dumps else {})
 
 
 def cash_flow_tables(schedule: YearlySchedule) -> dict[str, pd.DataFrame]:

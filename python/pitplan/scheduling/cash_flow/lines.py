@@ -106,7 +106,7 @@ def statement(operation: Operation, method: str, years: pd.DataFrame) -> Stateme
     prices = {metal.name: prices_of(metal, operation) for metal in metals}
     sales = {metal.name: Sale.of(operation, number, prices[metal.name]) for number, metal in enumerate(metals)}
     revenue = {f"revenue_{name}": sale.total(smelter_terms.paid) for name, sale in sales.items()}
-    costs = mining_costs(operation) | processing_costs(operation) | stockpile_costs(operation)
+    costs = mining_costs(operation) | processing_costs(operation) | stockpile_costs(operation) | dump_costs(operation)
     return Statement(
         method=method,
         year=years["year"].to_numpy(),
@@ -218,6 +218,12 @@ def stockpile_costs(operation: Operation) -> Lines:
     if not operation.material.schedule.is_stocked:
         return {}
     return {"stacking_cost": operation.stacking, "reclaim_cost": operation.reclaim}
+
+
+def dump_costs(operation: Operation) -> Lines:
+    """Returns the cost of dumps, if there are any."""
+    waste = operation.flows.model.waste
+    return {"dump_cost": np.asarray(waste.costs @ operation.flows.placed)} if waste.dumps else {}
 
 
 def rounding_of(operation: Operation) -> Amounts:
