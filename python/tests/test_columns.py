@@ -25,6 +25,9 @@ mining_cost_added = [0, 0.125]
 [schedule]
 bins = 2
 stockpile = { reclaim_cost = 1.2 }
+[[dumps]]
+name = "north"
+cost = 0.1
 [sensitivity]
 changes = [0.1]
 parameters = "mining_cost"
@@ -133,6 +136,7 @@ def test_each_column_that_is_written_is_in_the_schema_and_each_of_the_schema_is_
         "feed.csv",
         "cutoffs.csv",
         "stockpiles.csv",
+        "dumps.csv",
         "inventory.csv",
         "grade_tonnage.csv",
         "cash_flow.csv",

@@ -198,6 +198,7 @@ def amounts(frame: pd.DataFrame, parts: Parts, project: Project) -> dict[str, np
         *rules.columns_of(per_tonne=True),
         *project.graded_columns,
         *project.penalty_columns,
+        *project.dump_columns,
     }
     whole = rules.columns_of(per_tonne=False)
     found = {name: parts.means if name in means else parts.sums for name in frame.columns if name in (*means, *whole)}

@@ -55,7 +55,7 @@ def demand_amounts(frame: pd.DataFrame, project: Project, source: str) -> None:
     """Raises PlanError for amounts that no block has: below 0, or more metal than the block weighs."""
     demand_near(frame, project, source)
     sums = project.limited_columns
-    for name in [*rock_of(project), *grades_of(project), *sums, *project.penalty_columns]:
+    for name in [*rock_of(project), *grades_of(project), *sums, *project.penalty_columns, *project.dump_columns]:
         demand_none_below_0(frame[name].to_numpy(), source, name)
     for metal in project.metals:
         demand_no_more_than_whole(frame[metal.column].to_numpy(), metal, source)

@@ -49,6 +49,7 @@ def named(project: Project) -> list[str]:
         *fixed,
         *sums,
         *project.penalty_columns,
+        *project.dump_columns,
     ]
     return [name for name in columns if name]
 

@@ -136,6 +136,7 @@ def tables_of(answered: Answered) -> list[str]:
         found += [names.MATERIAL_FLOWS, names.FEED, names.CUTOFFS, names.LIMITS]
         found += [names.BOUND] if answered.schedule.optimum else []
         found += [names.STOCKPILES] if answered.schedule.is_stocked else []
+        found += [names.DUMPS] if answered.schedule.model.dumps else []
     return found
 
 

@@ -21,7 +21,7 @@ def write_schedule(project: Source, folder: Optional[Place] = None, writing: Wri
     """Schedules the benches of pushbacks by years, as `pitplan schedule` does.
 
     The folder gets all files that `write_pushbacks` writes, with the year of each block in blocks.csv and the years of each method in
-    years.csv. It also gets schedule.csv, schedule.json, flows.csv, feed.csv, cutoffs.csv, limits.csv, stockpiles.csv if there is one, bound.csv,
+    years.csv. It also gets schedule.csv, schedule.json, flows.csv, feed.csv, cutoffs.csv, limits.csv, stockpiles.csv and dumps.csv if there are any, bound.csv,
     inventory.csv, grade_tonnage.csv, cash_flow.csv, valuation.csv, a workbook of the tables, and pictures.
     An interruption while programmes are solved ends these only, and schedule.json records it.
 

@@ -67,6 +67,7 @@ def of_pushbacks(schedule: YearlySchedule) -> ScheduleTables:
     flows = {"feed": tables.feed_table(schedule), "flows": schedule.material_flows, "cutoffs": cutoff_table(schedule)}
     flows[INVENTORY] = inventory.inventory_table(schedule)
     flows |= {"stockpiles": tables.stockpile_table(schedule)} if schedule.is_stocked else {}
+    flows |= {"dumps": tables.dump_table(schedule)} if schedule.model.dumps else {}
     curves, project = inventory.grade_tonnage_table(schedule), schedule.pushbacks.plan.project
     return ScheduleTables(schedule.shown, *money(project, finances(schedule)), curves, flows)
 

@@ -43,6 +43,7 @@ def demand_agreement(project: Project) -> None:
     demand_smelters(project)
     demand_sums_agree(project)
     demand_stockpiles(project)
+    demand_dumps(project)
     demand_periods(project)
     varied = project.sensitivity
     if (
@@ -185,7 +186,7 @@ def demand_sums_of_parts(project: Project, rules: ScheduleRules) -> None:
     """Refuses sums of whole blocks where a topography cuts these, and where those that are put together have the means of that column."""
     metals = (metal.column for metal in project.metals)
     of_a_tonne = (*metals, *project.economics.factor_columns, *project.graded_columns)
-    of_a_tonne += project.penalty_columns
+    of_a_tonne += (*project.penalty_columns, *project.dump_columns)
     means = {*rules.columns_of(per_tonne=True), *of_a_tonne}
     for it in [it for it in rules.limits if not it.per_tonne]:
         if project.table.topography:
@@ -203,7 +204,7 @@ def demand_accepted(project: Project, accepts: Accepts, where: str) -> None:
     for key, codes in accepts.codes.items():
         if codes and columns[key] is None:
             raise PlanError(f"{where}: has {key}, and [table] {key} names no column: name it")
-    known = [*(metal.column for metal in project.metals), *project.limited_columns]
+    known = [*(metal.column for metal in project.metals), *project.limited_columns, *project.dump_columns]
     for grade in accepts.grades:
         if grade.column not in known:
             expected = ", ".join(dict.fromkeys([*columns, *known]))
@@ -225,6 +226,17 @@ def demand_stockpiles(project: Project) -> None:
                 )
         demand_accepted(project, stockpile.accepts, where)
         demand_opening(project, stockpile)
+
+
+def demand_dumps(project: Project) -> None:
+    """Refuses dumps with the name of another place, and codes of columns that the project does not name."""
+    taken = {PIT, WASTE, *([process.name for process in project.processes] or [MILL])}
+    taken |= {it.name for it in (project.schedule.stockpiles if project.schedule else ())}
+    for dump in project.dumps:
+        if dump.name in taken:
+            why = "is the name of another source or destination: rename it"
+            raise PlanError(f"{project.path}: [[dumps]] {dump.name}: {why}")
+        demand_accepted(project, dump.accepts, f"[[dumps]] {dump.name}")
 
 
 def demand_processes_agree(project: Project) -> None:

@@ -77,7 +77,7 @@ def wrong_with(period: Period, project: Project) -> Iterator[tuple[str, str]]:
 
 
 def wrong_limits(period: Period, project: Project) -> Iterator[tuple[str, str]]:
-    """Yields limits on head grades and stockpiles that do not go with the project, and why."""
+    """Yields limits on head grades, stockpiles and dumps that do not go with the project, and why."""
     rules = project.schedule
     for column in dict.fromkeys(it.column for it in period.feed if not it.process and project.processes):
         name = project.processes[0].name
@@ -95,6 +95,9 @@ def wrong_limits(period: Period, project: Project) -> Iterator[tuple[str, str]]:
             yield "stockpiles", f"{pile.name}: min {least:.10g} is above the most that may lie there, {most:.10g}"
         if least and (rules is None or rules.years is None):
             yield "stockpiles", f"{pile.name}: [schedule] years is missing: the minimum applies to each of these years"
+    for dump in period.dumps:
+        if dump.min and (rules is None or rules.years is None):
+            yield "dumps", f"{dump.name}: [schedule] years is missing: the minimum applies to each of these years"
 
 
 def merged(*sides: tuple[Optional[float], Optional[float]]) -> tuple[Optional[float], ...]:
@@ -112,6 +115,7 @@ def unknown(period: Period, project: Project) -> Iterator[tuple[str, str, list[s
         "minimum": ([*period.minimum], [FEED, TOTAL, *metals, *processes]),
         "feed": ([it.process for it in period.feed if it.process], processes or ["columns, as there is one process"]),
         "stockpiles": ([it.name for it in period.stockpiles], [it.name for it in stockpiles]),
+        "dumps": ([it.name for it in period.dumps], [it.name for it in project.dumps]),
     }
     for key, (values, expected) in named.items():
         yield from ((key, name, expected) for name in values if name not in expected)

@@ -14,7 +14,7 @@ from .toml_section import Section
 # The row of a table below its header.
 FIRST_ROW = 2
 # The keys whose values are tables of tables.
-NESTED = ("feed", "stockpiles")
+NESTED = ("feed", "stockpiles", "dumps")
 
 
 def sections_of(path: Path) -> list[Section]:

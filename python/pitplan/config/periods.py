@@ -17,7 +17,7 @@ from numpy.typing import NDArray
 from .codes import CODES
 from .economics import MOST_YEARS
 from .feed_grades import FeedGrade, read_feed
-from .stockpiles import StockpileLimit, read_limits
+from .stockpiles import PlaceLimit, read_limits
 from .toml_section import Section
 
 Value = TypeVar("Value")
@@ -45,8 +45,8 @@ class Period:
         Per year, by the names of `[schedule.minimum]`.
     feed : tuple of FeedGrade
         Limits on head grades; a side that is None is as in the other sections.
-    stockpiles : tuple of StockpileLimit
-        Tonnes that lie on stockpiles at the end of each of its periods.
+    stockpiles, dumps : tuple of PlaceLimit
+        Tonnes that lie on stockpiles at the end of each of its periods, and tonnes per year that dumps take.
     prices : dict of str to Decimal
         By metal, in the unit of its `price`.
     mining_cost_factor, processing_cost_factor, selling_cost_factor : Decimal, optional
@@ -64,7 +64,8 @@ class Period:
     capacity: dict[str, float] = field(default_factory=dict)
     minimum: dict[str, float] = field(default_factory=dict)
     feed: tuple[FeedGrade, ...] = ()
-    stockpiles: tuple[StockpileLimit, ...] = ()
+    stockpiles: tuple[PlaceLimit, ...] = ()
+    dumps: tuple[PlaceLimit, ...] = ()
     prices: dict[str, Decimal] = field(default_factory=dict)
     mining_cost_factor: Optional[Decimal] = None
     processing_cost_factor: Optional[Decimal] = None
@@ -210,6 +211,7 @@ def read_period(section: Section) -> Period:
         minimum=by_name("minimum"),
         feed=read_feeds(section.section("feed")) if section.has("feed") else (),
         stockpiles=read_limits(section.section("stockpiles")) if section.has("stockpiles") else (),
+        dumps=read_limits(section.section("dumps")) if section.has("dumps") else (),
         prices={name: prices.number(name, least=0) for name in prices.data},
         mining_cost_factor=money("mining_cost_factor"),
         processing_cost_factor=money("processing_cost_factor"),

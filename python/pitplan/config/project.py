@@ -15,6 +15,7 @@ from .agreement import demand_agreement
 from .cash_flow import CashFlowRules, read_cash_flow
 from .classes import ClassRules, read_classes
 from .constraints import ConstraintRules, read_constraints
+from .dumps import Dump, read_dumps
 from .economics import Economics, Metal, Process, read_economics, read_metal, read_process
 from .feed_grades import FeedGrade
 from .figures import FigureRules, read_figures
@@ -59,6 +60,7 @@ class Project:
     solver: Optional[str] = None
     classes: ClassRules = ClassRules()
     cash_flow: CashFlowRules = CashFlowRules()
+    dumps: tuple[Dump, ...] = ()
 
     @property
     def by_process(self) -> tuple[Project, ...]:
@@ -100,6 +102,13 @@ class Project:
         """The columns of the table that schedules limit by sums or head grades."""
         sums = self.schedule.limits if self.schedule else ()
         return tuple(dict.fromkeys([*(it.column for it in sums), *self.graded_columns]))
+
+    @property
+    def dump_columns(self) -> tuple[str, ...]:
+        """The columns of the table by whose grades dumps accept blocks, except those of metals."""
+        metals = [metal.column for metal in self.metals]
+        named = (grade.column for dump in self.dumps for grade in dump.accepts.grades)
+        return tuple(name for name in dict.fromkeys(named) if name not in metals)
 
     @property
     def penalty_columns(self) -> tuple[str, ...]:
@@ -251,6 +260,7 @@ def of_data(data: dict[str, Any], path: Path, source: Optional[str] = None) -> P
         haulage=read_haulage(top.section("haulage")) if top.has("haulage") else None,
         classes=read_classes(top.section("classes", optional=True)),
         cash_flow=read_cash_flow(top.section("cash_flow", optional=True)),
+        dumps=read_dumps(top.sections("dumps")) if top.has("dumps") else (),
     )
     metals = tuple(metal.name for metal in project.metals)
     if top.has("sensitivity"):

@@ -55,6 +55,7 @@ def of_project(project: Project, folder: Path) -> str:
         "constraints": project.constraints and of_fixed(project.constraints, folder),
         "pushbacks": project.pushbacks and of_pushbacks(project.pushbacks),
         "schedule": project.schedule and of_schedule(project.schedule),
+        "dumps": [asdict(it) | {"accepts": of_accepts(it.accepts)} for it in project.dumps],
         "cash_flow": project.cash_flow.as_toml() or None,
         "sensitivity": project.sensitivity and of_sensitivity(project.sensitivity),
         "scenarios": project.scenarios and of_scenarios(project.scenarios, folder),
@@ -313,6 +314,7 @@ def of_period(period: Period) -> Values:
         "period_months": None if period.period_months == MONTHS else period.period_months,
         "feed": of_feeds(period.feed),
         "stockpiles": {it.name: {"min": it.min, "max": it.max} for it in period.stockpiles},
+        "dumps": {it.name: {"min": it.min, "max": it.max} for it in period.dumps},
     }
     return {name: None if value == {} else value for name, value in values.items()}
 

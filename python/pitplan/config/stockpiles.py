@@ -71,17 +71,18 @@ class Stockpile:
 
 
 @dataclass(frozen=True)
-class StockpileLimit:
-    """The least and the most tonnes of feed on a stockpile at the end of a period; None: as in the other sections."""
+class PlaceLimit:
+    """The least and the most tonnes of feed on a stockpile at the end of a period, or of waste that a dump takes in a year of it; None: as in the
+    other sections."""
 
     name: str
     min: Optional[float]
     max: Optional[float]
 
 
-def read_limits(section: Section) -> tuple[StockpileLimit, ...]:
-    """Reads limits of stockpiles by name. Raises PlanError, with the key, if one has a mistake."""
-    limits = tuple(StockpileLimit(name, *read_range(section, name, "{ max = 2e6 }")) for name in section.data)
+def read_limits(section: Section) -> tuple[PlaceLimit, ...]:
+    """Reads limits of stockpiles or dumps by name. Raises PlanError, with the key, if one has a mistake."""
+    limits = tuple(PlaceLimit(name, *read_range(section, name, "{ max = 2e6 }")) for name in section.data)
     section.finish()
     return limits
 

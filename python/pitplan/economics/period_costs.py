@@ -139,7 +139,7 @@ def net_price(metal: Metal, royalty: Decimal) -> Decimal:
 
 
 def notes(project: Project) -> list[str]:
-    """Returns a note with the yearly prices, period costs and capex of the project."""
+    """Returns notes with the yearly prices, period costs and capex of the project, and that shells know no dumps."""
     money = of_project(project)
     amounts = " to ".join(f"{amount:,.12g}" for amount in sorted({min(money.fixed_cost), max(money.fixed_cost)}))
     parts = [f"fixed costs of {amounts} {project.economics.currency} a year"] if any(money.fixed_cost) else []
@@ -150,8 +150,8 @@ def notes(project: Project) -> list[str]:
         if money.differing
         else []
     )
-    if not parts:
-        return []
-    return [
+    found = [
         f"{' and '.join(parts)} enter the annual cash flow, the NPV and schedules, but not block values and the choice of shell"
     ]
+    dumps = ["[[dumps]] apply to schedules of pushbacks: NPVs of shells leave out their costs and capacities"]
+    return (found if parts else []) + (dumps if project.dumps else [])

@@ -35,7 +35,7 @@ LINES = {"gpkg": "gpkg", "str": "str", "lines": "csv"}
 # The tables of a folder that become sheets of the workbook.
 SHEETS = (
     *(names.SHELLS, names.YEARS, names.PUSHBACKS, names.SCHEDULE),
-    *(names.MATERIAL_FLOWS, names.FEED, names.CUTOFFS, names.STOCKPILES),
+    *(names.MATERIAL_FLOWS, names.FEED, names.CUTOFFS, names.STOCKPILES, names.DUMPS),
     *(names.INVENTORY, names.CASH_FLOW, names.VALUATION),
 )
 # The corners of a cell in the order of a VTK voxel: steps east, north and up.

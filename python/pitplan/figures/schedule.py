@@ -60,6 +60,8 @@ LINES = {
 GRADE = "#a23b8f"
 # Of several stockpiles, in their order.
 STOCKED = ("#8fb3d9", "#d9b98f", "#9fc79d", "#b9a3cf")
+# Of several dumps, in their order.
+DUMPED = ("#cfc9c0", "#aaa39a", "#87817a", "#e3d8c5", "#b9ae98")
 # Of several processes, in their order.
 PROCESSES = ("#1f5f9e", "#c8792b", "#4c8c4a", "#7b4fa3", "#b23a48")
 
@@ -147,7 +149,10 @@ def layers_of(schedule: YearlySchedule) -> list[tuple[str, str, str, dict[str, A
     for number, it in enumerate(stockpiles):
         label = "to the stockpile" if len(stockpiles) == 1 else f"to {it.name}"
         found.append((PIT, it.name, label, {"color": STOCKED[number % len(STOCKED)]}))
-    return [*found, (PIT, AS_WASTE, "waste", {"color": WASTE})]
+    dumps = schedule.model.dumps
+    for number, dump in enumerate(dumps):
+        found.append((PIT, dump.name, f"waste to {dump.name}", {"color": DUMPED[number % len(DUMPED)]}))
+    return found if dumps else [*found, (PIT, AS_WASTE, "waste", {"color": WASTE})]
 
 
 def draw_flows(ax: Axes, schedule: YearlySchedule, way: str, size: float) -> None:

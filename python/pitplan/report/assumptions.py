@@ -191,6 +191,9 @@ def capacities(project: Project) -> Iterator[tuple[str, str]]:
         room = "" if pile.capacity is None else f", {number(pile.capacity)} t"
         lies = "" if pile.opening is None else f", {number(pile.opening.tonnes)} t at the start"
         yield f"stockpile {pile.name}", f"reclaim {number(pile.reclaim_cost)} {project.economics.currency}/t{room}{lies}"
+    for dump in project.dumps:
+        room = "" if dump.capacity is None else f", {number(dump.capacity)} t"
+        yield f"dump {dump.name}", f"{number(dump.cost)} {project.economics.currency}/t{room}"
 
 
 def head_grade(grade: FeedGrade) -> str:
@@ -228,6 +231,7 @@ def of_period(entry: Period, project: Project) -> Iterator[str]:
     yield from (f"{name} at least {number(least)} a year" for name, least in entry.minimum.items())
     yield from (f"{head_grade(it)} {between(it.min, it.max)}" for it in entry.feed)
     yield from (f"stockpile {it.name} {between(it.min, it.max)} t" for it in entry.stockpiles)
+    yield from (f"dump {it.name} {between(it.min, it.max)} t a year" for it in entry.dumps)
     yield from (f"{name} {number(price)} {currency}" for name, price in entry.prices.items())
     for name in ("mining", "processing", "selling"):
         factor = getattr(entry, f"{name}_cost_factor")

@@ -74,6 +74,7 @@ LINES = (
     Column("processing_cost_PROCESS", MONEY, "processing cost of a process", "processing PROCESS"),
     Column("stacking_cost", MONEY, "placing ore on stockpiles", "stacking", "with stockpiles"),
     Column("reclaim_cost", MONEY, "reclaiming it", "reclaim", "with stockpiles"),
+    Column("dump_cost", MONEY, "haulage to dumps and placing", "dumps", "with `[[dumps]]`"),
     SPENT[0],
     Column(
         "rounding",
@@ -111,7 +112,7 @@ RESULTS = (
     Column(
         "cost_per_tonne_fed",
         A_TONNE,
-        "mining, haulage, processing, stockpiles and fixed costs per tonne of feed",
+        "mining, haulage, processing, stockpiles, dumps and fixed costs per tonne of feed",
         "site cost per tonne of feed",
     ),
     Column(

@@ -1,4 +1,4 @@
-"""The columns of the tables of material flow: flows.csv, feed.csv, stockpiles.csv, cutoffs.csv and limits.csv."""
+"""The columns of the tables of material flow: flows.csv, feed.csv, stockpiles.csv, dumps.csv, cutoffs.csv and limits.csv."""
 
 from __future__ import annotations
 
@@ -14,7 +14,11 @@ CONTAINED = Column("contained_METAL", METAL, "metal in the feed", "contained MET
 IN_SITU = Column("in_situ_METAL", METAL, "metal in the in-situ tonnes", "METAL in situ")
 WITH_SMELTER = "with `[metals.smelter]`"
 PAYABLE = Column("payable_METAL", METAL, "part of the recovered metal that is paid", "payable METAL", WITH_SMELTER)
-BIN = Column("bin", COUNT, "value bin of ore: by process, from the poorest; 0: no ore")
+BIN = Column(
+    "bin",
+    COUNT,
+    "value bin of ore: by process, from the poorest; 0: no ore; below 0, with `[[dumps]]`: no ore, of another set of dumps that accept it",
+)
 MATERIAL_FLOWS = Table(
     "flows.csv",
     "of a schedule of pushbacks: a row per method, year, lot of a bench, source and destination",
@@ -22,7 +26,10 @@ MATERIAL_FLOWS = Table(
         *(METHOD, YEAR, OF_PUSHBACK, OF_BENCH, BIN),
         Column("source", TEXT, "`pit` or a stockpile", "source"),
         Column(
-            "destination", TEXT, "a process (`mill` if the project names none), a stockpile or `waste`", "destination"
+            "destination",
+            TEXT,
+            "a process (`mill` if the project names none), a stockpile, a dump, or `waste` without dumps",
+            "destination",
         ),
         replace(MINED, holds="in-situ tonnes that flow"),
         replace(IN_SITU, holds="metal in these"),
@@ -31,7 +38,7 @@ MATERIAL_FLOWS = Table(
         RECOVERED,
         replace(
             FLOWS[0],
-            holds="revenue less the costs of processing, selling, stacking and reclaiming, at the prices of the year",
+            holds="revenue less the costs of processing, selling, stacking, reclaiming and dumps, at the prices of the year",
         ),
     ),
 )
@@ -110,6 +117,18 @@ STOCKPILES = Table(
         Column("out_tonnes", TONNES, "reclaimed in the year", "out"),
         Column("closing_tonnes", TONNES, "at the end of the year", "closing"),
         Column("grade_METAL", GRADE, "mean of what lies there at the end of the year; empty if nothing does", "METAL"),
+    ),
+)
+DUMPS = Table(
+    "dumps.csv",
+    "with `[[dumps]]`: a row per method, dump and year, in tonnes of waste",
+    (
+        METHOD,
+        Column("dump", TEXT, "its name", "dump"),
+        YEAR,
+        Column("in_tonnes", TONNES, "placed in the year", "in"),
+        Column("closing_tonnes", TONNES, "in the dump at the end of the year", "closing"),
+        Column("room_tonnes", TONNES, "what its capacity leaves then; empty without a capacity", "room"),
     ),
 )
 CUTOFFS = Table(

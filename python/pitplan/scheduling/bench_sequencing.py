@@ -32,6 +32,7 @@ class Limits:
     most_by_year, least_by_year  by name the limits per year of periods that differ, from the first; the last one continues
     calendar      the lengths of the periods, by which limits per year are multiplied
     stock_by_year by stockpile the least and the most that lies there at the end of periods that differ, likewise
+    dumped_by_year  by dump the least and the most that it takes per year of periods that differ, likewise
     """
 
     most: dict[str, float]
@@ -42,6 +43,13 @@ class Limits:
     least_by_year: dict[str, tuple[float, ...]] = field(default_factory=dict)
     calendar: Calendar = Calendar()
     stock_by_year: dict[str, tuple[tuple[float, float], ...]] = field(default_factory=dict)
+    dumped_by_year: dict[str, tuple[tuple[float, float], ...]] = field(default_factory=dict)
+
+    def dumped(self, name: str, count: int) -> tuple[np.ndarray, np.ndarray]:
+        """The least and the most tonnes that a dump takes in each year, infinite without a limit, each of shape (count,)."""
+        by_year = np.array(self.dumped_by_year.get(name, ((0.0, np.inf),)))
+        least, most = by_year[np.minimum(np.arange(count), len(by_year) - 1)].T * self.calendar.lengths(count)
+        return least, most
 
     def of_year(self, number: int) -> np.ndarray:
         """The limited amounts of a year, numbered from 1."""

@@ -86,7 +86,7 @@ def categories(rows: pd.DataFrame, project: Project, stockpiles: Sequence[str]) 
         is_reserve = {code: project.classes.may_be_reserve(code) for code in rows[shown_name(column)].unique()}
         feed[~rows[shown_name(column)].map(is_reserve).to_numpy(dtype=bool)] = NOT_RESERVE
     feed[rows["destination"].isin(stockpiles)] = STOCKPILED
-    feed[rows["destination"] == WASTE] = WASTE
+    feed[rows["destination"].isin([WASTE, *(it.name for it in project.dumps)])] = WASTE
     return feed
 
 

@@ -35,7 +35,27 @@ def all_limits_of(project: Project, rules: ScheduleRules) -> Limits:
     least |= {f"{SUM}{it.name}": it.min for it in rules.limits if it.min}
     least = {name: amount for name, amount in least.items() if amount > 0 or name in of_years}
     least = dict.fromkeys(of_years, 0.0) | least
-    return replace(limits, most=most, least=least, least_by_year=of_years, stock_by_year=stock_of(project, rules))
+    return replace(
+        limits,
+        most=most,
+        least=least,
+        least_by_year=of_years,
+        stock_by_year=stock_of(project, rules),
+        dumped_by_year=dumped_of(project),
+    )
+
+
+def dumped_of(project: Project) -> dict[str, tuple[tuple[float, float], ...]]:
+    """Returns, by the name of a dump that `[[periods]]` limits, the least and the most tonnes per year that it takes in each period."""
+    calendar, found = project.shells.calendar, {}
+    for it in project.dumps:
+        of_periods = [{limit.name: limit for limit in period.dumps}.get(it.name) for period in calendar.listed]
+        if any(of_periods):
+            found[it.name] = tuple(
+                (0.0, np.inf) if limit is None else (limit.min or 0.0, np.inf if limit.max is None else limit.max)
+                for limit in of_periods
+            )
+    return found
 
 
 def stock_of(project: Project, rules: ScheduleRules) -> dict[str, tuple[tuple[float, float], ...]]:

@@ -34,6 +34,7 @@ def record(schedule: YearlySchedule) -> dict[str, Any]:
         "vertical_advance_rate": None if math.isinf(limits.vertical_advance_rate) else limits.vertical_advance_rate,
         "bins": {name or MILL: edges.tolist() for name, edges in schedule.material.edges.items()},
         "stockpiles": [it.name for it in schedule.model.stockpiles],
+        **({"dumps": [it.name for it in schedule.model.dumps]} if schedule.model.dumps else {}),
         "interrupted": schedule.interrupted,
         "solver": f"HiGHS of scipy {scipy.__version__}",
     }
@@ -78,6 +79,8 @@ def notes(schedule: YearlySchedule) -> list[str]:
         found.append(
             f"{schedule.shown}: cut-off of {name or MILL} by {schedule.settings.calendar.word} (net value per tonne of feed): {told}"
         )
+    if schedule.model.dumps and RULE not in schedule.flows and not schedule.model.asks_least:
+        found.append("no schedule by rule: its waste finds no room in the dumps")
     for method in schedule.flows:
         rock = schedule.left(method)
         if not schedule.shares[method].any():

@@ -26,11 +26,13 @@ from pitplan.pushbacks.nested import Pushbacks
 from .bench_sequencing import Problem, running
 from .flow import bound, integer, opening, parcels, scheduler, tables
 from .flow.conflicts import Conflict
+from .flow.dumping import SET
 from .flow.flows import Flows
+from .flow.limit_names import Prices
 from .flow.model import FlowModel
 from .flow.opening import Lots
 from .flow.parcels import Material
-from .flow.programme import FlowOptimum, FlowProgramme, Prices
+from .flow.programme import FlowOptimum, FlowProgramme
 from .limits import SUM, all_limits_of, periods_of
 from .methods import LP, MILP, RULE
 
@@ -168,7 +170,7 @@ class YearlySchedule:
 
 def is_shown(name: str) -> bool:
     """Returns whether an amount of benches is a column of tables."""
-    return name != MINING_COST and not name.startswith(SUM)
+    return name != MINING_COST and not name.startswith((SUM, SET))
 
 
 def rules_of(project: Project) -> ScheduleRules:
@@ -182,7 +184,8 @@ def make(pushbacks: Pushbacks, progress: Progress = silent) -> YearlySchedule:
     Raises
     ------
     PlanError
-        If it takes more than a thousand years, nothing can be mined, no schedule meets the minimums, or HiGHS finds nothing.
+        If it takes more than a thousand years, nothing can be mined, no schedule meets the minimums, no dump accepts some rock, or HiGHS finds
+        nothing.
     """
     project, rules = pushbacks.plan.project, rules_of(pushbacks.plan.project)
     material = parcels.of_pushbacks(pushbacks, rules)
@@ -191,12 +194,13 @@ def make(pushbacks: Pushbacks, progress: Progress = silent) -> YearlySchedule:
     most, count = periods_of(project, rules), len(material.benches)
     lots = opening.of_plan(pushbacks.plan, rules)
     ore = lots.ore(rules, problem.money) if lots else None
-    model = FlowModel(problem, material.parcels, most or 1, rules.stockpiles, ore)
+    accepted = None if material.sets is None else material.sets.accepted
+    model = FlowModel(problem, material.parcels, most or 1, rules.stockpiles, ore, project.dumps, accepted)
     schedule = YearlySchedule(pushbacks, material, model, {}, 0, lots=lots)
     with progress.step(f"scheduling {count:,} benches of {len(pushbacks.factors)} pushbacks by rule"):
         flows, lead = scheduler.by_rule(model, pace_of(schedule), most)
     model = replace(model, years=most or max(1, math.ceil((1 + MORE_YEARS) * flows.years)))
-    schedule = replace(schedule, model=model, lead=lead, flows={} if model.asks_least else {RULE: flows})
+    schedule = replace(schedule, model=model, lead=lead, flows={} if model.asks_least else kept(flows))
     try:
         for schedule in better(schedule, rules, progress):
             pass
@@ -286,8 +290,13 @@ def in_finer_bins(schedule: YearlySchedule, rules: ScheduleRules) -> YearlySched
     material = parcels.by_choice(schedule.material, relaxation.choices[1])
     model = replace(schedule.model, ore=material.parcels)
     most = periods_of(schedule.pushbacks.plan.project, rules)
-    flows = {RULE: scheduler.by_rule(model, pace_of(schedule), most)[0]}
-    return replace(schedule, material=material, model=model, flows=flows if schedule.flows else {})
+    flows = kept(scheduler.by_rule(model, pace_of(schedule), most)[0]) if schedule.flows else {}
+    return replace(schedule, material=material, model=model, flows=flows)
+
+
+def kept(flows: Flows) -> dict[str, Flows]:
+    """Returns the schedule by rule, unless its waste finds no room in the dumps."""
+    return {RULE: flows} if scheduler.keeps_dumps(flows) else {}
 
 
 def pace_of(schedule: YearlySchedule) -> scheduler.Pace:
@@ -380,7 +389,9 @@ def blocks_year(schedule: YearlySchedule) -> np.ndarray:
 
 
 def blocks_bin(schedule: YearlySchedule) -> np.ndarray:
-    """Returns for each cell the value bin of its ore, from 1; 0 if it is none."""
-    found = np.zeros(schedule.pushbacks.plan.grid.count, dtype=np.int16)
+    """Returns for each cell the value bin of its ore, from 1; 0 if it is none, with dumps 0 or a number below it for the set that accepts it."""
+    found, sets = np.zeros(schedule.pushbacks.plan.grid.count, dtype=np.int16), schedule.material.sets
+    if sets is not None:
+        found[:] = -np.maximum(sets.of_cell, 0)
     found[schedule.material.cells] = schedule.material.blocks.bin
     return found

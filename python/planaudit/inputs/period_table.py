@@ -21,7 +21,7 @@ def entries_of(periods: Any, place: Callable[[str], Path]) -> list[Mapping[str, 
                 key, _, name = column.strip().partition(".")
                 if not text.strip():
                     continue
-                names = name.split(".") if key in ("feed", "stockpiles") else [name] if name else []
+                names = name.split(".") if key in ("feed", "stockpiles", "dumps") else [name] if name else []
                 inner, path = entry, [key, *names]
                 for step in path[:-1]:
                     inner = inner.setdefault(step, {})

@@ -258,6 +258,16 @@ class Stockpile:
 
 
 @dataclass(frozen=True)
+class Dump:
+    """An entry of `[[dumps]]`: cost per tonne of waste, and tonnes in all."""
+
+    name: str
+    cost: float
+    capacity: Optional[float]
+    accepts: Accepts
+
+
+@dataclass(frozen=True)
 class Bench:
     """Bench height and berm width in metres, and face angle in degrees."""
 
@@ -305,6 +315,8 @@ class Period:
     feed: tuple[FeedGrade, ...] = ()
     # By stockpile the least and the most tonnes of feed.
     stockpiles: dict[str, tuple[Optional[float], Optional[float]]] = field(default_factory=dict)
+    # By dump the least and the most tonnes per year.
+    dumps: dict[str, tuple[Optional[float], Optional[float]]] = field(default_factory=dict)
 
     @property
     def count(self) -> int:
@@ -512,6 +524,7 @@ class Project:
     haulage: Optional[Haulage] = None
     classes: ClassRules = ClassRules()
     cash_flow: CashFlowRules = CashFlowRules()
+    dumps: tuple[Dump, ...] = ()
     # What the process accepts, in a project with one process of several.
     accepts: Accepts = Accepts()
     # Columns of the table that are kept besides those that the sections name.
@@ -558,6 +571,11 @@ class Project:
         return [*self.kept, *of_metals]
 
     @property
+    def of_dumps(self) -> list[str]:
+        """The columns of the grades by which dumps accept blocks."""
+        return [grade.column for dump in self.dumps for grade in dump.accepts.grades]
+
+    @property
     def without_grades(self) -> Project:
         """The project without metals, whose table keeps penalised elements."""
         return replace(self, metals=(), kept=tuple(self.penalised))
@@ -581,7 +599,7 @@ class Project:
         marks = [rules.must_mine, rules.exclude] if rules else []
         limited = [it.column for it in self.schedule.limits] if self.schedule else []
         limited += [it.column for it in self.feed_grades if it.code is None]
-        limited += self.penalised
+        limited += [*self.penalised, *self.of_dumps]
         grades = [metal.column for metal in self.metals]
         named = [table.x, table.y, table.z, *tonnes, *self.codes, *grades, *self.economics.adjusting, *marks, *limited]
         return [name for name in dict.fromkeys(named) if name]

@@ -26,6 +26,7 @@ from planaudit.inputs.project import (
     ClassRules,
     ConstraintRules,
     Curve,
+    Dump,
     Economics,
     FeedGrade,
     GradeRange,
@@ -112,6 +113,7 @@ def of_data(data: Data, place: Places, source: str = "project") -> Project:
             haulage=haulage_of(data["haulage"]) if "haulage" in data else None,
             classes=ClassRules({code: str(word) for code, word in data.get("classes", {}).items()}),
             cash_flow=cash_flow_of(data.get("cash_flow", {})),
+            dumps=tuple(map(dump_of, data.get("dumps", ()))),
         )
 
 
@@ -370,12 +372,16 @@ def periods_of(entries: list[Data]) -> tuple[Period, ...]:
             processing_cost_factor=number(data.get("processing_cost_factor", Decimal(1))),
             selling_cost_factor=number(data.get("selling_cost_factor", Decimal(1))),
             feed=feeds_of(data.get("feed", {})),
-            stockpiles={
-                name: (metres(it, "min"), metres(it, "max")) for name, it in data.get("stockpiles", {}).items()
-            },
+            stockpiles=sides_of(data.get("stockpiles", {})),
+            dumps=sides_of(data.get("dumps", {})),
         )
         for data in entries
     )
+
+
+def sides_of(data: Data) -> dict[str, tuple[Optional[float], Optional[float]]]:
+    """Returns the least and the most by name."""
+    return {name: (metres(it, "min"), metres(it, "max")) for name, it in data.items()}
 
 
 def specified_of(data: Data) -> SpecifiedCase:
@@ -431,6 +437,11 @@ def stockpile_of(data: Data) -> Stockpile:
         accepts=accepts_of(data.get("accepts", {})),
         opening=opening_of(data["opening"]) if "opening" in data else None,
     )
+
+
+def dump_of(data: Data) -> Dump:
+    cost, accepts = float(number(data.get("cost", 0))), accepts_of(data.get("accepts", {}))
+    return Dump(data["name"], cost, metres(data, "capacity"), accepts)
 
 
 def opening_of(data: Data) -> Opening:

@@ -25,7 +25,7 @@ def together(parts: pd.DataFrame, project: Project, grid: dict[str, Any]) -> pd.
     sums = project.schedule.limits if project.schedule else ()
     of_a_tonne = {*(metal.column for metal in project.metals), *(it.column for it in sums if it.per_tonne)}
     of_a_tonne |= {*project.economics.adjusting, *(it.column for it in project.feed_grades if it.code is None)}
-    of_a_tonne |= set(project.penalised)
+    of_a_tonne |= {*project.penalised, *project.of_dumps}
     for name in of_a_tonne:
         frame[f"content_{name}"] = frame[name] * frame[columns.tonnes]
     by = frame.groupby(["up_", "north_", "east_"], sort=True)

@@ -12,7 +12,7 @@ from planaudit.errors import AuditError
 from planaudit.revenue_factors import factor_texts, in_thousandths
 
 # Prefixes of columns with empty fields if the amount is not defined: a ratio to no ore, the width of an empty pushback, a bound that was not
-# computed, the bench of what lay on a stockpile at the start, or columns of other cases.
+# computed, the bench of what lay on a stockpile at the start, the room of a dump without a capacity, or columns of other cases.
 MAY_LACK = (
     *(
         "strip_ratio",
@@ -28,7 +28,7 @@ MAY_LACK = (
         "optimality_gap",
     ),
     *("sum_", "kept_", "skin_value", "used", "minimum", "maximum", "utilisation", "shadow_price"),
-    *("cost_per_tonne_", "c1_cost", "irr", "payback"),
+    *("cost_per_tonne_", "c1_cost", "irr", "payback", "room_tonnes"),
 )
 # Exact numbers stay texts.
 EXACT = "value_at_revenue_factor"

@@ -21,7 +21,7 @@ from planaudit.money.prices import KILOGRAMS
 from planaudit.rules import TOLD, Rule, rule
 from planaudit.schedules import valuation
 from planaudit.schedules.lots import MILL
-from planaudit.schedules.material_flow import AMOUNT, PIT, WASTE, MaterialFlow
+from planaudit.schedules.material_flow import AMOUNT, PIT, MaterialFlow
 
 FILE = "cash_flow.csv"
 # Amounts by column, each of shape (rows,).
@@ -30,7 +30,7 @@ Lines = dict[str, np.ndarray]
 CHARGES = ("treatment_charge", "refining_charge", "participation", "freight", smelter.PENALTIES)
 OF_SELLING = tuple(f"{name}_" for name in (smelter.SELLING, *CHARGES))
 COSTS = (*OF_SELLING, "mining_cost_", "processing_cost_")
-OTHER_COSTS = ("haulage_cost", "stacking_cost", "reclaim_cost", "fixed_cost")
+OTHER_COSTS = ("haulage_cost", "stacking_cost", "reclaim_cost", "dump_cost", "fixed_cost")
 # With so many decimals the rounding of block values is no line.
 MOST_DECIMALS = 6
 
@@ -111,7 +111,7 @@ class CashFlow:
         """What each row adds to each line, for its whole lot."""
         flow, project, whole = self.flow, self.project, self.whole
         from_pit = (flow.rows["source"] == PIT).to_numpy()
-        waste, fed = (flow.rows["destination"] == WASTE).to_numpy(), flow.process >= 0
+        waste, fed = flow.is_waste, flow.process >= 0
         lot, feed = flow.whole, flow.whole["feed_tonnes"].to_numpy()
         found: Lines = {"total_tonnes": from_pit * lot["total_tonnes"], "waste_tonnes": waste * lot["total_tonnes"]}
         found["feed_tonnes"] = fed * feed
@@ -131,6 +131,7 @@ class CashFlow:
             of_process = np.where(flow.process == number, self.by_process("processing"), 0.0)
             found[f"processing_cost_{name or MILL}"] = of_process * self.dearer(PROCESSING)
         found["stacking_cost"] = np.where(fed, 0.0, flow.of_stockpile(lambda it: it.stacking_cost, 0.0)) * feed
+        found["dump_cost"] = flow.dumping * lot["total_tonnes"]
         found["reclaim_cost"] = np.where(fed, flow.of_stockpile(lambda it: it.reclaim_cost, 0.0), 0.0) * feed
         return {name: np.asarray(values) for name, values in found.items()}
 
@@ -199,6 +200,7 @@ class CashFlow:
             "mining_cost_added": added,
             "stacking_cost": self.flow.blocks.stockpiles,
             "reclaim_cost": self.flow.blocks.stockpiles,
+            "dump_cost": project.dumps,
         }
         return bool(optional.get(name, True))
 

@@ -82,7 +82,8 @@ def categories(flow: MaterialFlow, rows: pd.DataFrame) -> np.ndarray:
     code = rows[own_name(column)].str.casefold() if column else pd.Series("measured", index=rows.index)
     feed = np.where(code.isin(NOT_A_RESERVE), "not_reserve", "ore")
     is_fed = rows["destination"].isin(flow.names)
-    return np.where(is_fed, feed, np.where(rows["destination"] == WASTE, "waste", "stockpile"))
+    is_waste = rows["destination"].isin([*flow.blocks.unaccepted, WASTE])
+    return np.where(is_fed, feed, np.where(is_waste, "waste", "stockpile"))
 
 
 def unlike_shares(flow: MaterialFlow, shown: str) -> Iterator[str]:

@@ -12,6 +12,7 @@ import pandas as pd
 
 from planaudit.inputs.answer import Answer
 from planaudit.inputs.tables import read_table
+from planaudit.schedules import dumps
 from planaudit.schedules.discounts import discount
 from planaudit.schedules.grade_limits import GradeLimit, grade_limits, most_of
 from planaudit.schedules.lots import BlockAmounts
@@ -81,6 +82,7 @@ class LimitTable:
         # Limits hold in the years of the linear programme, of which a method may have fewer.
         piles = stock_limits(self.answer.project, max(last, int(self.years)))
         held = [f"{STOCK}{name}" for name, (least, most) in piles.items() if least.any() or np.isfinite(most).any()]
+        held += list(dumps.limits_of(self.answer.project, max(last, 1)))
         due = {(name, year) for name in [*finite, *sinking, *held] for year in range(1, last + 1)}
         there = list(zip(rows["limit"], rows["year"]))
         if set(there) != due or len(there) != len(due):
@@ -143,6 +145,10 @@ class LimitTable:
             piles = stock_limits(self.answer.project, max(year, int(self.years)))[name.removeprefix(STOCK)]
             most = float(piles[1][year - 1])
             return float(piles[0][year - 1]) if piles[0].any() else np.nan, most if np.isfinite(most) else np.nan
+        of_dumps = dumps.limits_of(self.answer.project, max(year, int(self.years)))
+        if name in of_dumps:
+            least, most = (float(values[year - 1]) for values in of_dumps[name])
+            return least if of_dumps[name][0].any() else np.nan, most if np.isfinite(most) else np.nan
         least, most = (float(values[year - 1]) for values in self.limits[name])
         return least if name in self.minimums else np.nan, most if np.isfinite(most) else np.nan
 

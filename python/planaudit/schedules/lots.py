@@ -73,6 +73,12 @@ class BlockAmounts:
         return {it.name: refused(answer.rows, answer.project, it.accepts)[self.inside] for it in self.stockpiles}
 
     @cached_property
+    def unaccepted(self) -> dict[str, np.ndarray]:
+        """Whether a dump, by name, does not accept each block."""
+        answer = self.answer
+        return {it.name: refused(answer.rows, answer.project, it.accepts)[self.inside] for it in answer.project.dumps}
+
+    @cached_property
     def net_prices(self) -> dict[str, np.ndarray]:
         """What a tonne or gram of each metal earns at the base price in each process, less royalty and charges."""
         found: dict[str, list[float]] = {}
@@ -171,7 +177,7 @@ class BlockAmounts:
     @cached_property
     def lots(self) -> pd.DataFrame:
         """The sums of each lot, by its key: total_tonnes, mining cash, feed, metal in situ and in the feed, and by process recovered metal, gain, whether all
-        of its blocks have a revenue there, limited amounts, and costs that periods multiply; and how many blocks each stockpile refuses.
+        of its blocks have a revenue there, limited amounts, and costs that periods multiply; and how many blocks each stockpile and dump refuses.
         """
         columns = {"total_tonnes": self.tonnes, "mining_cash": self.mining_cash, "feed_tonnes": self.feed}
         columns |= {f"contained_{name}": amounts for name, amounts in self.contained.items()}
@@ -184,6 +190,7 @@ class BlockAmounts:
             columns |= {f"{name} {process}": self.of_process(name, process) for name in (*self.limited, *self.costs)}
         columns |= {name: self.of_mining(name) for name in self.limited}
         columns |= {f"refused {name}": mask.astype(float) for name, mask in self.refused.items()}
+        columns |= {f"unaccepted {name}": mask.astype(float) for name, mask in self.unaccepted.items()}
         keys = list(self.keys)
         return pd.concat([self.keys, pd.DataFrame(columns)], axis=1).groupby(keys).sum()
 

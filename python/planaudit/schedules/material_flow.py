@@ -15,7 +15,7 @@ from planaudit.inputs.project import GRADE_UNITS, Stockpile
 from planaudit.inputs.tables import read_table
 from planaudit.money.period_costs import SELLING, premiums
 from planaudit.rules import TOLD, Rule, rule
-from planaudit.schedules import cutoff_table, stockpiles
+from planaudit.schedules import cutoff_table, dumps, stockpiles
 from planaudit.schedules.lots import MILL, BlockAmounts
 from planaudit.schedules.opening import FIRST, OpeningLots
 
@@ -81,6 +81,11 @@ class MaterialFlow:
         """The number of the process that takes each row; -1: none."""
         return self.rows["destination"].map(self.names).fillna(-1).to_numpy(dtype=int)
 
+    @cached_property
+    def is_waste(self) -> np.ndarray:
+        """Whether each row is waste: with dumps it goes to one of them."""
+        return self.rows["destination"].isin([*self.blocks.unaccepted, WASTE]).to_numpy()
+
     def by_process(self, name: str) -> np.ndarray:
         """Returns the whole lot's amount in the process of each row; 0 without one."""
         found = np.zeros(len(self.rows))
@@ -114,7 +119,7 @@ class MaterialFlow:
     def expected(self) -> dict[str, tuple[np.ndarray, np.ndarray]]:
         """By column what each row should have, and its tolerance."""
         fed = np.where(self.process >= 0, self.share, 0.0)
-        moved = np.where((self.rows["destination"] == WASTE).to_numpy(), 0.0, self.share)
+        moved = np.where(self.is_waste, 0.0, self.share)
         # The share that a rounded tonnage leaves open.
         open_to = self.rounded / self.whole["total_tonnes"].to_numpy()
         found = {}
@@ -133,7 +138,8 @@ class MaterialFlow:
 
     @cached_property
     def cash(self) -> tuple[np.ndarray, np.ndarray]:
-        """What the whole lot of each row earns in its process, at the prices of the year, and what stacking or reclaiming it costs."""
+        """What the whole lot of each row earns in its process, at the prices of the year, and what stacking, reclaiming or dumping it
+        costs."""
         gain = self.by_process("gain")
         for metal in self.answer.project.metals:
             lost = self.by_process(f"recovered_{metal.name}") * (1 - self.recovery(metal.name))
@@ -145,7 +151,13 @@ class MaterialFlow:
                 gain[mine] += premium * self.multiplied(name)[mine]
         placed = self.of_stockpile(lambda it: it.stacking_cost, 0.0)
         cost = np.where(self.process >= 0, self.of_stockpile(lambda it: it.reclaim_cost, 0.0), placed)
-        return gain, cost * self.whole["feed_tonnes"].to_numpy()
+        return gain, cost * self.whole["feed_tonnes"].to_numpy() + self.dumping * self.whole["total_tonnes"].to_numpy()
+
+    @property
+    def dumping(self) -> np.ndarray:
+        """What a tonne of each row costs in its dump; 0 elsewhere."""
+        costs = {it.name: it.cost for it in self.answer.project.dumps}
+        return self.rows["destination"].map(costs).fillna(0.0).to_numpy(dtype=float)
 
     def multiplied(self, name: str) -> np.ndarray:
         """Returns an amount of the whole lot of each row that prices or factors of years multiply: what is recovered, or a cost of ore."""
@@ -201,7 +213,7 @@ def read(answer: Answer) -> tuple[MaterialFlow, list[str]]:
     steps = steps.where(rows["pushback"] > 0, levels_of_opening(rows, blocks)).fillna(UNKNOWN)
     rows["level"] = np.rint(steps).astype(int)
     processes = {name or MILL for name in blocks.processes}
-    legs = {(PIT, WASTE), *((PIT, name) for name in processes)}
+    legs = {*((PIT, name) for name in blocks.unaccepted or (WASTE,)), *((PIT, name) for name in processes)}
     for it in blocks.stockpiles:
         legs |= {(PIT, it.name), *((it.name, name) for name in processes)}
     found = MaterialFlow(answer, blocks, rows)
@@ -224,7 +236,8 @@ def called(row: Any) -> str:
 
 
 def verify(flow: MaterialFlow, schedule: pd.DataFrame, misplaced: list[str]) -> Rule:
-    """Verifies the amounts of all rows, the conservation of each lot, stockpiles, and feed.csv, stockpiles.csv and cutoffs.csv.
+    """Verifies the amounts of all rows, the conservation of each lot, stockpiles and dumps, and feed.csv, stockpiles.csv, dumps.csv and
+    cutoffs.csv.
 
     Parameters
     ----------
@@ -236,8 +249,13 @@ def verify(flow: MaterialFlow, schedule: pd.DataFrame, misplaced: list[str]) -> 
     """
     found = [*misplaced, *unlike_amounts(flow), *untaken(flow), *unlike_mined(flow, schedule)]
     said = read_table(flow.answer.folder / "tables/feed.csv", ["method", "process"])
-    found += [*stockpiles.differences(flow), *unlike_feed(flow, said), *cutoff_table.differences(flow.answer, said)]
-    holds = "each tonne that is mined goes to a process, to a stockpile or to waste once, with the metal and cash flow of its blocks"
+    found += [
+        *stockpiles.differences(flow),
+        *dumps.differences(flow),
+        *unlike_feed(flow, said),
+        *cutoff_table.differences(flow.answer, said),
+    ]
+    holds = "each tonne that is mined goes to a process, to a stockpile, to a dump or to waste once, with the metal and cash flow of its blocks"
     return rule("material flow", holds, found[:TOLD], len(found))
 
 

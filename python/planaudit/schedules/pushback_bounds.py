@@ -2,7 +2,7 @@
 
 With a price on each limit in each year no schedule earns more than the prices times the limits, what the running years earn at these prices, and the
 greatest value of benches mined in order, where each block goes where it earns most less the prices of what it uses: to a process, to a
-stockpile until its best later year, or to waste; and the greatest value of what lies on stockpiles at the start. This holds for any prices.
+stockpile until its best later year, or to waste, with dumps to the cheapest one; and the greatest value of what lies on stockpiles at the start. This holds for any prices.
 """
 
 from __future__ import annotations
@@ -22,6 +22,7 @@ from planaudit.inputs.project import Stockpile
 from planaudit.inputs.tables import TABLES, read_prices
 from planaudit.money.period_costs import SELLING, mining_factors, premiums
 from planaudit.rules import Rule, rule
+from planaudit.schedules import dumps
 from planaudit.schedules.discounts import discount, present_costs
 from planaudit.schedules.lots import BlockAmounts
 from planaudit.schedules.opening import OpeningLots
@@ -93,6 +94,24 @@ class Bound:
         for name, (least, most) in stock_limits(self.answer.project, self.years).items():
             found |= {(f"{STOCK}{name}", MAX): most} if np.isfinite(most).any() else {}
             found |= {(f"{STOCK}{name}", MIN): least} if least.any() else {}
+        for name, (least, most) in dumps.limits_of(self.answer.project, self.years).items():
+            found |= {(name, MAX): most} if np.isfinite(most).any() else {}
+            found |= {(name, MIN): least} if least.any() else {}
+        return found
+
+    @cached_property
+    def dumping(self) -> np.ndarray:
+        """What each block costs at least as waste in each year, shape (blocks, years): in a dump that accepts it, with the prices of its limits, of its
+        capacity in each year from then on. Nothing without dumps."""
+        blocks, nothing, project = self.blocks, np.zeros(self.years), self.answer.project
+        found = np.full((len(blocks.tonnes), self.years), np.inf if project.dumps else 0.0)
+        for it in project.dumps:
+            kept = self.by_price.get((f"{dumps.DUMPED}{it.name}", MAX), nothing)
+            a_tonne = it.cost * self.discounts + [kept[year:].sum() for year in range(self.years)]
+            a_tonne = a_tonne + self.by_price.get((f"{dumps.DUMP}{it.name}", MAX), nothing)
+            a_tonne = a_tonne - self.by_price.get((f"{dumps.DUMP}{it.name}", MIN), nothing)
+            cost = np.where(blocks.unaccepted[it.name][:, None], np.inf, blocks.tonnes[:, None] * a_tonne)
+            found = np.minimum(found, cost)
         return found
 
     def rent(self, stockpile: Stockpile) -> np.ndarray:
@@ -184,14 +203,16 @@ class Bound:
             earned = np.append(later[:, year + 1 :], np.zeros((len(rent), 1)), axis=1)
             found[:, year] = (earned - paid).max(axis=1)
         found -= stockpile.stacking_cost * blocks.feed[:, None] * self.discounts
-        return np.where(blocks.refused[stockpile.name][:, None], -np.inf, found)
+        # What no process can take is never placed there.
+        is_left = blocks.refused[stockpile.name] | ~blocks.takes.any(axis=0)
+        return np.where(is_left[:, None], -np.inf, found)
 
     @cached_property
     def earned(self) -> np.ndarray:
         """What each block earns, mined in each year, shape (blocks, years)."""
         blocks = self.blocks
         best = np.max([self.in_process(number) for number in range(len(blocks.processes))], axis=0)
-        best = np.maximum(best, 0.0)
+        best = np.maximum(best, -self.dumping)
         for stockpile in blocks.stockpiles:
             best = np.maximum(best, self.in_stockpile(stockpile))
         best = best + blocks.mining_cash[:, None] * self.discounts * mining_factors(self.answer.project, self.years)

@@ -19,6 +19,7 @@ from planaudit.revenue_factors import factor_texts
 from planaudit.rules import TOLD, Rule, rule
 from planaudit.schedules import (
     cash_flow,
+    dumps,
     grade_tonnage,
     inventory,
     limit_table,
@@ -299,6 +300,8 @@ def used_of(way: Way, flow: MaterialFlow, name: str) -> tuple[pd.Series, pd.Seri
         return mine.groupby("year")["share"].sum(), nothing
     if name.startswith(limit_table.STOCK):
         return flow.lying(name.removeprefix(limit_table.STOCK), way.name, way.last)
+    if name.startswith((dumps.DUMP, dumps.DUMPED)):
+        return dumps.used(flow, name, way.name, way.last)
     if name.startswith("feed "):
         mine = flow.rows[(flow.rows["method"] == way.name) & (flow.process == int(name.removeprefix("feed ")))]
         return mine.groupby("year")["feed_tonnes"].sum(), nothing

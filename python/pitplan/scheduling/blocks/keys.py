@@ -14,6 +14,9 @@ def demand_of_blocks(project: Project) -> None:
     if project.schedule is not None and project.schedule.stockpiles:
         why = "found one, expected none by block: ore goes to a process in the year in which it is mined"
         raise PlanError(f"{project.path}: [schedule] stockpile: {why}: remove it, or schedule pushbacks")
+    if project.dumps:
+        why = "found dumps, expected none by block: their capacities in all years have no price in its upper bound"
+        raise PlanError(f"{project.path}: [[dumps]]: {why}: remove them, or schedule pushbacks")
     for number, period in enumerate(project.shells.calendar.periods, 1):
         if period.feed:
             why = "found limits of a period, expected none by block: head grades hold in all periods"

@@ -93,7 +93,8 @@ def statement(operation: Operation, method: str, years: pd.DataFrame) -> Stateme
     prices = {metal.name: prices_of(metal, operation) for metal in metals}
     sales = {metal.name: Sale.of(operation, number, prices[metal.name]) for number, metal in enumerate(metals)}
     revenue = {f"revenue_{name}": sale.total(smelter_terms.paid) for name, sale in sales.items()}
-    costs = mining_costs(operation) | processing_costs(operation) | operation.stockpile_costs
+    of_places = operation.stockpile_costs | operation.dump_costs
+    costs = mining_costs(operation) | processing_costs(operation) | of_places
     return Statement(
         method=method,
         year=years["year"].to_numpy(),

@@ -114,6 +114,11 @@ class PushbackOperation(Operation):
         return {"stacking_cost": stacking, "reclaim_cost": self.reclaim}
 
     @property
+    def dump_costs(self) -> Lines:
+        waste = self.flows.model.waste
+        return {"dump_cost": np.asarray(waste.costs @ self.flows.placed)} if waste.dumps else {}
+
+    @property
     def reclaim(self) -> Amounts:
         """The cost of reclaiming ore from stockpiles."""
         a_tonne = np.array([it.reclaim_cost for it in self.flows.model.stockpiles])

@@ -104,6 +104,11 @@ class Operation(ABC):
         return {}
 
     @property
+    def dump_costs(self) -> Lines:
+        """The cost of dumps; none without dumps."""
+        return {}
+
+    @property
     def plan(self) -> Plan:
         return self.amounts.plan
 

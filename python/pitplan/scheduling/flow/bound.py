@@ -2,8 +2,9 @@
 
 With a price on each limit in each year no schedule earns more than the sum of the prices times the limits, and the greatest value of benches
 that are mined in order, a linear programme. There each block of a mined bench goes where it earns most, less the prices of what it uses: to a
-process, to a stockpile until its best later year, or to waste. What lies on a stockpile at the start goes where and when it earns most. A share
-of a bench is the same share of each of its blocks. A real stockpile, which blends, returns no block better than that. This holds for any prices; those of the linear programme of parcels give nearly the least bound.
+process, to a stockpile until its best later year, or to waste, with dumps to the one that costs least. What lies on a stockpile at the start goes
+where and when it earns most. A share of a bench is the same share of each of its blocks. A real stockpile, which blends, returns no block better
+than that. This holds for any prices; those of the linear programme of parcels give nearly the least bound.
 """
 
 from __future__ import annotations
@@ -15,9 +16,10 @@ import numpy as np
 from numpy.typing import NDArray
 from scipy.optimize import linprog
 
+from .limit_names import ADVANCE, MAX, MIN, RUNNING, STOCK, Prices
 from .model import FlowModel
-from .ore import Ore
-from .programme import ADVANCE, MAX, MIN, RUNNING, STOCK, FlowProgramme, Prices
+from .ore import FEED, Ore
+from .programme import FlowProgramme
 from .rows import by_end, order_rows
 
 
@@ -49,14 +51,22 @@ class Lagrangian:
         """What each unit of ore earns beyond waste by the year in which it is mined, and where: 0 is waste, then follow the processes, then the
         stockpiles; both of shape (units, years)."""
         model, ore = self.model, self.model.ore
-        earned = [np.zeros((len(ore), model.years)), *self.priced(ore.amounts, model.gains * model.discounts)]
+        # Ore that goes elsewhere saves the cost of its dump.
+        saved = model.waste.ore.T @ self.dumping
+        direct = self.priced(ore.amounts, model.gains * model.discounts)
+        earned = [np.zeros((len(ore), model.years)), *(direct + np.where(ore.of(FEED)[:, :, None] > 0, saved, 0.0))]
         for number in range(len(model.stockpiles)):
-            earned.append(np.where(ore.accepted_by(number)[:, None], self.waiting(number), -np.inf))
+            earned.append(np.where(ore.accepted_by(number)[:, None], self.waiting(number) + saved, -np.inf))
         best, place = earned[0], np.zeros((len(ore), model.years), dtype=np.int64)
         for number, other in enumerate(earned[1:], 1):
             place[other > best] = number
             best = np.maximum(best, other)
         return best, place
+
+    @cached_property
+    def dumping(self) -> NDArray[np.float64]:
+        """What a tonne of waste of each set of dumps costs at least in each year, with the prices of their limits, shape (sets, years)."""
+        return self.model.waste.at_prices(self.prices)
 
     @property
     def worths(self) -> NDArray[np.float64]:
@@ -84,7 +94,7 @@ class Lagrangian:
         amounts |= {
             f"{ADVANCE}{number}": (benches.pushback == number).astype(float) for number in np.unique(benches.pushback)
         }
-        found = self.priced(amounts, model.mining_cash)
+        found = self.priced(amounts, model.mining_cash) - model.waste.rock @ self.dumping
         np.add.at(found, model.ore.bench, self.worths)
         return found
 

@@ -18,7 +18,8 @@ from pitplan.scheduling.bench_sequencing import HAIR
 from pitplan.scheduling.highs import Optimum, Programme
 from pitplan.scheduling.highs_process import solve
 
-from .programme import ADVANCE, MAX, MIN, STOCK, FlowProgramme, Limit
+from .limit_names import ADVANCE, MAX, MIN, STOCK
+from .programme import FlowProgramme, Limit
 
 # A share of a limit, or of the greatest dual value, that may be the solver's tolerance alone.
 SLIGHT = 1e-6

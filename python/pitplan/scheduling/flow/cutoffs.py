@@ -8,8 +8,8 @@ import numpy as np
 from numpy.typing import NDArray
 
 from .flows import Flows
+from .limit_names import MAX
 from .ore import FEED
-from .programme import MAX
 
 
 def cutoffs(flows: Flows, names: list[str]) -> Optional[dict[str, NDArray[np.float64]]]:

@@ -11,12 +11,13 @@ from numpy.typing import NDArray
 
 from pitplan.pushbacks.bench_table import CASH
 
+from .limit_names import Prices
 from .model import FlowModel
-from .programme import FlowProgramme, Prices
+from .programme import FlowProgramme
 
 # A share that may be the solver's tolerance alone.
 SLIGHT = 1e-7
-PARTS = ("dug", "direct", "stocked", "reclaimed", "opened")
+PARTS = ("dug", "direct", "stocked", "reclaimed", "opened", "dumped")
 
 
 @dataclass(frozen=True)
@@ -36,6 +37,8 @@ class Flows:
         Shares that processes take from stockpiles.
     opened : array, shape (processes, lots, years)
         Shares of what lies on stockpiles at the start that processes take.
+    dumped : array, shape (sets, dumps, years)
+        Shares of the waste of each set that go to its dumps.
     prices : dict
         The price of each limit, if a linear programme chose the flows.
     """
@@ -46,6 +49,7 @@ class Flows:
     stocked: NDArray[np.float64]
     reclaimed: NDArray[np.float64]
     opened: NDArray[np.float64]
+    dumped: NDArray[np.float64]
     prices: Optional[Prices] = None
 
     @property
@@ -56,8 +60,22 @@ class Flows:
     @property
     def waste(self) -> NDArray[np.float64]:
         """Shares of parcels that go to waste, shape (parcels, years)."""
-        sent = self.direct.sum(axis=0) + self.stocked.sum(axis=0)
-        return np.maximum(self.dug[self.model.ore.bench] - sent, 0.0)
+        return np.maximum(self.dug[self.model.ore.bench] - self.sent, 0.0)
+
+    @property
+    def sent(self) -> NDArray[np.float64]:
+        """Shares of parcels that go to processes and stockpiles, shape (parcels, years)."""
+        return np.asarray(self.direct.sum(axis=0) + self.stocked.sum(axis=0))
+
+    @cached_property
+    def wasted(self) -> NDArray[np.float64]:
+        """Tonnes of waste by bench, set of dumps and year."""
+        return self.model.waste.by_bench(self.dug, self.sent)
+
+    @cached_property
+    def placed(self) -> NDArray[np.float64]:
+        """Tonnes that each dump takes in each year, shape (dumps, years)."""
+        return np.asarray((self.wasted.sum(axis=0)[:, None] * self.dumped).sum(axis=0))
 
     @cached_property
     def of_benches(self) -> NDArray[np.float64]:
@@ -70,7 +88,10 @@ class Flows:
         gained = np.einsum("kpt,kpt->pt", model.gains[:, :, : self.years], self.direct)
         gained += np.einsum("skpt,skpt->pt", model.reclaim_gains[..., : self.years], self.reclaimed)
         gained -= np.einsum("sp,spt->pt", model.stacking, self.stocked)
-        np.add.at(flows[:, :, model.benches.names.index(CASH)], ore.bench, gained)
+        cash = flows[:, :, model.benches.names.index(CASH)]
+        np.add.at(cash, ore.bench, gained)
+        a_tonne = (self.dumped * model.waste.costs[:, None]).sum(axis=1)
+        cash -= (self.wasted * a_tonne).sum(axis=1)
         return flows
 
     @cached_property
@@ -146,10 +167,11 @@ class Flows:
 
 
 def none_of(model: FlowModel, dug: NDArray[np.float64]) -> Flows:
-    """Returns flows in which all that is mined is waste."""
+    """Returns flows in which all that is mined is waste, with dumps on the cheapest ones."""
     shape, count = (model.ore.processes, len(model.ore), model.years), len(model.stockpiles)
     opened = np.zeros((model.ore.processes, len(model.opening.ore), model.years))
-    return Flows(model, dug, np.zeros(shape), np.zeros((count, *shape[1:])), np.zeros((count, *shape)), opened)
+    dumped = model.waste.shares(np.zeros((model.waste.sets, len(model.dumps), model.years)))
+    return Flows(model, dug, np.zeros(shape), np.zeros((count, *shape[1:])), np.zeros((count, *shape)), opened, dumped)
 
 
 def best(model: FlowModel, dug: NDArray[np.float64]) -> Flows:
@@ -171,7 +193,9 @@ def best(model: FlowModel, dug: NDArray[np.float64]) -> Flows:
     empty.reclaimed[model.reclaimed.index] = found.reclaimed
     empty.stocked[model.stocked.index] = found.stocked
     empty.opened[model.opened.index] = found.opened
-    return replace(within(empty), prices=found.prices)
+    tonnes = np.zeros_like(empty.dumped)
+    tonnes[model.waste.pairs[0], model.waste.pairs[1]] = np.maximum(found.dumped, 0.0)
+    return replace(within(empty), dumped=model.waste.shares(tonnes), prices=found.prices)
 
 
 def within(flows: Flows) -> Flows:
@@ -219,7 +243,7 @@ def keep_maxima(flows: Flows, year: int) -> None:
 def richest_first(model: FlowModel, dug: NDArray[np.float64], prices: Optional[Prices] = None) -> Flows:
     """Returns flows in which each year's ore goes where it gains most per tonne of feed, the richest first, as far as the maxima allow.
 
-    Nothing is stockpiled. With prices the gain is less those of the maxima, as the linear programme weighs it.
+    Nothing is stockpiled, and waste goes to the cheapest dump. With prices the gain is less those of the maxima, as the linear programme weighs it.
     """
     flows, feed = none_of(model, dug), model.ore.feed
     process, parcel = model.direct.index
@@ -227,8 +251,9 @@ def richest_first(model: FlowModel, dug: NDArray[np.float64], prices: Optional[P
     takes = np.array([model.direct.of(model.ore.of(name)) for name in names]).reshape(len(names), len(process))
     of_years = dict(zip(model.problem.limits.most, model.problem.limits.of_years(model.years).T))
     free = np.array([of_years[name] - model.dug(name) @ dug for name in names]).reshape(len(names), model.years)
+    saved = model.waste.ore.T @ model.waste.at_prices(prices or {})
     for year in np.flatnonzero(dug.any(axis=0)):
-        gain = model.gains[process, parcel, year] * model.discounts[year]
+        gain = model.gains[process, parcel, year] * model.discounts[year] + saved[parcel, year]
         for name, part in zip(names, takes):
             gain = gain - part * (0.0 if prices is None else prices.get((name, "max"), np.zeros(model.years))[year])
         some = np.flatnonzero((gain > 0) & (dug[model.ore.bench[parcel], year] > 0))

@@ -11,8 +11,8 @@ from numpy.typing import NDArray
 from pitplan.scheduling.grade_limits import GradeLimit, grade_limits
 
 from .flows import Flows
+from .limit_names import ADVANCE, DUMP, DUMPED, MAX, MIN, STOCK
 from .ore import FEED
-from .programme import ADVANCE, MAX, MIN, STOCK
 
 if TYPE_CHECKING:
     from pitplan.scheduling.pushback_schedule import YearlySchedule
@@ -42,7 +42,7 @@ def limit_table(schedule: YearlySchedule) -> pd.DataFrame:
 
 
 def names_of(schedule: YearlySchedule) -> list[str]:
-    """The limits: amounts, head grades, the vertical advance of each pushback, and what lies on stockpiles."""
+    """The limits: amounts, head grades, the vertical advance of each pushback, what lies on stockpiles, and what dumps take and hold."""
     limits, grades = schedule.problem.limits, grades_of(schedule)
     shown = {it.name: name for name, found in grades.items() for it in found}
     found = list(dict.fromkeys(shown.get(name, name) for name in (*limits.most, *limits.least)))
@@ -50,7 +50,11 @@ def names_of(schedule: YearlySchedule) -> list[str]:
         found += [f"{ADVANCE}{number}" for number in np.unique(schedule.benches.pushback)]
     model = schedule.model
     limited = [np.isfinite(most).any() or least.any() for least, most in model.rooms]
-    return [*found, *(f"{STOCK}{it.name}" for it, is_limited in zip(model.stockpiles, limited) if is_limited)]
+    found += [f"{STOCK}{it.name}" for it, is_limited in zip(model.stockpiles, limited) if is_limited]
+    for it, least, most in zip(model.dumps, model.waste.least, model.waste.most):
+        found += [f"{DUMP}{it.name}"] if least.any() or np.isfinite(most).any() else []
+        found += [f"{DUMPED}{it.name}"] if it.capacity is not None else []
+    return found
 
 
 def rows_of(schedule: YearlySchedule, method: str, name: str) -> pd.DataFrame:
@@ -88,9 +92,22 @@ def amounts_of(schedule: YearlySchedule, flows: Flows, name: str) -> tuple[Float
         return flows.dug[mine].sum(axis=0), nothing, limits.sinking(years)
     if name.startswith(STOCK):
         return of_stockpile(schedule, flows, name)
+    if name.startswith((DUMP, DUMPED)):
+        return of_dump(schedule, flows, name)
     most = limits.of_years(max(years, 1))[:years, list(limits.most).index(name)] if name in limits.most else nothing
     least = limits.least_of_years(years)[name] if name in limits.least else nothing
     return flows.used(name), least, most
+
+
+def of_dump(schedule: YearlySchedule, flows: Flows, name: str) -> tuple[Floats, Floats, Floats]:
+    """Returns the tonnes that a dump takes in each year, or holds at its end, their minimum and their maximum."""
+    years, dumps, nothing = flows.years, schedule.model.dumps, np.full(flows.years, np.nan)
+    if name.startswith(DUMPED):
+        number = [f"{DUMPED}{it.name}" for it in dumps].index(name)
+        return flows.placed[number].cumsum(), nothing, np.full(years, dumps[number].capacity, dtype=float)
+    number = [f"{DUMP}{it.name}" for it in dumps].index(name)
+    least, most = schedule.model.waste.least[number], schedule.model.waste.most[number, :years]
+    return flows.placed[number], least[:years] if least.any() else nothing, np.where(np.isfinite(most), most, nothing)
 
 
 def of_stockpile(schedule: YearlySchedule, flows: Flows, name: str) -> tuple[Floats, Floats, Floats]:

@@ -9,12 +9,14 @@ from typing import Optional
 import numpy as np
 from numpy.typing import NDArray
 
+from pitplan.config.dumps import Dump
 from pitplan.config.stockpiles import Stockpile
 from pitplan.pits.best_worst_case import year_discounts
 from pitplan.pushbacks.bench_table import ROCK, PushbackBenches
 from pitplan.scheduling.bench_sequencing import Limits, Problem
 
-from .ore import Ore
+from .dumping import SET, Waste
+from .ore import FEED, Ore
 
 
 @dataclass(frozen=True)
@@ -76,6 +78,10 @@ class FlowModel:
     stockpiles : tuple of Stockpile
     lots : OpeningOre, optional
         What lies there at the start; None: nothing.
+    dumps : tuple of Dump
+        Where waste goes; without any it goes anywhere at no cost.
+    accepted : bool array, shape (sets, dumps), optional
+        The sets of dumps that accept some rock; None without dumps.
     """
 
     problem: Problem
@@ -83,6 +89,22 @@ class FlowModel:
     years: int
     stockpiles: tuple[Stockpile, ...] = ()
     lots: Optional[OpeningOre] = None
+    dumps: tuple[Dump, ...] = ()
+    accepted: Optional[NDArray[np.bool_]] = None
+
+    @cached_property
+    def waste(self) -> Waste:
+        """Rock by the set of dumps that accept it, and the dumps; no sets without dumps."""
+        accepted = np.zeros((0, len(self.dumps)), dtype=bool) if self.accepted is None else self.accepted
+        names = [f"{SET}{number}" for number in range(len(accepted))]
+        rock = np.array([self.benches.of(name) for name in names]).reshape(len(names), len(self.benches)).T
+        # A process takes the whole block or nothing of it.
+        ore = np.array([self.ore.of(name).max(axis=0, initial=0.0) for name in names]).reshape(
+            len(names), len(self.ore)
+        )
+        limits = [self.problem.limits.dumped(it.name, self.years) for it in self.dumps]
+        least, most = np.array(limits).reshape(len(limits), 2, self.years).swapaxes(0, 1)
+        return Waste(self.dumps, accepted, rock, ore, self.ore.bench, least, most, self.discounts)
 
     @property
     def benches(self) -> PushbackBenches:
@@ -160,10 +182,14 @@ class FlowModel:
         return Uses(np.nonzero(self.useful(self.opening_gains, self.opening.ore)))
 
     def useful(self, gains: NDArray[np.float64], ore: Optional[Ore] = None) -> NDArray[np.bool_]:
-        """Returns whether each process takes each unit of ore, by default each parcel: if it gains in some year, or if a limit may ask for ore
-        that does not."""
-        pays = gains.max(axis=2, initial=-np.inf) > 0
-        return pays | ((self.ore if ore is None else ore).gain != 0) if self.asks_ore else pays
+        """Returns whether each process takes each unit of ore, by default each parcel: if it gains in some year, or costs less than a dump, or if
+        a limit may ask for ore that does not."""
+        units, earned = self.ore if ore is None else ore, gains.max(axis=2, initial=-np.inf)
+        pays = earned > 0
+        if ore is None and self.waste.sets:
+            rock, saved = self.waste.ore.sum(axis=0), self.waste.saved
+            pays |= (units.of(FEED) > 0) & (np.isinf(saved) | (earned + rock * (0.0 if np.isinf(saved) else saved) > 0))
+        return pays | (units.gain != 0) if self.asks_ore else pays
 
     @property
     def asks_ore(self) -> bool:
@@ -172,10 +198,10 @@ class FlowModel:
 
     @property
     def asks_least(self) -> bool:
-        """Whether a year must hold something at least, or a stockpile must be emptied."""
+        """Whether a year must hold something at least, a stockpile must be emptied, or a dump must take something."""
         lying = [self.opening.on(number).sum() for number in range(len(self.stockpiles))]
         due = [least.any() or (most < lay).any() for (least, most), lay in zip(self.rooms, lying)]
-        return bool(self.problem.limits.least) or any(due)
+        return bool(self.problem.limits.least) or any(due) or bool(self.waste.least.any())
 
     @cached_property
     def rooms(self) -> tuple[tuple[NDArray[np.float64], NDArray[np.float64]], ...]:

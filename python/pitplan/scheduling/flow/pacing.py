@@ -16,9 +16,10 @@ from numpy.typing import NDArray
 
 from pitplan.scheduling.bench_sequencing import HAIR
 
+from .dumping import SET
+from .limit_names import MAX, Prices
 from .model import FlowModel
 from .ore import FEED
-from .programme import MAX, Prices
 
 GAIN = "gain"
 # Points of the grid over an order's tonnes, and of the refined one around the end of each year.
@@ -98,21 +99,37 @@ class Pacing:
                 np.add.at(found[name][:, process], (ore.bench, self.kind[ore.bin - 1]), row)
         return found
 
-    @property
-    def premiums(self) -> dict[str, tuple[float, ...]]:
-        return self.model.problem.money.of_ore
+    @cached_property
+    def premiums(self) -> dict[str, NDArray[np.float64]]:
+        """By amount of ore what a unit of it earns in each year beyond the gain, not discounted, shape (years,): of metal and costs by prices and
+        factors of years, and of rock the cost of the dump to which it does not go."""
+        model = self.model
+        names = tuple(model.problem.money.of_ore)
+        found = dict(zip(names, model.problem.money.premium(names, model.years).T))
+        # Rounded, so that years with the same costs are weighed once.
+        costs = np.round(self.dumping / model.discounts, 9)
+        return found | {f"{SET}{number}": cost for number, cost in enumerate(costs)}
+
+    @cached_property
+    def dumping(self) -> NDArray[np.float64]:
+        """What a tonne of waste of each set of dumps costs at least in each year, discounted, shape (sets, years)."""
+        return self.model.waste.at_prices(self.prices)
+
+    @cached_property
+    def mined(self) -> NDArray[np.float64]:
+        """What mining each bench earns in each year if all of it is waste, discounted, shape (benches, years)."""
+        return np.asarray(self.model.mining_cash - self.model.waste.rock @ self.dumping)
 
     def value(self, dug: NDArray[np.float64]) -> float:
         """Returns nearly the net present value of shares of benches in all years, shape (benches, years), with the richest bins first."""
         model, limits = self.model, self.model.problem.limits
         ore = {name: np.einsum("bkc,by->ykc", values, dug) for name, values in self.by_bench.items()}
-        names = tuple(self.premiums)
-        premiums = dict(zip(names, model.problem.money.premium(names, model.years).T[:, :, None, None]))
+        premiums = {name: more[:, None, None] for name, more in self.premiums.items()}
         premiums |= {name: -price[:, None, None] for name, price in self.blended.items()}
         most = dict(zip(limits.most, limits.of_years(model.years).T))
         free = {name: amounts - model.dug(name) @ dug for name, amounts in most.items() if name not in self.blended}
         gain = gained(with_prices(ore, premiums), free) @ model.discounts
-        return float(gain + model.problem.value(dug))
+        return float(gain + (self.mined * dug).sum() - model.problem.costs(dug).sum())
 
     def coarse(self, order: NDArray[np.int64]) -> Course:
         """Returns the best course of an order of benches over a coarse grid."""
@@ -245,12 +262,12 @@ class Moves:
         model, pacing = self.model, self.pacing
         limits, costs = model.problem.limits, model.problem.costs_of_years(model.years)
         of_years = limits.of_years(model.years)
-        mined = self.between(model.problem.worths(model.years), *self.pairs)
+        mined = self.between(pacing.mined, *self.pairs)
         ore = {name: self.between(values, *self.pairs) for name, values in pacing.by_bench.items()}
         dug = {name: self.between(model.dug(name), *self.pairs) for name in limits.most}
         found, regimes = np.empty((model.years, len(self.first))), dict[tuple[float, ...], NDArray[np.float64]]()
         for year, amounts in enumerate(of_years):
-            premiums = {name: more[min(year, len(more) - 1)] for name, more in pacing.premiums.items()}
+            premiums = {name: float(more[year]) for name, more in pacing.premiums.items()}
             premiums |= {name: -float(price[year]) for name, price in pacing.blended.items()}
             key = (*amounts, *premiums.values())
             if key not in regimes:

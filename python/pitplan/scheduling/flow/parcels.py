@@ -21,6 +21,9 @@ from pitplan.scheduling.bench_sequencing import Limits
 from pitplan.scheduling.grade_limits import AT, GRADE, GradeLimit, grade_limits
 from pitplan.scheduling.limits import SUM
 
+from . import dump_sets
+from .dump_sets import DumpSets
+from .dumping import SET
 from .ore import FEED, Ore
 
 # A limit on a grade divides ore by that grade into this number of parts of even feed, so that parcels can be blended.
@@ -43,6 +46,8 @@ class Material:
         The ore block by block, and in parcels.
     edges : dict of str to array
         By process the net values per tonne of feed between its bins, in the currency; none if blocks that choose alike are in a bin.
+    sets : DumpSets, optional
+        The rock by the set of dumps that accept it; None without dumps.
     """
 
     benches: PushbackBenches
@@ -51,13 +56,15 @@ class Material:
     blocks: Ore
     parcels: Ore
     edges: dict[str, NDArray[np.float64]]
+    sets: Optional[DumpSets] = None
 
 
 def of_pushbacks(pushbacks: Pushbacks, rules: ScheduleRules) -> Material:
-    """Returns the material of pushbacks, with value bins of nearly even tonnage."""
+    """Returns the material of pushbacks, with value bins of nearly even tonnage. Raises PlanError if no dump accepts some of it."""
     plan, assigned = pushbacks.plan, bench_table.of_pushbacks(pushbacks, rules.bench_lag)
+    sets = dump_sets.of_cells(plan, np.flatnonzero((pushbacks.pushback > 0) & (plan.values.tonnes > 0)))
     cells = ore_cells(pushbacks, rules)
-    blocks = ore_of(plan, rules, cells, bench_table.benches_of_cells(pushbacks, assigned, cells))
+    blocks = ore_of(plan, rules, cells, bench_table.benches_of_cells(pushbacks, assigned, cells), sets)
     per_tonne, names = per_tonne_of(blocks, blocks.gain), names_of(plan)
     best, count = per_tonne.argmax(axis=0), rules.bins or BINS
     edges = {
@@ -65,7 +72,8 @@ def of_pushbacks(pushbacks: Pushbacks, rules: ScheduleRules) -> Material:
         for process, name in enumerate(names)
     }
     kind = kinds_of(blocks, per_tonne, list(edges.values()), grade_parts(blocks))
-    return in_parcels(Material(mined_alone(pushbacks, assigned, rules), cells, kind, blocks, blocks, edges), kind)
+    benches = mined_alone(pushbacks, assigned, rules, sets)
+    return in_parcels(Material(benches, cells, kind, blocks, blocks, edges, sets), kind)
 
 
 def by_choice(material: Material, choices: NDArray[np.int64]) -> Material:
@@ -113,12 +121,13 @@ def names_of(plan: Plan) -> list[str]:
 
 
 def ore_cells(pushbacks: Pushbacks, rules: ScheduleRules) -> NDArray[np.int64]:
-    """The cells of the pushbacks that some process may take: those that gain in some year, or, where limits may ask for ore, yield anything."""
+    """The cells of the pushbacks that some process may take: those that gain in some year, or, where limits may ask for ore
+    or waste has its cost, yield anything."""
     plan = pushbacks.plan
     inside = np.flatnonzero((pushbacks.pushback > 0) & (plan.values.tonnes > 0))
     inside = inside[np.any([way.revenue[inside] > 0 for way in plan.values.by_process], axis=0)]
     asks_least = rules.asks_least or plan.project.shells.calendar.has(lambda it: it.minimum)
-    if asks_least or plan.project.feed_grades:
+    if asks_least or plan.project.feed_grades or plan.project.dumps:
         return inside
     money = period_costs.of_project(plan.project)
     years = 1 + max((len(more) for more in money.of_ore.values()), default=0)
@@ -126,8 +135,14 @@ def ore_cells(pushbacks: Pushbacks, rules: ScheduleRules) -> NDArray[np.int64]:
     return inside[ore.gains(money, years).max(axis=(0, 2), initial=-np.inf) > 0]
 
 
-def ore_of(plan: Plan, rules: ScheduleRules, cells: NDArray[np.int64], bench: NDArray[np.int64]) -> Ore:
-    """Returns cells as ore, with the bench of each."""
+def ore_of(
+    plan: Plan,
+    rules: ScheduleRules,
+    cells: NDArray[np.int64],
+    bench: NDArray[np.int64],
+    sets: Optional[DumpSets] = None,
+) -> Ore:
+    """Returns cells as ore, with the bench of each, and with dumps the tonnes of each that do not go there if it is processed."""
     values, ways = plan.values, plan.values.by_process
     # A block without revenue in a process is never sent there.
     takes = np.array([way.revenue[cells] > 0 for way in ways], dtype=float)
@@ -137,6 +152,8 @@ def ore_of(plan: Plan, rules: ScheduleRules, cells: NDArray[np.int64], bench: ND
     for name in values.metal:
         amounts[f"recovered_{name}"] = takes * np.stack([way.metal[name][cells] for way in ways])
     amounts |= {name: costs[:, cells] for name, costs in plan.multiplied_costs.items()}
+    by_set = {} if sets is None else sets.tonnes(cells, values.tonnes[cells])
+    amounts |= {name: takes * tonnes for name, tonnes in by_set.items()}
     amounts |= sums_of(plan, rules, cells, takes) | grades_of(plan, cells, takes)
     gain = np.stack([(way.revenue[cells] - way.cost[cells]) / MILLION for way in ways])
     return Ore(bench, np.ones(len(cells), dtype=np.int64), gain, amounts, accepted_of(plan, rules, cells))
@@ -214,9 +231,12 @@ def kinds_of(
 
 
 def takers_of(blocks: Ore) -> NDArray[np.int64]:
-    """Returns a number for the set of processes and stockpiles that may take each block."""
+    """Returns a number for the set of processes, stockpiles and dumps that may take each block."""
     may = blocks.of(FEED) > 0 if blocks.accepted is None else np.vstack([blocks.of(FEED) > 0, blocks.accepted])
-    return np.asarray(may.T @ (2 ** np.arange(len(may))), dtype=np.int64)
+    number = np.asarray(may.T @ (2 ** np.arange(len(may))), dtype=np.int64)
+    for place, name in enumerate([name for name in blocks.amounts if name.startswith(SET)]):
+        number += np.where(blocks.of(name).max(axis=0) > 0, place * 2 ** len(may), 0)
+    return number
 
 
 def grade_parts(blocks: Ore) -> NDArray[np.int64]:
@@ -231,8 +251,11 @@ def grade_parts(blocks: Ore) -> NDArray[np.int64]:
     return part
 
 
-def mined_alone(pushbacks: Pushbacks, assigned: PushbackBenches, rules: ScheduleRules) -> PushbackBenches:
-    """Returns the benches with the amounts of mining alone: total material, limited sums of all material, and the mining cost."""
+def mined_alone(
+    pushbacks: Pushbacks, assigned: PushbackBenches, rules: ScheduleRules, sets: Optional[DumpSets] = None
+) -> PushbackBenches:
+    """Returns the benches with the amounts of mining alone: total material, limited sums of all material, the mining cost, and rock by set of
+    dumps."""
     plan = pushbacks.plan
     inside = np.flatnonzero((pushbacks.pushback > 0) & (plan.values.tonnes > 0))
     bench = bench_table.benches_of_cells(pushbacks, assigned, inside)
@@ -240,6 +263,7 @@ def mined_alone(pushbacks: Pushbacks, assigned: PushbackBenches, rules: Schedule
     flows = {name: np.zeros(len(inside)) for name in assigned.names} | {ROCK: tonnes}
     cost = plan.values.mining[inside] / MILLION + pushbacks.mining_cost_added[inside]
     flows |= {CASH: -cost, period_costs.MINING_COST: cost}
+    flows |= {} if sets is None else sets.tonnes(inside, tonnes)
     for it in [it for it in rules.limits if it.of == TOTAL]:
         flows[f"{SUM}{it.name}"] = column_of(plan, it.column, inside) * (tonnes if it.per_tonne else 1.0)
     sums = np.column_stack([np.bincount(bench, flow, minlength=len(assigned)) for flow in flows.values()])

@@ -2,8 +2,8 @@
 
 Unknowns, each by year: the share of a bench that is mined by the end of the year; the share of a parcel that a process takes as it is mined,
 that goes to a stockpile, that lies there at the end of the year, and that a process takes from there; the share of a lot that lies on a
-stockpile at the start and that a process takes; and, if years cost anything, whether the mine runs. What a parcel sends nowhere is waste. A
-stockpile gives each parcel back as it was placed.
+stockpile at the start and that a process takes; the share of the rock of a set of dumps that goes to each of them as waste; and, if years cost
+anything, whether the mine runs. What a parcel sends nowhere is waste. A stockpile gives each parcel back as it was placed.
 """
 
 from __future__ import annotations
@@ -22,13 +22,12 @@ from pitplan.config.schedule import Effort
 from pitplan.scheduling.highs import Programme
 from pitplan.scheduling.highs_process import solve
 
+from .limit_names import ADVANCE, DUMP, DUMPED, MAX, MIN, RUNNING, STOCK, Prices
 from .model import FlowModel
 from .rows import by_end, furthest, order_rows
 
-MAX, MIN, RUNNING = "max", "min", "running"
-ADVANCE, STOCK = "vertical_advance_", "stockpile_"
-# By name of the limit and side the price of a unit in each year, discounted: shape (years,).
-Prices = dict[tuple[str, str], NDArray[np.float64]]
+# The limits that do not show whether the mine runs in a year.
+OF_PLACES = (STOCK, DUMP, DUMPED)
 
 
 @dataclass(frozen=True)
@@ -94,6 +93,8 @@ class FlowOptimum:
         Its cash flow after period costs, not discounted; capex as if it flowed with the year's other cash.
     prices : dict
         The price of each limit.
+    dumped : array, shape (pairs, years)
+        Tonnes of waste by the pairs of `Waste.pairs`.
     """
 
     cumulative: NDArray[np.float64]
@@ -105,6 +106,7 @@ class FlowOptimum:
     value: float
     cash: NDArray[np.float64]
     prices: Prices = field(default_factory=dict)
+    dumped: NDArray[np.float64] = field(default_factory=lambda: np.zeros((0, 0)))
 
 
 @dataclass(frozen=True)
@@ -120,10 +122,10 @@ class FlowProgramme:
 
     @cached_property
     def sizes(self) -> list[int]:
-        """The number of unknowns: of mining, direct feed, to the stockpiles, in them, from them, and from what lies there at the start."""
+        """The number of unknowns: of mining, direct feed, to the stockpiles, in them, from them, from what lies there at the start, and of waste."""
         model, stocked = self.model, len(self.model.stocked)
         counts = [0 if self.dug is not None else len(model.benches), len(model.direct)]
-        counts += [stocked, stocked, len(model.reclaimed), len(model.opened)]
+        counts += [stocked, stocked, len(model.reclaimed), len(model.opened), len(model.waste.pairs[0])]
         return [count * self.years for count in counts]
 
     def row(self, *parts: Optional[csr_matrix]) -> csr_matrix:
@@ -145,8 +147,14 @@ class FlowProgramme:
             np.zeros(self.sizes[3]),
             (model.reclaimed.of(model.reclaim_gains) * model.discounts).ravel(),
             (model.opened.of(model.opening_gains) * model.discounts).ravel(),
+            -np.outer(self.of_pairs * model.waste.costs[model.waste.pairs[1]], model.discounts).ravel(),
         ]
         return np.concatenate(parts)
+
+    @property
+    def of_pairs(self) -> NDArray[np.float64]:
+        """The tonnes that are one unit of the unknowns of waste, shape (pairs,)."""
+        return self.model.waste.whole[self.model.waste.pairs[0]]
 
     @cached_property
     def unit(self) -> float:
@@ -195,9 +203,23 @@ class FlowProgramme:
             whole = kron(incidence(self.model.opened.parcel, count), np.ones((1, self.years)))
             yield self.row(None, None, None, None, None, whole), np.ones(count)
 
+    def waste_rows(self) -> Iterator[tuple[csr_matrix, NDArray[np.float64]]]:
+        """What is mined of the rock of a set and sent nowhere else goes to the dumps of the set: neither less nor more."""
+        model, waste = self.model, self.model.waste
+        if not waste.sets:
+            return
+        ore, rock = waste.ore / waste.whole[:, None], waste.rock.T / waste.whole[:, None]
+        sent = [kron(csr_matrix(ore[:, uses.parcel]), self.each_year) for uses in (model.direct, model.stocked)]
+        dumped = kron(incidence(waste.pairs[0], waste.sets), self.each_year)
+        mined = None if self.dug is not None else -kron(csr_matrix(rock), self.step)
+        rows = self.row(mined, *sent, None, None, None, dumped)
+        due = np.zeros(waste.sets * self.years) if self.dug is None else (rock @ self.dug).ravel()
+        yield rows, due
+        yield -rows, -due
+
     @cached_property
     def limits(self) -> list[Limit]:
-        """All limits of years, with the capacities of stockpiles; without those of mining if it is given."""
+        """All limits of years, with those of stockpiles and dumps; without those of mining if it is given."""
         model, limits = self.model, self.model.problem.limits
         most, least = limits.of_years(self.years).T, limits.least_of_years(self.years)
         found = [Limit(name, MAX, self.used(name), amount) for name, amount in zip(limits.most, most)]
@@ -210,7 +232,7 @@ class FlowProgramme:
             ]
         elif np.isfinite(limits.vertical_advance_rate):
             found += [self.advance(pushback) for pushback in np.unique(model.benches.pushback)]
-        return [*found, *self.capacities_of_stockpiles()]
+        return [*found, *self.capacities_of_stockpiles(), *self.limits_of_dumps()]
 
     def used(self, name: str) -> csr_matrix:
         """Returns what each unknown adds to an amount in each year, shape (years, unknowns)."""
@@ -243,6 +265,21 @@ class FlowProgramme:
             if least.any():
                 yield Limit(f"{STOCK}{it.name}", MIN, used, least - lay.sum())
 
+    def limits_of_dumps(self) -> Iterator[Limit]:
+        """The limits of what each dump takes in a year, and of what it holds at the end of one, in tonnes."""
+        waste, until = self.model.waste, csr_matrix(np.tril(np.ones((self.years, self.years))))
+        for number, it in enumerate(waste.dumps):
+            tonnes = csr_matrix(np.where(waste.pairs[1] == number, self.of_pairs, 0.0)[None])
+            taken, held = (
+                self.row(None, None, None, None, None, None, kron(tonnes, years)) for years in (self.each_year, until)
+            )
+            if np.isfinite(waste.most[number]).any():
+                yield Limit(f"{DUMP}{it.name}", MAX, taken, waste.most[number])
+            if waste.least[number].any():
+                yield Limit(f"{DUMP}{it.name}", MIN, taken, waste.least[number])
+            if it.capacity is not None:
+                yield Limit(f"{DUMPED}{it.name}", MAX, held, np.full(self.years, it.capacity))
+
     @cached_property
     def costs(self) -> NDArray[np.float64]:
         """What each year costs if the mine runs, discounted; nothing if mining is given."""
@@ -250,9 +287,9 @@ class FlowProgramme:
 
     @cached_property
     def programme(self) -> Programme:
-        """All rows: order, parcels, stockpile, lots, then limits, and limits of running years."""
+        """All rows: order, parcels, stockpile, lots, waste, then limits, and limits of running years."""
         parts = [] if self.dug is not None else [self.order_rows()]
-        parts += [self.parcel_rows(), *self.stock_rows(), *self.opening_rows()]
+        parts += [self.parcel_rows(), *self.stock_rows(), *self.opening_rows(), *self.waste_rows()]
         parts += [it.rows for it in self.limits]
         matrix, most = vstack([rows for rows, _ in parts], format="csr"), np.concatenate([right for _, right in parts])
         size = sum(self.sizes)
@@ -277,7 +314,7 @@ class FlowProgramme:
         return [
             it
             for it in self.limits
-            if it.side == MAX and np.isfinite(it.amount).all() and it.amount.any() and not it.name.startswith(STOCK)
+            if it.side == MAX and np.isfinite(it.amount).all() and it.amount.any() and not it.name.startswith(OF_PLACES)
         ]
 
     def with_running_years(self, programme: Programme) -> Programme:
@@ -316,7 +353,7 @@ class FlowProgramme:
         if value < 0 and self.dug is None and not self.model.asks_least:
             unknowns, value = np.zeros_like(unknowns), 0.0
         ends = np.cumsum(self.sizes)
-        by_end_of_years, direct, stocked, _, reclaimed, opened = (
+        by_end_of_years, direct, stocked, _, reclaimed, opened, dumped = (
             part.reshape(-1, self.years) for part in np.split(unknowns[: ends[-1]], ends[:-1])
         )
         running = unknowns[ends[-1] :] if len(unknowns) > ends[-1] else np.ones(self.years)
@@ -326,7 +363,8 @@ class FlowProgramme:
             (self.model.mining_cash * np.diff(cumulative, axis=1, prepend=0.0)).sum(axis=0) if len(cumulative) else 0.0
         )
         cash = (mined + fed - self.costs * running) / self.model.discounts
-        return FlowOptimum(cumulative, direct, stocked, reclaimed, opened, running, value, cash, prices)
+        tonnes = dumped * self.of_pairs[:, None]
+        return FlowOptimum(cumulative, direct, stocked, reclaimed, opened, running, value, cash, prices, tonnes)
 
     def prices(self, of_rows: NDArray[np.float64]) -> Prices:
         """Returns the prices of the limits, from the dual value of each row."""

@@ -2,7 +2,7 @@
 
 from __future__ import annotations
 
-from collections.abc import Iterator
+from collections.abc import Callable, Iterator
 from dataclasses import dataclass, replace
 from itertools import combinations
 from typing import Optional
@@ -10,11 +10,13 @@ from typing import Optional
 import numpy as np
 from numpy.typing import NDArray
 
+from pitplan.config.dumps import Dump
 from pitplan.errors import PlanError
 from pitplan.pushbacks.bench_table import ORE, PushbackBenches
 from pitplan.scheduling.bench_sequencing import Problem, Sequence, by_lead, dig, leads
 
 from . import orders
+from .dumping import FAR
 from .flows import Flows, best, richest_first
 from .model import FlowModel
 from .orders import Ordered
@@ -28,8 +30,12 @@ MOST_PACING = 3
 TRIED, TRIED_WITH_MINIMUMS = 4, 40
 # Orders are compared with about MOST_KINDS kinds of ore at most, and the best COMPARED of them again with all bins.
 MOST_KINDS, COMPARED = 48, 8
-# By so much of it a minimum may be missed.
-TOLERATED = 1e-8
+# By so much of it a minimum may be missed; so much of the waste may find no room; and by so much of it a limit of a dump may be exceeded.
+TOLERATED, LACKING, ROOM = 1e-8, 1e-7, 1e-6
+# How often an order is mined more slowly because its waste finds no room.
+SLOWER = 15
+# The shares of benches by year at a pace.
+Digs = Callable[[NDArray[np.float64]], NDArray[np.float64]]
 
 
 class NoSchedule(PlanError):
@@ -66,12 +72,12 @@ class Pace:
         is_limited = any(not is_of_ore(name) for name in most) or np.isfinite(self.problem.limits.vertical_advance_rate)
         return [*found[::-1], *([()] if is_limited else [])]
 
-    def schedules(self, years: Optional[int] = None) -> Iterator[tuple[int, NDArray[np.float64]]]:
-        """Yields each lead of pushbacks and the shares of benches by year, for each set of limits."""
+    def schedules(self, years: Optional[int] = None) -> Iterator[tuple[int, Problem, NDArray[np.float64]]]:
+        """Yields each lead of pushbacks, for each set of limits, with the problem of that set and the shares of benches by year."""
         for names in self.sets:
             problem = self.paced_by(names)
             for lead in leads(problem.benches):
-                yield lead, dig(problem, by_lead(problem.benches, lead), years)
+                yield lead, problem, dig(problem, by_lead(problem.benches, lead), years)
 
 
 def pace_of(problem: Problem, assigned: PushbackBenches) -> Pace:
@@ -98,12 +104,48 @@ def by_rule(model: FlowModel, pace: Pace, years: Optional[int]) -> tuple[Flows, 
     richest first. `years` limits the years; None: all is mined, for which the model gets as many years as that takes.
     """
     found = list(pace.schedules(years))
-    longest = max(shares.shape[1] for _, shares in found)
+    longest = max(shares.shape[1] for *_, shares in found)
     model = replace(model, years=longest, stockpiles=(), lots=None)
     pacing = Pacing(model)
-    lead, shares = max(found, key=lambda pair: pacing.value(padded(pair[1], longest)))
-    flows = richest_first(model, padded(shares, longest))
+    lead, problem, shares = max(found, key=lambda it: pacing.value(padded(it[-1], longest)))
+
+    def dig_at(pace: NDArray[np.float64]) -> NDArray[np.float64]:
+        return padded(dig(problem, replace(by_lead(problem.benches, lead), pace=pace), longest), longest)
+
+    flows = dumped_by_rule(model, padded(shares, longest), dig_at)
     return flows.cut(flows.last), lead
+
+
+def dumped_by_rule(model: FlowModel, dug: NDArray[np.float64], dig_at: Digs) -> Flows:
+    """Returns the flows of what is mined with the richest ore first and waste on the cheapest dumps with room. Where there is none, less is mined;
+    after SLOWER trials waste may still find none."""
+    flows = richest_first(model, dug)
+    for _ in range(SLOWER if model.waste.sets else 0):
+        dumped, lacking = model.waste.placed(flows.wasted.sum(axis=0))
+        flows = replace(flows, dumped=dumped)
+        if lacks_nothing(flows, lacking):
+            break
+        flows = richest_first(model, dig_at(slower(flows, lacking)))
+    return flows
+
+
+def slower(flows: Flows, lacking: NDArray[np.float64]) -> NDArray[np.float64]:
+    """Returns the rock that is mined by the end of each year if it is less by that with as much waste as found no room."""
+    mined, wasted = flows.model.rock @ flows.dug, flows.wasted.sum(axis=(0, 1))
+    rock = lacking * np.divide(mined, wasted, out=np.ones_like(mined), where=wasted > 0)
+    return np.maximum.accumulate(np.maximum(mined.cumsum() - rock.cumsum(), 0.0))
+
+
+def lacks_nothing(flows: Flows, lacking: NDArray[np.float64]) -> bool:
+    """Returns whether waste that finds no room is no more than the solver's tolerance."""
+    return float(lacking.sum()) <= LACKING * float(flows.wasted.sum())
+
+
+def keeps_dumps(flows: Flows) -> bool:
+    """Returns whether no dump takes or holds more than it may, within a tolerance."""
+    waste = flows.model.waste
+    held = flows.placed.cumsum(axis=1) <= waste.capacities[:, None] * (1 + ROOM)
+    return bool(held.all() and (flows.placed <= waste.most[:, : flows.years] * (1 + ROOM)).all())
 
 
 def from_optimum(model: FlowModel, optimum: FlowOptimum, rule: Optional[Flows] = None) -> Flows:
@@ -119,11 +161,13 @@ def from_optimum(model: FlowModel, optimum: FlowOptimum, rule: Optional[Flows] =
     given = None if rule is None else feasible(model, padded(rule.dug, model.years))
     made = [] if given is None else [given]
     for found in orders_of(model, optimum)[:tries]:
-        made += [it for it in (feasible(model, dug) for dug in mined(model, found.order, optimum)) if it is not None]
+        flows = (fitting(model, dug, dig_at) for dug, dig_at in mined(model, found.order, optimum))
+        made += [it for it in flows if it is not None]
         if model.asks_least and len(made) >= TRIED:
             break
     if not made:
-        raise NoSchedule("no schedule that was tried meets the minimums: lower them, or set [schedule] milp")
+        kept = "keeps the limits of the dumps" if model.waste.is_limited else "meets the minimums"
+        raise NoSchedule(f"no schedule that was tried {kept}: widen them, or set [schedule] milp")
     return ended(without_loss(max(made, key=lambda it: it.value)))
 
 
@@ -144,18 +188,54 @@ def orders_of(model: FlowModel, optimum: FlowOptimum) -> list[Ordered]:
     return sorted(again, key=lambda it: it.course.value, reverse=True) + found[COMPARED:]
 
 
-def mined(model: FlowModel, order: NDArray[np.int64], optimum: FlowOptimum) -> Iterator[NDArray[np.float64]]:
-    """Yields the shares of benches by year of an order at its best pace, at the prices of the optimum; with minimums, stockpiles or blends, which
-    this pace does not know, also at the pace of the optimum."""
+def mined(
+    model: FlowModel, order: NDArray[np.int64], optimum: FlowOptimum
+) -> Iterator[tuple[NDArray[np.float64], Digs]]:
+    """Yields the shares of benches by year of an order at its best pace, at the prices of the optimum; with minimums, stockpiles, dumps or blends, which
+    this pace does not know, also at the pace of the optimum. With them it yields how the order is mined at another pace.
+    """
     mining = Problem(model.benches, model.of_mining, model.problem.settings, model.problem.money)
+
+    def dig_at(pace: NDArray[np.float64]) -> NDArray[np.float64]:
+        return padded(dig(mining, Sequence(order, pace=pace), model.years), model.years)
+
     paces = [Pacing(model, optimum.prices).best(order).tonnes]
-    paces += [model.rock @ optimum.cumulative] if model.asks_ore or model.stockpiles else []
+    paces += [model.rock @ optimum.cumulative] if model.asks_ore or model.stockpiles or model.waste.is_limited else []
     for pace in paces:
-        yield padded(dig(mining, Sequence(order, pace=pace), model.years), model.years)
+        yield dig_at(pace), dig_at
+
+
+def fitting(model: FlowModel, dug: NDArray[np.float64], dig_at: Digs) -> Optional[Flows]:
+    """Returns the best flows of what is mined, or of less where its waste finds no room; None if they cannot meet the minimums, or after SLOWER
+    trials waste still finds none."""
+    if not model.waste.is_limited:
+        return feasible(model, dug)
+    wider = with_overflow(model)
+    for _ in range(SLOWER):
+        flows = feasible(wider, dug)
+        if flows is None:
+            return None
+        lacking = flows.placed[-1]
+        if lacks_nothing(flows, lacking):
+            return replace(flows, model=model, dumped=model.waste.shares(flows.dumped[:, :-1]))
+        dug = dig_at(slower(flows, lacking))
+    return None
+
+
+def with_overflow(model: FlowModel) -> FlowModel:
+    """Returns the model with one more dump, which takes all that finds no room elsewhere at a cost that no dump has."""
+    assert model.accepted is not None
+    cost = FAR * (1 + float(model.waste.costs.max(initial=0.0)))
+    return replace(
+        model,
+        dumps=(*model.dumps, Dump("", cost)),
+        accepted=np.pad(model.accepted, ((0, 0), (0, 1)), constant_values=True),
+    )
 
 
 def feasible(model: FlowModel, dug: NDArray[np.float64]) -> Optional[Flows]:
-    """Returns the best flows of what is mined; None if they cannot meet the minimums, or what is mined does not."""
+    """Returns the best flows of what is mined; None if they cannot meet the minimums or find room in the dumps, or what is mined does not meet
+    the minimums."""
     least = model.problem.limits.least_of_years(model.years)
     of_mining = {name: amounts for name, amounts in least.items() if not model.is_of_ore(name)}
     if any((model.dug(name) @ dug < amounts * (1 - TOLERATED)).any() for name, amounts in of_mining.items()):
@@ -163,7 +243,7 @@ def feasible(model: FlowModel, dug: NDArray[np.float64]) -> Optional[Flows]:
     try:
         return best(model, dug)
     except PlanError:
-        if model.asks_least:
+        if model.asks_least or model.waste.is_limited:
             return None
         raise
 

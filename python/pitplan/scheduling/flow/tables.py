@@ -1,4 +1,4 @@
-"""Tables of material flow: flows.csv, feed.csv, stockpiles.csv and bound.csv."""
+"""Tables of material flow: flows.csv, feed.csv, stockpiles.csv, dumps.csv and bound.csv."""
 
 from __future__ import annotations
 
@@ -11,6 +11,7 @@ import numpy as np
 import pandas as pd
 from numpy.typing import NDArray
 
+from pitplan.config.dumps import Dump
 from pitplan.config.economics import GRADE_UNITS
 from pitplan.config.places import MILL, PIT, WASTE
 from pitplan.config.stockpiles import Stockpile
@@ -44,6 +45,8 @@ class Move:
         The process that takes it.
     stockpile : Stockpile, optional
         The stockpile that it goes to or comes from.
+    dump : Dump, optional
+        The dump that it goes to.
     """
 
     source: str
@@ -51,6 +54,11 @@ class Move:
     shares: NDArray[np.float64]
     process: Optional[int] = None
     stockpile: Optional[Stockpile] = None
+    dump: Optional[Dump] = None
+
+    @property
+    def is_waste(self) -> bool:
+        return self.process is None and self.stockpile is None
 
 
 def moves_of(flows: Flows, names: list[str]) -> Iterator[Move]:
@@ -61,7 +69,16 @@ def moves_of(flows: Flows, names: list[str]) -> Iterator[Move]:
         yield Move(PIT, it.name, flows.stocked[place], None, it)
         for number, name in enumerate(names):
             yield Move(it.name, name or MILL, flows.reclaimed[place, number], number, it)
-    yield Move(PIT, WASTE, flows.waste)
+    sets = flows.model.waste.ore.argmax(axis=0) if flows.model.dumps else np.zeros(0, dtype=np.int64)
+    yield from of_shares(flows, flows.waste, sets)
+
+
+def of_shares(flows: Flows, shares: NDArray[np.float64], sets: NDArray[np.int64]) -> Iterator[Move]:
+    """Yields the flows of shares, shape (rows, years), that go to waste, or to the dumps of the set of each row."""
+    if not flows.model.dumps:
+        yield Move(PIT, WASTE, shares)
+    for number, it in enumerate(flows.model.dumps):
+        yield Move(PIT, it.name, shares * flows.dumped[sets, number], dump=it)
 
 
 @dataclass(frozen=True)
@@ -85,14 +102,15 @@ class Lots:
 
     @cached_property
     def keys(self) -> pd.DataFrame:
-        """The key of each block: bench, parcel (-1: no ore), bin, and codes."""
+        """The key of each block: bench, parcel (-1: no ore), bin (of no ore, with its sign changed, the number of its set of dumps), and codes."""
         plan, cells, material = self.plan, self.cells, self.schedule.material
         parcel = np.full(plan.grid.count, -1)
         parcel[material.cells] = material.parcel
+        of_waste = np.zeros(len(cells), dtype=np.int64) if material.sets is None else -material.sets.of_cell[cells]
         found = {
             "bench": benches_of_cells(self.schedule.pushbacks, material.benches, cells),
             "parcel": parcel[cells],
-            "bin": np.append(material.parcels.bin, 0)[parcel[cells]],
+            "bin": np.where(parcel[cells] < 0, of_waste, np.append(material.parcels.bin, 0)[parcel[cells]]),
         }
         row = np.full(plan.grid.count, -1)
         row[plan.grid.rows] = np.arange(len(plan.table))
@@ -132,7 +150,7 @@ def flow_table(schedule: YearlySchedule) -> pd.DataFrame:
 
     Columns: method, year, pushback, bench (elevation), bin, rock type and class if the table has them, source, destination, total_tonnes,
     in_situ_METAL, feed_tonnes and contained_METAL in what goes to a process or a stockpile, recovered_METAL, and cash_flow: revenue less the
-    costs of processing, selling, stacking and reclaiming, at the year's prices. What lay on a stockpile at the start has pushback and bin 0,
+    costs of processing, selling, stacking, reclaiming and dumps, at the year's prices. What lay on a stockpile at the start has pushback and bin 0,
     and no bench.
     """
     lots = Lots(schedule)
@@ -143,7 +161,7 @@ def flow_table(schedule: YearlySchedule) -> pd.DataFrame:
 def of_method(schedule: YearlySchedule, method: str, lots: Lots) -> pd.DataFrame:
     flows = schedule.flows[method]
     parts = [of_move(flows, move, lots) for move in moves_of(flows, schedule.names)]
-    parts += [of_waste(flows, lots), of_opening(schedule, flows)]
+    parts += [*of_waste(flows, lots), of_opening(schedule, flows)]
     table = pd.concat(parts, ignore_index=True)
     order = ["year", "pushback", "bench", "bin", *lots.codes, "source", "destination"]
     table = table.sort_values(order, ascending=[True, True, False, *[True] * (len(order) - 3)], kind="stable")
@@ -151,11 +169,12 @@ def of_method(schedule: YearlySchedule, method: str, lots: Lots) -> pd.DataFrame
     return table.reset_index(drop=True)
 
 
-def of_waste(flows: Flows, lots: Lots) -> pd.DataFrame:
-    """Returns the rows of material that is no ore: all of it goes to waste as it is mined."""
+def of_waste(flows: Flows, lots: Lots) -> Iterator[pd.DataFrame]:
+    """Yields the rows of material that is no ore: all of it goes to waste as it is mined."""
     rows = np.flatnonzero(lots.sums["parcel"] < 0)
-    bench = lots.sums["bench"].to_numpy()[rows]
-    return written(flows, Move(PIT, WASTE, flows.dug), lots, rows, bench)
+    bench, sets = lots.sums["bench"].to_numpy()[rows], -lots.sums["bin"].to_numpy()[rows]
+    for move in of_shares(flows, flows.dug[bench], sets):
+        yield written(flows, move, lots, rows, np.arange(len(rows)))
 
 
 def of_move(flows: Flows, move: Move, lots: Lots) -> pd.DataFrame:
@@ -182,7 +201,7 @@ def written(flows: Flows, move: Move, lots: Lots, rows: NDArray[np.int64], at: N
     )
     for metal in plan.project.metals:
         found[f"in_situ_{metal.name}"] = sums[f"in_situ_{metal.name}"] * share
-    moved = 0.0 if move.destination == WASTE else share
+    moved = 0.0 if move.is_waste else share
     for name in ("feed_tonnes", *(f"contained_{metal.name}" for metal in plan.project.metals)):
         found[name] = sums[name] * moved
     fed = 0.0 if move.process is None else share
@@ -190,6 +209,7 @@ def written(flows: Flows, move: Move, lots: Lots, rows: NDArray[np.int64], at: N
     for name in names:
         found[name] = 0.0 if move.process is None else sums[f"{name} {move.process}"] * fed
     found["cash_flow"] = 0.0 if move.process is None else sums[f"gain {move.process}"] * fed
+    found["cash_flow"] -= 0.0 if move.dump is None else found["total_tonnes"] * move.dump.cost
     return handled(found, flows, move, names).drop(columns=list(plan.multiplied_costs))
 
 
@@ -286,6 +306,24 @@ def balance_of(schedule: YearlySchedule, method: str, name: str, flows: pd.DataF
     table.insert(0, "stockpile", name)
     table.insert(0, "method", method)
     return table.reset_index()[["method", "stockpile", "year", *columns]]
+
+
+def dump_table(schedule: YearlySchedule) -> pd.DataFrame:
+    """Returns one row per method, dump and year: in_tonnes, closing_tonnes in the dump at the end of the year, and room_tonnes that its capacity
+    leaves then; empty without a capacity."""
+    flows, found = schedule.material_flows, []
+    for method in schedule.flows:
+        years = pd.RangeIndex(1, schedule.flows[method].years + 1, name="year")
+        mine = flows[flows["method"] == method]
+        for it in schedule.model.dumps:
+            placed = mine[mine["destination"] == it.name].groupby("year")["total_tonnes"].sum()
+            placed = placed.reindex(years, fill_value=0.0)
+            held = placed.cumsum()
+            room = np.nan if it.capacity is None else np.maximum(it.capacity - held, 0.0)
+            columns = {"in_tonnes": placed, "closing_tonnes": held, "room_tonnes": room}
+            table = pd.DataFrame({"method": method, "dump": it.name} | columns, index=years)
+            found.append(table.reset_index()[["method", "dump", "year", *columns]])
+    return pd.concat(found, ignore_index=True)
 
 
 def bound_table(schedule: YearlySchedule) -> pd.DataFrame:

@@ -146,6 +146,7 @@ def demand_of_scenarios(project: Project) -> None:
         ),
         of_metals: any(metal.prices for metal in project.metals),
         "[[processes]]: a schedule over scenarios has one mill": bool(project.processes),
+        "[[dumps]]: apply to schedules of pushbacks": bool(project.dumps),
         "[[periods]]: apply to shells and schedules of one model": bool(project.shells.calendar),
     }
     for why, is_asked in asked.items():
