@@ -54,6 +54,7 @@ WRITTEN = {
     *FIGURES,
 }
 WRITTEN |= {names.SENSITIVITY, names.SENSITIVITY_RECORD, names.TORNADO, names.SPIDER, *registry.WRITTEN}
+WRITTEN |= {names.HILL, names.HILL_FIGURE, names.HILL_WORKBOOK}
 
 
 # Whether commands draw figures if their Writing leaves it open. The tests set it to False.
