@@ -31,6 +31,12 @@ cost = 0.1
 [sensitivity]
 changes = [0.1]
 parameters = "mining_cost"
+[[sensitivity.hill]]
+parameter = "price"
+changes = [0, 0.1]
+[[sensitivity.hill]]
+parameter = "economics.processing_cost"
+values = [9, 10]
 [constraints]
 must_mine = "due"
 [cash_flow]
@@ -142,6 +148,7 @@ def test_each_column_that_is_written_is_in_the_schema_and_each_of_the_schema_is_
         "cash_flow.csv",
         "valuation.csv",
         "sensitivity.csv",
+        "hill_of_value.csv",
     ):
         never = {it.name for it in BY_FILE[file].columns} - {it.name for it in found[file]}
         never -= {"feed_tonnes_PROCESS"} if file not in ("shells.csv", "years.csv", "pushbacks.csv") else set()
@@ -222,4 +229,4 @@ def test_the_page_of_formats_has_these_tables(tmp_path):
     ran = subprocess.run(words, capture_output=True, text=True)
     assert (ran.returncode, ran.stderr) == (0, "")
     text = (ROOT / "docs" / "FORMATS.md").read_text()
-    assert text.count("| `value_at_revenue_factor` | currency | 9 |") == 3
+    assert text.count("| `value_at_revenue_factor` | currency | 9 |") == 4

@@ -10,14 +10,15 @@ import numpy as np
 import pandas as pd
 import pytest
 from helpers.benches import THREE, benches_of, problem_of, without_flows
+from matplotlib.colors import to_rgb
 from matplotlib.figure import Figure
 
 from pitplan import PlanError
 from pitplan.config.project import Metal
 from pitplan.config.stockpiles import Stockpile
 from pitplan.export import xlsx
-from pitplan.figures import gantt, schedule as schedule_figures
-from pitplan.report import viewer3d
+from pitplan.figures import gantt, palette, schedule as schedule_figures
+from pitplan.report import viewer3d, viewer_kinds
 from pitplan.results.folder import Folder, read_folder
 from pitplan.scheduling import pushback_record, pushback_schedule
 from pitplan.scheduling.bench_sequencing import Limits
@@ -108,12 +109,20 @@ def test_the_bars_of_years_are_the_ore_and_the_waste_beside_their_limits(schedul
     mill, shovels = axes[0].lines
     assert mill.get_ydata().tolist() == [50, 100, 100, 100] and shovels.get_ydata().tolist() == [200] * 4
     assert mill.get_label() == "processing capacity: 100 t a year"
-    right = axes[0].figure.axes[2]
-    assert right.lines[0].get_ydata().tolist() == pytest.approx([2, 2, 2]) and right.get_ylim()[1] > 2
-    assert right.lines[0].get_label() == "head grade of copper"
     names = [text.get_text() for text in axes[0].figure.legends[0].get_texts()]
-    assert names[:2] == ["mill", "waste"] and "head grade of copper" in names
-    assert 200 < axes[0].get_ylim()[1] < 300 and not axes[0].figure.axes[3].get_ylabel().isspace()
+    assert names == ["mill", "waste", "processing capacity: 100 t a year", "mining capacity: 200 t a year"]
+    assert 200 < axes[0].get_ylim()[1] < 300
+
+
+def test_metals_have_bars_of_what_is_recovered_and_a_line_of_the_head_grade(schedule):
+    """Of the rule, which earns more: 50, 100 and 50 t of 2 % copper, half of it recovered."""
+    figure = Figure()
+    (ax,) = schedule_figures.plot_metals(schedule, [figure.subplots()])
+    (bars,) = ax.containers
+    assert [bar.get_height() for bar in bars] == [0.5, 1, 0.5] and ax.get_title() == "Copper, rule"
+    right = figure.axes[1]
+    assert right.lines[0].get_ydata().tolist() == pytest.approx([2, 2, 2]) and right.get_ylim()[1] > 2
+    assert (ax.get_ylabel(), right.get_ylabel()) == ("recovered copper (bars), t", "head grade (line), %")
 
 
 def test_curves_end_at_what_each_case_earns(schedule):
@@ -152,8 +161,31 @@ def test_each_destination_is_a_layer_of_its_own(schedule):
     assert found["mill"] == [25, 100, 75] and found["mill, reclaimed"] == [0, 30, 0] and found["leach"] == [10] * 3
     assert found["to the stockpile"] == [30, 0, 0] and list(found)[-1] == "waste"
     assert axes[1].containers[-1][1].get_y() == 140
-    grades = {line.get_label() for line in axes[1].figure.axes[3].lines}
-    assert grades == {"head grade of mill", "head grade of leach"}
+    names = [text.get_text() for text in axes[1].figure.legends[0].get_texts()]
+    assert names[:5] == ["mill", "mill, reclaimed", "leach", "to the stockpile", "waste"]
+
+
+def test_a_process_has_one_colour_in_all_pictures(schedule):
+    """In tonnes, recovered metal and head grades, in years of shells, and in the 3D page."""
+    mill, leach = SimpleNamespace(name="mill"), SimpleNamespace(name="leach")
+    schedule.pushbacks.plan.project.processes = (mill, leach)
+    flows = schedule.material_flows
+    more = flows[flows["destination"] == "mill"].assign(destination="leach")
+    schedule.__dict__["material_flows"] = pd.concat([flows, more])
+    due = {"mill": to_rgb("#3b6ea5"), "leach": to_rgb("#c8792b")}
+    tonnes, figure = schedule_figures.plot_tonnes(schedule, Figure().subplots(1, 2))[0], Figure()
+    metals = schedule_figures.plot_metals(schedule, [figure.subplots()])[0]
+    for ax in (tonnes, metals):
+        found = {bars.get_label(): bars[0].get_facecolor()[:3] for bars in ax.containers}
+        assert {name: found[name] for name in due} == due
+    assert [to_rgb(line.get_color()) for line in figure.axes[1].lines] == list(due.values())
+    years = pd.DataFrame({"feed_tonnes": [3.0], "feed_tonnes_mill": [2.0], "feed_tonnes_leach": [1.0]})
+    assert {name: to_rgb(colour) for name, (_, colour) in palette.layers_of(years).items()} == due
+    columns = ["revenue_mill", "processing_cost_mill", "revenue_leach", "processing_cost_leach"]
+    tints = viewer_kinds.tints_of(
+        SimpleNamespace(blocks=pd.DataFrame(columns=columns)), "destination", ["waste", "leach", "mill"]
+    )
+    assert [to_rgb(tint) for tint in tints] == [to_rgb(palette.WASTE), due["leach"], due["mill"]]
 
 
 @pytest.mark.parametrize("write", [gantt.write_gantt, schedule_figures.write_tonnes])

@@ -7,11 +7,11 @@ from typing import TYPE_CHECKING
 
 import pandas as pd
 
-from pitplan.figures import annual, block_schedule, gantt, grade_tonnage, plans_sections, pushbacks, schedule
+from pitplan.figures import annual, block_schedule, gantt, geology, grade_tonnage, plans_sections, pushbacks, schedule
 from pitplan.figures.pit_by_pit import write_pit_by_pit
 from pitplan.figures.style import also_as, files_of
 
-from .writing import BLOCK_PICTURES, PICTURES, PUSHBACK_PICTURES, SCHEDULE_PICTURES
+from .writing import BLOCK_PICTURES, GEOLOGY_PICTURES, PICTURES, PUSHBACK_PICTURES, SCHEDULE_PICTURES
 
 if TYPE_CHECKING:
     from .answers import Answered, Tables
@@ -39,18 +39,24 @@ def draw(answered: Answered, tables: Tables, chosen: float, stage: Path) -> list
     project = answered.plan.project
     formats = project.figures.formats if project.figures else ()
     with also_as(formats):
-        draw_shells(answered, tables.shells, chosen, stage)
+        of_shells = draw_shells(answered, tables.shells, chosen, stage)
         annual.write_years(tables.years, project, chosen, stage / PICTURES["years"])
-        drawn = PICTURES | draw_pushbacks(answered, stage) | draw_schedules(answered, tables, stage)
+        drawn = of_shells | draw_pushbacks(answered, stage) | draw_schedules(answered, tables, stage)
     return files_of(drawn, formats)
 
 
-def draw_shells(answered: Answered, table: pd.DataFrame, chosen: float, stage: Path) -> None:
+def draw_shells(answered: Answered, table: pd.DataFrame, chosen: float, stage: Path) -> dict[str, str]:
+    """Draws the shells; returns the files of the pictures by name."""
     plan = answered.plan
     scene = plans_sections.scene_of(plan, answered.solution, chosen)
     write_pit_by_pit(table, plan.project.economics.currency, chosen, stage / PICTURES["pit_by_pit"])
     plans_sections.write_plans(scene, stage / PICTURES["plans"])
     plans_sections.write_sections(scene, stage / PICTURES["sections"])
+    kinds = geology.kinds_of(plan)
+    if not kinds:
+        return PICTURES
+    geology.write_sections(scene, kinds, stage / GEOLOGY_PICTURES["geology"])
+    return PICTURES | GEOLOGY_PICTURES
 
 
 def draw_pushbacks(answered: Answered, stage: Path) -> dict[str, str]:

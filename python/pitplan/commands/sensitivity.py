@@ -14,11 +14,14 @@ from pitplan.core import csv_writer, layout, staging
 from pitplan.core.atomic_files import staged, write_json
 from pitplan.core.warned import warn
 from pitplan.errors import InputWarning
+from pitplan.export import xlsx
 from pitplan.results import names
-from pitplan.results.rounding import shown, write_csv
+from pitplan.results.conventions import with_discounting
+from pitplan.results.rounding import named, shown, write_csv
+from pitplan.results.sheet_heads import heads_of
 from pitplan.studies.dask_pool import Where
-from pitplan.studies.sensitivity import cases as varied_cases, store
-from pitplan.studies.sensitivity.cases import Case, Sensitivity
+from pitplan.studies.sensitivity import cases as varied_cases, hill, store
+from pitplan.studies.sensitivity.cases import Case, Sensitivity, rules_of
 from pitplan.studies.sensitivity.store import RECORD, TABLE
 
 from .audited import verified
@@ -30,7 +33,8 @@ def write_sensitivity(
 ) -> pd.DataFrame:
     """Finds the pit of the selected factor again for each changed number, as `pitplan sensitivity` does.
 
-    The folder gets this table, blocks.csv, pictures and the record sensitivity.json with notes. The answers of cases are kept in its folder
+    The folder gets this table, blocks.csv, pictures and the record sensitivity.json with notes; with `[[sensitivity.hill]]` also
+    hill_of_value.csv and a workbook of it. The answers of cases are kept in its folder
     cases; a case with an answer is not solved again.
 
     Parameters
@@ -57,6 +61,8 @@ def write_sensitivity(
     project = read(project)
     target = project.folder / "sensitivity" if folder is None else Path(folder)
     demand_apart(project, target)
+    if rules_of(project).hill:
+        xlsx.demand_library()
     with staging.alone(target, varied_cases.CASES):
         found = varied_cases.solve(project, target, where, writing.progress)
         table = write_cases(found, target, writing)
@@ -78,9 +84,10 @@ def write_cases(found: Sensitivity, folder: Path, writing: Writing) -> pd.DataFr
         If a result differs from its independent recalculation.
     """
     cases, project, progress = varied_cases.table(found), found.project, writing.progress
-    pairs = varied_cases.rules_of(project).pairs
-    figures = [names.TORNADO, names.SPIDER, *map(names.grid_of, pairs)]
-    with staged(folder, RECORD, in_all_formats(figures), layout.FOLDERS) as stage:
+    pairs = rules_of(project).pairs
+    figures = [names.TORNADO, names.SPIDER, *map(names.grid_of, pairs), names.HILL_FIGURE]
+    removed = (*in_all_formats(figures), names.HILL, names.HILL_WORKBOOK)
+    with staged(folder, RECORD, removed, layout.FOLDERS) as stage:
         record = store.record(found, os.path.relpath(project.path, folder)) | {"figures": writing.draws}
         write_tables(found, cases, stage)
         project_writer.write(found.asked, stage / project_writer.AS_RUN, folder)
@@ -100,13 +107,29 @@ def write_tables(found: Sensitivity, cases: pd.DataFrame, stage: Path) -> None:
     blocks["revenue_factor"] = found.answers[Case()].entry[blocks["id"].to_numpy()]
     csv_writer.write(stage / names.TABLE, blocks)
     write_csv(shown(cases), stage / TABLE, found.project)
+    if rules_of(found.project).hill:
+        write_hill(found, stage)
+
+
+def write_hill(found: Sensitivity, stage: Path) -> None:
+    """Writes hill_of_value.csv, and a workbook with the NPVs as a grid and the table."""
+    table = hill.table(found)
+    write_csv(shown(table), stage / names.HILL, found.project)
+    one, other = rules_of(found.project).hill
+    grid = hill.grid(shown(table))
+    corner = f"{other.parameter}, by column {one.parameter}"
+    sheet = grid.reset_index(names=corner).rename(columns=str)
+    rows = named(with_discounting(shown(table), found.project), found.project)
+    xlsx.write(stage / names.HILL_WORKBOOK, {"npv": sheet, "hill_of_value": rows}, (), heads_of(found.project))
 
 
 def draw(found: Sensitivity, cases: pd.DataFrame, stage: Path) -> None:
     """Draws the tornado, the spider plot and the grids. It imports matplotlib itself."""
-    from pitplan.figures import sensitivity
+    from pitplan.figures import hill_of_value, sensitivity
     from pitplan.figures.style import also_as
 
     project = found.project
     with also_as(project.figures.formats if project.figures else ()):
-        sensitivity.write_all(cases, varied_cases.rules_of(project).pairs, project.economics.currency, stage)
+        sensitivity.write_all(cases, rules_of(project).pairs, project.economics.currency, stage)
+        if rules_of(project).hill:
+            hill_of_value.write(hill.table(found), project.economics.currency, stage / names.HILL_FIGURE)

@@ -40,10 +40,12 @@ def figures(*stems: str) -> dict[str, str]:
 
 
 PICTURES = figures("pit_by_pit", "years", "plans", "sections")
+# With rock types or resource classes.
+GEOLOGY_PICTURES = figures("geology")
 PUSHBACK_PICTURES = figures("pushback_plans", "pushback_sections")
 SCHEDULE_PICTURES = figures("schedule_gantt", "schedule_tonnes", "schedule_value", "grade_tonnage")
 BLOCK_PICTURES = figures("block_schedule", "grade_tonnage")
-FIGURES = tuple((PICTURES | PUSHBACK_PICTURES | SCHEDULE_PICTURES | BLOCK_PICTURES).values())
+FIGURES = tuple((PICTURES | GEOLOGY_PICTURES | PUSHBACK_PICTURES | SCHEDULE_PICTURES | BLOCK_PICTURES).values())
 # The files that every run writes or removes.
 ALWAYS = (*mine_files.IN_FOLDER, names.RECORD, names.TABLE, project_writer.AS_RUN)
 WRITTEN = {
@@ -52,6 +54,7 @@ WRITTEN = {
     *FIGURES,
 }
 WRITTEN |= {names.SENSITIVITY, names.SENSITIVITY_RECORD, names.TORNADO, names.SPIDER, *registry.WRITTEN}
+WRITTEN |= {names.HILL, names.HILL_FIGURE, names.HILL_WORKBOOK}
 
 
 # Whether commands draw figures if their Writing leaves it open. The tests set it to False.

@@ -13,7 +13,7 @@ from .classes import REFUSE
 from .codes import CLASS, DOMAIN, ROCK_TYPE
 from .economics import ByDomain
 from .opening_agreement import demand_opening
-from .overrides import scaled
+from .overrides import assigned, scaled
 from .period_agreement import demand_periods
 from .places import MILL, PIT, WASTE
 from .schedule import FEED, TOTAL, ScheduleRules
@@ -73,11 +73,16 @@ def demand_varied_keys(project: Project) -> None:
     from .project_writer import of_project
 
     varied = project.sensitivity
-    keys = {*varied.parameters, *(name for pair in varied.pairs for name in pair)} if varied else set()
+    pairs = (*varied.pairs, tuple(axis.parameter for axis in varied.hill if axis.is_change)) if varied else ()
+    keys = {*varied.parameters, *(name for pair in pairs for name in pair)} if varied else set()
     if paths := sorted(name for name in keys if "." in name):
         data = toml_text.parsed(of_project(project, project.path.parent), str(project.path))
         for path in paths:
             scaled(data, path, Decimal(1), f"{project.path}: [sensitivity]")
+    for axis in varied.hill if varied else ():
+        data = toml_text.parsed(of_project(project, project.path.parent), str(project.path))
+        for path, value in axis.settings(0):
+            assigned(data, path, value, f"{project.path}: [sensitivity.hill]")
 
 
 def demand_grades_of_files(project: Project) -> None:

@@ -91,6 +91,27 @@ def scaled(data: dict[str, Any], path: str, by: Decimal, where: str) -> dict[str
     return found
 
 
+def assigned(data: dict[str, Any], path: str, value: Decimal, where: str) -> dict[str, Any]:
+    """The sections of a project with another number for a key that has one; of a list with one pair the second number.
+
+    Raises
+    ------
+    PlanError
+        If there is no such key, or it has not one number.
+    """
+    found = deepcopy(data)
+    *sections, key = path.split(".")
+    entry: Any = found
+    for part in sections:
+        entry = existing(entry, part, f"{where} {path}")
+    before = existing(entry, key, f"{where} {path}")
+    is_pair = isinstance(before, list) and len(before) == 1 and isinstance(before[0], list) and len(before[0]) == 2
+    if isinstance(entry, list) or not (is_number(before) or is_pair and has_numbers(before)):
+        raise PlanError(f"{where} {path}: found {before!r}, expected a key with one number")
+    entry[key] = [[before[0][0], value]] if is_pair else value
+    return found
+
+
 def existing(entry: Any, part: str, where: str) -> Any:
     """A key of a section or an entry of a list. Raises PlanError if there is none."""
     if isinstance(entry, dict):

@@ -381,6 +381,7 @@ def of_sensitivity(rules: SensitivityRules) -> Values:
         "pairs": rules.pairs or None,
         "skin": rules.skin,
         "largest_increment": rules.largest_increment,
+        "hill": [it.as_toml for it in rules.hill] or None,
     }
 
 

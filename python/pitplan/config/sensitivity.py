@@ -5,6 +5,7 @@ from __future__ import annotations
 from dataclasses import dataclass
 from decimal import Decimal
 
+from .hill import HillAxis, read_hill
 from .toml_section import Section
 
 NAMES = ("price", "mining_cost", "processing_cost", "selling_cost", "recovery", "slopes", "capacity", "haulage")
@@ -23,14 +24,16 @@ MOST_SHARES = 20
 @dataclass(frozen=True)
 class SensitivityRules:
     """Shares by which a number is more or less than the project says, rising, without 0; which numbers are varied, each by itself;
-    pairs that are varied together; the share of the pit's rock that its skin has at least; and the share that a shell of a case adds at most,
-    unless a thousandth of the revenue factor adds more. Without names those are varied that the project gives."""
+    pairs that are varied together; the share of the pit's rock that its skin has at least; the share that a shell of a case adds at most,
+    unless a thousandth of the revenue factor adds more; and the axes of the hill of value, if there are any. Without names those are varied that
+    the project gives."""
 
     changes: tuple[Decimal, ...] = SHARES
     parameters: tuple[str, ...] = ()
     pairs: tuple[tuple[str, str], ...] = ()
     skin: Decimal = SKIN
     largest_increment: Decimal = INCREMENT
+    hill: tuple[HillAxis, ...] = ()
 
 
 def read_sensitivity(section: Section, metals: tuple[str, ...]) -> SensitivityRules:
@@ -41,6 +44,7 @@ def read_sensitivity(section: Section, metals: tuple[str, ...]) -> SensitivityRu
         pairs=read_pairs(section, metals),
         skin=read_skin(section),
         largest_increment=read_increment(section),
+        hill=read_hill(section, lambda it, key, name: named(it, key, name, metals)),
     )
     section.finish()
     if len(set(rules.parameters)) < len(rules.parameters):

@@ -18,7 +18,10 @@ from pitplan.config.project import Project
 from pitplan.config.shells import ShellRules
 from pitplan.core.magnitude import scaled
 from pitplan.core.revenue_factors import factor_text
-from pitplan.figures.style import ORE, PLAIN, STYLE, WASTE, finish, list_of
+from pitplan.figures.style import PLAIN, STYLE, finish, list_of
+
+from . import palette
+from .palette import WASTE
 
 CASES = {"best": "Best case", "worst": "Worst case", "specified": "Specified case"}
 MILL, SHOVELS = "#1f3f6e", "#8a7f6a"
@@ -143,12 +146,15 @@ def draw(axes: list[Axes], years: pd.DataFrame, project: Project) -> None:
 
 
 def draw_tonnes(axis: Axes, years: pd.DataFrame, scale: Scale, settings: ShellRules) -> None:
-    """Draws a bar of ore and waste per year, and a horizontal line per capacity."""
+    """Draws a bar of mill feed by process and of waste per year, and a horizontal line per capacity."""
     size, sign = scale.tonnes
+    below = np.zeros(len(years))
+    for name, (column, colour) in palette.layers_of(years).items():
+        axis.bar(years["year"], years[column] / size, 0.8, bottom=below, color=colour, label=name, linewidth=0)
+        below = below + years[column].to_numpy() / size
     # With much dilution the feed may exceed the total material.
-    ore, waste = years["feed_tonnes"] / size, (years["total_tonnes"] - years["feed_tonnes"]).clip(lower=0) / size
-    axis.bar(years["year"], ore, 0.8, color=ORE, label="ore", linewidth=0)
-    axis.bar(years["year"], waste, 0.8, bottom=ore, color=WASTE, label="waste", linewidth=0)
+    waste = (years["total_tonnes"] / size - below).clip(lower=0)
+    axis.bar(years["year"], waste, 0.8, bottom=below, color=WASTE, label="waste", linewidth=0)
     for name, by_year, colour in capacities_of(settings):
         line = {"color": colour, "linestyle": "--", "linewidth": 1.3}
         line["label"] = f"{name}: {in_words(by_year, size)} {sign}t a year"

@@ -14,7 +14,8 @@ from matplotlib.figure import Figure
 from pitplan.blockmodel.guessed_model import Model, least_gap, size_of, turned_grid
 from pitplan.config.economics import GRADE_SIGNS
 
-from .style import GROUND, MAP, ORE, STYLE, finish, name_axes
+from .palette import ORE
+from .style import GROUND, MAP, STYLE, finish, name_axes
 
 BINS, MOST_HISTOGRAMS = 40, 3
 

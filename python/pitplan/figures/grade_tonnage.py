@@ -11,15 +11,13 @@ import pandas as pd
 from matplotlib.axes import Axes
 from matplotlib.figure import Figure
 
-from pitplan.config.classes import ORE_NAMES
 from pitplan.config.economics import Metal
 from pitplan.pits.grade_tonnage import BREAK_EVEN, MARGINAL, MODEL, PIT
 
+from . import palette
 from .style import PLAIN, STYLE, WORST, finish, list_of
 
 TITLES = {MODEL: "block model", PIT: "pit"}
-# Classes from the best known on; further ones are grey.
-COLOURS = ("#1f4e79", "#5b93c7", "#b9d3ea", "#d9d4c8", "#ece8df")
 MARKS = {MARGINAL: ("marginal", ":"), BREAK_EVEN: ("break-even", "--")}
 
 
@@ -33,19 +31,20 @@ def write(table: pd.DataFrame, metal: Metal, path: Path) -> None:
 
 def plot(table: pd.DataFrame, metal: Metal, axes: Any) -> list[Axes]:
     """Draws the tonnes of the model and of the pit above each cut-off grade of a metal, and their mean grade, on two axes."""
-    found = list_of(axes, 2)
+    found, colours = list_of(axes, 2), palette.of_classes(table["class"].unique().tolist())
     for axis, (part, title) in zip(found, TITLES.items()):
-        plot_part(axis, table[(table["part"] == part) & (table["metal"] == metal.name)], metal)
+        plot_part(axis, table[(table["part"] == part) & (table["metal"] == metal.name)], metal, colours)
         axis.set_title(title)
     return found
 
 
-def plot_part(axis: Axes, table: pd.DataFrame, metal: Metal) -> None:
+def plot_part(axis: Axes, table: pd.DataFrame, metal: Metal, colours: dict[str, str]) -> None:
+    """Draws a part; `colours` are those of the classes of all parts."""
     curves = table[table["mark"] == ""]
-    classes = sorted(curves["class"].unique(), key=rank)
+    classes = [name for name in colours if name in set(curves["class"])]
     tonnes = curves.pivot_table(index="cutoff_grade", columns="class", values="tonnes", aggfunc="first")[classes] / 1e6
     labels = [name or "unclassified" for name in classes]
-    axis.stackplot(tonnes.index, *tonnes.to_numpy().T, labels=labels, colors=(*COLOURS, *["#dddddd"] * len(classes)))
+    axis.stackplot(tonnes.index, *tonnes.to_numpy().T, labels=labels, colors=[colours[name] for name in classes])
     axis.set_xlabel(f"cut-off grade {metal.name}, {metal.sign}")
     axis.set_ylabel("tonnes above cut-off, Mt")
     axis.set_xlim(0, max(tonnes.index.max(), 1e-9))
@@ -60,11 +59,6 @@ def plot_part(axis: Axes, table: pd.DataFrame, metal: Metal) -> None:
     mark(above, table)
     handles = [part for it in (axis, above) for part in zip(*it.get_legend_handles_labels())]
     above.legend(*zip(*handles), loc="upper center", bbox_to_anchor=(0.5, -0.16), ncol=3, frameon=False, fontsize=8)
-
-
-def rank(name: str) -> tuple[int, str]:
-    """Returns the place of a class: measured before indicated before others."""
-    return (ORE_NAMES.index(name.lower()) if name.lower() in ORE_NAMES else len(ORE_NAMES), name)
 
 
 def mark(axis: Axes, table: pd.DataFrame) -> None:

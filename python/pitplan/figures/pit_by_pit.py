@@ -12,19 +12,9 @@ from matplotlib.figure import Figure
 
 from pitplan.core.magnitude import scaled
 from pitplan.core.revenue_factors import factor_text
-from pitplan.figures.style import (
-    BEST,
-    BEST_MARK,
-    CHOSEN,
-    ORE,
-    PLAIN,
-    SPECIFIED,
-    SPECIFIED_MARK,
-    WASTE,
-    WORST,
-    WORST_MARK,
-)
+from pitplan.figures.style import BEST, BEST_MARK, CHOSEN, PLAIN, SPECIFIED, SPECIFIED_MARK, WORST, WORST_MARK
 
+from .palette import ORE, WASTE
 from .style import STYLE, finish
 
 

@@ -30,6 +30,7 @@ from pitplan.solver.program import Solution
 
 from .map_marks import axes_of_map, contours, floor_of, mark_map, mark_section_cells, section_titles
 from .style import MOST_TICKS, STYLE, finish, list_of, name_axes, panels, write_maps
+from .topography import Cut, Topography, draw_line, name_lines, topography_of
 
 
 @dataclass(frozen=True)
@@ -69,6 +70,8 @@ class Scene:
         Revenue factor of the selected shell.
     rules : FigureRules
         Which levels and sections are drawn.
+    topography : Topography, optional
+        The line of sections; None: none.
     """
 
     grid: Grid
@@ -78,6 +81,7 @@ class Scene:
     metal: Metal
     selected: float
     rules: FigureRules = FigureRules()
+    topography: Optional[Topography] = None
 
     @property
     def section_row(self) -> int:
@@ -141,6 +145,7 @@ def scene_of(plan: Plan, solution: Solution, selected: Optional[float] = None) -
         if selected is None
         else selected,
         rules=rules,
+        topography=topography_of(plan),
     )
 
 
@@ -204,13 +209,19 @@ def plot_sections(scene: Scene, axes: Any) -> list[Axes]:
     found = list_of(axes, 4)
     row, column = scene.section_row, scene.section_column
     (first, second), (east, north) = section_titles(scene.grid, row, column), scene.grid.frame.names
-    cuts = ((scene.from_west_to_east(row), first, east), (scene.from_south_to_north(column), second, north))
-    most = max(float(plane.grade[plane.solid].max(initial=0.0)) for plane, _, _ in cuts)
-    for (plane, where, label), left, right in zip(cuts, found[::2], found[1::2]):
+    planes = scene.from_west_to_east(row), scene.from_south_to_north(column)
+    lines: tuple[Cut, Cut] = ((row, slice(None)), (slice(None), column))
+    cuts = zip(planes, (first, second), (east, north), lines)
+    most = max(float(plane.grade[plane.solid].max(initial=0.0)) for plane in planes)
+    for (plane, where, label, line), left, right in zip(cuts, found[::2], found[1::2]):
         plot_shells(scene, plane, left).set_title(f"Shells, {where}")
         plot_grades(scene, plane, right, most)
         for ax in (left, right):
             name_axes(ax, label, "elevation")
+            if scene.topography is not None:
+                draw_line(ax, scene.topography, line)
+    if scene.topography is not None:
+        name_lines(found[0], scene.topography)
     return found
 
 

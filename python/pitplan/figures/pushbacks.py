@@ -5,7 +5,7 @@ from __future__ import annotations
 from dataclasses import dataclass
 from functools import partial
 from pathlib import Path
-from typing import Any
+from typing import Any, Optional
 
 import matplotlib
 import numpy as np
@@ -22,6 +22,7 @@ from pitplan.figures.style import GROUND, MAP, MOST_TICKS, STYLE, finish, list_o
 from pitplan.pushbacks.nested import Pushbacks
 
 from .map_marks import axes_of_map, contours, floor_of, mark_map, mark_section_cells, section_titles
+from .topography import Topography, draw_line, name_lines, topography_of
 
 Extent = tuple[float, float, float, float]
 LEAST_SHARE, GREATEST_SHARE = 0.18, 0.9
@@ -44,6 +45,8 @@ class PushbackScene:
         The number of pushbacks.
     rules : FigureRules
         Which levels and sections are drawn.
+    topography : Topography, optional
+        The line of sections; None: none.
     """
 
     grid: Grid
@@ -51,6 +54,7 @@ class PushbackScene:
     solid: np.ndarray
     count: int
     rules: FigureRules = FigureRules()
+    topography: Optional[Topography] = None
 
     @property
     def dug(self) -> np.ndarray:
@@ -70,7 +74,8 @@ class PushbackScene:
 def scene_of(pushbacks: Pushbacks) -> PushbackScene:
     grid, rules = pushbacks.plan.grid, pushbacks.plan.project.figures or FigureRules()
     solid = grid.cube(pushbacks.plan.values.tonnes > 0)
-    return PushbackScene(grid, grid.cube(pushbacks.pushback), solid, len(pushbacks.factors), rules)
+    topography = topography_of(pushbacks.plan)
+    return PushbackScene(grid, grid.cube(pushbacks.pushback), solid, len(pushbacks.factors), rules, topography)
 
 
 def write_plans(scene: PushbackScene, path: Path) -> None:
@@ -112,6 +117,8 @@ def plot_sections(scene: PushbackScene, axes: Any) -> list[Axes]:
     across, along = found = list_of(axes, 2)
     plot_from_west_to_east(scene, scene.section_row, across)
     plot_from_south_to_north(scene, scene.section_column, along)
+    if scene.topography is not None:
+        name_lines(across, scene.topography)
     return found
 
 
@@ -146,6 +153,8 @@ def plot_from_west_to_east(scene: PushbackScene, row: int, ax: Axes) -> Axes:
     west, east, _, _, bottom, top = scene.grid.extent()
     cut = (slice(None, None, -1), row)
     draw(scene, (scene.pushback[cut], scene.solid[cut]), (west, east, bottom, top), ax)
+    if scene.topography is not None:
+        draw_line(ax, scene.topography, (row, slice(None)))
     ax.set_title(f"Pushbacks, {section_titles(scene.grid, row, 0)[0]}")
     name_axes(ax, scene.grid.frame.names[0], "elevation")
     return ax
@@ -156,6 +165,8 @@ def plot_from_south_to_north(scene: PushbackScene, column: int, ax: Axes) -> Axe
     _, _, south, north, bottom, top = scene.grid.extent()
     cut = (slice(None, None, -1), slice(None), column)
     draw(scene, (scene.pushback[cut], scene.solid[cut]), (south, north, bottom, top), ax)
+    if scene.topography is not None:
+        draw_line(ax, scene.topography, (slice(None), column))
     ax.set_title(f"Pushbacks, {section_titles(scene.grid, 0, column)[1]}")
     name_axes(ax, scene.grid.frame.names[1], "elevation")
     return ax

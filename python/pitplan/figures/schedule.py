@@ -12,18 +12,15 @@ from matplotlib.axes import Axes
 from matplotlib.figure import Figure
 from matplotlib.ticker import MaxNLocator
 
-from pitplan.config.economics import Metal
-from pitplan.config.places import MILL, PIT, WASTE as AS_WASTE
+from pitplan.config.places import PIT, WASTE as AS_WASTE
 from pitplan.core.magnitude import scaled
 from pitplan.figures.style import (
     BEST,
     BEST_MARK,
-    ORE,
     PLAIN,
     SPECIFIED,
     SPECIFIED_MARK,
     STYLE,
-    WASTE,
     WORST,
     WORST_MARK,
     finish,
@@ -33,14 +30,16 @@ from pitplan.scheduling.flow.tables import feed_table
 from pitplan.scheduling.methods import LP, MILP, NAMES, RULE
 from pitplan.scheduling.pushback_schedule import YearlySchedule
 
+from . import palette
 from .annual import FAR_ABOVE, MARGIN, MILL as MILL_COLOUR, SHOVELS, in_words, label_of
 from .gantt import TITLES
+from .metals import LOWER, MOST_METALS, UPPER, plot_metal, rows_of
 
 COLOURS = {
     "worst": WORST,
     "specified": SPECIFIED,
     RULE: "#d08a1d",
-    LP: ORE,
+    LP: palette.ORE,
     MILP: "#7b4fa3",
     "best": BEST,
     "relaxed": PLAIN,
@@ -57,25 +56,20 @@ LINES = {
     "best": MARKED | {"marker": BEST_MARK, "markersize": 4},
     "relaxed": {"linestyle": "--", "linewidth": 1.2},
 }
-GRADE = "#a23b8f"
-# Of several stockpiles, in their order.
-STOCKED = ("#8fb3d9", "#d9b98f", "#9fc79d", "#b9a3cf")
-# Of several dumps, in their order.
-DUMPED = ("#cfc9c0", "#aaa39a", "#87817a", "#e3d8c5", "#b9ae98")
-# Of several processes, in their order.
-PROCESSES = ("#1f5f9e", "#c8792b", "#4c8c4a", "#7b4fa3", "#b23a48")
 
 
 def write_tonnes(schedule: YearlySchedule, path: Path) -> None:
+    """Writes the tonnes of each method, and below them the metals of the one that is shown."""
+    metals = schedule.pushbacks.plan.project.metals[:MOST_METALS]
     with matplotlib.rc_context(STYLE):
-        figure = Figure(figsize=(12, 4.6))
-        plot_tonnes(schedule, figure.subplots(1, len(schedule.shares), sharey=True, squeeze=False))
-        figure.tight_layout(rect=(0, 0, 1, 0.92))
+        figure = Figure(figsize=(12, 8.0))
+        plot_tonnes(schedule, rows_of(figure, len(schedule.shares), UPPER, sharey=True))
+        plot_metals(schedule, rows_of(figure, len(metals), LOWER))
         finish(figure, path)
 
 
 def plot_tonnes(schedule: YearlySchedule, axes: Any) -> list[Axes]:
-    """Draws where the material of each year goes, with the capacities, and on a second axis the head grade of each process, for the first metal.
+    """Draws where the material of each year goes, with the capacities.
 
     Parameters
     ----------
@@ -87,34 +81,49 @@ def plot_tonnes(schedule: YearlySchedule, axes: Any) -> list[Axes]:
     -------
     list of Axes
     """
-    found, feed = list_of(axes, len(schedule.shares)), feed_table(schedule)
-    metal = schedule.pushbacks.plan.project.metals[0]
-    size, sign = scaled(float(tonnes_of(schedule).groupby(["method", "year"]).sum().max() if len(feed) else 1.0))
-    rights = [ax.twinx() for ax in found]
-    grades = feed[f"head_grade_{metal.name}"]
-    for left, right, way in zip(found, rights, schedule.shares):
-        draw_flows(left, schedule, way, size)
-        draw_limits(left, schedule, schedule.flows[way].years, (size, sign))
-        left.set_title(TITLES.get(way, way))
-        draw_grades(right, feed[feed["method"] == way], metal)
-        right.set_ylim(0, 1.25 * grades.max() if grades.notna().any() and grades.max() > 0 else 1.0)
-        right.spines["top"].set_visible(False)
+    found, tonnes = list_of(axes, len(schedule.shares)), tonnes_of(schedule)
+    size, sign = scaled(float(tonnes.groupby(["method", "year"]).sum().max() if len(tonnes) else 1.0))
+    for ax, way in zip(found, schedule.shares):
+        draw_flows(ax, schedule, way, size)
+        draw_limits(ax, schedule, schedule.flows[way].years, (size, sign))
+        ax.set_title(TITLES.get(way, way))
     top = max((bar.get_y() + bar.get_height() for ax in found for bars in ax.containers for bar in bars), default=0.0)
     near = [line.get_ydata().max() for line in found[0].lines if line.get_ydata().max() <= FAR_ABOVE * top]
     for ax in found:
         ax.set_ylim(0, MARGIN * max(top, *near, 0.0) or 1.0)
     what = "total material and reclaimed ore" if schedule.is_stocked else "total material"
     found[0].set_ylabel(f"{what}, {sign}t")
-    rights[-1].set_ylabel(f"head grade of {metal.name}, {metal.sign}")
-    add_legend(found, rights)
+    add_legend(found, [label for _, _, label, _ in layers_of(schedule)])
     return found
 
 
-def add_legend(found: list[Axes], rights: list[Axes]) -> None:
-    """Adds one legend above all axes, of what any of them shows."""
+def plot_metals(schedule: YearlySchedule, axes: Any) -> list[Axes]:
+    """Draws recovered metal and head grade of each year of the method that is shown, of up to three metals.
+
+    Parameters
+    ----------
+    schedule : YearlySchedule
+    axes : array or list of Axes
+        One per metal.
+
+    Returns
+    -------
+    list of Axes
+    """
+    metals = schedule.pushbacks.plan.project.metals[:MOST_METALS]
+    found, feed = list_of(axes, len(metals)), feed_table(schedule)
+    for ax, metal in zip(found, metals):
+        plot_metal(feed[feed["method"] == schedule.shown], metal, schedule.settings.calendar, ax)
+        ax.set_title(f"{metal.name.capitalize()}, {TITLES.get(schedule.shown, schedule.shown).lower()}")
+    return found
+
+
+def add_legend(found: list[Axes], layers: list[str]) -> None:
+    """Adds one legend above all axes, of what any of them shows: layers from below, then lines."""
     drawn: dict[str, Any] = {}
     bars = [bar for ax in found for bar in ax.containers]
-    for handle in (*bars, *(line for ax in (*found, *rights) for line in ax.lines)):
+    bars.sort(key=lambda it: layers.index(it.get_label()))
+    for handle in (*bars, *(line for ax in found for line in ax.lines)):
         drawn.setdefault(str(handle.get_label()), handle)
     found[-1].figure.legend(
         drawn.values(), drawn.keys(), ncol=min(len(drawn), 5) or 1, loc="upper center", frameon=False, fontsize=8
@@ -126,33 +135,21 @@ def tonnes_of(schedule: YearlySchedule) -> pd.Series:
     return schedule.material_flows.groupby(["method", "year", "source", "destination"])["total_tonnes"].sum()
 
 
-def draw_grades(ax: Axes, feed: pd.DataFrame, metal: Metal) -> None:
-    """Draws a line per process with the head grade of each year."""
-    processes = list(dict.fromkeys(feed["process"]))
-    for number, process in enumerate(processes):
-        shown = feed[feed["process"] == process]
-        label = f"head grade of {process}" if len(processes) > 1 else f"head grade of {metal.name}"
-        colour = GRADE if len(processes) == 1 else PROCESSES[number % len(PROCESSES)]
-        look = {"marker": "o", "markersize": 3.5, "linewidth": 1.4, "markeredgecolor": "white", "markeredgewidth": 0.5}
-        ax.plot(shown["year"], shown[f"head_grade_{metal.name}"], color=colour, label=label, **look)
-
-
 def layers_of(schedule: YearlySchedule) -> list[tuple[str, str, str, dict[str, Any]]]:
     """Returns the layers of a year's bar from below: source, destination, label and look."""
     found: list[tuple[str, str, str, dict[str, Any]]] = []
-    names, stockpiles = [name or MILL for name in schedule.names], schedule.model.stockpiles
-    for number, name in enumerate(names):
-        colour = ORE if len(names) == 1 else PROCESSES[number % len(PROCESSES)]
+    stockpiles = schedule.model.stockpiles
+    for name, colour in palette.of_processes(schedule.names).items():
         found.append((PIT, name, name, {"color": colour}))
         look = {"color": colour, "alpha": 0.55, "hatch": "///", "edgecolor": "white"}
         found += [(it.name, name, f"{name}, reclaimed", look) for it in stockpiles]
-    for number, it in enumerate(stockpiles):
-        label = "to the stockpile" if len(stockpiles) == 1 else f"to {it.name}"
-        found.append((PIT, it.name, label, {"color": STOCKED[number % len(STOCKED)]}))
+    for name, colour in palette.of_stockpiles(it.name for it in stockpiles).items():
+        label = "to the stockpile" if len(stockpiles) == 1 else f"to {name}"
+        found.append((PIT, name, label, {"color": colour}))
     dumps = schedule.model.dumps
-    for number, dump in enumerate(dumps):
-        found.append((PIT, dump.name, f"waste to {dump.name}", {"color": DUMPED[number % len(DUMPED)]}))
-    return found if dumps else [*found, (PIT, AS_WASTE, "waste", {"color": WASTE})]
+    for name, colour in palette.of_dumps(it.name for it in dumps).items():
+        found.append((PIT, name, f"waste to {name}", {"color": colour}))
+    return found if dumps else [*found, (PIT, AS_WASTE, "waste", {"color": palette.WASTE})]
 
 
 def draw_flows(ax: Axes, schedule: YearlySchedule, way: str, size: float) -> None:

@@ -11,13 +11,14 @@ from typing import Any
 import matplotlib
 import numpy as np
 from matplotlib.axes import Axes
+from matplotlib.backends.backend_agg import FigureCanvasAgg
 from matplotlib.figure import Figure
 from matplotlib.ticker import MaxNLocator
 
 from pitplan.blockmodel.grid import Grid
 from pitplan.errors import PlanError
 
-ORE, WASTE, GROUND = "#3b6ea5", "#cfc9bd", "#ece8df"
+GROUND = "#ece8df"
 BEST, WORST, SPECIFIED, PLAIN, CHOSEN = "#1b7f4b", "#c0392b", "#8e5ea2", "#444444", "#ffe9a6"
 # Red and green are alike to many: the best case points upward.
 BEST_MARK, WORST_MARK, SPECIFIED_MARK = "^", "v", "s"
@@ -25,7 +26,7 @@ BEST_MARK, WORST_MARK, SPECIFIED_MARK = "^", "v", "s"
 MAP: dict[str, Any] = {"origin": "lower", "interpolation": "nearest"}
 
 
-STYLE = {
+STYLE: dict[str, Any] = {
     "font.size": 9,
     "axes.spines.top": False,
     "axes.titlesize": 10,
@@ -100,6 +101,14 @@ def files_of(drawn: dict[str, str], formats: tuple[str, ...]) -> list[str]:
 
 
 def finish(figure: Figure, path: Path) -> None:
+    """Writes a figure in each format."""
+    # Once laid out it is drawn once. With an engine, savefig would first draw it without ink.
+    engine = figure.get_layout_engine()
+    if engine is not None:
+        FigureCanvasAgg(figure)
+        figure.set_dpi(STYLE["savefig.dpi"])
+        engine.execute(figure)
+        figure.set_layout_engine("none")
     # Without version and date in the metadata the same plan gives the same bytes.
     figure.savefig(path, metadata={"Software": None})
     with matplotlib.rc_context({"svg.hashsalt": "pitplan"}):

@@ -18,6 +18,7 @@ from pitplan.config.project import Project
 from pitplan.config.sensitivity import SensitivityRules
 from pitplan.config.shells import IN_WORDS
 from pitplan.core.atomic_files import hash_of, read_json
+from pitplan.core.magnitude import scaled
 from pitplan.core.revenue_factors import BASE_PRICE, factor_text
 from pitplan.errors import PlanError
 from pitplan.results import names
@@ -332,6 +333,31 @@ def of_way(ways: Written, shown: str, project: Project) -> list[Figure]:
     ]
 
 
+def of_hill(folder: Path, project: Project) -> dict[str, Any]:
+    """Returns the hill of value: its picture, and the NPVs as a table with a row per value of the second parameter."""
+    table = read_table(folder, names.HILL)
+    frame, figure = table.frame, folder / names.HILL_FIGURE
+    size, sign = scaled(float(frame["npv"].abs().max()))
+    one, other = frame["parameter"].iloc[0], frame["second_parameter"].iloc[0]
+    rows = [
+        {
+            "mark": "",
+            "cells": [
+                {"text": f"{value:,.10g}", "source": table.source(some.index[0], "second_value")},
+                *({"text": f"{npv / size:,.2f}", "source": table.source(at, "npv")} for at, npv in some["npv"].items()),
+            ],
+        }
+        for value, some in frame.sort_values("value").groupby("second_value")
+    ]
+    headings = [other, *(f"{value:,.10g}" for value in sorted(frame["value"].unique()))]
+    unit = f"{sign} {project.economics.currency}".strip()
+    return {
+        "picture": picture(figure) if figure.is_file() else "",
+        "part": {"file": table.file, "headings": headings, "rows": rows},
+        "caption": f"Hill of value: NPV, {unit}, by {one} (columns) and {other} (rows)",
+    }
+
+
 # Of the shells of a sensitivity.
 FINER = ", over finer shells than those of the pit-by-pit analysis"
 
@@ -348,6 +374,7 @@ def of_sensitivity(found: Sensitivity, project: Project) -> dict[str, Any]:
         "revenue_factor": record["revenue_factor"],
         "verified": record["verified"],
         "pairs": len(table.frame) > len(alone),
+        "hill": of_hill(found.folder, project) if (found.folder / names.HILL).is_file() else None,
         "fine": FINER if (project.sensitivity or SensitivityRules()).largest_increment < 1 else "",
         "sha256": hash_of(found.folder / SENSITIVITY),
     }

@@ -7,13 +7,11 @@ from typing import Any, Callable
 import numpy as np
 from numpy.typing import NDArray
 
+from pitplan.figures import palette
 from pitplan.results.folder import Folder
 
-# Colours that the colour-blind tell apart (Okabe and Ito), then paler ones; of more categories the last one stands for the rest.
-PALETTE = (
-    *("#0072b2", "#e69f00", "#009e73", "#cc79a7", "#56b4e9", "#d55e00", "#f0e442", "#7f7f7f"),
-    *("#8fb3d9", "#f3cf80", "#80cfb9", "#e6bcd3", "#abdaf4", "#eaaf80", "#f8f2a1", "#c0c0c0"),
-)
+# Of more categories the last colour stands for the rest.
+PALETTE = palette.CODES
 DESTINATION, ORE, WASTE, OTHERS = "destination", "ore", "waste", "others"
 NO_CODE = "none"
 
@@ -55,5 +53,15 @@ def kind_of(folder: Folder, name: str, codes: NDArray[Any], solid: NDArray[np.bo
         "name": name,
         "cells": encode(folder.grid.spread(np.where(solid, number, 0).astype(np.uint8), 0)),
         "labels": [label or NO_CODE for label in order],
-        "colours": [[int(tint[k : k + 2], 16) for k in (1, 3, 5)] for tint in PALETTE[: len(order)]],
+        "colours": [[int(tint[k : k + 2], 16) for k in (1, 3, 5)] for tint in tints_of(folder, name, order)],
     }
+
+
+def tints_of(folder: Folder, name: str, labels: list[str]) -> list[str]:
+    """Returns the colours of labels: of destinations those of figures, otherwise by the palette."""
+    if name != DESTINATION:
+        return list(PALETTE[: len(labels)])
+    before = "processing_cost_"
+    processes = [column.removeprefix(before) for column in folder.blocks if str(column).startswith(before)]
+    known = palette.of_processes(processes) | {ORE: palette.ORE, WASTE: palette.WASTE}
+    return [known.get(label, PALETTE[-1]) for label in labels]

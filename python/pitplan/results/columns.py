@@ -180,6 +180,17 @@ SENSITIVITY = Table(
         DISCOUNTS,
     ),
 )
+HILL = Table(
+    "hill_of_value.csv",
+    "with `[[sensitivity.hill]]`: a row per two values",
+    (
+        Column("parameter", TEXT, "that of the first axis"),
+        Column("value", NUMBER, "of its key, or the share by which it is changed"),
+        Column("second_parameter", TEXT, "that of the second axis"),
+        Column("second_value", NUMBER, "likewise"),
+        *SENSITIVITY.columns[4:],
+    ),
+)
 SCENARIOS = Table("scenarios.csv", "a row per scenario and revenue factor", (*HEADS, RF, *PIT, CASH, EXACT), digits=10)
 SPREAD = (
     Column("AMOUNT_mean", AMOUNT, "its mean"),
@@ -273,7 +284,7 @@ BLOCK_TABLE = Table(
     ),
     digits=0,
 )
-TABLES: tuple[Table, ...] = (BLOCK_TABLE, SHELLS, YEARLY, PITS, PUSHBACKS, SCHEDULE, METHODS, SENSITIVITY)
+TABLES: tuple[Table, ...] = (BLOCK_TABLE, SHELLS, YEARLY, PITS, PUSHBACKS, SCHEDULE, METHODS, SENSITIVITY, HILL)
 TABLES += (MATERIAL_FLOWS, FEEDS, CUTOFFS, STOCKPILES, DUMPS, LIMITS, CASH_FLOW, VALUATION, INVENTORY, GRADE_TONNAGE)
 TABLES += (MULTIPLIERS, PROBABILITY, SCENARIOS, QUANTILES, COMMON, COMMON_YEARS, SCHEDULES, BLOCK_QUANTILES)
 TABLES += COMPARISON

@@ -18,6 +18,11 @@ SCHEDULE_RECORD, BLOCK_SCHEDULE = "schedule.json", "block_schedule.json"
 REPORT, VIEW = "report.html", "view.html"
 SENSITIVITY, SENSITIVITY_RECORD = f"{TABLES}/sensitivity.csv", "sensitivity.json"
 TORNADO, SPIDER = f"{FIGURES}/tornado.png", f"{FIGURES}/spider.png"
+HILL, HILL_FIGURE, HILL_WORKBOOK = (
+    f"{TABLES}/hill_of_value.csv",
+    f"{FIGURES}/hill_of_value.png",
+    f"{TABLES}/hill_of_value.xlsx",
+)
 COMPARISON = "comparison.json"
 COMPARED_RESULTS, COMPARED_INPUTS = f"{TABLES}/results.csv", f"{TABLES}/inputs.csv"
 COMPARED_PERIODS, BRIDGE, PERIODS_FIGURE = f"{TABLES}/periods.csv", f"{TABLES}/bridge.csv", f"{FIGURES}/periods.png"

@@ -30,10 +30,11 @@ from planaudit.money.weighing import processed, valued
 from planaudit.pits import sums, years
 from planaudit.revenue_factors import factor_text
 from planaudit.rules import TOLD, Rule, rule
-from planaudit.studies import cases
+from planaudit.studies import cases, hill
 
 SHARES = ("-0.2", "-0.1", "0.1", "0.2")
 AXES = ("parameter", "change", "second_parameter", "second_change")
+HILL_AXES = ("parameter", "value", "second_parameter", "second_value")
 # Keys of [metals.smelter] that are charges.
 CHARGES = ("treatment_charge", "refining_charge", "freight")
 # The pits of which a case has amounts: its own, that of the base case, and the skin of this.
@@ -54,17 +55,22 @@ Data = dict[str, Any]
 
 @dataclass(frozen=True)
 class Case:
-    """A case: its changes, as pairs of parameter and share; the least revenue factor of each cell; slopes; and for the base case a mask of its
-    skin."""
+    """A case: its changes, as pairs of parameter and share; the least revenue factor of each cell; slopes; for the base case a mask of its
+    skin; and of a hill of value the keys that are set, with their values."""
 
     changes: tuple[tuple[str, Decimal], ...]
     entry: np.ndarray
     walls: list[Data]
     skin: Optional[np.ndarray] = None
+    settings: tuple[tuple[str, Decimal], ...] = ()
 
     @property
     def label(self) -> str:
-        return ", ".join(f"{name} {share:+f}" for name, share in self.changes) or "base case"
+        said = [
+            *(f"{name} {share:+f}" for name, share in self.changes),
+            *(f"{key} = {it}" for key, it in self.settings),
+        ]
+        return ", ".join(said) or "base case"
 
 
 def verify(written: Path, folder: Path) -> list[Rule]:
@@ -108,6 +114,7 @@ class Told:
     cases: list[Case]
     factor: float
     text: Text
+    hill: tuple[pd.DataFrame, list[Case]]
 
     @staticmethod
     def read(written: Path, folder: Path) -> "Told":
@@ -125,14 +132,15 @@ class Told:
         ground = replace(told, said=said[["id"]].assign(revenue_factor=0))
         rows = read_table(written / "tables/sensitivity.csv", ["parameter", "second_parameter"])
         rows[["parameter", "second_parameter"]] = rows[["parameter", "second_parameter"]].fillna("")
-        return Told(ground, told, rows, list(cases_in(folder, record)), factor, text)
+        hill = read_hill(written), list(cases_in(folder, record.get("hill", [])))
+        return Told(ground, told, rows, list(cases_in(folder, record["cases"])), factor, text, hill)
 
     def rules(self) -> list[Rule]:
         found: dict[str, list[Rule]] = {name: [] for name in OF_EACH}
         listed = self.listed()
         if not listed.differences:
-            for number, case in enumerate(self.cases):
-                for name, it in self.of_case(case, self.rows.iloc[[number]]).items():
+            for case, row in self.pairs():
+                for name, it in self.of_case(case, row).items():
                     found[name].append(
                         replace(it, differences=tuple(f"{case.label}: {said}" for said in it.differences))
                     )
@@ -144,11 +152,28 @@ class Told:
             self.outside_skin(),
         ]
         of_ground += depletion.verify_cuts(self.ground)
-        count = f"in {len(self.cases):,} cases: "
+        count = f"in {len(self.cases) + len(self.hill[1]):,} cases: "
         return [*of_ground, *(cases.joined(name, count + holds, found[name]) for name, holds in OF_EACH.items())]
 
+    def pairs(self) -> Iterator[tuple[Case, pd.DataFrame]]:
+        """Yields each case with its row, those of the hill of value too."""
+        for rows, some in ((self.rows, self.cases), self.hill):
+            yield from ((case, rows.iloc[[number]]) for number, case in enumerate(some))
+
+    def unlike_hill(self) -> Iterator[str]:
+        """Yields what differs between the hill of value that the project sets, hill_of_value.csv and sensitivity.json."""
+        rows, some = self.hill
+        due = hill.due_of(self.text.data.get("sensitivity", {}))
+        there = [tuple(row) for row in rows[list(HILL_AXES)].itertuples(index=False)] if len(rows) else []
+        if there != [place for place, _, _ in due]:
+            yield f"hill_of_value.csv has {len(there):,} cases, and the project {len(due):,} or others"
+        if [(list(it.changes), list(it.settings)) for it in some] != [(changes, keys) for _, changes, keys in due]:
+            yield "sensitivity.json lists other cases than the hill of value of the project"
+        if len(rows) and not (rows["revenue_factor"] == self.factor).all():
+            yield f"hill_of_value.csv has another revenue factor than {factor_text(self.factor)}"
+
     def listed(self) -> Rule:
-        """Verifies that the base case, each parameter with each change, and each pair have a row, and that there are no others."""
+        """Verifies that the base case, each parameter with each change, each pair and each two values of a hill have a row, and no others."""
         due, differences = sorted(due_of(self.text)), []
         there = [tuple(row) for row in self.rows[list(AXES)].itertuples(index=False)]
         noted = [padded([(name, float(share)) for name, share in case.changes]) for case in self.cases]
@@ -158,8 +183,11 @@ class Told:
             differences.append("sensitivity.json lists other cases than sensitivity.csv")
         if not (self.rows["revenue_factor"] == self.factor).all():
             differences.append(f"sensitivity.csv has another revenue factor than {factor_text(self.factor)}")
+        differences += self.unlike_hill()
         return rule(
-            "cases", "each parameter has a row for each change, and each pair for each two changes", differences
+            "cases",
+            "each parameter has a row for each change, each pair for each two changes, and a hill of value for each two values",
+            differences,
         )
 
     def as_given(self) -> Rule:
@@ -210,7 +238,7 @@ class Told:
 
     def of_case(self, case: Case, row: pd.DataFrame) -> dict[str, Rule]:
         """Verifies a row of a case."""
-        project, row = changed(self.text, case.changes), row.set_index("revenue_factor")
+        project, row = changed(self.text, case.changes, case.settings), row.set_index("revenue_factor")
         whole, pits = self.dug(case.entry, project, case.walls), self.priced(case, project)
         found = cases.verify(whole, replace(pits[CASE], shells=row))
         expected = row["npv_specified"] if "npv_specified" in row else (row["npv_best"] + row["npv_worst"]) / 2
@@ -226,7 +254,7 @@ class Told:
         base = self.cases[0]
         assert base.skin is not None
         entries = {CASE: case.entry}
-        if not any(name == "slopes" or name.startswith("slopes.") for name, _ in case.changes):
+        if not any(name == "slopes" or name.startswith("slopes.") for name, _ in (*case.changes, *case.settings)):
             entries |= {KEPT_PIT: base.entry, SKIN: np.where(base.skin, self.factor, 0)}
         every = valued(self.dug(np.maximum.reduce([*entries.values()]), project, case.walls))
         return {name: within(every, entry) for name, entry in entries.items()}
@@ -270,8 +298,14 @@ def within(every: Answer, entry: np.ndarray) -> Answer:
     return processed(replace(every, rows=rows, said=said.assign(revenue_factor=first[first > 0]), found={}))
 
 
-def cases_in(folder: Path, record: Data) -> Iterator[Case]:
-    for entry in record["cases"]:
+def read_hill(written: Path) -> pd.DataFrame:
+    """Returns the rows of hill_of_value.csv; none if there is no such table."""
+    path = written / "tables/hill_of_value.csv"
+    return read_table(path, ["parameter", "second_parameter"]) if path.is_file() else pd.DataFrame()
+
+
+def cases_in(folder: Path, entries: list[Data]) -> Iterator[Case]:
+    for entry in entries:
         path = folder / "cases" / f"{entry['key']}.npz"
         try:
             said = read_arrays(path, entry["key"])
@@ -280,6 +314,7 @@ def cases_in(folder: Path, record: Data) -> Iterator[Case]:
                 said["entry"],
                 entry["walls"],
                 said.get("skin"),
+                tuple((name, Decimal(value)) for name, value in entry.get("settings", [])),
             )
         except (ValueError, KeyError, TypeError) as error:
             raise AuditError(f"{path}: is not a result of a case: {error}: run pitplan sensitivity again") from error
@@ -317,9 +352,13 @@ def is_given(text: Text, name: str) -> bool:
     return name != "slopes" or any({"angle", "azimuths", "bench"} & {*wall} for wall in data["slopes"]["domains"])
 
 
-def changed(text: Text, changes: tuple[tuple[str, Decimal], ...]) -> Project:
-    """Returns the project of the text with these numbers changed there."""
+def changed(
+    text: Text, changes: tuple[tuple[str, Decimal], ...], settings: tuple[tuple[str, Decimal], ...] = ()
+) -> Project:
+    """Returns the project of the text with these keys set and these numbers changed there."""
     data = text.data
+    for name, value in settings:
+        hill.set_key(data, name.split("."), value)
     for name, share in changes:
         if "." in name:
             change_key(data, name.split("."), 1 + share)

@@ -20,6 +20,7 @@ import numpy as np
 import pandas as pd
 
 from pitplan.blockmodel import reader
+from pitplan.config.hill import Setting
 from pitplan.config.project import Project
 from pitplan.config.sensitivity import SensitivityRules
 from pitplan.core import keyed_arrays
@@ -37,7 +38,7 @@ from pitplan.solver.program import Solution
 from pitplan.studies import dask_pool
 from pitplan.studies.scenarios.store import key_of
 
-from .perturb import Change, given, moves_walls, varied
+from .perturb import Change, given, moves_walls, varied, with_settings
 
 CASES = "cases"
 # Columns of the base case's pit at the parameters of a case, and the value of its skin.
@@ -48,17 +49,29 @@ WHOLE = ("blocks",)
 
 @dataclass(frozen=True)
 class Case:
-    """The changes of a case; the base case has none."""
+    """The changes of a case, and of a hill of value the keys that it sets; the base case has none."""
 
     changes: tuple[Change, ...] = ()
+    settings: tuple[Setting, ...] = ()
 
     @property
     def label(self) -> str:
-        return ", ".join(f"{name} {share:+.4g}" for name, share in self.changes) or "base case"
+        set_to = (f"{name} = {value:.10g}" for name, value in self.settings)
+        return ", ".join([*(f"{name} {share:+.4g}" for name, share in self.changes), *set_to]) or "base case"
 
     @property
     def moves_walls(self) -> bool:
-        return any(moves_walls(name) for name, _ in self.changes)
+        return any(moves_walls(name) for name, _ in (*self.changes, *self.settings))
+
+    @property
+    def as_json(self) -> dict[str, Any]:
+        """Changes and settings as pairs of texts; settings only if there are any."""
+        parts = {"changes": self.changes, "settings": self.settings}
+        return {
+            name: [[key, str(number)] for key, number in pairs]
+            for name, pairs in parts.items()
+            if pairs or name == "changes"
+        }
 
 
 @dataclass(frozen=True)
@@ -182,6 +195,8 @@ def solve(project: Project, folder: Path, where: dask_pool.Where | None, progres
     MissingPackage
         Without Dask if `where` is given.
     """
+    from . import hill
+
     found_by, given_project = solver.chosen(project.solver), project
     project = replace(project, solver=found_by.by)
     frame = reader.read(project).frame
@@ -199,8 +214,8 @@ def solve(project: Project, folder: Path, where: dask_pool.Where | None, progres
         "skin": str(rules.skin),
         "largest_increment": str(rules.largest_increment),
     }
-    cases = cases_of(rules)
-    keys = {case: key_of({**begun, "changes": [[name, str(share)] for name, share in case.changes]}) for case in cases}
+    cases = [*cases_of(rules), *hill.cases_of(rules).values()]
+    keys = {case: key_of({**begun, **case.as_json}) for case in cases}
     paths = {case: folder / CASES / f"{keys[case]}.npz" for case in cases}
     if not paths[Case()].is_file():
         answer(Case(), asked, paths[Case()])
@@ -247,7 +262,8 @@ def find(case: Case, asked: Asked) -> Found:
     """Returns the pit of a case, and the values of the base case's pit in it. Raises ProgramError if the solver here is another one."""
     solver.demand_same(asked.solver)
     plan, solution = with_fine_shells(
-        prepared(varied(asked.project, case.changes), asked.frame), rules_of(asked.project)
+        prepared(varied(with_settings(asked.project, case.settings), case.changes), asked.frame),
+        rules_of(asked.project),
     )
     row = of_last(shell_tables.shells(plan, solution))
     entry = solution.entry[: plan.grid.count]
@@ -329,7 +345,7 @@ def table(found: Sensitivity) -> pd.DataFrame:
     skin. `npv` is that of the specified case, otherwise the mean of best and worst case; docs/FORMATS.md lists the columns.
     """
     rows = []
-    for case, answer in found.answers.items():
+    for case in cases_of(rules_of(found.project)):
         (name, share), (second, other) = (*case.changes, ("", Decimal(0)), ("", Decimal(0)))[:2]
         rows.append(
             {
@@ -337,10 +353,14 @@ def table(found: Sensitivity) -> pd.DataFrame:
                 "change": float(share),
                 "second_parameter": second,
                 "second_change": float(other),
-                **answer.row,
+                **found.answers[case].row,
             }
         )
-    frame = pd.DataFrame(rows)
+    return in_order(pd.DataFrame(rows))
+
+
+def in_order(frame: pd.DataFrame) -> pd.DataFrame:
+    """Returns rows of cases with `npv` before the NPVs of best and worst case, and what is kept last."""
     kept = [name for name in frame if name.startswith("kept_") or name == SKIN_WORTH]
     order = [name for name in frame if name not in (*kept, "npv")]
     at = order.index("npv_best")

@@ -8,7 +8,8 @@ from typing import Callable, Union
 
 from pitplan.config import toml_text
 from pitplan.config.economics import ByRock, Curve, Metal, Process, Recovery
-from pitplan.config.overrides import scaled
+from pitplan.config.hill import Setting
+from pitplan.config.overrides import assigned, scaled
 from pitplan.config.periods import Calendar, Period
 from pitplan.config.project import Project, of_data
 from pitplan.config.smelter import CHARGES, Smelter
@@ -35,7 +36,11 @@ def with_key(project: Project, by: Decimal, path: str) -> Project:
     """Returns the project with the numbers of a key times a factor. Raises PlanError if there is no such key, or the project is not valid."""
     where = f"{project.path}: [sensitivity]"
     data = scaled(toml_text.parsed(project.to_toml(), str(project.path)), path, by, where)
-    found = of_data(data, project.path, f"{where} {path} times {by}")
+    return planned_as(project, of_data(data, project.path, f"{where} {path} times {by}"))
+
+
+def planned_as(project: Project, found: Project) -> Project:
+    """Returns a project that was read again with the revenue factors, folder and solver of the first one."""
     kept = project.shells
     shells = replace(
         found.shells,
@@ -44,6 +49,18 @@ def with_key(project: Project, by: Decimal, path: str) -> Project:
         base_price_added=kept.base_price_added,
     )
     return replace(found, shells=shells, folder=project.folder, solver=project.solver)
+
+
+def with_settings(project: Project, settings: tuple[Setting, ...]) -> Project:
+    """Returns the project with other numbers for some keys, by their paths. Raises PlanError if the project is not valid with all of them."""
+    if not settings:
+        return project
+    where = f"{project.path}: [sensitivity.hill]"
+    data = toml_text.parsed(project.to_toml(), str(project.path))
+    for path, value in settings:
+        data = assigned(data, path, value, where)
+    said = ", ".join(f"{path} = {value}" for path, value in settings)
+    return planned_as(project, of_data(data, project.path, f"{where} {said}"))
 
 
 def moves_walls(name: str) -> bool:

@@ -9,13 +9,15 @@ from pitplan.core.atomic_files import hashes_of
 from pitplan.core.revenue_factors import factor_text
 from pitplan.results import names
 
-from .cases import SKIN_WORTH, Case, Sensitivity
+from . import hill
+from .cases import SKIN_WORTH, Case, Sensitivity, cases_of, rules_of
 
 TABLE, RECORD = names.SENSITIVITY, names.SENSITIVITY_RECORD
 
 
 def record(found: Sensitivity, project: str) -> dict[str, Any]:
     """Returns the record of all cases and of their solver; `project` is the path of the project relative to the folder."""
+    rules = rules_of(found.project)
     return {
         "project": project,
         "title": found.project.title,
@@ -25,16 +27,15 @@ def record(found: Sensitivity, project: str) -> dict[str, Any]:
         "revenue_factor": found.factor,
         "skin": (skin := skin_of(found)),
         "notes": [*found.plan.notes, told_of_skin(skin, found.project.economics.currency)],
-        "cases": [
-            {
-                "changes": [[name, str(share)] for name, share in case.changes],
-                "key": found.keys[case],
-                "walls": answer.walls,
-            }
-            for case, answer in found.answers.items()
-        ],
+        "cases": [recorded(found, case) for case in cases_of(rules)],
+        **({"hill": [recorded(found, case) for case in hill.cases_of(rules).values()]} if rules.hill else {}),
         "verified": [],
     }
+
+
+def recorded(found: Sensitivity, case: Case) -> dict[str, Any]:
+    """Returns the record of a case."""
+    return {**case.as_json, "key": found.keys[case], "walls": found.answers[case].walls}
 
 
 def skin_of(found: Sensitivity) -> dict[str, Any]:
