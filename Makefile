@@ -19,6 +19,7 @@ try:
 # Proves the program and all below it, side by side, with a line for each crate, and links it; where nothing changed since, that is all.
 build:
 	tools/build.py
+	tools/build.py pitschedule
 
 # Proves what C and Python call, side by side as well, and links build/libpitshell.so and build/libpitshell.a for include/pitshell.h.
 library:
@@ -52,6 +53,7 @@ DOCUMENTS = README.md CHANGELOG.md docs/*.md docs/*/* examples/*.ipynb examples/
 install:
 	test -x $(PROGRAM) || $(MAKE) build
 	install -D -m 755 $(PROGRAM) $(DESTDIR)$(PREFIX)/bin/pitshell
+	test ! -e build/pitschedule || install -D -m 755 build/pitschedule $(DESTDIR)$(PREFIX)/bin/pitschedule
 	install -D -m 755 tools/pitplan $(DESTDIR)$(PREFIX)/bin/pitplan
 	install -D -m 644 LICENSE $(DOC)/LICENSE
 	for file in $(DOCUMENTS); do install -D -m 644 $$file $(DOC)/$$file || exit; done
@@ -86,7 +88,7 @@ style: setup
 
 # The tests of the built program and of the tools beside it alone.
 test-program: setup
-	test -x build/pitshell || $(MAKE) build
+	test -x build/pitshell -a -x build/pitschedule || $(MAKE) build
 	/usr/bin/python3 -m pytest tests -q -p no:cacheprovider
 
 # The tests of the planner's layer alone, as many processes as processors. Where there is no program yet it is proved and built first,

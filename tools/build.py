@@ -2,6 +2,7 @@
 """Proves a program or the library and each crate below it, side by side, with a line for each, and leaves what was built in build/.
 
     tools/build.py [pitshell]       the program
+    tools/build.py pitschedule      the program that checks schedules
     tools/build.py refused_memory   a small program for the tests
     tools/build.py pitshell_c       what C and Python call: libpitshell.so and libpitshell.a
 
@@ -24,7 +25,7 @@ from crates import TOP, crates, in_order, sources
 
 PROGRAM, LIBRARY = "pitshell", "pitshell_c"
 # What is built of each crate: the first file's SHA-256 stands in its .version.
-FILES = {PROGRAM: ["pitshell"], "refused_memory": ["refused_memory"], LIBRARY: ["libpitshell.so", "libpitshell.a"]}
+FILES = {PROGRAM: ["pitshell"], "pitschedule": ["pitschedule"], "refused_memory": ["refused_memory"], LIBRARY: ["libpitshell.so", "libpitshell.a"]}
 BUILD = TOP / "build"
 
 

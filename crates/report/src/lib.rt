@@ -21,7 +21,7 @@ pub use head::{check_count, check_title, read_number, three_fields};
 pub use journal::write_journal;
 pub use journal_reader::{journal_law, journal_reads_back, parse_journal, read_journal};
 pub use journal_text::JournalText;
-pub use number::put_number;
+pub use number::{put_millionths, put_number};
 pub use out::{Out, end_line, finish, put};
 pub use pit::{put_line, write_pit};
 pub use replay::{write_difference, write_open};

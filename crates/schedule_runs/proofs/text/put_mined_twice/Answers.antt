@@ -1,0 +1,12 @@
+-- The pieces of the text, one after the other.
+use Rattle.report.proofs.PutLemmas.{puts_then}
+use Rattle.schedule_runs.specs.Verdicts.{verdict_text}
+use Rattle.schedule_runs.proofs.text.put_mined_twice.Goals as goal
+
+pub returns-clause-puts : goal.returns-clause-puts
+unfolding verdict_text
+returns-clause-puts g c =
+    let two = puts_then _ _ _ _ _ _ _ _ c.put.ensures.puts c.put_number.ensures.puts in
+    let three = puts_then _ _ _ _ _ _ _ _ two c.put-2.ensures.puts in
+    let four = puts_then _ _ _ _ _ _ _ _ three c.put_number-2.ensures.puts in
+    puts_then _ _ _ _ _ _ _ _ four c.end_line.ensures.puts

@@ -1,0 +1,5 @@
+pub mod ProblemRead
+pub mod SharesRead
+pub mod Verdicts
+pub mod Refusals
+pub mod Runs

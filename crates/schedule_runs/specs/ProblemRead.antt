@@ -1,0 +1,54 @@
+-- The scheduling problem that two texts spell: its own text, and that of its precedence.
+use Rattle.std.specs.Prelude.{◌≡◌, ℕ, ◌+◌, ◌*◌, ◌<◌, ℤ, pos, List, length, get_or, Ok}
+use Rattle.pit_model.specs.Graph.{AreSamePairs}
+use Rattle.minelib_reader.specs.PrecGrammar.{SpellsPrec}
+use Rattle.schedule_model.specs.declared.term.Term.{Term}
+use Rattle.schedule_model.specs.declared.term.Effect.TheVariants.{Value, Use}
+use Rattle.schedule_model.specs.Problem.{Problem, no_term}
+use Rattle.schedule_texts.specs.ProblemText.{Lists, lists_in}
+
+abbrev pub number_at : List ℤ → ℕ → ℤ
+number_at numbers i = get_or numbers i (pos 0)
+
+-- term k of value, as it is listed
+pub record IsValueTerm (values : List ℤ) (k : ℕ) (term : Term) : Type 0 where
+  pub destination : number_at values (3 * k) ≡ pos term.destination
+  pub column : number_at values (3 * k + 1) ≡ pos term.column
+  pub lag : number_at values (3 * k + 2) ≡ pos term.lag
+  pub effect : term.effect ≡ Value
+
+-- term k of use, as it is listed
+pub record IsUseTerm (uses : List ℤ) (k : ℕ) (term : Term) : Type 0 where
+  pub limit : ℕ
+  pub destination : number_at uses (4 * k) ≡ pos term.destination
+  pub limit_is : number_at uses (4 * k + 1) ≡ pos limit
+  pub column : number_at uses (4 * k + 2) ≡ pos term.column
+  pub lag : number_at uses (4 * k + 3) ≡ pos term.lag
+  pub effect : term.effect ≡ Use limit
+
+-- the terms of value, and behind them those of use
+pub record AreTerms (lists : Lists) (terms : List Term) : Type 0 where
+  pub count : length terms ≡ lists.sizes.values + lists.sizes.uses
+  pub values : (k : ℕ) → k < lists.sizes.values → IsValueTerm lists.values k (get_or terms k no_term)
+  pub uses : (k : ℕ) → k < lists.sizes.uses → IsUseTerm lists.uses k (get_or terms (lists.sizes.values + k) no_term)
+
+-- the problem of lists, whose pairs are these in whatever order
+pub record IsProblemOf (lists : Lists) (arcs : List (ℕ × ℕ)) (problem : Problem) : Type 0 where
+  pub blocks : problem.blocks ≡ lists.sizes.blocks
+  pub pairs : AreSamePairs arcs problem.pairs
+  pub periods : problem.periods ≡ lists.sizes.periods
+  pub destinations : problem.destinations ≡ lists.sizes.destinations
+  pub columns : problem.columns ≡ lists.sizes.columns
+  pub limits : problem.limits ≡ lists.sizes.limits
+  pub amounts : problem.amounts ≡ lists.amounts
+  pub discounts : problem.discounts ≡ lists.discounts
+  pub capacities : problem.capacities ≡ lists.capacities
+  pub terms : AreTerms lists problem.terms
+
+-- the two texts spell this problem
+pub record SpellsProblem (text precedence : List ℕ) (problem : Problem) : Type 0 where
+  pub lists : Lists
+  pub read : lists_in text ≡ Ok lists
+  pub arcs : List (ℕ × ℕ)
+  pub spelled : SpellsPrec lists.sizes.blocks precedence arcs
+  pub is : IsProblemOf lists arcs problem

@@ -1,0 +1,57 @@
+-- What a run says of a schedule, and the text of it.
+use Rattle.std.specs.Prelude.{◌≡◌, ℕ, ◌*◌, ◌^◌, ℤ, pos, ◌+ℤ◌, ◌*ℤ◌, ◌≤ℤ◌, ◌<ℤ◌, List, ◌++◌, length, Ok, codes, decimal}
+use Rattle.pit_model.specs.PitText.{with_six_decimals}
+use Rattle.schedule_model.specs.Bound.{IsLagrangianBound, IsRoundedUp}
+use Rattle.schedule_model.specs.Problem.{Problem, capacity}
+use Rattle.schedule_model.specs.Schedule.{IsSchedule, schedule_value, usage}
+use Rattle.scheduling.specs.Checked.{RefusesShares}
+use Rattle.scheduling.specs.declared.schedule_error.ScheduleError.TheVariants as errors
+use Rattle.schedule_texts.specs.ScheduleText.{prices_in}
+use Rattle.schedule_runs.specs.declared.verdict.Verdict.{Verdict}
+use Rattle.schedule_runs.specs.declared.verdict.Verdict.TheVariants.{Schedule, MinedTwice, BeforeNeeded, OverLimit}
+
+-- a number in units of 10^-18, in millionths, rounded down
+abbrev pub value_unit : ℕ
+value_unit = 10 ^ 12
+
+pub record IsRoundedDown (x rounded : ℤ) : Type 0 where
+  pub least : (pos value_unit *ℤ rounded) ≤ℤ x
+  pub most : x <ℤ (pos value_unit *ℤ rounded +ℤ pos value_unit)
+
+-- what is said of the shares of a problem: that they are a schedule, and its value; or what refutes them
+abbrev pub Says : Problem → List ℕ → Verdict → Type 0
+Says problem shares (Schedule value) = IsSchedule problem shares × IsRoundedDown (schedule_value problem shares) value
+Says problem shares (MinedTwice block period) = RefusesShares problem shares (errors.MinedTwice block period)
+Says problem shares (BeforeNeeded block needed period) = RefusesShares problem shares (errors.BeforeNeeded block needed period)
+Says problem shares (OverLimit limit period used most) =
+    RefusesShares problem shares (errors.OverLimit limit period (usage problem shares limit period)) × IsRoundedUp (usage problem shares limit period) used
+    × (most ≡ capacity problem limit period)
+
+-- no schedule of a problem is worth more than a number of millionths
+abbrev pub NoneIsWorthMore : Problem → ℤ → Type 0
+NoneIsWorthMore problem bound = (shares : List ℕ) → IsSchedule problem shares → schedule_value problem shares ≤ℤ (pos value_unit *ℤ bound)
+
+-- the bound at prices, in millionths, rounded up
+pub record IsBoundAt (problem : Problem) (prices : List ℤ) (bound : ℤ) : Type 0 where
+  pub exact : ℤ
+  pub is : IsLagrangianBound problem prices exact
+  pub rounded : IsRoundedUp exact bound
+  pub none_is_worth_more : NoneIsWorthMore problem bound
+
+-- the bound at the prices that a text spells
+pub record IsBoundOf (problem : Problem) (text : List ℕ) (bound : ℤ) : Type 0 where
+  pub prices : List ℤ
+  pub read : prices_in problem.limits problem.periods text ≡ Ok prices
+  pub at_prices : IsBoundAt problem prices bound
+
+-- the text of a verdict, and that of a bound
+unfoldable pub verdict_text : Verdict → List ℕ
+verdict_text (Schedule value) = codes "SCHEDULE\nVALUE: " ++ with_six_decimals value ++ codes "\n"
+verdict_text (MinedTwice block period) = codes "NO SCHEDULE\nblock " ++ decimal block ++ codes " more than once by the end of period " ++ decimal period ++ codes "\n"
+verdict_text (BeforeNeeded block needed period) =
+    codes "NO SCHEDULE\nblock " ++ decimal block ++ codes " before block " ++ decimal needed ++ codes " in period " ++ decimal period ++ codes "\n"
+verdict_text (OverLimit limit period used most) =
+    codes "NO SCHEDULE\nlimit " ++ decimal limit ++ codes " in period " ++ decimal period ++ codes ": " ++ with_six_decimals used ++ codes " of " ++ with_six_decimals most ++ codes "\n"
+
+unfoldable pub bound_text : ℤ → List ℕ
+bound_text bound = codes "BOUND: " ++ with_six_decimals bound ++ codes "\n"

@@ -1,0 +1,52 @@
+//! Why a command gives no verdict.
+use faults::Fault;
+use std::alloc::{AllocError, AllocFailed};
+
+/// Why a command gives no verdict.
+#[derive(Debug, Drop)]
+pub enum Refused {
+    /// Memory ran out.
+    NoMemory,
+    /// The text of the problem has this fault.
+    Problem(Fault),
+    /// The text of the precedence has this fault, or its arcs have a cycle.
+    Precedence(Fault),
+    /// The problem is larger than the limits allow, a number is out of range, or a term names what there is not.
+    Beyond,
+    /// The text of the schedule has this fault.
+    Schedule(Fault),
+    /// The share with this number names no block, period or destination of the problem, or is no share of a block.
+    NoShare(u64),
+    /// With the share of this number more than a whole block is sent to one destination in one period.
+    ShareAbove(u64),
+    /// The text of the prices has this fault.
+    Prices(Fault),
+    /// The price with this number is negative or above 10^9.
+    PriceOutOfRange(u32),
+    /// The value of this node of the time-expanded instance is beyond 10^23 millionths.
+    ValueBeyond(u32),
+    /// A write failed.
+    WriteFailed,
+}
+
+impl From<AllocError> for Refused {
+    ghost use Rattle.std.specs.Prelude.{◌≡◌};
+    ghost use Rattle.schedule_runs.specs.declared.refused.Refused.TheVariants.{NoMemory};
+
+    ghost from_gives = { λ _ e. e ≡ NoMemory };
+
+    fn from(_e: AllocError) -> Refused {
+        Refused::NoMemory
+    }
+}
+
+impl<T: Drop> From<AllocFailed<T>> for Refused {
+    ghost use Rattle.std.specs.Prelude.{◌≡◌};
+    ghost use Rattle.schedule_runs.specs.declared.refused.Refused.TheVariants.{NoMemory};
+
+    ghost from_gives = { λ _ e. e ≡ NoMemory };
+
+    fn from(_e: AllocFailed<T>) -> Refused {
+        Refused::NoMemory
+    }
+}

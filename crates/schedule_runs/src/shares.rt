@@ -1,0 +1,139 @@
+//! The shares of a schedule that a text lists.
+ghost use Rattle.std.specs.Prelude.{◌≡◌, ◌<◌, ◌≤◌, ◌*◌, ◌+◌, ◌^◌, ℕ, pos, IfOk, IfErr, IfSome, length, get_or};
+ghost use Rattle.schedule_model.specs.Schedule.{whole_block};
+ghost use Rattle.schedule_runs.specs.SharesRead.{AreListed, AreSums, IsListedShare, IsShareOf, SpellsShares, place_of, share_in};
+
+use crate::refused::Refused;
+use crate::terms::small;
+use schedule_texts::parse_shares;
+use scheduling::Problem;
+use std::alloc::Global;
+
+/// A share of a block, in millionths, that is mined in a period and sent to a destination.
+#[derive(Clone, Copy, Debug, PartialEq, Eq)]
+pub struct Share {
+    pub block: u32,
+    pub period: u32,
+    pub destination: u32,
+    pub amount: u32,
+}
+
+/// A whole block, in millionths.
+const WHOLE: u32 = 1_000_000;
+
+/// Returns a share as it is listed.
+fn listed_share(numbers: &[i64], j: usize) -> Option<Share>
+    requires { 4 * j + 3 < length numbers.now }
+    ensures { IfSome result (IsListedShare numbers.now j) }
+{
+    let block = small(numbers[4 * j])?;
+    let period = small(numbers[4 * j + 1])?;
+    let destination = small(numbers[4 * j + 2])?;
+    let amount = small(numbers[4 * j + 3])?;
+    Some(Share {
+        block,
+        period,
+        destination,
+        amount,
+    })
+}
+
+/// Returns a share as it is listed, if it is one of a block of the problem.
+fn lawful_share(problem: &Problem, numbers: &[i64], j: usize) -> Option<Share>
+    requires { 4 * j + 3 < length numbers.now }
+    ensures listed { IfSome result (IsListedShare numbers.now j) }
+    ensures lawful { IfSome result (IsShareOf problem.now) }
+{
+    let share = listed_share(numbers, j)?;
+    if share.block < problem.blocks()
+        && share.period < problem.periods()
+        && share.destination < problem.destinations()
+        && share.amount <= WHOLE
+    {
+        Some(share)
+    } else {
+        None
+    }
+}
+
+/// Returns the shares that are listed.
+fn listed_shares(alloc: Global, problem: &Problem, numbers: &[i64]) -> Result<Vec<Share>, Refused>
+    requires { (count : ℕ) × (length numbers.now ≡ count * 4) }
+    ensures { IfOk result (λ v. AreListed problem.now numbers.now v.items) }
+{
+    let mut listed = Vec::new(alloc);
+    for j in 0..numbers.len() / 4 {
+        match lawful_share(problem, numbers, j) {
+            Some(share) => listed.push(share)?,
+            None => return Err(Refused::NoShare(j as u64)),
+        }
+    }
+    Ok(listed)
+}
+
+/// Returns where a share stands in the list of all shares.
+fn place_of(problem: &Problem, share: Share) -> usize
+    requires { IsShareOf problem.now share }
+    ensures place { result ≡ place_of problem.now share }
+    ensures inside { result < problem.now.periods * problem.now.blocks * problem.now.destinations }
+{
+    problem.law();
+    let node = share.period as usize * problem.blocks() as usize + share.block as usize;
+    node * problem.destinations() as usize + share.destination as usize
+}
+
+/// Adds a share to those before it.
+fn add_share(
+    problem: &Problem,
+    listed: &[Share],
+    j: usize,
+    shares: &mut [u32],
+) -> Result<(), Refused>
+    requires inside { j < length listed.now }
+    requires lawful { IsShareOf problem.now (share_in listed.now j) }
+    requires before { AreSums problem.now listed.now j shares.old }
+    ensures { IfOk result (λ _. AreSums problem.now listed.now (j + 1) shares.new) }
+{
+    let share = listed[j];
+    let place = place_of(problem, share);
+    let sum = shares[place] + share.amount;
+    if sum > WHOLE {
+        return Err(Refused::ShareAbove(j as u64));
+    }
+    shares[place] = sum;
+    Ok(())
+}
+
+/// Returns all shares: at each place the sum of those that are listed there.
+fn sums_of(alloc: Global, problem: &Problem, listed: &[Share]) -> Result<Vec<u32>, Refused>
+    requires { (j : ℕ) → j < length listed.now → IsShareOf problem.now (share_in listed.now j) }
+    ensures { IfOk result (λ v. AreSums problem.now listed.now (length listed.now) v.items) }
+{
+    problem.law();
+    let nodes = problem.periods() as usize * problem.blocks() as usize;
+    let mut shares = vec![in alloc; 0; nodes * problem.destinations() as usize]?;
+    for j in 0..listed.len() {
+        add_share(problem, listed, j, &mut shares)?;
+    }
+    Ok(shares)
+}
+
+/// Returns the shares of a problem's blocks that a text spells.
+///
+/// # Errors
+///
+/// The first fault of the text, lack of memory, a share of no block of the problem, or more than a whole block at one place.
+pub(crate) fn read_shares(
+    alloc: Global,
+    problem: &Problem,
+    text: &[u8],
+) -> Result<Vec<u32>, Refused>
+    ensures { IfOk result (λ v. SpellsShares text.now problem.now v.items) }
+{
+    let numbers = match parse_shares(alloc, text) {
+        Ok(numbers) => numbers,
+        Err(fault) => return Err(Refused::Schedule(fault)),
+    };
+    let listed = listed_shares(alloc, problem, &numbers)?;
+    sums_of(alloc, problem, &listed)
+}

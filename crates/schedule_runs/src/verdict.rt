@@ -1,0 +1,151 @@
+//! What is true of a schedule, and the bound of all schedules.
+ghost use Rattle.std.specs.Prelude.{◌≡◌, ◌<◌, IfOk, IfErr, OnOk};
+ghost use Rattle.schedule_model.specs.Bound.{IsLagrangianBound, IsRoundedUp};
+ghost use Rattle.schedule_model.specs.Problem.{capacity};
+ghost use Rattle.scheduling.specs.Checked.{RefusesShares};
+ghost use Rattle.scheduling.specs.Limits.{ArePriceNumbers};
+ghost use Rattle.schedule_runs.specs.Verdicts.{IsBoundAt, IsBoundOf, IsRoundedDown, Says};
+
+use crate::refused::Refused;
+use schedule_bound::lagrangian_bound;
+use schedule_model::schedule_is_bounded;
+use schedule_texts::parse_prices;
+use scheduling::{BoundError, Problem, ScheduleError, check_prices, check_schedule};
+use std::alloc::Global;
+
+/// Whether shares are a schedule, or what refutes them.
+#[derive(Clone, Copy, Debug, PartialEq, Eq, Drop)]
+pub enum Verdict {
+    /// A schedule of this value, in millionths, rounded down.
+    Schedule(i128),
+    /// More than the whole block is mined by the end of a period: block, period.
+    MinedTwice(u32, u32),
+    /// By the end of a period more of a block is mined than of one that it needs: block, needed block, period.
+    BeforeNeeded(u32, u32, u32),
+    /// A limit is exceeded in a period: limit, period, use in millionths, rounded up, and capacity.
+    OverLimit(u32, u32, i128, i128),
+}
+
+/// Returns a number in units of 10^-18 in millionths, rounded down.
+fn rounded_down(x: i128) -> i128
+    ensures { IsRoundedDown x result }
+{
+    let quotient = x / 1_000_000_000_000;
+    if x % 1_000_000_000_000 < 0 {
+        quotient - 1
+    } else {
+        quotient
+    }
+}
+
+/// Returns a number in units of 10^-12 in millionths, rounded up.
+fn rounded_up(x: i128) -> i128
+    ensures { IsRoundedUp x result }
+{
+    let quotient = x / 1_000_000;
+    if x % 1_000_000 > 0 {
+        quotient + 1
+    } else {
+        quotient
+    }
+}
+
+/// Returns the capacity of a limit in a period.
+fn capacity(problem: &Problem, limit: u32, period: u32) -> i64
+    requires limit { limit < problem.now.limits }
+    requires period { period < problem.now.periods }
+    ensures { result ≡ capacity problem.now limit period }
+{
+    problem.law();
+    problem.capacities()[limit as usize * problem.periods() as usize + period as usize]
+}
+
+/// Returns why shares are no schedule.
+fn fault_of(problem: &Problem, shares: &[u32], error: ScheduleError) -> Result<Verdict, Refused>
+    requires { RefusesShares problem.now shares.now error }
+    ensures { IfOk result (Says problem.now shares.now) }
+{
+    match error {
+        ScheduleError::MinedTwice(block, period) => Ok(Verdict::MinedTwice(block, period)),
+        ScheduleError::BeforeNeeded(block, needed, period) => {
+            Ok(Verdict::BeforeNeeded(block, needed, period))
+        }
+        ScheduleError::OverLimit(limit, period, used) => Ok(Verdict::OverLimit(
+            limit,
+            period,
+            rounded_up(used),
+            i128::from(capacity(problem, limit, period)),
+        )),
+        _ => Err(Refused::NoMemory),
+    }
+}
+
+/// Returns what is true of shares.
+pub(crate) fn verdict_of(
+    alloc: Global,
+    problem: &Problem,
+    shares: &[u32],
+) -> Result<Verdict, Refused>
+    ensures { IfOk result (Says problem.now shares.now) }
+{
+    match check_schedule(alloc, problem, shares) {
+        Ok(value) => Ok(Verdict::Schedule(rounded_down(value))),
+        Err(error) => fault_of(problem, shares, error),
+    }
+}
+
+/// Returns a refusal of prices as one of a run.
+fn refused_by(error: BoundError) -> Refused {
+    match error {
+        BoundError::NoMemory => Refused::NoMemory,
+        BoundError::PriceCount => Refused::Beyond,
+        BoundError::PriceOutOfRange(place) => Refused::PriceOutOfRange(place),
+        BoundError::ValueBeyond(node) => Refused::ValueBeyond(node),
+    }
+}
+
+/// Returns the bound at prices, in units of 10^-12.
+fn exact_bound(alloc: Global, problem: &Problem, prices: &[i64]) -> Result<i128, Refused>
+    ensures { IfOk result (IsLagrangianBound problem.now prices.now) }
+{
+    match lagrangian_bound(alloc, problem, prices) {
+        Ok(bound) => Ok(bound),
+        Err(error) => Err(refused_by(error)),
+    }
+}
+
+/// Checks that numbers are prices of the limits in each period.
+fn checked_prices(problem: &Problem, prices: &[i64]) -> Result<(), Refused>
+    ensures { OnOk result (ArePriceNumbers problem.now prices.now) }
+{
+    match check_prices(problem, prices) {
+        Ok(()) => Ok(()),
+        Err(error) => Err(refused_by(error)),
+    }
+}
+
+/// Returns the bound at prices, in millionths, rounded up: no schedule is worth more.
+fn bound_at(alloc: Global, problem: &Problem, prices: &[i64]) -> Result<i128, Refused>
+    ensures { IfOk result (IsBoundAt problem.now prices.now) }
+{
+    problem.law();
+    schedule_is_bounded();
+    checked_prices(problem, prices)?;
+    let exact = exact_bound(alloc, problem, prices)?;
+    Ok(rounded_up(exact))
+}
+
+/// Returns the bound at the prices that a text spells, in millionths, rounded up: no schedule is worth more.
+///
+/// # Errors
+///
+/// The first fault of the text, lack of memory, or a price or a value that is out of range.
+pub(crate) fn bound_of(alloc: Global, problem: &Problem, text: &[u8]) -> Result<i128, Refused>
+    ensures { IfOk result (IsBoundOf problem.now text.now) }
+{
+    let prices = match parse_prices(alloc, problem.limits(), problem.periods(), text) {
+        Ok(prices) => prices,
+        Err(fault) => return Err(Refused::Prices(fault)),
+    };
+    bound_at(alloc, problem, &prices)
+}

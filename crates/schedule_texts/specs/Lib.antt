@@ -1,0 +1,4 @@
+pub mod Words
+pub mod Section
+pub mod ProblemText
+pub mod ScheduleText

@@ -1,0 +1,12 @@
+//! The texts of scheduling problems, of schedules and of prices: lines of a word and numbers, section by section.
+#![tactic(auto)]
+
+mod problem;
+mod schedule;
+mod section;
+mod word;
+
+pub use problem::{Counts, Lists, parse_problem};
+pub use schedule::{parse_prices, parse_shares};
+pub use section::Columns;
+pub use word::Word;

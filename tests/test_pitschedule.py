@@ -1,0 +1,297 @@
+"""The program pitschedule against a check and a bound in whole numbers, and against linear and integer programmes."""
+
+import os
+import pathlib
+import random
+import resource
+import subprocess
+
+import numpy
+import pytest
+from scipy import optimize, sparse
+
+import schedules
+from schedules import MILLION, Problem, Shares, Term
+
+TOP = pathlib.Path(__file__).resolve().parent.parent
+PROGRAM = TOP / "build" / "pitschedule"
+EXAMPLE = TOP / "crates" / "pitschedule" / "data"
+FILES = ("problem", "prec", "schedule", "prices")
+
+
+class Folder:
+    """A folder with the four files, in which the program is run."""
+
+    def __init__(self, folder: pathlib.Path) -> None:
+        self.folder = folder
+
+    def write(self, name: str, text: str | bytes) -> None:
+        (self.folder / name).write_bytes(text.encode() if isinstance(text, str) else text)
+
+    def write_all(self, problem: Problem, shares: Shares, prices: list[list[int]]) -> None:
+        texts = schedules.problem_text(problem), schedules.prec_text(problem), schedules.schedule_text(shares), schedules.prices_text(prices)
+        for name, text in zip(FILES, texts):
+            self.write(name, text)
+
+    def run(self, command: str, *names: str) -> tuple[int, str, str]:
+        words = [word for name in names for word in (f"--{name}", name)]
+        ran = subprocess.run([PROGRAM, command, *words], cwd=self.folder, capture_output=True, timeout=60)
+        return ran.returncode, ran.stdout.decode(), ran.stderr.decode()
+
+    def check(self) -> tuple[int, str, str]:
+        return self.run("check", *FILES)
+
+
+@pytest.fixture
+def folder(tmp_path: pathlib.Path) -> Folder:
+    made = Folder(tmp_path)
+    for name in FILES:
+        made.write(name, (EXAMPLE / f"two_blocks.{name}").read_bytes())
+    return made
+
+
+# ---- two blocks in two periods, by hand
+
+
+def test_a_schedule_with_a_stockpile_reaches_the_bound(folder: Folder) -> None:
+    """Half of the waste (-2 a tonne) and half of the ore (10) in each period, discounted by a half in the second. The second half of the
+    waste stays on the stockpile until after the end and costs nothing: 0.5 * -2 + 0.5 * 10 + 0.5 * 0.5 * 10 = 6.5. The price 1.5 of a
+    tonne mined in the first period makes the bound the same."""
+    assert folder.check() == (0, "SCHEDULE\nVALUE: 6.500000\nBOUND: 6.500000\n", "")
+
+
+def test_the_bound_alone(folder: Folder) -> None:
+    assert folder.run("bound", "problem", "prec", "prices") == (0, "BOUND: 6.500000\n", "")
+
+
+def test_the_value_alone(folder: Folder) -> None:
+    assert folder.run("check", "problem", "prec", "schedule") == (0, "SCHEDULE\nVALUE: 6.500000\n", "")
+
+
+@pytest.mark.parametrize(
+    "shares, told",
+    [
+        ({(1, 0, 0): MILLION, (0, 1, 0): MILLION}, "block 1 before block 0 in period 0"),
+        ({(0, 0, 1): MILLION, (0, 1, 1): 1}, "block 0 more than once by the end of period 1"),
+        ({(0, 0, 1): MILLION, (1, 0, 0): 1}, "limit 0 in period 0: 1.000001 of 1.000000"),
+    ],
+)
+def test_why_shares_are_no_schedule(folder: Folder, shares: Shares, told: str) -> None:
+    folder.write("schedule", schedules.schedule_text(shares))
+    assert folder.check() == (4, f"NO SCHEDULE\n{told}\nBOUND: 6.500000\n", "")
+
+
+def test_shares_of_one_place_add_up(folder: Folder) -> None:
+    folder.write("schedule", "SCHEDULE 1\nSHARES 5\nSHARE 0 0 1 0.25\nSHARE 1 0 0 0.5\nSHARE 0 1 2 0.5\nSHARE 1 1 0 0.5\nSHARE 0 0 1 0.25\n")
+    assert folder.check()[:2] == (0, "SCHEDULE\nVALUE: 6.500000\nBOUND: 6.500000\n")
+
+
+# ---- random problems
+
+
+def random_problem(chance: random.Random) -> Problem:
+    blocks, periods, destinations = chance.randint(1, 4), chance.randint(1, 3), chance.randint(1, 3)
+    columns, limits = chance.randint(1, 3), chance.randint(0, 3)
+    terms = [Term(d, None, chance.randrange(columns), chance.choice([0, 0, 1])) for d in range(destinations)]
+    terms += [Term(chance.randrange(destinations), chance.randrange(limits), chance.randrange(columns), chance.choice([0, 0, 1])) for _ in range(chance.randint(0, 6) if limits else 0)]
+    amounts = [[chance.randint(-9, 9) * MILLION + chance.choice([0, 0, 1000, 333333]) for _ in range(columns)] for _ in range(blocks)]
+    discounts = [chance.choice([MILLION, 909091, 826446, 500000]) for _ in range(periods)]
+    capacities = [[chance.randint(-2, 12) * MILLION for _ in range(periods)] for _ in range(limits)]
+    arcs = [(u, p) for u in range(blocks) for p in range(u) if chance.random() < 0.5]
+    return Problem(destinations, amounts, terms, discounts, capacities, arcs)
+
+
+def programme(problem: Problem) -> tuple[numpy.ndarray, sparse.csr_array, numpy.ndarray]:
+    """Gains of all places in money, and the rows and bounds of their constraints: each block once, precedence by period, and limits."""
+    places = problem.places()
+    gains = numpy.array([problem.gain(*place) for place in places]) / 1e12
+    rows, bounds = [], []
+    for block in range(problem.blocks):
+        rows.append([float(b == block) for b, _, _ in places])
+        bounds.append(1.0)
+    for u, p in problem.arcs:
+        for period in range(problem.periods):
+            rows.append([(float(b == u) - float(b == p)) if t <= period else 0.0 for b, t, _ in places])
+            bounds.append(0.0)
+    used = [problem.used(*place) for place in places]
+    for r, capacities in enumerate(problem.capacities):
+        for s, capacity in enumerate(capacities):
+            rows.append([it.get((r, s), 0) / MILLION for it in used])
+            bounds.append(capacity / MILLION)
+    return gains, sparse.csr_array(numpy.array(rows).reshape(len(rows), len(places))), numpy.array(bounds)
+
+
+def optimum(problem: Problem, whole: bool) -> optimize.OptimizeResult:
+    gains, rows, bounds = programme(problem)
+    constraint = optimize.LinearConstraint(rows, -numpy.inf, bounds)
+    return optimize.milp(-gains, constraints=constraint, bounds=optimize.Bounds(0, 1), integrality=numpy.full(len(gains), int(whole)))
+
+
+def prices_of(problem: Problem) -> list[list[int]] | None:
+    """The dual prices of limits in the linear programme, in millionths; none if it has no solution."""
+    gains, rows, bounds = programme(problem)
+    found = optimize.linprog(-gains, A_ub=rows, b_ub=bounds, bounds=(0, 1), method="highs")
+    if found.status != 0:
+        return None
+    first = len(bounds) - len(problem.capacities) * problem.periods
+    duals = -found.ineqlin.marginals[first:]
+    return [[max(0, round(x * MILLION)) for x in row] for row in duals.reshape(len(problem.capacities), problem.periods)]
+
+
+def told(out: str, word: str) -> float:
+    (line,) = [it for it in out.splitlines() if it.startswith(f"{word}: ")]
+    return float(line.removeprefix(f"{word}: "))
+
+
+@pytest.mark.parametrize("seed", range(25))
+def test_values_and_bounds_of_random_problems(folder: Folder, seed: int) -> None:
+    """20 problems a seed. The best whole blocks that the integer programme finds are a schedule of exactly that value; the bound, at
+    random prices and at the dual ones, is that of the closures, never below the optimum, and at the dual prices equal to it."""
+    chance = random.Random(seed)
+    for _ in range(20):
+        problem = random_problem(chance)
+        best = optimum(problem, whole=True)
+        shares = {place: MILLION for place, x in zip(problem.places(), best.x) if x > 0.5} if best.status == 0 else {}
+        prices = [[chance.choice([0, chance.randint(0, 5 * MILLION)]) for _ in range(problem.periods)] for _ in problem.capacities]
+        folder.write_all(problem, shares, prices)
+        status, out, err = folder.check()
+        faults = schedules.faults_of(problem, shares)
+        assert (status, err) == (4 if faults else 0, "")
+        assert told(out, "BOUND") == float(schedules.six_decimals(schedules.bound_of(problem, prices)))
+        if best.status == 0:
+            assert not faults
+            assert out.splitlines()[1] == f"VALUE: {schedules.six_decimals(schedules.value_of(problem, shares))}"
+            assert told(out, "BOUND") >= -best.fun - 1e-6
+        if (duals := prices_of(problem)) is not None:
+            folder.write("prices", schedules.prices_text(duals))
+            bound = told(folder.run("bound", "problem", "prec", "prices")[1], "BOUND")
+            assert bound == pytest.approx(-optimum(problem, whole=False).fun, abs=2e-4)
+
+
+@pytest.mark.parametrize("seed", range(10))
+def test_random_shares(folder: Folder, seed: int) -> None:
+    """30 problems a seed, with shares drawn at random: they are a schedule exactly if the check in whole numbers finds no fault, and
+    the fault that is told is one of those that it finds."""
+    chance = random.Random(seed)
+    seen = set()
+    for _ in range(30):
+        problem = random_problem(chance)
+        places = chance.sample(problem.places(), min(len(problem.places()), chance.randint(0, 5)))
+        shares = {place: chance.choice([1, 250000, 500000, MILLION]) for place in places}
+        folder.write_all(problem, shares, [[0] * problem.periods for _ in problem.capacities])
+        status, out, _ = folder.run("check", "problem", "prec", "schedule")
+        faults = schedules.faults_of(problem, shares)
+        if faults:
+            assert status == 4 and out.startswith("NO SCHEDULE\n") and out.splitlines()[1] in faults
+        else:
+            assert (status, out) == (0, f"SCHEDULE\nVALUE: {schedules.six_decimals(schedules.value_of(problem, shares))}\n")
+        seen.add(out.split(" ")[1].split("\n")[-1] if faults else "schedule")
+    assert {"schedule", "block", "limit"} <= seen
+
+
+# ---- altered and cut files
+
+
+def answer_of(texts: dict[str, bytes]) -> tuple[str, str] | None:
+    """Value and bound that the texts spell, read in Python; none if they cannot be read or are no schedule."""
+    problem = schedules.read_problem(texts["problem"], [(1, 0)])
+    shares = schedules.read_shares(texts["schedule"])
+    if schedules.faults_of(problem, shares):
+        return None
+    bound = schedules.bound_of(problem, schedules.read_prices(texts["prices"], problem))
+    return schedules.six_decimals(schedules.value_of(problem, shares)), schedules.six_decimals(bound)
+
+
+@pytest.mark.parametrize("name", ["problem", "schedule", "prices"])
+def test_each_byte_altered(folder: Folder, name: str) -> None:
+    """Each byte is replaced by five others in turn. Where the program gives an answer, the altered texts spell that answer."""
+    texts = {it: (EXAMPLE / f"two_blocks.{it}").read_bytes() for it in FILES}
+    whole = texts[name]
+    statuses = set()
+    for place in range(len(whole)):
+        for byte in b"07 -\n":
+            texts[name] = whole[:place] + bytes([byte]) + whole[place + 1 :]
+            folder.write(name, texts[name])
+            status, out, err = folder.check()
+            statuses.add(status)
+            if status == 0:
+                value, bound = answer_of(texts) or ("", "")
+                assert out == f"SCHEDULE\nVALUE: {value}\nBOUND: {bound}\n"
+            else:
+                assert status == 4 or (status == 1 and out == "" and err.startswith("pitschedule: "))
+    assert statuses >= {0, 1}
+
+
+@pytest.mark.parametrize("name", ["problem", "schedule", "prices"])
+def test_each_cut_of_lines_is_refused(folder: Folder, name: str) -> None:
+    lines = (EXAMPLE / f"two_blocks.{name}").read_bytes().splitlines(keepends=True)
+    for count in range(len(lines)):
+        folder.write(name, b"".join(lines[:count]))
+        status, out, err = folder.check()
+        assert (status, out) == (1, "")
+        assert err == f"pitschedule: {name}: ends early line {count + 1}\n"
+
+
+# ---- what is refused
+
+
+@pytest.mark.parametrize(
+    "name, old, new, told",
+    [
+        ("problem", "PERIODS 2", "PERIODS two", "problem: not a whole number line 3"),
+        ("problem", "DISCOUNTS 1 0.5", "DISCOUNTS 1 0,5", "problem: not a decimal line 9"),
+        ("problem", "AMOUNTS 1 10 -2", "AMOUNTS 1 10", "problem: wrong number of fields line 21"),
+        ("problem", "USE 2 1 0 1", "USE 2 1 0 1\nUSE 2 1 0 1", "problem: wrong header line 20"),
+        ("problem", "USE 2 1 0 1", "USE 2 2 0 1", "problem: beyond the limits"),
+        ("problem", "VALUE 2 1 1", "VALUE 3 1 1", "problem: beyond the limits"),
+        ("problem", "DISCOUNTS 1 0.5", "DISCOUNTS 1 1.000001", "problem: beyond the limits"),
+        ("problem", "PERIODS 2", "PERIODS 5000000000", "problem: wrong number of fields line 9"),
+        ("schedule", "SHARE 1 1 0 0.5", "SHARE 2 1 0 0.5", "schedule: share 3 is no share of a block of the problem"),
+        ("schedule", "SHARE 1 1 0 0.5", "SHARE 1 1 0 1.000001", "schedule: share 3 is no share of a block of the problem"),
+        ("schedule", "SHARE 1 1 0 0.5", "SHARE 0 0 1 0.500001", "schedule: with share 3 more than a whole block goes to one destination in one period"),
+        ("prices", "PRICE 0 0", "PRICE 0 -0.000001", "prices: price 3 is negative or above 10^9"),
+        ("prec", "1 1 0", "1 1 1", "precedence: block needs itself in precedence line 1"),
+        ("prec", "1 1 0", "0 1 1\n1 1 0", "precedence: cycle"),
+    ],
+)
+def test_what_is_refused(folder: Folder, name: str, old: str, new: str, told: str) -> None:
+    text = (EXAMPLE / f"two_blocks.{name}").read_text()
+    assert old in text
+    folder.write(name, text.replace(old, new, 1))
+    status, out, err = folder.check()
+    assert (status, out) == (1, "")
+    assert err.startswith(f"pitschedule: {told}")
+
+
+@pytest.mark.parametrize("missing, told", [("problem", "problem"), ("prec", "precedence"), ("schedule", "schedule"), ("prices", "prices")])
+def test_a_file_that_cannot_be_read(folder: Folder, missing: str, told: str) -> None:
+    (folder.folder / missing).unlink()
+    assert folder.check() == (1, "", f"pitschedule: {told}: read failed\n")
+
+
+@pytest.mark.parametrize("words", [[], ["check"], ["bound", "--problem", "problem"], ["solve"], ["check", "--problem"]])
+def test_a_wrong_command_line(folder: Folder, words: list[str]) -> None:
+    ran = subprocess.run([PROGRAM, *words], cwd=folder.folder, capture_output=True, timeout=60)
+    assert ran.returncode == 2 and ran.stdout == b"" and ran.stderr
+
+
+def test_memory_is_refused(folder: Folder) -> None:
+    """4,194,304 nodes need more than 60 MiB; the refusal is told, and nothing is written."""
+    folder.write("problem", "PROBLEM 1\nBLOCKS 1\nPERIODS 4\nDESTINATIONS 64\nCOLUMNS 0\nLIMITS 0\nVALUES 0\nUSES 0\nDISCOUNTS 1 1 1 1\nAMOUNTS\n")
+    blocks = 1_000_000
+    folder.write("problem", f"PROBLEM 1\nBLOCKS {blocks}\nPERIODS 4\nDESTINATIONS 64\nCOLUMNS 0\nLIMITS 0\nVALUES 0\nUSES 0\nDISCOUNTS 1 1 1 1\n" + "AMOUNTS\n" * blocks)
+    folder.write("prec", "")
+    folder.write("schedule", "SCHEDULE 1\nSHARES 0\n")
+    words = [PROGRAM, "check", *(word for name in FILES[:3] for word in (f"--{name}", name))]
+    limit = 600 << 20
+
+    def limited() -> None:
+        resource.setrlimit(resource.RLIMIT_AS, (limit, limit))
+
+    ran = subprocess.run(words, cwd=folder.folder, capture_output=True, timeout=60, preexec_fn=limited)
+    assert (ran.returncode, ran.stdout, ran.stderr) == (1, b"", b"pitschedule: no memory\n")
+
+
+def test_help_names_both_commands() -> None:
+    ran = subprocess.run([PROGRAM, "--help"], capture_output=True, text=True, timeout=60, env={**os.environ, "COLUMNS": "100"})
+    assert ran.returncode == 0 and "check" in ran.stdout and "bound" in ran.stdout
