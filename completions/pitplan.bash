@@ -57,7 +57,7 @@ _pitplan() {
     shells) options="--set --out --quiet --no-verify --json --no-figures --solver -h --help" valued="--set --out --solver" ;;
     pit) options="--set --out --quiet --no-verify --json --solver --revenue-factor --rf -h --help" valued="--set --out --solver --revenue-factor --rf" ;;
     pushbacks) options="--set --out --quiet --no-verify --json --no-figures --solver -h --help" valued="--set --out --solver" ;;
-    schedule) options="--set --out --quiet --no-verify --json --no-figures --solver --by -h --help" valued="--set --out --solver --by" ;;
+    schedule) options="--set --out --quiet --no-verify --json --no-figures --solver --by --certificate -h --help" valued="--set --out --solver --by" ;;
     sensitivity) options="--set --out --quiet --no-verify --json --no-figures --solver --on --workers -h --help" valued="--set --out --solver --on --workers" ;;
     compare) options="--out --quiet --json --no-figures --no-bridge -h --help" valued="--out" ;;
     scenarios) options="--set --out --quiet --no-verify --no-figures --solver --by --on --workers --revenue-factor --rf --partial -h --help" valued="--set --out --solver --by --on --workers --revenue-factor --rf" ;;

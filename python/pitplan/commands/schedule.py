@@ -2,11 +2,13 @@
 
 from __future__ import annotations
 
+from dataclasses import replace
 from pathlib import Path
-from typing import Optional
+from typing import TYPE_CHECKING, Optional
 
 import pandas as pd
 
+from pitplan.core import paths
 from pitplan.core.optional_packages import load_library
 from pitplan.export import xlsx
 from pitplan.pushbacks import nested
@@ -14,7 +16,10 @@ from pitplan.scheduling import pushback_record, pushback_schedule
 from pitplan.solver import problem
 
 from .answers import Answered, write_answer
-from .writing import Place, Source, Writing, begun, read
+from .writing import Place, Run, Source, Writing, begun, read
+
+if TYPE_CHECKING:
+    from pitplan.scheduling.blocks.tables import ScheduledBlocks
 
 
 def write_schedule(project: Source, folder: Optional[Place] = None, writing: Writing = Writing()) -> pd.DataFrame:
@@ -58,12 +63,14 @@ def write_schedule(project: Source, folder: Optional[Place] = None, writing: Wri
     return pushback_schedule.methods(schedule)
 
 
-def write_block_schedule(project: Source, folder: Optional[Place] = None, writing: Writing = Writing()) -> pd.DataFrame:
+def write_block_schedule(
+    project: Source, folder: Optional[Place] = None, writing: Writing = Writing(), certificate: bool = False
+) -> pd.DataFrame:
     """Schedules blocks one by one, as `pitplan schedule --by block` does, with an upper bound on the value of all such schedules.
 
     The folder gets all files that `write_shells` writes, with the year of each block in blocks.csv and the years in years.csv. It also gets
-    block_schedule.json, inventory.csv, grade_tonnage.csv, cash_flow.csv, valuation.csv, and a workbook of the tables. An interruption after the bound is found ends the search for better schedules only, and block_schedule.json
-    records it.
+    block_schedule.json, inventory.csv, grade_tonnage.csv, cash_flow.csv, valuation.csv, and a workbook of the tables. An interruption after the
+    bound is found ends the search for better schedules only, and block_schedule.json records it.
 
     Parameters
     ----------
@@ -73,6 +80,9 @@ def write_block_schedule(project: Source, folder: Optional[Place] = None, writin
         Where the files go. Default: block_schedule in the project's output folder.
     writing : Writing
         How they are written.
+    certificate : bool
+        Write the texts of the schedule, its problem and prices into the folder certificate, and let pitschedule prove value and bound if it is
+        installed.
 
     Returns
     -------
@@ -84,7 +94,10 @@ def write_block_schedule(project: Source, folder: Optional[Place] = None, writin
     MissingPackage
         Without the library libpitshell.so, or openpyxl.
     PlanError
-        If the project asks for what no schedule by block supports, has too many blocks, or a result differs from its recalculation.
+        If the project asks for what no schedule by block supports, has too many blocks, or a result differs from its recalculation. With a
+        certificate also if values differ by year, years have costs or blocks must be mined.
+    ProgramError
+        If pitschedule does not prove the certificate.
     """
     load_library("a schedule by block")
     xlsx.demand_library()
@@ -100,6 +113,17 @@ def write_block_schedule(project: Source, folder: Optional[Place] = None, writin
         planned = tables.collected(run.mine.plan, writing.progress)
         solution = problem.solve(run.mine.plan, run.mine, writing.progress)
         made = tables.scheduled(planned, writing.progress)
+        if certificate:
+            made = certified(made, run)
         run.record["notes"] += made.notes
         write_answer(Answered(run.mine.plan, solution, blocks=made), run)
     return made.table
+
+
+def certified(made: ScheduledBlocks, run: Run) -> ScheduledBlocks:
+    """Writes the certificate of a schedule by block, and returns the schedule with what is proved of it."""
+    from pitplan.scheduling.blocks import certificate
+
+    with run.writing.progress.step("certifying the schedule"):
+        certificate.write(made.certificate, run.stage)
+        return replace(made, certified=certificate.checked(run.stage, paths.schedule_program()))

@@ -5,6 +5,7 @@ from __future__ import annotations
 import os
 import shutil
 from pathlib import Path
+from typing import Optional
 
 from pitplan.errors import ProgramError
 
@@ -32,6 +33,15 @@ def program() -> Path:
     if not os.access(found, os.X_OK):
         raise ProgramError(f"{found}: is not an executable program: set PITSHELL to another")
     return Path(found)
+
+
+def schedule_program() -> Optional[Path]:
+    """The program pitschedule: that of the variable PITSCHEDULE; else the one in this repository's build/, in the folder bin in which both were
+    installed, or on the path; None if there is none."""
+    beside = [PACKAGES.parent / "build" / "pitschedule", PACKAGES.parents[2] / "bin" / "pitschedule"]
+    found = os.environ.get("PITSCHEDULE") or next((str(place) for place in beside if place.is_file()), None)
+    found = found or shutil.which("pitschedule")
+    return Path(found) if found else None
 
 
 def checker() -> Path:

@@ -2,7 +2,7 @@
 
 from __future__ import annotations
 
-from pitplan.core.layout import FIGURES, TABLES
+from pitplan.core.layout import CERTIFICATE, FIGURES, TABLES
 
 RECORD = "plan.json"
 TABLE, SHELLS, YEARS = f"{TABLES}/blocks.csv", f"{TABLES}/shells.csv", f"{TABLES}/years.csv"
@@ -15,6 +15,11 @@ GRADE_TONNAGE = f"{TABLES}/grade_tonnage.csv"
 BOUND, LIMITS, CUTOFFS = f"{TABLES}/bound.csv", f"{TABLES}/limits.csv", f"{TABLES}/cutoffs.csv"
 WORKBOOK = f"{TABLES}/schedule.xlsx"
 SCHEDULE_RECORD, BLOCK_SCHEDULE = "schedule.json", "block_schedule.json"
+# The texts that `pitschedule` checks, by its options.
+CERTIFIED = {
+    kind: f"{CERTIFICATE}/schedule.{ending}"
+    for kind, ending in (("problem", "problem"), ("prec", "prec"), ("schedule", "shares"), ("prices", "prices"))
+}
 REPORT, VIEW = "report.html", "view.html"
 SENSITIVITY, SENSITIVITY_RECORD = f"{TABLES}/sensitivity.csv", "sensitivity.json"
 TORNADO, SPIDER = f"{FIGURES}/tornado.png", f"{FIGURES}/spider.png"
@@ -32,7 +37,7 @@ MOST_COMPARED = 20
 OF_SOME = (
     *(SHELLS, YEARS, PITS, PUSHBACKS, SCHEDULE, METHODS, BOUND, WORKBOOK),
     *(MATERIAL_FLOWS, FEED, STOCKPILES, DUMPS, LIMITS, CUTOFFS, CASH_FLOW, VALUATION, INVENTORY, GRADE_TONNAGE),
-    *(SCHEDULE_RECORD, BLOCK_SCHEDULE, REPORT, VIEW),
+    *(SCHEDULE_RECORD, BLOCK_SCHEDULE, REPORT, VIEW, *CERTIFIED.values()),
 )
 
 

@@ -4,7 +4,7 @@ from __future__ import annotations
 
 from dataclasses import dataclass, replace
 from functools import cached_property
-from typing import Any
+from typing import Any, Optional
 
 import numpy as np
 import pandas as pd
@@ -20,6 +20,7 @@ from pitplan.plan import Plan
 from pitplan.pushbacks.bench_table import CASH, ORE, ROCK
 from pitplan.scheduling.methods import BLOCK
 
+from .certificate import Certificate, Certified, of_schedule
 from .from_plan import PlannedBlocks, cash_of, of_plan
 from .keys import unapplied
 from .scheduler import Scheduled, gap_of, solve
@@ -36,6 +37,14 @@ class ScheduledBlocks:
 
     planned: PlannedBlocks
     found: Scheduled
+    certified: Optional[Certified] = None
+
+    @property
+    def certificate(self) -> Certificate:
+        """What a proved program checks of the schedule. Raises PlanError if it cannot state the problem."""
+        problem = self.planned.problem
+        discounts = year_discounts(self.planned.plan.project.shells, problem.years)
+        return of_schedule(problem, self.found.schedule, self.found.multipliers, discounts)
 
     @property
     def count(self) -> int:
@@ -150,6 +159,7 @@ class ScheduledBlocks:
                 for one in found.rounds
             ],
             "interrupted": found.interrupted,
+            **({"certificate": self.certified.record} if self.certified else {}),
             "solver": f"libpitshell, and HiGHS of scipy {scipy.__version__}",
         }
 
@@ -164,6 +174,7 @@ class ScheduledBlocks:
         if not self.count:
             said.append("nothing is mined: at these prices and costs no block pays for itself and its predecessors")
         said += unapplied(self.planned.plan.project)
+        said += [self.certified.note] if self.certified else []
         if found.interrupted:
             said.append("WARNING: the run was interrupted; this is the best schedule so far, and the upper bound holds")
         return said

@@ -1,0 +1,132 @@
+"""`pitplan schedule --by block --certificate`: the texts of a schedule, and what pitschedule proves of them."""
+
+import json
+
+import numpy as np
+import pandas as pd
+import pytest
+from helpers.block_commands import WIDE, YEARLY, wrong
+from helpers.pushbacks import pillars
+from helpers.verified import UNVERIFIED
+
+import pitplan
+from pitplan import PlanError, ProgramError, load
+from pitplan.cli import main
+from pitplan.core import paths
+from pitplan.scheduling.blocks import certificate
+
+# The ore of three pillars of 1, 0.7 and 0.5 % copper, of 100 t each.
+DIRTY = {"as_ppm": lambda i, j, k: 0 if k else (200, 100, 50)[i]}
+FEED = "[schedule]\nyears = 3\n[schedule.feed]\nas_ppm = { max = 110 }\n"
+
+
+def certified(plan_folder, words="", text=YEARLY, table=None):
+    """Schedules a project by block with a certificate; gives the record, the notes of the run, and the folder."""
+    project = load(plan_folder(pillars() if table is None else table, text + words))
+    pitplan.write_block_schedule(project, writing=UNVERIFIED, certificate=True)
+    folder = project.folder / "block_schedule"
+    assert wrong(folder) == set()
+    notes = json.loads((folder / "plan.json").read_text())["notes"]
+    return json.loads((folder / "block_schedule.json").read_text()), notes, folder
+
+
+def lines(folder, kind, word):
+    """The numbers of the lines of a text that begin with a word."""
+    text = (folder / f"certificate/schedule.{kind}").read_text()
+    return [[float(it) for it in line.split()[1:]] for line in text.splitlines() if line.split()[0] == word]
+
+
+def test_value_and_bound_are_as_worked_out_by_hand(plan_folder):
+    """The arsenic of the first ore lets 7/9 of it be milled: (2600 + 1400 + 600 - 2/9 * 3000) / 1.1. In the bound 7/9 of its pillar is mined.
+    Shares and discount factors have six decimals."""
+    record, notes, folder = certified(plan_folder, FEED, WIDE, pillars(**DIRTY))
+    proved = record["certificate"]
+    assert proved["value"] == pytest.approx((2600 + 1400 + 600 - 2 / 9 * 3000) / 1.1, abs=0.01)
+    assert proved["bound"] == pytest.approx((7 / 9 * 2600 + 1400 + 600) / 1.1, abs=0.01)
+    assert any(
+        note.startswith("proved by pitschedule: the schedule keeps all precedences and limits") for note in notes
+    )
+    assert lines(folder, "problem", "DISCOUNTS") == [[0.909091, 0.826446, 0.751315]]
+    assert sorted(share for *_, share in lines(folder, "shares", "SHARE"))[:2] == [0.222222, 0.777778]
+
+
+def test_the_texts_are_the_mine(plan_folder):
+    """Three pillars of 200 t, of which 100 t are ore: mined alone they cost 2 a tonne; milled the ore of 1 % earns 8,000 * 0.5 * 1 %
+    less 10 a tonne."""
+    record, _, folder = certified(plan_folder)
+    assert record["certificate"]["value"] == pytest.approx(record["npv"], rel=1e-6)
+    assert record["certificate"]["bound"] == pytest.approx(record["upper_bound"], rel=1e-6)
+    mining, milling = lines(folder, "problem", "CAPACITIES")
+    assert (set(mining), set(milling)) in (({100}, {200}), ({200}, {100}))
+    blocks = pd.read_csv(folder / "tables/blocks.csv")
+    mined = blocks[blocks["year"] > 0]
+    assert len({block for block, *_ in lines(folder, "shares", "SHARE")}) == len(mined)
+    years = sorted(year + 1 for _, year, *_ in lines(folder, "shares", "SHARE"))
+    assert years == sorted(mined["year"])
+
+
+def test_a_minimum_is_a_limit_with_turned_signs(plan_folder):
+    record, _, folder = certified(plan_folder, "[schedule]\nyears = 3\nminimum = { feed = 40 }\n")
+    capacities = lines(folder, "problem", "CAPACITIES")
+    assert [-40] * 3 in capacities
+    assert record["certificate"]["bound"] == pytest.approx(record["upper_bound"], rel=1e-6)
+
+
+@pytest.mark.parametrize(
+    "old, new, why",
+    [
+        ("[economics]\n", "[economics]\nfixed_cost_per_year = 10\n", "costs of years"),
+        ("price = 8000\n", "price = 8000\nprices = [8000, 9000]\n", "prices or costs that differ by year"),
+    ],
+)
+def test_what_no_certificate_can_state_is_refused(plan_folder, old, new, why):
+    assert YEARLY.count(old) == 1
+    project = load(plan_folder(pillars(), YEARLY.replace(old, new)))
+    with pytest.raises(PlanError, match=f"the schedule by block has no certificate: it cannot state {why}"):
+        pitplan.write_block_schedule(project, writing=UNVERIFIED, certificate=True)
+
+
+def test_altered_texts_are_not_proved(plan_folder):
+    """One share more of a block, and a block in year 1 whose waste follows in year 2."""
+    _, _, folder = certified(plan_folder)
+    path = folder / "certificate/schedule.shares"
+    text = path.read_text()
+    first = next(line for line in text.splitlines() if line.startswith("SHARE "))
+    _, block, year, place, share = first.split()
+    later = f"SHARE {block} {1 - int(year)} {place} {share}"
+    path.write_text(text.replace(first, later, 1))
+    with pytest.raises(ProgramError, match="the certificate is not that of a schedule: NO SCHEDULE; "):
+        certificate.checked(folder, paths.schedule_program())
+    path.write_text(text.replace(f"SHARES {text.count('SHARE ')}", f"SHARES {text.count('SHARE ') - 1}"))
+    with pytest.raises(ProgramError, match="line after the end"):
+        certificate.checked(folder, paths.schedule_program())
+
+
+def test_without_the_program_the_texts_are_written_and_a_note_says_so(plan_folder, monkeypatch):
+    monkeypatch.setattr(paths, "schedule_program", lambda: None)
+    record, notes, folder = certified(plan_folder)
+    assert record["certificate"] == {"value": None, "bound": None}
+    assert "the certificate of the schedule is not checked: pitschedule is not installed" in notes
+    assert (folder / "certificate/schedule.problem").is_file()
+
+
+def test_a_run_without_removes_an_earlier_certificate(plan_folder):
+    _, _, folder = certified(plan_folder)
+    pitplan.write_block_schedule(folder.parents[1] / "project.toml", folder, writing=UNVERIFIED)
+    assert not list(folder.glob("certificate/*"))
+    assert "certificate" not in json.loads((folder / "block_schedule.json").read_text())
+
+
+def test_pushbacks_have_no_certificate(plan_folder, capsys):
+    path = plan_folder(pillars(), YEARLY)
+    assert main(["schedule", str(path), "--certificate", "--out", str(path.parent / "out")]) == 1
+    assert "expected one by block: add --by block" in capsys.readouterr().err
+    assert not (path.parent / "out").exists()
+
+
+def test_whole_shares_add_up():
+    """Thirds of a block are 333,333 and 333,334 millionths."""
+    from pitplan.scheduling.blocks.schedule import BlockSchedule
+
+    thirds = BlockSchedule(np.array([0, 2]), np.array([[1 / 3, 1 / 3, 1 / 3], [0.5, 0.5, 0]]))
+    assert certificate.whole_shares(thirds, 2).tolist() == [[333334, 333333, 333333], [0, 0, 0]]
