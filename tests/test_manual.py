@@ -83,6 +83,8 @@ def test_install_puts_all_in_place(tmp_path: pathlib.Path) -> None:
         places[f"share/bash-completion/completions/{name}"] = COMPLETIONS / f"{name}.bash"
         places[f"share/zsh/site-functions/_{name}"] = COMPLETIONS / f"_{name}"
         places[f"share/fish/vendor_completions.d/{name}.fish"] = COMPLETIONS / f"{name}.fish"
+    if (TOP / "build" / "pitschedule").exists():
+        places["bin/pitschedule"] = TOP / "build" / "pitschedule"
     told = PROGRAM.with_suffix(".version")
     places |= {"share/doc/pitshell/version": told} if told.exists() else {}
     if (TOP / "build" / "libpitshell.so").exists():
