@@ -72,6 +72,36 @@ def test_a_minimum_is_a_limit_with_turned_signs(plan_folder):
     assert record["certificate"]["bound"] == pytest.approx(record["upper_bound"], rel=1e-6)
 
 
+def planted(path, old, new):
+    text = path.read_text()
+    assert old in text
+    path.write_text(text.replace(old, new, 1))
+
+
+@pytest.mark.parametrize(
+    "name, word, place",
+    [("problem", "AMOUNTS", 1), ("problem", "DISCOUNTS", 2), ("problem", "CAPACITIES", 3), ("shares", "SHARE", 2)],
+)
+def test_texts_of_another_mine_are_found(plan_folder, name, word, place):
+    """In a line of each kind a number is one more."""
+    _, _, folder = certified(plan_folder, "[schedule]\nyears = 3\n")
+    path = folder / f"certificate/schedule.{name}"
+    line = next(it for it in path.read_text().splitlines() if it.startswith(f"{word} "))
+    fields = line.split()
+    fields[place] = str(float(fields[place]) + 1).removesuffix(".0")
+    planted(path, line, " ".join(fields))
+    assert wrong(folder) == {"certificate"}
+
+
+@pytest.mark.parametrize("key", ["value", "bound"])
+def test_another_value_or_bound_is_found(plan_folder, key):
+    _, _, folder = certified(plan_folder)
+    record = json.loads((folder / "block_schedule.json").read_text())
+    record["certificate"][key] -= 10
+    (folder / "block_schedule.json").write_text(json.dumps(record))
+    assert wrong(folder) == {"certificate"}
+
+
 @pytest.mark.parametrize(
     "old, new, why",
     [

@@ -130,7 +130,7 @@ def tables_of(answered: Answered) -> list[str]:
     found = [names.TABLE, names.SHELLS, names.YEARS, *([names.PUSHBACKS] if answered.pushbacks else [])]
     found += [names.SCHEDULE, names.SCHEDULE_RECORD, names.WORKBOOK] if answered.schedule else []
     found += [names.BLOCK_SCHEDULE, names.BOUND, names.WORKBOOK] if answered.blocks else []
-    found += names.CERTIFIED.values() if answered.blocks and answered.blocks.certified else []
+    found += names.OF_CERTIFICATE if answered.blocks and answered.blocks.certified else []
     if answered.schedule or answered.blocks:
         found += [names.METHODS, names.INVENTORY, names.CASH_FLOW, names.VALUATION, names.GRADE_TONNAGE]
     if answered.schedule:

@@ -125,5 +125,5 @@ def certified(made: ScheduledBlocks, run: Run) -> ScheduledBlocks:
     from pitplan.scheduling.blocks import certificate
 
     with run.writing.progress.step("certifying the schedule"):
-        certificate.write(made.certificate, run.stage)
+        certificate.write(made.certificate, made.planned.cells, run.stage)
         return replace(made, certified=certificate.checked(run.stage, paths.schedule_program()))

@@ -20,6 +20,9 @@ CERTIFIED = {
     kind: f"{CERTIFICATE}/schedule.{ending}"
     for kind, ending in (("problem", "problem"), ("prec", "prec"), ("schedule", "shares"), ("prices", "prices"))
 }
+# The `id` of each of their blocks, and all files of a certificate.
+CERTIFIED_BLOCKS = f"{CERTIFICATE}/schedule.blocks"
+OF_CERTIFICATE = (*CERTIFIED.values(), CERTIFIED_BLOCKS)
 REPORT, VIEW = "report.html", "view.html"
 SENSITIVITY, SENSITIVITY_RECORD = f"{TABLES}/sensitivity.csv", "sensitivity.json"
 TORNADO, SPIDER = f"{FIGURES}/tornado.png", f"{FIGURES}/spider.png"
@@ -37,7 +40,7 @@ MOST_COMPARED = 20
 OF_SOME = (
     *(SHELLS, YEARS, PITS, PUSHBACKS, SCHEDULE, METHODS, BOUND, WORKBOOK),
     *(MATERIAL_FLOWS, FEED, STOCKPILES, DUMPS, LIMITS, CUTOFFS, CASH_FLOW, VALUATION, INVENTORY, GRADE_TONNAGE),
-    *(SCHEDULE_RECORD, BLOCK_SCHEDULE, REPORT, VIEW, *CERTIFIED.values()),
+    *(SCHEDULE_RECORD, BLOCK_SCHEDULE, REPORT, VIEW, *OF_CERTIFICATE),
 )
 
 

@@ -18,7 +18,7 @@ from planaudit.inputs.tables import YEAR
 from planaudit.money import ore_costs
 from planaudit.money.period_costs import capex, fixed_cost, has_costs, mining_factor, premiums
 from planaudit.rules import TOLD, Rule, rule
-from planaudit.schedules import block_flow, block_grades, bounds, methods as ways_table
+from planaudit.schedules import block_flow, block_grades, bounds, certificate, methods as ways_table
 from planaudit.schedules.discounts import discount, present_costs
 from planaudit.schedules.limits import amounts_of, limits_of, minima_of, shares_of
 from planaudit.schedules.periods import counted
@@ -40,6 +40,7 @@ def verify(answer: Answer) -> list[Rule]:
         verify_value(answer, told, sums),
         bounds.verify(answer, told),
         *block_flow.verify(answer),
+        *certificate.verify(answer, told),
     ]
     return [found for found in rules if found is not None]
 

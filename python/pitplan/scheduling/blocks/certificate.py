@@ -261,8 +261,8 @@ def prices_text(certificate: Certificate) -> str:
 # ---- files
 
 
-def write(certificate: Certificate, stage: Path) -> None:
-    """Writes the four texts into a folder."""
+def write(certificate: Certificate, ids: NDArray[np.int64], stage: Path) -> None:
+    """Writes the four texts, and the `id` of each block, into a folder."""
     texts = {
         "problem": problem_text(certificate),
         "prec": precedence_text(certificate.needs),
@@ -272,6 +272,7 @@ def write(certificate: Certificate, stage: Path) -> None:
     (stage / layout.CERTIFICATE).mkdir(exist_ok=True)
     for kind, name in names.CERTIFIED.items():
         (stage / name).write_text(texts[kind], encoding="ascii")
+    (stage / names.CERTIFIED_BLOCKS).write_text("".join(f"{number}\n" for number in ids.tolist()), encoding="ascii")
 
 
 def checked(stage: Path, program: Optional[Path]) -> Certified:

@@ -1,0 +1,150 @@
+"""Verifies the certificate of a schedule by block: that its texts have the values, limits, discount factors and years of the run.
+
+The program pitschedule proves what follows from these texts, but not that they are those of the project.
+"""
+
+from __future__ import annotations
+
+from collections.abc import Iterator
+from dataclasses import dataclass
+from functools import cached_property
+from typing import Any
+
+import numpy as np
+import pandas as pd
+
+from planaudit.inputs.answer import Answer
+from planaudit.inputs.matching import SHARE
+from planaudit.inputs.tables import TABLES, YEAR, read_table
+from planaudit.rules import TOLD, Rule, rule
+from planaudit.schedules.bounds import MIN, MUST_MINE, Bound
+from planaudit.schedules.discounts import discount
+
+KEY, FOLDER = "certificate", "certificate"
+NAME = "certificate"
+HOLDS = "the certificate has the block values, limits, discount factors, multipliers and years of the run, and its value and bound are those of the schedule"
+# Numbers of the texts have six decimals.
+UNIT = 1e-6
+# Of all discounted cash, costs and revenue, by which rounded discount factors and shares may change a sum.
+ROUNDING = 2e-6
+
+
+def verify(answer: Answer, told: dict[str, Any]) -> list[Rule]:
+    """Verifies the certificate, if block_schedule.json names one."""
+    if KEY not in told:
+        return []
+    texts = Texts(answer)
+    if not texts.fit:
+        return [rule(NAME, HOLDS, ["a share is of no block, period or destination of the problem"])]
+    differences = [*texts.unlike_values(), *texts.unlike_shares(), *texts.unlike_periods(), *texts.unlike_results(told)]
+    return [rule(NAME, HOLDS, differences[:TOLD], len(differences))]
+
+
+@dataclass(frozen=True)
+class Texts:
+    """The texts of the folder certificate, next to the results of the run."""
+
+    answer: Answer
+
+    def lines(self, name: str, word: str) -> np.ndarray:
+        """Returns the numbers of the lines that begin with a word, shape (lines, numbers)."""
+        text = (self.answer.folder / FOLDER / f"schedule.{name}").read_text(encoding="ascii")
+        found = [line.split()[1:] for line in text.splitlines() if line.split(maxsplit=1)[:1] == [word]]
+        return np.array(found, dtype=float).reshape(len(found), -1)
+
+    @cached_property
+    def written(self) -> pd.DataFrame:
+        """The results by block; blocks of air have zeros."""
+        blocks = pd.read_csv(self.answer.folder / TABLES / "blocks.csv").set_index("id")
+        ids = np.loadtxt(self.answer.folder / FOLDER / "schedule.blocks", dtype=np.int64, ndmin=1)
+        return blocks.select_dtypes("number").reindex(ids, fill_value=0)
+
+    @cached_property
+    def values(self) -> np.ndarray:
+        """The value of each block as waste and in each process, shape (blocks, destinations)."""
+        amounts, terms = self.lines("problem", "AMOUNTS"), self.lines("problem", "VALUE").astype(int)
+        return amounts[:, terms[:, 1]]
+
+    @property
+    def fit(self) -> bool:
+        """Whether each share is of a block, period and destination of the problem."""
+        places, counts = self.lines("shares", "SHARE")[:, :3], (len(self.values), self.periods, self.values.shape[1])
+        return bool((places < counts).all())
+
+    def sizes(self, limit: int) -> np.ndarray:
+        """Returns the sum of the amounts of a limit without their signs, by period, shape (periods,)."""
+        amounts, found = self.lines("problem", "AMOUNTS"), np.zeros(self.periods)
+        for place, of_limit, column, _ in self.lines("problem", "USE").astype(int):
+            if of_limit == limit:
+                found += np.abs(amounts[:, column]) @ self.shares[:, :, place]
+        return found
+
+    @cached_property
+    def shares(self) -> np.ndarray:
+        """The share of each block by period and destination, shape (blocks, periods, destinations)."""
+        found = np.zeros((len(self.values), self.periods, self.values.shape[1]))
+        for block, period, place, share in self.lines("shares", "SHARE"):
+            found[int(block), int(period), int(place)] += share
+        return found
+
+    def unlike_values(self) -> Iterator[str]:
+        """Yields the blocks whose values differ from blocks.csv."""
+        mining = self.written["mining_cost"].to_numpy()
+        ways = [self.written[revenue] - self.written[cost] for revenue, cost in self.answer.amounts_of_ways]
+        own = np.column_stack([-mining, *(way.to_numpy() - mining for way in ways)])
+        if own.shape != self.values.shape:
+            yield f"values of {self.values.shape[1]} destinations for {own.shape[1]}"
+            return
+        for block in np.flatnonzero((np.abs(own - self.values) > UNIT).any(axis=1)):
+            yield f"block {self.written.index[block]}: values {self.values[block].tolist()} for {own[block].tolist()}"
+
+    def unlike_shares(self) -> Iterator[str]:
+        """Yields the blocks whose years or shares differ from blocks.csv."""
+        names = [process.name for process in self.answer.project.processes] or ["mill"]
+        year = self.written[YEAR].to_numpy()
+        own = np.zeros_like(self.shares)
+        mined = np.flatnonzero(year > 0)
+        for number, name in enumerate(names, 1):
+            own[mined, year[mined] - 1, number] = self.written[SHARE + name].to_numpy()[mined]
+        own[mined, year[mined] - 1, 0] = 1 - own[mined, year[mined] - 1].sum(axis=1)
+        for block in np.flatnonzero((np.abs(own - self.shares) > 2 * UNIT).any(axis=(1, 2))):
+            yield f"block {self.written.index[block]}: shares differ from those of year {year[block]} in blocks.csv"
+
+    def unlike_periods(self) -> Iterator[str]:
+        """Yields what differs in discount factors, limits and multipliers."""
+        bound = Bound(
+            self.answer, read_table(self.answer.folder / TABLES / "bound.csv", ["limit", "side"]), self.periods
+        )
+        factors = [discount(self.answer, year) for year in bound.every_year]
+        if np.abs(self.lines("problem", "DISCOUNTS")[0] - factors).max() > UNIT:
+            yield "discount factors differ"
+        capacities, prices = self.lines("problem", "CAPACITIES"), self.lines("prices", "PRICE")
+        sides = [key for key in dict.fromkeys(zip(bound.prices["limit"], bound.prices["side"])) if key[0] != MUST_MINE]
+        if len(sides) != len(capacities) or len(sides) != len(prices):
+            yield f"{len(capacities)} limits and {len(prices)} rows of prices for {len(sides)}"
+            return
+        for number, ((name, side), of_years, paid) in enumerate(zip(sides, capacities, prices)):
+            sign = -1 if side == MIN else 1
+            own = np.array([sign * bound.limits[name, side, year] for year in bound.every_year])
+            told = bound.prices[(bound.prices["limit"] == name) & (bound.prices["side"] == side)]["price"].to_numpy()
+            if (np.abs(of_years - own) > ROUNDING * self.sizes(number) + UNIT).any():
+                yield f"{name} {side}: capacities {of_years.tolist()} for {own.tolist()}"
+            if (np.abs(paid - np.maximum(sign * told, 0)) > UNIT).any():
+                yield f"{name} {side}: prices {paid.tolist()} for {told.tolist()}"
+
+    @property
+    def periods(self) -> int:
+        return int(self.lines("problem", "DISCOUNTS").shape[1])
+
+    def unlike_results(self, told: dict[str, Any]) -> Iterator[str]:
+        """Yields value and bound of the certificate if they are not those of the schedule."""
+        discounts = self.lines("problem", "DISCOUNTS")[0]
+        worth = self.shares * self.values[:, None, :] * discounts[None, :, None]
+        proved = told[KEY]
+        if proved["value"] is None:
+            return
+        slack = ROUNDING * np.abs(worth).sum() + 1.0
+        if abs(proved["value"] - worth.sum()) > slack or abs(proved["value"] - told["npv"]) > slack:
+            yield f"value {proved['value']:.12g} for {worth.sum():.12g}, and an NPV of {told['npv']:.12g}"
+        if not proved["value"] <= proved["bound"] or proved["bound"] < told["upper_bound"] - slack:
+            yield f"bound {proved['bound']:.12g} for {told['upper_bound']:.12g}"
