@@ -77,6 +77,16 @@ def test_its_problem_is_discounted_from_the_second_period_on(published):
     assert list(zip(problem.needs.users, problem.needs.needed)) == [(1, 0), (3, 2)]
 
 
+def test_the_certificate_of_two_pillars_by_hand(published, tmp_path, capsys):
+    """9 + 4 * 0.909091 = 12.636364, of which the resource that each block takes has two units a period."""
+    paths = [str(path) for path in published()]
+    assert main([*paths, "--quiet", "--seconds", "60", "--certificate", str(tmp_path / "made")]) == 0
+    out = capsys.readouterr().out
+    assert "proved by pitschedule" in out and "is worth 12.64; no schedule within them is worth more than 12.64" in out
+    text = (tmp_path / "made/certificate/schedule.problem").read_text()
+    assert "DISCOUNTS 1 0.909091 0.826446\nCAPACITIES 2 2 2\nCAPACITIES 7.500000 " in text
+
+
 def test_bound_and_schedule_of_two_pillars_by_hand(published, tmp_path, capsys):
     """The richer pillar in the first period and the other in the second: 9 + 4 / 1.1, which no schedule exceeds."""
     paths = [str(path) for path in published()]

@@ -14,11 +14,14 @@ from minelib import MinelibError
 from minelib.ending import INTERRUPTED, ended
 from minelib.schedule_models import SECONDS
 from pitplan.config.schedule import Effort
+from pitplan.core import paths
 from pitplan.core.atomic_files import staged_file
 from pitplan.core.progress import on_standard_error, silent
-from pitplan.errors import PlanError
+from pitplan.errors import PlanError, ProgramError
 
+from . import certificate
 from .from_minelib import of_minelib
+from .problem import BlockProblem
 from .scheduler import Scheduled, solve
 
 
@@ -34,6 +37,12 @@ def parser() -> argparse.ArgumentParser:
         help="a table of each block's period (.csv), -1 where it is not dug, and shares by destination",
     )
     top.add_argument(
+        "--certificate",
+        type=Path,
+        metavar="FOLDER",
+        help="write problem, schedule and multipliers into the folder certificate of this one, of which pitschedule proves value and bound",
+    )
+    top.add_argument(
         "--behind-block", choices=SECONDS, help="what stands behind the block where a .pcpsp tells what it takes"
     )
     top.add_argument("--seconds", type=float, help="integer programmes make the schedule better for so long")
@@ -45,7 +54,7 @@ def parser() -> argparse.ArgumentParser:
 def main(arguments: Optional[Sequence[str]] = None) -> int:
     """0 where there is a bound and a schedule, 1 where the files are refused, with a sentence on standard error, 130 where it was
     interrupted, with the best so far if there is a bound."""
-    return ended("pitplan", lambda: run(parser().parse_args(arguments)), (PlanError, MinelibError))
+    return ended("pitplan", lambda: run(parser().parse_args(arguments)), (PlanError, ProgramError, MinelibError))
 
 
 def run(options: argparse.Namespace) -> int:
@@ -56,9 +65,20 @@ def run(options: argparse.Namespace) -> int:
     problem = of_minelib(options.model, options.prec, options.behind_block)
     found = solve(problem, effort, silent if options.quiet else on_standard_error())
     print(f"BOUND: {found.bound:.6f}\nVALUE: {found.value:.6f}\nGAP: {100 * found.gap:.4f} %")
+    if options.certificate is not None:
+        print(certified(problem, found, options.certificate))
     if options.out is not None:
         write(options.out, found, problem.years)
     return INTERRUPTED if found.interrupted else 0
+
+
+def certified(problem: BlockProblem, found: Scheduled, folder: Path) -> str:
+    """Writes the certificate of a schedule, and returns what is proved of it."""
+    k = np.unravel_index(np.abs(problem.values[:, :, 0]).argmax(), problem.values.shape[:2])
+    discounts = problem.values[k] / problem.values[k][0]
+    made = certificate.of_schedule(problem, found.schedule, found.multipliers, discounts)
+    certificate.write(made, np.arange(problem.blocks), folder)
+    return certificate.checked(folder, paths.schedule_program()).note
 
 
 def write(path: Path, found: Scheduled, periods: int) -> None:

@@ -269,7 +269,7 @@ def write(certificate: Certificate, ids: NDArray[np.int64], stage: Path) -> None
         "schedule": schedule_text(certificate),
         "prices": prices_text(certificate),
     }
-    (stage / layout.CERTIFICATE).mkdir(exist_ok=True)
+    (stage / layout.CERTIFICATE).mkdir(parents=True, exist_ok=True)
     for kind, name in names.CERTIFIED.items():
         (stage / name).write_text(texts[kind], encoding="ascii")
     (stage / names.CERTIFIED_BLOCKS).write_text("".join(f"{number}\n" for number in ids.tolist()), encoding="ascii")
