@@ -65,7 +65,7 @@ def plot_price(found: PriceScenarios, name: str, ax: Axes) -> Axes:
     ax.set_xlabel("years")
     ax.set_ylabel(f"price of {name}, {found.project.economics.currency}/{metal.price_unit}")
     ax.set_xlim(0, times[-1])
-    ax.set_ylim(0, 1.05 * max(high.max(), long_term))
+    ax.set_ylim(0, 1.05 * max(high.max(), long_term, prices[:SHOWN_PATHS].max()))
     ax.legend(**ABOVE)
     return ax
 

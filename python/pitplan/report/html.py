@@ -26,7 +26,7 @@ from pitplan.results.names import SENSITIVITY, SENSITIVITY_RECORD
 from pitplan.scheduling import methods
 from planaudit import NOT_VERIFIED
 
-from . import columns as report, table_one
+from . import columns as report, statements, table_one
 from .assumptions import selected_shell, topics
 from .columns import TEMPLATES, Columns
 from .risks import risks
@@ -34,6 +34,8 @@ from .studies import of_hill, of_prices
 from .written import Figure, Written, picture, read_table
 
 BY_BLOCK = "block"
+# The methods of schedules of pushbacks in words.
+METHODS = {name: methods.NAMES[name] for name in (methods.RULE, methods.LP, methods.MILP)}
 # The most columns that are legible on A4. A wider table is divided.
 MOST_COLUMNS = 13
 
@@ -148,8 +150,8 @@ def in_words(folder: Path, project: Project, record: dict[str, Any], found: Opti
     shells = read_table(folder, names.SHELLS).frame.set_index("revenue_factor")
     cases = None if found is None else read_table(found.folder, SENSITIVITY).frame
     return {
-        "assumptions": topics(project),
-        "selection": selected_shell(project, selected),
+        "assumptions": topics(project, "by_block" in record),
+        "selection": selected_shell(project, record),
         "risks": risks(project, record, shells.loc[selected], cases),
         "table_one": table_one.rows(project, record),
     }
@@ -197,6 +199,7 @@ def of_answer(folder: Path, project: Project, record: dict[str, Any]) -> dict[st
             shown,
         )
         found["method"] = methods.NAMES.get(shown, shown)
+        found["statements"] = statements.of_schedule(folder, project, record, shown)
         # A schedule by block mines the pit at the base price, whichever shell is selected.
         pit = BASE_PRICE if shown == BY_BLOCK else chosen
         cases, figures = [shown], [*of_way(ways, shown, project), *grades(shells, pit, project)]
@@ -233,7 +236,9 @@ def parts_of(
 
 def part_of(table: Written, columns: Columns, marks: Optional[pd.Series]) -> dict[str, Any]:
     rows = []
-    for at, texts in zip(table.frame.index, report.cells_of(table.frame, columns)):
+    frame = table.frame
+    spoken = {name: frame[name].replace(METHODS) for name in ("method", "case") if name in frame}
+    for at, texts in zip(frame.index, report.cells_of(frame.assign(**spoken), columns)):
         cells = [{"text": text, "source": table.source(at, column[0])} for text, column in zip(texts, columns)]
         rows.append({"mark": "" if marks is None else marks[at], "cells": cells})
     return {"file": table.file, "headings": [heading for _, heading, _, _ in columns], "rows": rows}
