@@ -1,5 +1,6 @@
 """`[[sensitivity.hill]]`: the NPV over two parameters, of a mine that is worked out by hand, and its verification."""
 
+import json
 import shutil
 
 import pandas as pd
@@ -90,6 +91,26 @@ def test_the_hill_is_as_worked_out_by_hand_and_its_top_lies_inside(written):
     top = found["npv"].idxmax()
     assert top == (400, 0.5) and found.loc[top, "npv"] == pytest.approx((4 * RICH - 1700) / 1.1, abs=0.001)
     assert found["parameter"].unique().tolist() == ["processes.mill.capacity"] and wrong(written) == set()
+
+
+@pytest.mark.parametrize(
+    ("cutoffs", "top", "edge"),
+    [
+        ("[0.2, 0.5, 1.1]", "8,636 USD at processes.mill.capacity = 400 and processes.mill.accepts.cu.min = 0.5", []),
+        (
+            "[0.5, 1.1]",
+            "8,636 USD at processes.mill.capacity = 400 and processes.mill.accepts.cu.min = 0.5",
+            ["processes.mill.accepts.cu.min"],
+        ),
+    ],
+)
+def test_notes_name_the_top_and_say_if_it_lies_at_the_edge(plan_folder, cutoffs, top, edge):
+    path = plan_folder(table(), TEXT + HILL, ("[0.2, 0.5, 1.1]", cutoffs))
+    pitplan.write_sensitivity(path, writing=UNVERIFIED)
+    record = json.loads((path.parent / "plan/sensitivity/sensitivity.json").read_text())
+    found = [note for note in record["notes"] if note.startswith("hill of value")]
+    assert found[0] == f"hill of value: highest NPV {top}" and len(found) == 1 + len(edge)
+    assert all(name in found[1] for name in edge)
 
 
 def test_the_hill_is_no_part_of_the_sensitivity(written):
