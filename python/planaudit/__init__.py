@@ -23,6 +23,7 @@ these:
   width, which is recounted by sums over squares.
 - **Cash flow**: each line of a schedule follows from blocks, prices and costs, and the lines sum to the cash flow of its years. Tax,
   NPVs, internal rates of return and payback are recomputed.
+- **Price paths**: each follows from its random numbers by the mean and variance between its times, and cash flows, NPVs and quantiles from it.
 - **Inventory**: its rows are the sums of flows, by block of the shares of blocks. No ore is of a class that is no basis of reserves, and the
   shares of blocks are those of their lots.
 - **Grade-tonnage curves**: tonnes and metal above each cut-off are those of the blocks, and marked cut-offs earn their costs.

@@ -39,6 +39,12 @@ parameter = "economics.processing_cost"
 values = [9, 10]
 [constraints]
 must_mine = "due"
+[price_paths]
+count = 3
+[price_paths.metals.copper]
+long_term = 9000
+speed = 0.4
+volatility = 0.2
 [cash_flow]
 discount_rates = [0.05]
 closure_cost = 5
@@ -149,6 +155,8 @@ def test_each_column_that_is_written_is_in_the_schema_and_each_of_the_schema_is_
         "valuation.csv",
         "sensitivity.csv",
         "hill_of_value.csv",
+        "price_paths.csv",
+        "price_path_quantiles.csv",
     ):
         never = {it.name for it in BY_FILE[file].columns} - {it.name for it in found[file]}
         never -= {"feed_tonnes_PROCESS"} if file not in ("shells.csv", "years.csv", "pushbacks.csv") else set()

@@ -1,5 +1,7 @@
 """`[[sensitivity.hill]]`: the NPV over two parameters, of a mine that is worked out by hand, and its verification."""
 
+import json
+import re
 import shutil
 
 import pandas as pd
@@ -11,6 +13,7 @@ from matplotlib.figure import Figure
 import pitplan
 from pitplan import PlanError, load
 from pitplan.figures import hill_of_value
+from pitplan.report import studies
 from pitplan.studies.sensitivity import perturb
 
 # Four rich and four poor blocks side by side, without waste. A rich block earns 4,000 less 1,000 for the mill and 200 for mining, a poor one 1,600
@@ -92,6 +95,26 @@ def test_the_hill_is_as_worked_out_by_hand_and_its_top_lies_inside(written):
     assert found["parameter"].unique().tolist() == ["processes.mill.capacity"] and wrong(written) == set()
 
 
+@pytest.mark.parametrize(
+    ("cutoffs", "top", "edge"),
+    [
+        ("[0.2, 0.5, 1.1]", "8,636 USD at processes.mill.capacity = 400 and processes.mill.accepts.cu.min = 0.5", []),
+        (
+            "[0.5, 1.1]",
+            "8,636 USD at processes.mill.capacity = 400 and processes.mill.accepts.cu.min = 0.5",
+            ["processes.mill.accepts.cu.min"],
+        ),
+    ],
+)
+def test_notes_name_the_top_and_say_if_it_lies_at_the_edge(plan_folder, cutoffs, top, edge):
+    path = plan_folder(table(), TEXT + HILL, ("[0.2, 0.5, 1.1]", cutoffs))
+    pitplan.write_sensitivity(path, writing=UNVERIFIED)
+    record = json.loads((path.parent / "plan/sensitivity/sensitivity.json").read_text())
+    found = [note for note in record["notes"] if note.startswith("hill of value")]
+    assert found[0] == f"hill of value: highest NPV {top}" and len(found) == 1 + len(edge)
+    assert all(name in found[1] for name in edge)
+
+
 def test_the_hill_is_no_part_of_the_sensitivity(written):
     cases = pd.read_csv(written / "tables/sensitivity.csv")
     assert cases["parameter"].fillna("").tolist() == ["", "mining_cost"]
@@ -151,6 +174,20 @@ def test_the_workbook_has_the_grid(plan_folder, with_workbooks):
     assert [row[0] for row in cells[1:]] == list(CUTOFFS)
     found = hill_of(folder).pivot(index="second_value", columns="value", values="npv")
     assert [row[1:] for row in cells[1:]] == found.to_numpy().tolist()
+
+
+def test_the_report_shows_the_npvs_as_a_grid_of_cells(written):
+    """A row per cut-off, a column per capacity, in thousands of USD; each number names its cell."""
+    found, rows_of_file = studies.of_hill(written, load(written.parent.parent / "project.toml")), hill_of(written)
+    assert found["part"]["headings"] == ["processes.mill.accepts.cu.min", "200", "400", "800"] and not found["picture"]
+    assert found["caption"].startswith("Hill of value: NPV, USD, by processes.mill.capacity (columns)")
+    for row, cutoff in zip(found["part"]["rows"], CUTOFFS):
+        first, *others = row["cells"]
+        assert first["text"] == f"{cutoff:g}"
+        for cell, capacity in zip(others, CAPACITIES):
+            number = int(re.fullmatch(r"tables/hill_of_value.csv row (\d+) column npv", cell["source"])[1]) - 2
+            it = rows_of_file.loc[number]
+            assert (it["value"], it["second_value"]) == (capacity, cutoff) and cell["text"] == f"{it['npv']:,.2f}"
 
 
 def test_the_contours_have_a_star_at_the_top(written, tmp_path):

@@ -23,7 +23,9 @@ from pitplan.results.folder import read_record
 
 CHROMIUM, PDFTOTEXT = shutil.which("chromium"), shutil.which("pdftotext")
 PARTS = ["Key results", "Assumptions", "Pit-by-pit analysis", "Plans and sections", "Pushbacks", "Grade and tonnage"]
-PARTS += ["Schedule", "Cash flow", "Sensitivity", "Risks", "JORC Table 1, section 4", "Inputs", "Verification"]
+PARTS += ["Schedule", "Ore by resource class", "Cash flow", "Sensitivity", "Risks", "JORC Table 1, section 4", "Inputs"]
+PARTS += ["Verification"]
+OF_SCHEDULES = ("Pushbacks", "Grade and tonnage", "Schedule", "Ore by resource class")
 MORE = """[pushbacks]
 count = 2
 [schedule]
@@ -115,12 +117,21 @@ def test_each_number_of_the_page_is_one_of_a_written_table(written, place):
     tables = cells_of(written / "plan" / "sensitivity") | cells_of(written / place)
     found = set()
     for source, text, heading in page.shown:
-        file, row, column = re.fullmatch(r"(\S+) row (\d+) column (\S+)", source).groups()
+        cell = re.fullmatch(r"(\S+) row (\d+) column (\S+)", source)
+        if cell is None or cell[1] in ("tables/cash_flow.csv", "tables/valuation.csv"):
+            # Sums and cells of statements, whose unit is in their caption: test_report_statements.py.
+            assert cell or re.search(r"^tables/(cash_flow|inventory)\.csv.*(: sum of | by )", source), source
+            continue
+        file, row, column = cell.groups()
         written_as = tables[file][int(row) - 1][tables[file][0].index(column)]
         found.add((file, column))
         number = text.split()[0].replace(",", "")
         if not re.fullmatch(r"-?[\d.]+", number):
-            assert text in ("–", written_as) or column == "parameter" and written_as.replace("_", " ") in text
+            assert (
+                text in ("–", written_as, html.METHODS.get(written_as))
+                or column == "parameter"
+                and written_as.replace("_", " ") in text
+            )
             continue
         shown = Decimal(number) * size_of(heading, column)
         half = Decimal(1).scaleb(Decimal(number).as_tuple().exponent) * size_of(heading, column) / 2
@@ -138,9 +149,7 @@ def test_each_number_of_the_page_is_one_of_a_written_table(written, place):
             ("tables/methods.csv", "recovered_gold"),
             ("tables/pushbacks.csv", "undiscounted_cash_flow"),
         } <= found
-    assert page.parts == [
-        part for part in PARTS if place != "plan" or part not in ("Pushbacks", "Grade and tonnage", "Schedule")
-    ]
+    assert page.parts == [part for part in PARTS if place != "plan" or part not in OF_SCHEDULES]
     assert page.bare == []
 
 
@@ -327,7 +336,7 @@ def test_it_prints_on_a4_and_nothing_is_cut_off(written, tmp_path):
     )
     boxes = subprocess.run([PDFTOTEXT, "-bbox", pdf, "-"], capture_output=True, text=True, check=True).stdout
     sheets = re.findall(r'<page width="([\d.]+)" height="([\d.]+)"', boxes)
-    assert 7 <= len(sheets) <= 13 and all(
+    assert 7 <= len(sheets) <= 15 and all(
         (round(float(wide)), round(float(high))) == (595, 842) for wide, high in sheets
     )
     words = re.findall(r'<word xMin="([\d.]+)" yMin="([\d.]+)" xMax="([\d.]+)" yMax="([\d.]+)">([^<]*)</word>', boxes)

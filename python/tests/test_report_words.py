@@ -7,7 +7,7 @@ from helpers.processes import WITH
 
 import pitplan
 from pitplan.report import table_one
-from pitplan.report.assumptions import topics
+from pitplan.report.assumptions import selected_shell, topics
 from pitplan.report.risks import risks
 
 RECORD = {
@@ -69,7 +69,7 @@ def test_assumptions_by_hand(project):
         ("Capacities", "processing"): "100 t a year",
         ("Capacities", "ramp-up"): "50 %, 100 % of the processing capacity, by year",
         ("Capacities", "head grade cu"): "at most 120",
-        ("Capacities", "stockpile stockpile"): "reclaim 1.2 AUD/t, 400,000 t",
+        ("Capacities", "stockpile"): "reclaim 1.2 AUD/t, 400,000 t",
         ("Resource classes", "classification"): "none: no column of resource classes is given",
     }
     assert {key: found.get(key) for key in expected} == expected
@@ -144,3 +144,43 @@ def test_table_one_has_all_criteria_and_leaves_the_rest_to_the_competent_person(
     )
     assert any("cutoffs.csv" in line for line in found["Cut-off parameters"])
     assert "block model blocks.csv" in found["Mineral Resource estimate for conversion to Ore Reserves"]
+
+
+def test_tax_closure_and_price_paths_are_assumptions(project):
+    more = "[cash_flow]\nclosure_cost = 4e6\ntax_rate = 0.27\ndepreciation = { years = 8 }\n"
+    more += "[price_paths.metals.copper]\nlong_term = 7800\nspeed = 0.35\nvolatility = 0.24\n"
+    found = said(project(more=more))
+    expected = {
+        ("Costs", "closure cost"): "4,000,000 USD in the last year",
+        ("Costs", "tax"): "27 % of the taxable income, losses carried forward",
+        ("Costs", "depreciation of capital"): "straight line over 8 years",
+        ("Prices", "price paths of copper"): "7,800 in the long run, speed 0.35 per year, volatility 24 %",
+    }
+    assert {key: found.get(key) for key in expected} == expected
+
+
+def test_what_applies_to_pushbacks_alone_is_no_assumption_by_block(project):
+    of_pushbacks = project(more="[schedule]\nbench_lag = 2\nvertical_advance_rate = 6\n")
+    both = [{item for topic in topics(of_pushbacks, by_block) for item, _ in topic.rows} for by_block in (False, True)]
+    assert both[0] - both[1] == {"vertical advance rate", "bench lag between pushbacks"}
+
+
+@pytest.mark.parametrize(
+    ("more", "words"),
+    [
+        ("[pushbacks]\ncount = 2\nultimate_pit = 1.0\n", "that of the last pushback, set by the planner"),
+        ("[pushbacks]\nrevenue_factors = [0.5, 1.0]\n", "that of the last pushback, set by the planner"),
+        ("[pushbacks]\ncount = 2\n", "the one with the highest NPV of pit-by-pit analysis"),
+    ],
+)
+def test_how_the_shell_was_selected(project, more, words):
+    record = RECORD | {"pushbacks": 2, "shells": {"selected": 1.0}}
+    assert selected_shell(project(more=more), record) == f"revenue factor 1.00, {words}"
+    alone = {name: it for name, it in record.items() if name != "pushbacks"}
+    assert selected_shell(project(more=more), alone).endswith("the one with the highest NPV of pit-by-pit analysis")
+
+
+def test_stockpiles_are_called_by_their_names(project):
+    text = '[[schedule.stockpiles]]\nname = "rom"\nreclaim_cost = 1\nstacking_cost = 0.2\n'
+    found = said(project(more=text))
+    assert found["Capacities", "stockpile rom"] == "stacking 0.2 USD/t, reclaim 1 USD/t"

@@ -86,7 +86,8 @@ class Plan(preparing.Plan):
             Reports the steps; silent by default.
         **sections
             The sections of a project.toml but `table` and `grid`: `economics`, `metals`, `slopes` and `shells`; if wanted `title`,
-            `classes`, `processes`, `haulage`, `constraints`, `pushbacks`, `schedule`, `sensitivity`, `figures` and `output`.
+            `classes`, `processes`, `haulage`, `constraints`, `pushbacks`, `schedule`, `cash_flow`, `price_paths`, `sensitivity`, `figures` and
+            `output`.
 
         Raises
         ------

@@ -95,7 +95,8 @@ def write_answer(answered: Answered, run: Run) -> pd.DataFrame:
 
         with progress.step("writing the workbook"):
             workbook.write(answered, tables, stage)
-    finish(plan, run.record, [*mine_files.of_program(stage), *tables_of(answered), *drawn], stage)
+    more = tables.schedule.price_tables if tables.schedule is not None else {}
+    finish(plan, run.record, [*mine_files.of_program(stage), *tables_of(answered), *more, *drawn], stage)
     html.write(stage / names.REPORT, stage, run.project)
     return tables.shells
 

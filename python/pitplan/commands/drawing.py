@@ -7,11 +7,21 @@ from typing import TYPE_CHECKING
 
 import pandas as pd
 
-from pitplan.figures import annual, block_schedule, gantt, geology, grade_tonnage, plans_sections, pushbacks, schedule
+from pitplan.figures import (
+    annual,
+    block_schedule,
+    gantt,
+    geology,
+    grade_tonnage,
+    plans_sections,
+    price_paths,
+    pushbacks,
+    schedule,
+)
 from pitplan.figures.pit_by_pit import write_pit_by_pit
 from pitplan.figures.style import also_as, files_of
 
-from .writing import BLOCK_PICTURES, GEOLOGY_PICTURES, PICTURES, PUSHBACK_PICTURES, SCHEDULE_PICTURES
+from .writing import BLOCK_PICTURES, GEOLOGY_PICTURES, PICTURES, PRICE_PICTURES, PUSHBACK_PICTURES, SCHEDULE_PICTURES
 
 if TYPE_CHECKING:
     from .answers import Answered, Tables
@@ -83,4 +93,7 @@ def draw_schedules(answered: Answered, tables: Tables, stage: Path) -> dict[str,
     if tables.schedule is not None:
         metal = answered.plan.project.metals[0]
         grade_tonnage.write(tables.schedule.grade_tonnage, metal, stage / drawn["grade_tonnage"])
+        if tables.schedule.prices is not None:
+            drawn = drawn | PRICE_PICTURES
+            price_paths.write(tables.schedule.prices, stage / PRICE_PICTURES["price_paths"])
     return drawn

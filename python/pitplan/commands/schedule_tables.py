@@ -4,7 +4,7 @@ from __future__ import annotations
 
 from dataclasses import dataclass, field
 from pathlib import Path
-from typing import TYPE_CHECKING
+from typing import TYPE_CHECKING, Optional
 
 import pandas as pd
 
@@ -18,6 +18,8 @@ from pitplan.scheduling.methods import BLOCK
 if TYPE_CHECKING:
     from pitplan.scheduling.blocks.tables import ScheduledBlocks
     from pitplan.scheduling.cash_flow.finance import Finance
+    from pitplan.scheduling.cash_flow.operation import Operation
+    from pitplan.scheduling.price_paths import PriceScenarios
     from pitplan.scheduling.pushback_schedule import YearlySchedule
 
 INVENTORY = "inventory"
@@ -34,6 +36,8 @@ class ScheduleTables:
     cash_flow, valuation, grade_tonnage : DataFrame
     flows : dict of str to DataFrame
         Tables of material by the names of their files and sheets, the inventory among them.
+    prices : PriceScenarios, optional
+        The method that is shown on price paths; None without `[price_paths]`.
     """
 
     method: str
@@ -41,6 +45,7 @@ class ScheduleTables:
     valuation: pd.DataFrame
     grade_tonnage: pd.DataFrame
     flows: dict[str, pd.DataFrame] = field(default_factory=dict)
+    prices: Optional[PriceScenarios] = None
 
     @property
     def inventory(self) -> pd.DataFrame:
@@ -55,12 +60,24 @@ class ScheduleTables:
         for name, table in self.flows.items():
             named(shown(table), project).to_csv(stage / layout.TABLES / f"{name}.csv", index=False)
         shown(self.grade_tonnage).to_csv(stage / names.GRADE_TONNAGE, index=False)
+        for path, table in self.price_tables.items():
+            write_csv(shown(table), stage / path, project)
+
+    @property
+    def price_tables(self) -> dict[str, pd.DataFrame]:
+        """The tables of price paths by their paths; none without them."""
+        from pitplan.scheduling import price_paths
+
+        if self.prices is None:
+            return {}
+        quantiles = price_paths.quantile_table(self.prices, self.method)
+        return {names.PRICE_PATHS: price_paths.path_table(self.prices), names.PRICE_QUANTILES: quantiles}
 
 
 def of_pushbacks(schedule: YearlySchedule) -> ScheduleTables:
     """Returns the tables of a schedule of pushbacks."""
     from pitplan.scheduling import inventory
-    from pitplan.scheduling.cash_flow.of_pushbacks import finances
+    from pitplan.scheduling.cash_flow.of_pushbacks import finances, operations
     from pitplan.scheduling.flow import tables
     from pitplan.scheduling.flow.cutoff_table import cutoff_table
 
@@ -69,17 +86,28 @@ def of_pushbacks(schedule: YearlySchedule) -> ScheduleTables:
     flows |= {"stockpiles": tables.stockpile_table(schedule)} if schedule.is_stocked else {}
     flows |= {"dumps": tables.dump_table(schedule)} if schedule.model.dumps else {}
     curves, project = inventory.grade_tonnage_table(schedule), schedule.pushbacks.plan.project
-    return ScheduleTables(schedule.shown, *money(project, finances(schedule)), curves, flows)
+    found, method = finances(schedule), schedule.shown
+    prices = priced(operations(schedule)[method], next(it for it in found if it.statement.method == method))
+    return ScheduleTables(method, *money(project, found), curves, flows, prices)
 
 
 def of_blocks(blocks: ScheduledBlocks) -> ScheduleTables:
     """Returns the tables of a schedule by block."""
     from pitplan.scheduling.blocks import inventory
-    from pitplan.scheduling.cash_flow.of_blocks import finances
+    from pitplan.scheduling.cash_flow.of_blocks import BlockOperation, finances
 
     curves, project = inventory.grade_tonnage_table(blocks), blocks.planned.plan.project
     flows = {INVENTORY: inventory.inventory_table(blocks)}
-    return ScheduleTables(BLOCK, *money(project, finances(blocks)), curves, flows)
+    found = finances(blocks)
+    return ScheduleTables(BLOCK, *money(project, found), curves, flows, priced(BlockOperation(blocks), found[0]))
+
+
+def priced(operation: Operation, finance: Finance) -> Optional[PriceScenarios]:
+    """Returns a schedule on the price paths of its project; None without any, or if nothing is mined."""
+    from pitplan.scheduling.price_paths import PriceScenarios
+
+    rules = finance.project.price_paths
+    return None if rules is None or not operation.years else PriceScenarios(rules, operation, finance)
 
 
 def money(project: Project, found: list[Finance]) -> tuple[pd.DataFrame, pd.DataFrame]:

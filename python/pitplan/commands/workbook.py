@@ -37,6 +37,8 @@ def write(answered: Answered, tables: Tables, stage: Path) -> None:
     assert found is not None
     lines, values = (it[it["method"] == found.method] for it in (found.cash_flow, found.valuation))
     sheets = material_sheets(answered, found) | money_sheets(answered, tables)
+    if found.prices is not None:
+        sheets["price_path_quantiles"] = shown(found.price_tables[names.PRICE_QUANTILES])
     # A schedule that mines nothing has no period.
     first = [CashFlowSheet(project, lines, values).sheet().write] if len(lines) else []
     first += [ReserveSheet(project, found.method, sheets[INVENTORY]).write] if len(lines) else []

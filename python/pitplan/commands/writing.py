@@ -44,8 +44,12 @@ PICTURES = figures("pit_by_pit", "years", "plans", "sections")
 GEOLOGY_PICTURES = figures("geology")
 PUSHBACK_PICTURES = figures("pushback_plans", "pushback_sections")
 SCHEDULE_PICTURES = figures("schedule_gantt", "schedule_tonnes", "schedule_value", "grade_tonnage")
+# With [price_paths].
+PRICE_PICTURES = figures("price_paths")
 BLOCK_PICTURES = figures("block_schedule", "grade_tonnage")
-FIGURES = tuple((PICTURES | GEOLOGY_PICTURES | PUSHBACK_PICTURES | SCHEDULE_PICTURES | BLOCK_PICTURES).values())
+FIGURES = tuple(
+    (PICTURES | GEOLOGY_PICTURES | PUSHBACK_PICTURES | SCHEDULE_PICTURES | BLOCK_PICTURES | PRICE_PICTURES).values()
+)
 # The files that every run writes or removes.
 ALWAYS = (*mine_files.IN_FOLDER, names.RECORD, names.TABLE, project_writer.AS_RUN)
 WRITTEN = {

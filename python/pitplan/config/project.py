@@ -22,6 +22,7 @@ from .figures import FigureRules, read_figures
 from .haulage import Haulage, read_haulage
 from .overrides import overridden
 from .periods import Calendar, read_periods
+from .price_paths import PricePaths, read_price_paths
 from .pushbacks import PushbackRules, read_pushbacks
 from .python_values import as_toml
 from .scenarios import Scenarios, read_scenarios
@@ -61,6 +62,7 @@ class Project:
     classes: ClassRules = ClassRules()
     cash_flow: CashFlowRules = CashFlowRules()
     dumps: tuple[Dump, ...] = ()
+    price_paths: Optional[PricePaths] = None
 
     @property
     def by_process(self) -> tuple[Project, ...]:
@@ -267,6 +269,8 @@ def of_data(data: dict[str, Any], path: Path, source: Optional[str] = None) -> P
         project = replace(project, sensitivity=read_sensitivity(top.section("sensitivity"), metals))
     if top.has("figures"):
         project = replace(project, figures=read_figures(top.section("figures"), metals))
+    if top.has("price_paths"):
+        project = replace(project, price_paths=read_price_paths(top.section("price_paths"), metals))
     output.finish()
     top.finish()
     demand_agreement(project)

@@ -57,6 +57,7 @@ def of_project(project: Project, folder: Path) -> str:
         "schedule": project.schedule and of_schedule(project.schedule),
         "dumps": [asdict(it) | {"accepts": of_accepts(it.accepts)} for it in project.dumps],
         "cash_flow": project.cash_flow.as_toml() or None,
+        "price_paths": project.price_paths and project.price_paths.as_toml,
         "sensitivity": project.sensitivity and of_sensitivity(project.sensitivity),
         "scenarios": project.scenarios and of_scenarios(project.scenarios, folder),
         "figures": project.figures and of_pictures(project.figures),

@@ -41,6 +41,9 @@ def plot(table: pd.DataFrame, metal: Metal, axes: Any) -> list[Axes]:
 def plot_part(axis: Axes, table: pd.DataFrame, metal: Metal, colours: dict[str, str]) -> None:
     """Draws a part; `colours` are those of the classes of all parts."""
     curves = table[table["mark"] == ""]
+    # Without the barren rock, which would hide all else.
+    rich = curves["cutoff_grade"] > 0
+    curves = curves[rich] if curves.loc[rich, "cutoff_grade"].nunique() > 1 else curves
     classes = [name for name in colours if name in set(curves["class"])]
     tonnes = curves.pivot_table(index="cutoff_grade", columns="class", values="tonnes", aggfunc="first")[classes] / 1e6
     labels = [name or "unclassified" for name in classes]

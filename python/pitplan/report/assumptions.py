@@ -15,6 +15,7 @@ from pitplan.config.project import Project
 from pitplan.config.shells import IN_WORDS
 from pitplan.config.slopes import DIP, Wall
 from pitplan.config.smelter import Smelter
+from pitplan.config.stockpiles import STOCKPILE
 from pitplan.core.revenue_factors import factor_text
 
 WORDS = {TREATMENTS[0]: "may be ore", TREATMENTS[1]: "waste", TREATMENTS[2]: "not allowed"}
@@ -28,13 +29,13 @@ class Topic:
     rows: tuple[tuple[str, str], ...]
 
 
-def topics(project: Project) -> list[Topic]:
-    """Returns the assumptions of a project by topic; a topic without any is left out."""
+def topics(project: Project, by_block: bool = False) -> list[Topic]:
+    """Returns the assumptions of a project by topic; a topic without any is left out, and by block what applies to pushbacks alone."""
     parts = {
         "Prices": prices(project),
         "Costs": costs(project),
         "Recoveries": recoveries(project),
-        "Mining": mining(project),
+        "Mining": mining(project, by_block),
         "Capacities": capacities(project),
         "Periods": periods(project),
         "Slopes": slopes(project),
@@ -80,6 +81,10 @@ def prices(project: Project) -> Iterator[tuple[str, str]]:
         yield "royalty", f"{percent(money.royalty)} of revenue"
     if money.royalty_per_tonne:
         yield "royalty per tonne", f"{number(money.royalty_per_tonne)} {money.currency}/t of mill feed"
+    paths = project.price_paths
+    for name, path in paths.metals.items() if paths else ():
+        term = f"{number(path.long_term)} in the long run, speed {number(path.speed)} per year"
+        yield f"price paths of {name}", f"{term}, volatility {percent(path.volatility)}"
     shells = project.shells
     yield "discount rate", f"{percent(shells.discount_rate)} a year, discounted {IN_WORDS[shells.discounting]}"
 
@@ -146,6 +151,19 @@ def costs(project: Project) -> Iterator[tuple[str, str]]:
         yield "capital", ", ".join(
             f"{number(amount)} {money.currency} at the start of year {year}" for year, amount in money.capex
         )
+    yield from taxes(project)
+
+
+def taxes(project: Project) -> Iterator[tuple[str, str]]:
+    """Yields closure cost, tax and depreciation."""
+    rules = project.cash_flow
+    if rules.closure_cost:
+        yield "closure cost", f"{number(rules.closure_cost)} {project.economics.currency} in the last year"
+    if rules.tax_rate:
+        yield "tax", f"{percent(rules.tax_rate)} of the taxable income, losses carried forward"
+        years = rules.depreciation_years
+        how = "by units of production" if years is None else f"straight line over {number(years)} years"
+        yield "depreciation of capital", how
 
 
 def recoveries(project: Project) -> Iterator[tuple[str, str]]:
@@ -160,10 +178,12 @@ def recoveries(project: Project) -> Iterator[tuple[str, str]]:
             yield f"{metal.name}, {process.name}", of(metal, process.recovery.get(metal.name, Decimal(0)))
 
 
-def mining(project: Project) -> Iterator[tuple[str, str]]:
+def mining(project: Project, by_block: bool) -> Iterator[tuple[str, str]]:
     money, rules, schedule = project.economics, project.pushbacks, project.schedule
     yield "mining recovery", by_code(money.mining_recovery, percent)
     yield "dilution", f"{by_code(money.dilution, percent)} at zero grade"
+    if by_block:
+        return
     if rules and rules.min_mining_width:
         yield "minimum mining width", f"{number(rules.min_mining_width)} m"
     if rules and rules.min_bottom_width:
@@ -190,10 +210,17 @@ def capacities(project: Project) -> Iterator[tuple[str, str]]:
     for pile in rules.stockpiles if rules else ():
         room = "" if pile.capacity is None else f", {number(pile.capacity)} t"
         lies = "" if pile.opening is None else f", {number(pile.opening.tonnes)} t at the start"
-        yield f"stockpile {pile.name}", f"reclaim {number(pile.reclaim_cost)} {project.economics.currency}/t{room}{lies}"
+        a_tonne = f"{project.economics.currency}/t"
+        stacked = f"stacking {number(pile.stacking_cost)} {a_tonne}, " if pile.stacking_cost else ""
+        yield called(pile.name), f"{stacked}reclaim {number(pile.reclaim_cost)} {a_tonne}{room}{lies}"
     for dump in project.dumps:
         room = "" if dump.capacity is None else f", {number(dump.capacity)} t"
         yield f"dump {dump.name}", f"{number(dump.cost)} {project.economics.currency}/t{room}"
+
+
+def called(stockpile: str) -> str:
+    """Returns what a stockpile is called; one that the project does not name is the stockpile."""
+    return "stockpile" if stockpile == STOCKPILE else f"stockpile {stockpile}"
 
 
 def head_grade(grade: FeedGrade) -> str:
@@ -230,7 +257,7 @@ def of_period(entry: Period, project: Project) -> Iterator[str]:
     yield from (f"{name} {number(most)} t a year" for name, most in given.items() if most is not None)
     yield from (f"{name} at least {number(least)} a year" for name, least in entry.minimum.items())
     yield from (f"{head_grade(it)} {between(it.min, it.max)}" for it in entry.feed)
-    yield from (f"stockpile {it.name} {between(it.min, it.max)} t" for it in entry.stockpiles)
+    yield from (f"{called(it.name)} {between(it.min, it.max)} t" for it in entry.stockpiles)
     yield from (f"dump {it.name} {between(it.min, it.max)} t a year" for it in entry.dumps)
     yield from (f"{name} {number(price)} {currency}" for name, price in entry.prices.items())
     for name in ("mining", "processing", "selling"):
@@ -277,8 +304,11 @@ def classes(project: Project) -> Iterator[tuple[str, str]]:
     yield from ((f"class {code or 'none'}", WORDS[treatment]) for code, treatment in project.classes.given.items())
 
 
-def selected_shell(project: Project, selected: float) -> str:
-    """Returns how the shell was selected, in words."""
+def selected_shell(project: Project, record: dict[str, Any]) -> str:
+    """Returns how the shell of a run, by its record, was selected, in words."""
+    selected, rules = record["shells"]["selected"], project.pushbacks
+    if "pushbacks" in record and rules and (rules.ultimate_pit is not None or rules.revenue_factors):
+        return f"revenue factor {factor_text(selected)}, that of the last pushback, set by the planner"
     if project.shells.selected is not None:
         return f"revenue factor {factor_text(selected)}, set by the planner"
     return f"revenue factor {factor_text(selected)}, the one with the highest NPV of pit-by-pit analysis"

@@ -6,7 +6,6 @@ cell of a written table, which its tooltip names by file, row and column. The he
 
 from __future__ import annotations
 
-import base64
 from dataclasses import dataclass, replace
 from pathlib import Path
 from typing import Any, Callable, Optional
@@ -18,7 +17,6 @@ from pitplan.config.project import Project
 from pitplan.config.sensitivity import SensitivityRules
 from pitplan.config.shells import IN_WORDS
 from pitplan.core.atomic_files import hash_of, read_json
-from pitplan.core.magnitude import scaled
 from pitplan.core.revenue_factors import BASE_PRICE, factor_text
 from pitplan.errors import PlanError
 from pitplan.results import names
@@ -28,46 +26,18 @@ from pitplan.results.names import SENSITIVITY, SENSITIVITY_RECORD
 from pitplan.scheduling import methods
 from planaudit import NOT_VERIFIED
 
-from . import columns as report, table_one
+from . import columns as report, statements, table_one
 from .assumptions import selected_shell, topics
 from .columns import TEMPLATES, Columns
 from .risks import risks
+from .studies import of_hill, of_prices
+from .written import Figure, Written, picture, read_table
 
 BY_BLOCK = "block"
-# Columns of the page that are made from another column of the file.
-NAMED = {(SENSITIVITY, "case"): "parameter"}
+# The methods of schedules of pushbacks in words.
+METHODS = {name: methods.NAMES[name] for name in (methods.RULE, methods.LP, methods.MILP)}
 # The most columns that are legible on A4. A wider table is divided.
 MOST_COLUMNS = 13
-
-
-@dataclass(frozen=True)
-class Figure:
-    """A key result: name, text with unit, and the cell that it shows."""
-
-    name: str
-    text: str
-    source: str
-
-
-@dataclass(frozen=True)
-class Written:
-    """A written table: the name of its file, and its rows, with an index from 0."""
-
-    file: str
-    frame: pd.DataFrame
-
-    def source(self, row: int, column: str) -> str:
-        return f"{self.file} row {row + 2} column {NAMED.get((self.file, column), column)}"
-
-    def figure(self, name: str, row: int, column: tuple[str, str, float, int]) -> Figure:
-        """Returns a key result with its unit, which follows the comma in the heading of its column."""
-        text = report.cell_of(self.frame.at[row, column[0]], column)
-        unit = column[1].partition(", ")[2]
-        return Figure(name, text if text == "–" else f"{text} {unit}".strip(), self.source(row, column[0]))
-
-
-def read_table(folder: Path, name: str) -> Written:
-    return Written(name, pd.read_csv(folder / name, keep_default_na=True))
 
 
 @dataclass(frozen=True)
@@ -154,6 +124,7 @@ def write(path: Path, folder: Path, project: Project, sensitivity: Optional[Path
         **in_words(folder, project, record, found),
         sensitivity=found and of_sensitivity(found, project),
         no_sensitivity=missing,
+        prices=of_prices(folder, project, record),
         title=project.title,
         warnings=[note.removeprefix("WARNING: ") for note in warnings],
         notes=[note for note in record["notes"] if note not in warnings],
@@ -179,8 +150,8 @@ def in_words(folder: Path, project: Project, record: dict[str, Any], found: Opti
     shells = read_table(folder, names.SHELLS).frame.set_index("revenue_factor")
     cases = None if found is None else read_table(found.folder, SENSITIVITY).frame
     return {
-        "assumptions": topics(project),
-        "selection": selected_shell(project, selected),
+        "assumptions": topics(project, "by_block" in record),
+        "selection": selected_shell(project, record),
         "risks": risks(project, record, shells.loc[selected], cases),
         "table_one": table_one.rows(project, record),
     }
@@ -190,11 +161,6 @@ def text_of(folder: Path, project: Project, record: dict[str, Any]) -> str:
     """Returns the text of the project that was run; for a folder of an earlier release that of its file."""
     path = folder / project_writer.AS_RUN if project_writer.AS_RUN in record["files"] else project.path
     return without_comments(path.read_text(encoding="utf-8"))
-
-
-def picture(path: Path) -> str:
-    """Returns a PNG as a data URL."""
-    return "data:image/png;base64," + base64.b64encode(path.read_bytes()).decode("ascii")
 
 
 def without_comments(text: str) -> str:
@@ -233,6 +199,7 @@ def of_answer(folder: Path, project: Project, record: dict[str, Any]) -> dict[st
             shown,
         )
         found["method"] = methods.NAMES.get(shown, shown)
+        found["statements"] = statements.of_schedule(folder, project, record, shown)
         # A schedule by block mines the pit at the base price, whichever shell is selected.
         pit = BASE_PRICE if shown == BY_BLOCK else chosen
         cases, figures = [shown], [*of_way(ways, shown, project), *grades(shells, pit, project)]
@@ -269,7 +236,9 @@ def parts_of(
 
 def part_of(table: Written, columns: Columns, marks: Optional[pd.Series]) -> dict[str, Any]:
     rows = []
-    for at, texts in zip(table.frame.index, report.cells_of(table.frame, columns)):
+    frame = table.frame
+    spoken = {name: frame[name].replace(METHODS) for name in ("method", "case") if name in frame}
+    for at, texts in zip(frame.index, report.cells_of(frame.assign(**spoken), columns)):
         cells = [{"text": text, "source": table.source(at, column[0])} for text, column in zip(texts, columns)]
         rows.append({"mark": "" if marks is None else marks[at], "cells": cells})
     return {"file": table.file, "headings": [heading for _, heading, _, _ in columns], "rows": rows}
@@ -331,31 +300,6 @@ def of_way(ways: Written, shown: str, project: Project) -> list[Figure]:
         *recovered(ways, row, columns, project),
         ways.figure("Life", row, ("years", "life, years", 1.0, columns["years"][3])),
     ]
-
-
-def of_hill(folder: Path, project: Project) -> dict[str, Any]:
-    """Returns the hill of value: its picture, and the NPVs as a table with a row per value of the second parameter."""
-    table = read_table(folder, names.HILL)
-    frame, figure = table.frame, folder / names.HILL_FIGURE
-    size, sign = scaled(float(frame["npv"].abs().max()))
-    one, other = frame["parameter"].iloc[0], frame["second_parameter"].iloc[0]
-    rows = [
-        {
-            "mark": "",
-            "cells": [
-                {"text": f"{value:,.10g}", "source": table.source(some.index[0], "second_value")},
-                *({"text": f"{npv / size:,.2f}", "source": table.source(at, "npv")} for at, npv in some["npv"].items()),
-            ],
-        }
-        for value, some in frame.sort_values("value").groupby("second_value")
-    ]
-    headings = [other, *(f"{value:,.10g}" for value in sorted(frame["value"].unique()))]
-    unit = f"{sign} {project.economics.currency}".strip()
-    return {
-        "picture": picture(figure) if figure.is_file() else "",
-        "part": {"file": table.file, "headings": headings, "rows": rows},
-        "caption": f"Hill of value: NPV, {unit}, by {one} (columns) and {other} (rows)",
-    }
 
 
 # Of the shells of a sensitivity.

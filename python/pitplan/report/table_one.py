@@ -16,7 +16,7 @@ BY_THE_PERSON = "by the Competent Person"
 
 def rows(project: Project, record: dict[str, Any]) -> list[tuple[str, list[str]]]:
     """Returns the criteria with what the run knows of each; the last line says what is left to the Competent Person."""
-    known = {topic.name: topic for topic in topics(project)}
+    known = {topic.name: topic for topic in topics(project, "by_block" in record)}
     found = dict(of_run(project, record, known))
     return [
         (criterion, [*found.get(criterion, []), f"{left}: {BY_THE_PERSON}"]) for criterion, left in CRITERIA.items()
@@ -60,7 +60,7 @@ def of_run(project: Project, record: dict[str, Any], known: dict[str, Topic]) ->
             *of_schedule(record),
         ],
     )
-    shell = selected_shell(project, record["shells"]["selected"])
+    shell = selected_shell(project, record)
     yield "Mining factors or assumptions", [f"pit shell: {shell}", *lines("Mining", "Slopes", "Capacities")]
     yield "Metallurgical factors or assumptions", lines("Recoveries")
     yield "Costs", lines("Costs")

@@ -4,7 +4,7 @@ from __future__ import annotations
 
 from dataclasses import replace
 
-from .column_types import MONEY, RATIO, TONNES, YEARS, Column, Table, Unit
+from .column_types import COUNT, MONEY, RATIO, SHARE, TONNES, YEARS, Column, Table, Unit
 from .common_columns import DISCOUNTS, FEED, FLOWS, HEAD_GRADE, METHOD, MINED, NPV, RECOVERED, SPENT, TONNAGES, YEAR
 from .flow_columns import CONTAINED, PAYABLE, WITH_SMELTER
 
@@ -126,6 +126,39 @@ CASH_FLOW = Table(
     "cash_flow.csv",
     "of a schedule: a row per method and year; costs and tax are positive",
     (METHOD, YEAR, *PHYSICALS, *LINES, *RESULTS, DISCOUNTS),
+)
+OF_PATHS = "of the NPVs of all paths"
+PRICE_PATHS = Table(
+    "price_paths.csv",
+    "of the shown schedule with `[price_paths]`: a row per path and year",
+    (
+        Column("path", COUNT, "its number, from 1"),
+        YEAR,
+        Column("price_METAL", OF_PRICE, "price in the middle of the year", "price of METAL"),
+        replace(FLOWS[0], holds="of the schedule at these prices"),
+        FLOWS[1],
+        DISCOUNTS,
+    ),
+)
+PRICE_QUANTILES = Table(
+    "price_path_quantiles.csv",
+    "of the shown schedule with `[price_paths]`: one row",
+    (
+        METHOD,
+        Column("paths", COUNT, "how many", "paths"),
+        replace(NPV, holds="at the prices of the project"),
+        Column("npv_mean", MONEY, f"mean {OF_PATHS}", "mean NPV"),
+        Column("npv_least", MONEY, f"minimum {OF_PATHS}", "lowest NPV"),
+        Column(
+            "npv_quantile_Q",
+            MONEY,
+            f"quantiles 0.1 (P10), 0.5 and 0.9 {OF_PATHS}: a tenth of the paths is below P10",
+            "NPV quantile",
+        ),
+        Column("npv_greatest", MONEY, f"maximum {OF_PATHS}", "highest NPV"),
+        Column("share_below_zero", SHARE, "share of the paths with an NPV below 0", "paths below 0"),
+        DISCOUNTS,
+    ),
 )
 AFTER = "after closure cost and tax"
 VALUATION = Table(

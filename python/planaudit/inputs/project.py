@@ -12,6 +12,7 @@ from typing import Optional, Union
 
 import numpy as np
 
+from planaudit.inputs.price_paths import PricePaths
 from planaudit.inputs.row_rules import RowRules
 
 # Mass of metal per tonne of ore and unit of grade, in tonnes, or grams if the grade is in grams per tonne.
@@ -525,6 +526,7 @@ class Project:
     classes: ClassRules = ClassRules()
     cash_flow: CashFlowRules = CashFlowRules()
     dumps: tuple[Dump, ...] = ()
+    price_paths: Optional[PricePaths] = None
     # What the process accepts, in a project with one process of several.
     accepts: Accepts = Accepts()
     # Columns of the table that are kept besides those that the sections name.

@@ -14,6 +14,7 @@ import tomllib
 
 from planaudit.errors import AuditError
 from planaudit.inputs.period_table import entries_of
+from planaudit.inputs.price_paths import price_paths_of
 from planaudit.inputs.project import (
     Accepts,
     Area,
@@ -114,6 +115,7 @@ def of_data(data: Data, place: Places, source: str = "project") -> Project:
             classes=ClassRules({code: str(word) for code, word in data.get("classes", {}).items()}),
             cash_flow=cash_flow_of(data.get("cash_flow", {})),
             dumps=tuple(map(dump_of, data.get("dumps", ()))),
+            price_paths=price_paths_of(data.get("price_paths")),
         )
 
 

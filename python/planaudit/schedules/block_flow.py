@@ -13,7 +13,7 @@ from planaudit.inputs.answer import Answer
 from planaudit.inputs.matching import own_name
 from planaudit.inputs.tables import YEAR
 from planaudit.rules import Rule
-from planaudit.schedules import cash_flow, grade_tonnage, inventory
+from planaudit.schedules import cash_flow, grade_tonnage, inventory, price_paths
 from planaudit.schedules.limits import shares_of
 from planaudit.schedules.lots import MILL, BlockAmounts
 from planaudit.schedules.material_flow import PIT, WASTE, MaterialFlow
@@ -66,11 +66,24 @@ def flow_of(answer: Answer) -> MaterialFlow:
 def verify(answer: Answer) -> list[Rule]:
     """Verifies inventory.csv, cash_flow.csv, valuation.csv and grade_tonnage.csv."""
     flow = flow_of(answer)
+    more = [price_paths.verify(answer, CASE, recovered_of(flow))] if answer.project.price_paths else []
     return [
         inventory.rule_of([*untaken(flow), *inventory.unlike_rows(flow)]),
         cash_flow.verify(flow, [CASE]),
         grade_tonnage.verify(answer),
+        *more,
     ]
+
+
+def recovered_of(flow: MaterialFlow) -> dict[str, np.ndarray]:
+    """Returns by metal what each process recovers in each period, shape (processes, periods)."""
+    last, rows = int(flow.rows["year"].max()) if len(flow.rows) else 0, flow.rows
+    index = pd.MultiIndex.from_product([flow.names, range(1, last + 1)])
+    sums = rows.groupby(["destination", "year"])
+    return {
+        metal.name: sums[f"recovered_{metal.name}"].sum().reindex(index, fill_value=0.0).to_numpy().reshape(-1, last)
+        for metal in flow.answer.project.metals
+    }
 
 
 def untaken(flow: MaterialFlow) -> Iterator[str]:

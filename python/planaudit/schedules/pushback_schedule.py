@@ -25,6 +25,7 @@ from planaudit.schedules import (
     limit_table,
     material_flow,
     methods as ways_table,
+    price_paths,
     pushback_bounds,
 )
 from planaudit.schedules.discounts import discount, present_costs
@@ -90,7 +91,13 @@ def verify(answer: Answer) -> list[Rule]:
         grade_tonnage.verify(answer),
         pushback_bounds.verify(answer, told, by_year(answer, int(told["years"]))),
         verify_years_of_blocks(ways, told, sums),
+        *verify_prices(answer, told["shown"]),
     ]
+
+
+def verify_prices(answer: Answer, shown: str) -> list[Rule]:
+    """Verifies price paths, if the project has any."""
+    return [price_paths.verify(answer, shown, price_paths.of_feed(answer, shown))] if answer.project.price_paths else []
 
 
 def levelled(answer: Answer, told: dict[str, Any]) -> tuple[list[str], pd.DataFrame]:

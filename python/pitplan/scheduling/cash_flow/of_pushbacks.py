@@ -128,11 +128,16 @@ class PushbackOperation(Operation):
         return np.asarray(a_tonne @ feed + lay @ self.flows.opened.sum(axis=0))
 
 
+def operations(schedule: YearlySchedule) -> dict[str, PushbackOperation]:
+    """Returns what each method mines and feeds."""
+    material = Material(schedule)
+    return {method: PushbackOperation(material, flows) for method, flows in schedule.flows.items()}
+
+
 def finances(schedule: YearlySchedule) -> list[Finance]:
     """Returns the free cash flow of each method."""
-    material, years = Material(schedule), pushback_schedule.years(schedule)
+    years = pushback_schedule.years(schedule)
     return [
-        Finance(material.plan.project, statement(PushbackOperation(material, flows), method, mine))
-        for method, flows in schedule.flows.items()
-        for mine in [years[years["case"] == method]]
+        Finance(it.plan.project, statement(it, method, years[years["case"] == method]))
+        for method, it in operations(schedule).items()
     ]

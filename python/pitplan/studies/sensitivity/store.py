@@ -26,7 +26,7 @@ def record(found: Sensitivity, project: str) -> dict[str, Any]:
         "grid": found.plan.record_of_grid(),
         "revenue_factor": found.factor,
         "skin": (skin := skin_of(found)),
-        "notes": [*found.plan.notes, told_of_skin(skin, found.project.economics.currency)],
+        "notes": [*found.plan.notes, told_of_skin(skin, found.project.economics.currency), *hill.notes(found)],
         "cases": [recorded(found, case) for case in cases_of(rules)],
         **({"hill": [recorded(found, case) for case in hill.cases_of(rules).values()]} if rules.hill else {}),
         "verified": [],
