@@ -8,7 +8,7 @@ import openpyxl
 import pandas as pd
 import pytest
 from conftest import PROJECT, rows
-from helpers.flows import Statement, mine_of, mines, model_of, processes, stockpiles
+from helpers.flows import OfWholeBenches, Statement, mine_of, mines, model_of, processes, stockpiles
 from helpers.pushbacks import PUSHBACKS, UPRIGHT, pillars, with_pushbacks
 from helpers.random_tests import examples
 from helpers.verified import UNVERIFIED, wrong
@@ -224,7 +224,11 @@ def with_dumps(model, given):
 def optimum_of(model, given, whole):
     """The optimum of a programme with the tonnes of each bench's two kinds of waste in each dump and year as unknowns of their own. If `whole`, a
     bench starts only when all that it waits for is mined."""
-    stated, years, places = Statement(model), model.years, [*given, (LAST.cost, None, np.inf, (True, True))]
+    stated, years, places = (
+        (OfWholeBenches if whole else Statement)(model),
+        model.years,
+        [*given, (LAST.cost, None, np.inf, (True, True))],
+    )
     count, ore = len(model.benches), model.ore
     first, size = stated.size, stated.size + count * 2 * len(places) * years
     table, most = [np.pad(row, (0, size + count * years - stated.size)) for row in stated.rows], list(stated.most)
