@@ -7,8 +7,8 @@ import numpy as np
 import openpyxl
 import pandas as pd
 import pytest
-from conftest import rows
-from helpers.flows import Statement, mine_of, mines, model_of, processes, stockpiles
+from conftest import PROJECT, rows
+from helpers.flows import OfWholeBenches, Statement, mine_of, mines, model_of, processes, stockpiles
 from helpers.pushbacks import PUSHBACKS, UPRIGHT, pillars, with_pushbacks
 from helpers.random_tests import examples
 from helpers.verified import UNVERIFIED, wrong
@@ -224,7 +224,11 @@ def with_dumps(model, given):
 def optimum_of(model, given, whole):
     """The optimum of a programme with the tonnes of each bench's two kinds of waste in each dump and year as unknowns of their own. If `whole`, a
     bench starts only when all that it waits for is mined."""
-    stated, years, places = Statement(model), model.years, [*given, (LAST.cost, None, np.inf, (True, True))]
+    stated, years, places = (
+        (OfWholeBenches if whole else Statement)(model),
+        model.years,
+        [*given, (LAST.cost, None, np.inf, (True, True))],
+    )
     count, ore = len(model.benches), model.ore
     first, size = stated.size, stated.size + count * 2 * len(places) * years
     table, most = [np.pad(row, (0, size + count * years - stated.size)) for row in stated.rows], list(stated.most)
@@ -386,14 +390,60 @@ def test_rock_that_no_dump_accepts_is_refused_with_its_tonnes(plan_folder):
     """Before anything is scheduled, with rock and domain, the most tonnes first."""
     fresh = NEAR + 'accepts = { rock_type = "FR" }\n'
     path = plan_folder(of_rocks(), PUSHBACKS + THREE_YEARS + fresh)
-    said = r"\[\[dumps\]\] accepts: none of near accepts 400 t of rock type OX, domain 1 of the pushbacks, the first .*b1-0-1"
+    said = r"\[\[dumps\]\] accepts: none of near accepts 400 t of rock type OX, domain 1 of the pit, the first .*b1-0-1"
     with pytest.raises(PlanError, match=said):
         pitplan.write_schedule(path)
 
 
-def test_shells_say_that_they_leave_out_dumps(plan_folder):
-    path = plan_folder(pillars(), PUSHBACKS + BOTH)
-    assert "[[dumps]] apply to schedules of pushbacks" in " ".join(pitplan.Plan.from_project(load(path)).notes)
+def years_of(folder):
+    years = pd.read_csv(folder / "tables/years.csv")
+    return years.query("case == 'best' and revenue_factor == 1.0")
+
+
+def test_waste_of_shells_costs_the_cheapest_dump_that_accepts_it(plan_folder):
+    """The first pillar is a shell of its own. Of the others the waste comes first, 100 t of fresh rock that goes near and 100 t of oxide that goes
+    far, then their ore, which earns 2800 and 2000. Capacities do not hold."""
+    path = plan_folder(of_rocks(), PUSHBACKS + NEAR + 'capacity = 10\naccepts = { rock_type = "FR" }\n' + FAR)
+    shells = pitplan.write_shells(path, writing=UNVERIFIED).set_index("revenue_factor").loc[1.0]
+    assert wrong(path.parent / "plan") == set()
+    cash = [2600 - 100, -400 - 100 - 300, 2400 - 1000 - 200, 2400 - 1000 - 200]
+    assert years_of(path.parent / "plan")["cash_flow"].tolist() == pytest.approx(cash)
+    assert shells["npv_best"] == pytest.approx(present(*cash), abs=1e-3)
+    assert shells["undiscounted_cash_flow"] == 4600
+    kept = path.parent / "plan/project-as-run.toml"
+    kept.write_text(kept.read_text().replace("cost = 3", "cost = 2.5"))
+    assert "years" in wrong(path.parent / "plan")
+
+
+def test_ore_of_shells_that_is_waste_in_its_year_pays_for_its_dump(plan_folder):
+    """Milling 100 t of 0.8 % earns 3200, and costs 1000, or 3400 in the second year. A loss of 200 is less than 300 in the far dump, more than 100 in
+    the near one. Mining costs 200, or 400 in the second year."""
+    table = rows(1, 1, 4, cu=lambda i, j, k: 0.8)
+    dear = "[[periods]]\n[[periods]]\nprocessing_cost_factor = 3.4\nmining_cost_factor = 2\n[[periods]]\n"
+    for dump, cash in ((FAR, [2000, -200 - 400, 2000, 2000]), (NEAR, [2000, -100 - 400, 2000, 2000])):
+        path = plan_folder(table, PROJECT + dump + dear)
+        pitplan.write_shells(path, writing=UNVERIFIED)
+        assert years_of(path.parent / "plan")["cash_flow"].tolist() == pytest.approx(cash)
+        assert wrong(path.parent / "plan") == set()
+
+
+def test_a_sensitivity_changes_the_cost_of_a_dump(plan_folder):
+    """Waste costs 1.5 a tonne. In the worst case its 300 t come first, and then ore that earns 8800 / 3 - 1200 a year; in the best one pillar follows
+    the other, by shells that the sensitivity finds."""
+    asked = '[sensitivity]\nparameters = ["dumps.near.cost", "mining_cost"]\nchanges = [0.5]\n'
+    accepts = "accepts = { s_pct = { max = 1 } }\n"
+    path = plan_folder(of_rocks(), PUSHBACKS.replace("[0.5, 1.0, 1.5]", "[1.0]") + NEAR + accepts + asked)
+    found = pitplan.write_sensitivity(path, writing=UNVERIFIED).set_index("parameter")["npv"]
+    assert wrong(path.parent / "plan/sensitivity") == set()
+    ore = 8800 / 3 - 1200
+    worst, best = present(-400 - 300, ore - 200 - 150, ore, ore), present(2600 - 150, 1400 - 150, 600 - 150)
+    assert found["dumps.near.cost"] == pytest.approx((worst + best) / 2, abs=0.01)
+
+
+def test_rock_of_shells_that_no_dump_accepts_is_refused(plan_folder):
+    path = plan_folder(of_rocks(), PUSHBACKS + NEAR + 'accepts = { rock_type = "FR" }\n')
+    with pytest.raises(PlanError, match=r"none of near accepts 400 t of rock type OX"):
+        pitplan.write_shells(path)
 
 
 def test_blocks_refuse_dumps(plan_folder):

@@ -20,7 +20,7 @@ from helpers.benches import (
     random_benches,
     without_flows,
 )
-from helpers.programmes import integer_optimum, limits, small, statement
+from helpers.programmes import integer_optimum, limits, pace, small, statement
 from helpers.random_tests import examples
 from hypothesis import given, strategies as st
 from scipy.sparse import csr_matrix
@@ -61,11 +61,14 @@ def test_the_bound_digs_parts_of_benches_together():
 
 
 def test_what_does_not_pay_is_left():
-    """Waste that costs 100 over ore that yields 105 pays only if both are dug in one year. The bound digs halves of both in each of two
-    years, but in the first, which the waste fills."""
+    """Waste that costs 100 over ore that yields 105 pays only if both are dug in one year. Where a year takes one of them, the ore comes a year after
+    its waste in the bound too. Where it takes one and a half, the bound digs a half of both in the first year, and the rest in the second.
+    """
     benches = benches_of((1, 0, 100, 0, -100), (1, 1, 100, 100, 105))
     optimum, shares = solved(benches, Limits({"feed_tonnes": 100, "total_tonnes": 100}), 3)
-    assert optimum.value == pytest.approx(2.5 / 1.21 + 2.5 / 1.331) and shares.shape == (2, 0)
+    assert optimum.value == pytest.approx(0, abs=1e-6) and shares.shape == (2, 0)
+    optimum, shares = solved(benches, Limits({"feed_tonnes": 100, "total_tonnes": 150}), 3)
+    assert optimum.value == pytest.approx(2.5 / 1.1 + 2.5 / 1.21) and shares.tolist() == [[1, 0], [0.5, 0.5]]
     optimum, shares = solved(benches, Limits({"feed_tonnes": 100}), 3)
     assert optimum.value == pytest.approx(5 / 1.1) and shares.tolist() == [[1], [1]]
 
@@ -105,7 +108,7 @@ def test_the_bound_is_that_of_another_solver(pit, limits, lag):
     problem = pulp.LpProblem("schedule", pulp.LpMaximize)
     unknown = {key: pulp.LpVariable("x_%d_%d" % key, 0) for key in gain}
     problem += pulp.lpSum(factor * unknown[key] for key, factor in gain.items())
-    for coefficients, most in rows:
+    for coefficients, most in rows + pace(benches, limits, years):
         problem += pulp.lpSum(factor * unknown[key] for key, factor in coefficients.items()) <= most
     problem.solve(solver)
     assert pulp.LpStatus[problem.status] == "Optimal"

@@ -69,7 +69,7 @@ def one_bench(*ore, settings=RULES, mining=0.0):
     best = pays & (rates == rates.max(axis=1, keepdims=True))
     kinds = OreKinds(("recovered_copper",), pays, best, ((0,), (1,)))
     by_process = np.stack([feed[:, None] * rates, feed[:, None] * pays])
-    columns = np.concatenate([[feed.sum(), -mining * feed.sum()], feed, by_process.ravel()])
+    columns = np.concatenate([[feed.sum(), -mining * feed.sum(), 0.0], feed, by_process.ravel()])
     gain = (feed * rates.max(axis=1)).sum() - mining * feed.sum()
     amounts = np.array([feed.sum(), feed.sum(), 0, 0, feed.sum(), gain])
     return Benches((1.0,), NAMES, amounts.reshape(1, 1, -1), kinds, columns.reshape(1, 1, -1)), settings

@@ -12,7 +12,7 @@ NAMES = ("price", "mining_cost", "processing_cost", "selling_cost", "recovery", 
 # Those that may be one metal's alone, as "price copper".
 OF_METALS = ("price", "selling_cost", "recovery")
 # Sections whose keys may be varied by their path, as processes.mill.cost.
-SECTIONS = ("economics", "metals", "processes", "slopes", "shells", "periods", "haulage")
+SECTIONS = ("economics", "metals", "processes", "slopes", "shells", "periods", "haulage", "dumps")
 # Of the pit's rock.
 SKIN = Decimal("0.05")
 # The largest share of the pit's tonnes that a shell adds in a case.

@@ -139,7 +139,7 @@ def net_price(metal: Metal, royalty: Decimal) -> Decimal:
 
 
 def notes(project: Project) -> list[str]:
-    """Returns notes with the yearly prices, period costs and capex of the project, and that shells know no dumps."""
+    """Returns notes with the yearly prices, period costs and capex of the project, and what shells know of dumps."""
     money = of_project(project)
     amounts = " to ".join(f"{amount:,.12g}" for amount in sorted({min(money.fixed_cost), max(money.fixed_cost)}))
     parts = [f"fixed costs of {amounts} {project.economics.currency} a year"] if any(money.fixed_cost) else []
@@ -153,5 +153,7 @@ def notes(project: Project) -> list[str]:
     found = [
         f"{' and '.join(parts)} enter the annual cash flow, the NPV and schedules, but not block values and the choice of shell"
     ]
-    dumps = ["[[dumps]] apply to schedules of pushbacks: NPVs of shells leave out their costs and capacities"]
+    dumps = [
+        "in the annual cash flow of shells waste costs what the cheapest of the [[dumps]] that accept it does, without capacities"
+    ]
     return (found if parts else []) + (dumps if project.dumps else [])

@@ -259,7 +259,7 @@ class Terms:
         flows = np.einsum("rmkp,rkp->rm", by_process, share)
         columns = [rows[:, 0], fed.sum(axis=1), *(fed.T if self.settings.per_process else ()), *flows[:, 1:].T]
         mining = [-rows[:, 1]] if MINING_COST in self.names else []
-        found = np.column_stack([*columns, *mining, rows[:, 1] + flows[:, 0]])
+        found = np.column_stack([*columns, *mining, rows[:, 1] + rows[:, 2] + flows[:, 0]])
         ends = np.cumsum([len(it.amounts) for it in pits])[:-1]
         return [Years(it.end, amounts) for it, amounts in zip(pits, np.split(found, ends))]
 

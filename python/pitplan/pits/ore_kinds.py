@@ -16,7 +16,11 @@ from pitplan.config.shells import ShellRules
 from pitplan.economics.value_bins import BINS, edges_of
 from pitplan.plan import MILLION, Plan
 
+from . import dump_costs
+
 Floats = NDArray[np.float64]
+# The columns before those by kind.
+HEAD = 3
 Mask = NDArray[np.bool_]
 # Of more processes than these the mine waits for each one alone or for all.
 MOST_WAITING = 3
@@ -42,7 +46,7 @@ class Wait:
 
 @dataclass(frozen=True)
 class OreKinds:
-    """Columns of amounts by kind of ore: total_tonnes and the cash flow of mining, feed by kind, and by kind and process the gain, which is revenue
+    """Columns of amounts by kind of ore: total_tonnes, the cash flow of mining and that of dumps if all is waste, feed by kind, and by kind and process the gain, which is revenue
     less processing cost, each recovered metal, and each cost that factors of periods multiply.
 
     Attributes
@@ -71,16 +75,16 @@ class OreKinds:
     @property
     def width(self) -> int:
         """The number of columns."""
-        return 2 + self.kinds * (1 + self.processes * (1 + len(self.names)))
+        return HEAD + self.kinds * (1 + self.processes * (1 + len(self.names)))
 
     def feed(self, amounts: Floats) -> Floats:
         """Returns the feed, shape (.., kinds)."""
-        return amounts[..., 2 : 2 + self.kinds]
+        return amounts[..., HEAD : HEAD + self.kinds]
 
     def by_process(self, amounts: Floats) -> Floats:
         """Returns gain and metals, shape (.., 1 + names, kinds, processes)."""
         shape = (*amounts.shape[:-1], 1 + len(self.names), self.kinds, self.processes)
-        return amounts[..., 2 + self.kinds :].reshape(shape)
+        return amounts[..., HEAD + self.kinds :].reshape(shape)
 
     def waits(self, settings: ShellRules) -> list[Wait]:
         """Returns, for each set of processes that the mine may wait for, what a unit of each column uses of the capacities.
@@ -107,7 +111,7 @@ class OreKinds:
         for taken in unions(masks):
             inside = masks.any(axis=1) & ~(masks & ~taken).any(axis=1)
             column, capacity = np.zeros(self.width), np.array(settings.capacities)[taken].sum()
-            column[2 : 2 + self.kinds] = inside / capacity
+            column[HEAD : HEAD + self.kinds] = inside / capacity
             uses.append(column)
             shares.append(by_year[:, taken].sum(axis=1) / capacity)
         return with_mining(np.column_stack(uses), np.column_stack(shares), settings)
@@ -144,7 +148,8 @@ class OreCells:
 
 
 def by_piece(plan: Plan, ore: OreCells, count: int) -> tuple[OreKinds, Floats]:
-    """Returns the kinds of ore, and its columns summed over `count` pieces, shape (pieces, width - 2)."""
+    """Returns the kinds of ore, and its columns summed over `count` pieces, without those of all material. What ore does not cost in a dump is part
+    of its gain."""
     kinds, kind = kinds_of(plan, ore.cells)
     place, size = ore.piece * kinds.kinds + kind, count * kinds.kinds
 
@@ -153,7 +158,7 @@ def by_piece(plan: Plan, ore: OreCells, count: int) -> tuple[OreKinds, Floats]:
 
     ways = plan.values.by_process
     amounts = [
-        gains_of(plan, ore.cells),
+        gains_of(plan, ore.cells) + dump_costs.of_cells(plan, ore.cells),
         *(np.stack([way.metal[name][ore.cells] for way in ways]) for name in plan.values.metal),
         *(costs[:, ore.cells] for costs in plan.multiplied_costs.values()),
     ]

@@ -20,7 +20,7 @@ from pitplan.errors import PlanError
 from pitplan.plan import MILLION, Plan
 from pitplan.solver.program import Solution
 
-from . import best_worst_case, ore_kinds
+from . import best_worst_case, dump_costs, ore_kinds
 from .best_worst_case import Benches
 from .ore_kinds import OreCells
 
@@ -200,7 +200,7 @@ def years(plan: Plan, solution: Solution, more: Optional[np.ndarray] = None) -> 
 
 
 def benches_of(plan: Plan, cells: Cells, more: Optional[np.ndarray] = None) -> Benches:
-    """Sums by shell and bench for the years, `more` as for `shells`. Raises PlanError if there are too many years."""
+    """Sums by shell and bench for the years, `more` as for `shells`. Raises PlanError if there are too many years, or no dump accepts some rock."""
     factors, levels = plan.project.shells.revenue_factors, plan.grid.shape[0]
     inside = np.flatnonzero(cells.factor > 0)
     _, _, level = plan.grid.indices(inside)
@@ -212,13 +212,14 @@ def benches_of(plan: Plan, cells: Cells, more: Optional[np.ndarray] = None) -> B
     flows |= {name: costs[inside] for name, costs in costs_of_ore(plan, cells).items()}
     added = np.zeros(len(inside)) if more is None else more[inside]
     flows[MINING_COST] = plan.values.mining[inside] / MILLION + added
-    flows["cash_flow"] = cells.worth[inside] - added
+    dumped = dump_costs.of_cells(plan, inside)
+    flows["cash_flow"] = cells.worth[inside] - added - np.where(ore, 0.0, dumped)
     count = len(factors) * levels
     sums = np.column_stack([np.bincount(piece, flow, minlength=count) for flow in flows.values()])
     benches = Benches(factors, tuple(flows), sums.reshape(len(factors), levels, len(flows)))
     if has_choice(plan):
         kinds, of_ore = ore_kinds.by_piece(plan, OreCells(inside[ore], piece[ore]), count)
-        columns = np.column_stack([sums[:, 0], -sums[:, -2], of_ore])
+        columns = np.column_stack([sums[:, 0], -sums[:, -2], -np.bincount(piece, dumped, minlength=count), of_ore])
         benches = replace(benches, kinds=kinds, by_kind=columns.reshape(len(factors), levels, -1))
     best_worst_case.demand_few_years(benches, plan.project)
     return benches

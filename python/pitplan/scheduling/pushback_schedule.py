@@ -276,7 +276,9 @@ def relaxed(schedule: YearlySchedule, progress: Progress) -> YearlySchedule:
         try:
             optimum = programme.solved()
         except PlanError as error:
-            lacking = Conflict(programme).message() if model.asks_least else ""
+            # Rows of whole benches have no names, so that limits alone are asked first.
+            asked = (Conflict(replace(programme, paced=False)), Conflict(programme)) if model.asks_least else ()
+            lacking = next(filter(None, (it.message() for it in asked)), "")
             raise PlanError(f"{schedule.pushbacks.plan.project.path}: {lacking}") from error if lacking else error
         upper, before = bound.upper_bound(model, schedule.material.blocks, optimum.prices), schedule.upper_bound
     found = replace(schedule, optimum=optimum)

@@ -9,7 +9,7 @@ import numpy as np
 
 from planaudit.inputs.answer import Answer
 from planaudit.inputs.project import MOST_YEARS, Project
-from planaudit.money import ore_costs
+from planaudit.money import dump_costs, ore_costs
 from planaudit.money.period_costs import differing, mining_factors, premiums
 from planaudit.money.yearly_flows import Amounts, money_of, parts_of, shares_of
 from planaudit.pits.capacities import Capacity, Wait, capacities, capacities_by_year, mining_by_year
@@ -37,8 +37,8 @@ class Benches:
         total_tonnes, feed, metals and cash flow of ore in its best process.
     gross : array, shape (benches,)
         Absolute cash flow, which sets the error of sums.
-    mining : array, shape (benches,)
-        Cash flow of mining alone.
+    mining, dumping : array, shape (benches,)
+        Cash flow of mining alone, and of dumps if all is waste.
     kinds : Kinds, optional
         The ore by kind, if it may go elsewhere than to its best process.
     """
@@ -49,6 +49,7 @@ class Benches:
     amounts: Amounts
     gross: np.ndarray
     mining: np.ndarray
+    dumping: np.ndarray
     kinds: Kinds | None
 
     @staticmethod
@@ -62,15 +63,17 @@ class Benches:
         columns |= {f"recovered_{name}": np.where(answer.ore, metal, 0.0) for name, metal in answer.quantities.items()}
         columns |= ore_costs.at_best(answer)
         gain = np.where(answer.ore, (answer.said["revenue"] - answer.said["processing_cost"]).to_numpy(), 0.0)
-        columns |= {"cash_flow": cash, "gross": np.abs(cash), "mining": cash - gain}
+        dumped = dump_costs.as_waste(answer)
+        columns |= {"gross": np.abs(cash) + dumped, "mining": cash - gain, "dumping": -dumped}
+        columns["cash_flow"] = cash - np.where(answer.ore, 0.0, dumped)
         sums = {name: np.bincount(piece, column[rows]) for name, column in columns.items()}
-        gross, mining = sums.pop("gross"), sums.pop("mining")
+        gross, mining, dumping = (sums.pop(name) for name in ("gross", "mining", "dumping"))
         kinds = None
         if has_choice(answer.project):
             is_ore = answer.ore[rows]
             kinds = Ore(answer, rows[is_ore]).sums(piece[is_ore], len(there))
         levels = answer.shape[0]
-        return Benches(answer, factors[there // levels], there % levels, sums, gross, mining, kinds)
+        return Benches(answer, factors[there // levels], there % levels, sums, gross, mining, dumping, kinds)
 
     @cached_property
     def waits(self) -> list[Wait]:
@@ -199,4 +202,4 @@ def processed(benches: Benches, ore: Kinds, shares: np.ndarray, year: np.ndarray
     found |= {f"feed_tonnes_{process.name}": fed[:, number] for number, process in enumerate(project.processes)}
     found |= {name: sums[:, number + 1] for number, name in enumerate(names)}
     factors = mining_factors(project, int(year.max()))[year - 1]
-    return {**found, "cash_flow": factors * (shares @ benches.mining) + sums[:, 0]}
+    return {**found, "cash_flow": factors * (shares @ benches.mining) + shares @ benches.dumping + sums[:, 0]}

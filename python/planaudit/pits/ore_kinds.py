@@ -16,7 +16,7 @@ from scipy.sparse import coo_matrix, vstack
 
 from planaudit.inputs.answer import Answer
 from planaudit.inputs.project import GRADE_UNITS, Project
-from planaudit.money import ore_costs
+from planaudit.money import dump_costs, ore_costs
 from planaudit.money.feed import recovered
 from planaudit.money.period_costs import premiums, years_of_prices
 from planaudit.pits.capacities import Capacity
@@ -118,7 +118,8 @@ class Ore:
         def summed(amounts: np.ndarray) -> np.ndarray:
             return np.bincount(place, amounts, minlength=count * len(kinds)).reshape(count, len(kinds))
 
-        amounts = np.concatenate([self.gain[None] / MILLIONTHS, self.metal])
+        saved = dump_costs.as_waste(self.answer)[self.rows]
+        amounts = np.concatenate([self.gain[None] / MILLIONTHS + saved, self.metal])
         by_process = np.array([[summed(row) for row in rows] for rows in amounts])
         same = [[int(np.array_equal(one, other)) for other in self.gain] for one in self.gain]
         return Kinds(
@@ -142,7 +143,7 @@ class Kinds:
     feed : array, shape (pieces, kinds)
         In tonnes.
     amounts : array, shape (pieces, 1 + amounts, kinds, processes)
-        Revenue less processing cost, recovered metals, and costs that periods multiply, if all of the kind goes to the process.
+        Revenue less processing cost with what ore saves that goes to no dump, recovered metals, and costs that periods multiply, if all of the kind goes to the process.
     """
 
     pays: np.ndarray

@@ -37,6 +37,8 @@ HOLDS = (
     "wherever each block goes"
 )
 CENT, HAIR, SLIGHT = 0.01, 1e-9, 1e-7
+# Over so many years limits of mining are compared.
+SPAN = 3
 # A limit by year.
 Limits = dict[tuple[str, str], np.ndarray]
 
@@ -266,6 +268,29 @@ class Bound:
             found = np.minimum(found, left_over(np.ones(len(self.benches)), above, sunk))
         return found
 
+    @cached_property
+    def pace(self) -> list[tuple[int, int, int, int]]:
+        """A bench and a year, and a bench above it in its pushback, or itself, that is mined at least as far by an earlier year: from the first share of this
+        to that of the other the limits of mining let no more be mined in between."""
+        calendar, rules = self.answer.project.shells.calendar, self.answer.project.schedule
+        limits: list[tuple[np.ndarray, np.ndarray]] = [
+            (np.bincount(self.bench_of, self.blocks.of_mining(name), minlength=len(self.benches)), most)
+            for name, (_, most) in self.given.items()
+            if not self.is_of_ore(name)
+        ]
+        if rules and rules.vertical_advance_rate:
+            limits.append(
+                (np.ones(len(self.benches)), float(rules.vertical_advance_rate) * calendar.lengths(self.years))
+            )
+        found = []
+        for _, mine in self.benches.groupby("pushback").groups.items():
+            for amounts, most in limits:
+                found += [
+                    (mine[low], year, mine[high], earlier)
+                    for low, year, high, earlier in steps_of(amounts[mine], most, self.years)
+                ]
+        return found
+
     def is_of_ore(self, name: str) -> bool:
         return any(self.blocks.of_process(name, number).any() for number in range(len(self.blocks.processes)))
 
@@ -298,6 +323,9 @@ class Bound:
         at = np.arange(count * years).reshape(count, years)
         less = [at[:, :-1].ravel(), *(at[bench] for bench, _ in self.needs)]
         more = [at[:, 1:].ravel(), *(at[other] for _, other in self.needs)]
+        for bench, year, other, earlier in self.pace:
+            less.append(at[bench, year : year + 1])
+            more.append(at[other, earlier : earlier + 1])
         pairs = np.stack([np.concatenate(less), np.concatenate(more)])
         rows = np.arange(pairs.shape[1])
         signs = np.repeat([1.0, -1.0], pairs.shape[1])
@@ -323,6 +351,26 @@ class Bound:
         """The bound; without a minimum to mine nothing earns 0."""
         found = self.of_limits + self.of_running + self.of_benches + self.of_opening
         return found if self.asks_least else max(found, 0.0)
+
+
+def steps_of(takes: np.ndarray, most: np.ndarray, years: int) -> Iterator[tuple[int, int, int, int]]:
+    """Yields for the benches of a pushback, from the top, a bench and a year, and the lowest bench above it that keeps ahead, with an earlier year.
+
+    If x of the lower one is mined, at least what lies above that less what the years between allow was mined before. The same x of the upper one
+    was, if no more than the limit lies between both at x = 0 and at x = 1.
+    """
+    deep = np.append(0.0, np.cumsum(takes))
+    for year in range(1, years):
+        for earlier in range(max(0, year - SPAN), year):
+            allowed = float(most[earlier + 1 : year + 1].sum())
+            if not np.isfinite(allowed):
+                continue
+            least = allowed - HAIR * max(allowed, 1.0)
+            for low in range(len(takes)):
+                first, last = deep[low] - deep[: low + 1], deep[low + 1] - deep[1 : low + 2]
+                ahead = np.flatnonzero((first >= least) & (last >= least) & (takes[: low + 1] > 0))
+                if len(ahead):
+                    yield low, year, int(ahead[-1]), earlier
 
 
 def left_over(takes: np.ndarray, before: np.ndarray, most: np.ndarray) -> np.ndarray:

@@ -153,8 +153,11 @@ def with_costs_of_ore(model: FlowModel, processing: Sequence[float], selling: Se
 class Statement:
     """The programme by what is mined, fed, stocked and reclaimed in each year: gains, and rows of at most.
 
-    Factors are those of the mining cost by year, and `ore_costs` those of processing and selling; the last one continues.
+    Factors are those of the mining cost by year, and `ore_costs` those of processing and selling; the last one continues. Rows of the pace follow from
+    whole benches, so that a programme of these does without.
     """
+
+    paced = True
 
     def __init__(self, model: FlowModel, factors: Sequence[float] = (1.0,), ore_costs: OreCosts = PLAIN_COSTS) -> None:
         self.model, self.factors, ore, piles = model, factors, model.ore, len(model.stockpiles)
@@ -281,6 +284,7 @@ class Statement:
         model = self.model
         limits, benches = model.problem.limits, model.benches
         rock = limits.most.get("total_tonnes", np.inf)
+        self.state_pace() if self.paced else None
         for bench, others in enumerate(self.before()):
             for year in range(model.years):
                 done = {self.dug(bench, t): 1.0 for t in range(year + 1)}
@@ -295,6 +299,25 @@ class Statement:
                     self.add(max(0.0, (rock * (year + 1) - own[others].sum()) / own[bench]), done)
                 if np.isfinite(limits.vertical_advance_rate):
                     self.add(max(0.0, limits.vertical_advance_rate * (year + 1) - len(above)), done)
+
+    def state_pace(self) -> None:
+        """In a pushback, whose benches are mined one after the other, a share x of a bench by a year follows the same share of a bench above, some
+        years before: from there to here lies as much as the limits of mining allow in between, for x = 0 and for x = 1.
+        """
+        limits, benches = self.model.problem.limits, self.model.benches
+        rates = [(np.ones(len(benches)), limits.vertical_advance_rate)]
+        rates.append((benches.of("total_tonnes"), limits.most.get("total_tonnes", np.inf)))
+        for takes, rate in [it for it in rates if np.isfinite(it[1])]:
+            for low, high in ((low, high) for low in range(len(benches)) for high in range(low)):
+                if benches.pushback[low] != benches.pushback[high]:
+                    continue
+                from_top, from_floor = takes[high:low].sum(), takes[high + 1 : low + 1].sum()
+                for span in (it for it in (1, 2, 3) if min(from_top, from_floor) >= it * rate - 1e-9):
+                    for year in range(span, self.model.years):
+                        terms = {self.dug(low, t): 1.0 for t in range(year + 1)}
+                        for t in range(year - span + 1):
+                            terms[self.dug(high, t)] = -1.0
+                        self.add(0.0, terms)
 
     @property
     def gain(self) -> np.ndarray:
@@ -335,6 +358,12 @@ class Statement:
         return found
 
 
+class OfWholeBenches(Statement):
+    """The same without the rows that follow from whole benches."""
+
+    paced = False
+
+
 def linear_optimum(model: FlowModel, factors: Sequence[float] = (1.0,), ore_costs: OreCosts = PLAIN_COSTS) -> float:
     """The optimum of the linear programme."""
     stated = Statement(model, factors, ore_costs)
@@ -346,7 +375,7 @@ def linear_optimum(model: FlowModel, factors: Sequence[float] = (1.0,), ore_cost
 
 def complete_optimum(model: FlowModel, factors: Sequence[float] = (1.0,), ore_costs: OreCosts = PLAIN_COSTS) -> float:
     """The optimum where a bench starts only once all that it waits for is mined: whole unknowns say by which year it may start."""
-    stated, years, count = Statement(model, factors, ore_costs), model.years, len(model.benches)
+    stated, years, count = OfWholeBenches(model, factors, ore_costs), model.years, len(model.benches)
     size, rows, most = stated.size, [], []
 
     def add(right: float, terms: dict[int, float]) -> None:

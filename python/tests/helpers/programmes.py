@@ -78,6 +78,30 @@ def statement(benches, limits, years):
     return gain, rows, before
 
 
+def pace(benches, limits, years):
+    """Further rows, which schedules of whole benches keep, since the benches of a pushback are dug one after the other: a share x of a bench by a
+    year follows the same share of one above it, if between both, at x = 0 and at x = 1, lies as much as the limits let be dug since.
+    """
+    rows = []
+    for low, high in ((low, high) for low in range(len(benches)) for high in range(low)):
+        if benches.pushback[low] != benches.pushback[high]:
+            continue
+        takes = {name: benches.of(name) for name in limits.most} | {"benches": np.ones(len(benches))}
+        for first, last in ((first, last) for last in range(years) for first in range(max(0, last - 3), last)):
+            ramp_up = [limits.ramp_up[min(year, len(limits.ramp_up) - 1)] for year in range(first + 1, last + 1)]
+            most = {name: amount * (last - first) for name, amount in limits.most.items()}
+            most |= {"benches": limits.vertical_advance_rate * (last - first)}
+            most |= {"feed_tonnes": limits.most["feed_tonnes"] * sum(ramp_up)} if "feed_tonnes" in most else {}
+            if any(
+                takes[name][high] > 0
+                and min(takes[name][high:low].sum(), takes[name][high + 1 : low + 1].sum()) >= amount - 1e-9
+                for name, amount in most.items()
+            ):
+                ahead = {(high, t): -1.0 for t in range(first + 1)}
+                rows.append(({(low, t): 1.0 for t in range(last + 1)} | ahead, 0.0))
+    return rows
+
+
 def integer_optimum(benches, limits, years):
     """The most that a schedule earns that can be dug: whole unknowns say whether a bench may be begun."""
     gain, rows, before = statement(benches, limits, years)

@@ -15,12 +15,13 @@ from functools import cached_property
 import numpy as np
 from numpy.typing import NDArray
 from scipy.optimize import linprog
+from scipy.sparse import vstack
 
 from .limit_names import ADVANCE, MAX, MIN, RUNNING, STOCK, Prices
 from .model import FlowModel
 from .ore import FEED, Ore
 from .programme import FlowProgramme
-from .rows import by_end, order_rows
+from .rows import by_end, order_rows, pace_rows
 
 
 @dataclass(frozen=True)
@@ -120,10 +121,13 @@ class Lagrangian:
 
     @property
     def of_benches(self) -> float:
-        """The greatest value of benches mined in order, each by each year no further than the limits of mining alone allow."""
+        """The greatest value of benches mined in order, each by each year no further, and no faster, than the limits of mining alone allow."""
         gain = by_end(self.earned).ravel()
         unit = float(np.abs(gain).max(initial=0.0)) or 1.0
-        matrix, most = order_rows(self.model.benches, self.model.years)
+        benches, years = self.model.benches, self.model.years
+        matrix, _ = order_rows(benches, years)
+        matrix = vstack([matrix, pace_rows(benches, self.model.of_mining, years)], format="csr")
+        most = np.zeros(matrix.shape[0])
         bounds = np.column_stack([np.zeros(len(gain)), self.programme.reachable.ravel()])
         found = linprog(-gain / unit, A_ub=matrix, b_ub=most, bounds=bounds, method="highs-ds")
         return -float(found.fun) * unit

@@ -24,7 +24,7 @@ from pitplan.scheduling.highs_process import solve
 
 from .limit_names import ADVANCE, DUMP, DUMPED, MAX, MIN, RUNNING, STOCK, Prices
 from .model import FlowModel
-from .rows import by_end, furthest, order_rows
+from .rows import by_end, furthest, order_rows, pace_rows
 
 # The limits that do not show whether the mine runs in a year.
 OF_PLACES = (STOCK, DUMP, DUMPED)
@@ -111,10 +111,12 @@ class FlowOptimum:
 
 @dataclass(frozen=True)
 class FlowProgramme:
-    """The programme of a model; with `dug`, shape (benches, years), of what is mined already, so that only its flows are chosen."""
+    """The programme of a model; with `dug`, shape (benches, years), of what is mined already, so that only its flows are chosen. Without `paced` it
+    has no rows that only schedules of whole benches must keep."""
 
     model: FlowModel
     dug: Optional[NDArray[np.float64]] = None
+    paced: bool = True
 
     @property
     def years(self) -> int:
@@ -301,7 +303,9 @@ class FlowProgramme:
 
     def order_rows(self) -> tuple[csr_matrix, NDArray[np.float64]]:
         matrix, most = order_rows(self.model.benches, self.years)
-        return self.row(matrix, None, None, None, None), most
+        paced = pace_rows(self.model.benches, self.model.of_mining, self.years) if self.paced else matrix[:0]
+        rows = vstack([matrix, paced], format="csr")
+        return self.row(rows, None, None, None, None), np.append(most, np.zeros(paced.shape[0]))
 
     @cached_property
     def reachable(self) -> NDArray[np.float64]:

@@ -10,6 +10,9 @@ from scipy.sparse import coo_matrix, csr_matrix
 from pitplan.pushbacks.bench_table import PushbackBenches
 from pitplan.scheduling.bench_sequencing import HAIR, Limits
 
+# Over so many years a limit of mining keeps a bench behind another one.
+SPAN = 3
+
 
 def by_end(worths: NDArray[np.float64]) -> NDArray[np.float64]:
     """Returns, from what is earned where something is done in each year, by the last axis, what is earned by what is done by the year's end:
@@ -27,6 +30,69 @@ def order_rows(benches: PushbackBenches, years: int) -> tuple[csr_matrix, NDArra
     signs = np.repeat([1.0, -1.0], len(less))
     matrix = coo_matrix((signs, (np.tile(row, 2), np.concatenate([less, more]))), shape=(len(less), place.size))
     return matrix.tocsr(), np.zeros(len(less))
+
+
+def pace_rows(benches: PushbackBenches, limits: Limits, years: int) -> csr_matrix:
+    """Returns the rows by which a bench is mined no further by the end of a year than one above it in its pushback was some years before.
+
+    The benches of a pushback are mined one after the other. So if by the end of a year a share x of bench k is mined, the limits of mining let no
+    more be mined since than what lies between the share x of a bench j above it and that of k, if that is at least what they allow in these years.
+    Each schedule of whole benches keeps these rows, and the linear programme, which starts benches before others are through, gains less. As they
+    compare two shares, as those of the order do, a Lagrangian relaxation still has whole benches.
+    """
+    takes, most = limits.amounts(benches), limits.of_years(years)
+    limited = [(takes[:, number], most[:, number]) for number in range(takes.shape[1])]
+    limited.append((np.ones(len(benches)), limits.sinking(years)))
+    place = np.arange(len(benches) * years).reshape(len(benches), years)
+    pairs = [np.zeros((2, 0), dtype=np.int64)]
+    for pushback in np.unique(benches.pushback):
+        mine = np.flatnonzero(benches.pushback == pushback)
+        for amounts, of_years in limited:
+            for (first, last), above in kept_behind(amounts[mine], of_years).items():
+                some = np.flatnonzero(above >= 0)
+                pairs.append(np.stack([place[mine[some], last], place[mine[above[some]], first]]))
+    less, more = np.unique(np.concatenate(pairs, axis=1), axis=1)
+    row = np.arange(len(less))
+    signs = np.repeat([1.0, -1.0], len(less))
+    return coo_matrix((signs, (np.tile(row, 2), np.concatenate([less, more]))), shape=(len(less), place.size)).tocsr()
+
+
+def kept_behind(amounts: NDArray[np.float64], most: NDArray[np.float64]) -> dict[tuple[int, int], NDArray[np.int64]]:
+    """Returns, by two years, for each bench of a pushback the lowest one above it that is mined as far by the first as it is by the second; -1 if
+    there is none, or if that follows from years between them.
+
+    Parameters
+    ----------
+    amounts : array, shape (benches,)
+        What each bench, from the top, takes of a limit.
+    most : array, shape (years,)
+        The limit, infinite without one.
+    """
+    until, found = amounts.cumsum(), dict[tuple[int, int], NDArray[np.int64]]()
+    before, lowest = until - amounts, np.arange(len(amounts))
+    # What takes nothing of the limit is not held by it.
+    held = np.maximum.accumulate(np.where(amounts > 0, lowest, -1))
+    for span in range(1, min(SPAN, len(most) - 1) + 1):
+        for last in range(span, len(most)):
+            allowed = most[last - span + 1 : last + 1].sum()
+            if not np.isfinite(allowed):
+                continue
+            loose = HAIR * max(allowed, 1.0)
+            above = np.minimum(
+                np.searchsorted(before, before - allowed + loose, side="right"),
+                np.searchsorted(until, until - allowed + loose, side="right"),
+            )
+            found[last - span, last] = np.append(held, -1)[above - 1]
+    return {years: np.where(implied(found, years) == above, -1, above) for years, above in found.items()}
+
+
+def implied(found: dict[tuple[int, int], NDArray[np.int64]], years: tuple[int, int]) -> NDArray[np.int64]:
+    """Returns the bench that a step of a year, and one over the rest, lead to; -2 if there are none."""
+    first, last = years
+    step, rest = found.get((last - 1, last)), found.get((first, last - 1))
+    if first == last - 1 or step is None or rest is None:
+        return np.full(len(found[years]), -2)
+    return np.where(step >= 0, rest[step], -2)
 
 
 def started_rows(benches: PushbackBenches, years: int) -> csr_matrix:
