@@ -46,6 +46,7 @@ def test_value_and_bound_are_as_worked_out_by_hand(plan_folder):
     assert any(
         note.startswith("proved by pitschedule: the schedule keeps all precedences and limits") for note in notes
     )
+    assert "Proved by pitschedule: the schedule keeps" in (folder / "report.html").read_text()
     assert lines(folder, "problem", "DISCOUNTS") == [[0.909091, 0.826446, 0.751315]]
     assert sorted(share for *_, share in lines(folder, "shares", "SHARE"))[:2] == [0.222222, 0.777778]
 

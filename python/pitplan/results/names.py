@@ -2,7 +2,7 @@
 
 from __future__ import annotations
 
-from pitplan.core.layout import CERTIFICATE, FIGURES, TABLES
+from pitplan.core.layout import CERTIFIED, CERTIFIED_BLOCKS, FIGURES, TABLES
 
 RECORD = "plan.json"
 TABLE, SHELLS, YEARS = f"{TABLES}/blocks.csv", f"{TABLES}/shells.csv", f"{TABLES}/years.csv"
@@ -16,13 +16,6 @@ PRICE_PATHS, PRICE_QUANTILES = f"{TABLES}/price_paths.csv", f"{TABLES}/price_pat
 BOUND, LIMITS, CUTOFFS = f"{TABLES}/bound.csv", f"{TABLES}/limits.csv", f"{TABLES}/cutoffs.csv"
 WORKBOOK = f"{TABLES}/schedule.xlsx"
 SCHEDULE_RECORD, BLOCK_SCHEDULE = "schedule.json", "block_schedule.json"
-# The texts that `pitschedule` checks, by its options.
-CERTIFIED = {
-    kind: f"{CERTIFICATE}/schedule.{ending}"
-    for kind, ending in (("problem", "problem"), ("prec", "prec"), ("schedule", "shares"), ("prices", "prices"))
-}
-# The `id` of each of their blocks, and all files of a certificate.
-CERTIFIED_BLOCKS = f"{CERTIFICATE}/schedule.blocks"
 OF_CERTIFICATE = (*CERTIFIED.values(), CERTIFIED_BLOCKS)
 REPORT, VIEW = "report.html", "view.html"
 SENSITIVITY, SENSITIVITY_RECORD = f"{TABLES}/sensitivity.csv", "sensitivity.json"

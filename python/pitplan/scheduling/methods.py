@@ -15,3 +15,5 @@ NAMES = {
     "relaxed": "linear relaxation",
     "upper_bound": "upper bound, these pushbacks",
 }
+# How the note begins that says what is proved of a schedule.
+PROVED = "proved by pitschedule: "

@@ -12,7 +12,7 @@ from numpy.typing import NDArray
 
 from pitplan.core import layout
 from pitplan.errors import PlanError, ProgramError
-from pitplan.results import names
+from pitplan.scheduling.methods import PROVED
 
 from .problem import BlockProblem, Limit, Needs
 from .schedule import BlockSchedule
@@ -79,7 +79,7 @@ class Certified:
         if self.value is None or self.bound is None:
             return "the certificate of the schedule is not checked: pitschedule is not installed"
         return (
-            f"proved by pitschedule: the schedule keeps all precedences and limits, and is worth {self.value:,.2f}; no schedule within them is worth "
+            f"{PROVED}the schedule keeps all precedences and limits, and is worth {self.value:,.2f}; no schedule within them is worth "
             f"more than {self.bound:,.2f}. Block values and limits are as in the folder certificate; they are verified, not proved"
         )
 
@@ -270,16 +270,16 @@ def write(certificate: Certificate, ids: NDArray[np.int64], stage: Path) -> None
         "prices": prices_text(certificate),
     }
     (stage / layout.CERTIFICATE).mkdir(parents=True, exist_ok=True)
-    for kind, name in names.CERTIFIED.items():
+    for kind, name in layout.CERTIFIED.items():
         (stage / name).write_text(texts[kind], encoding="ascii")
-    (stage / names.CERTIFIED_BLOCKS).write_text("".join(f"{number}\n" for number in ids.tolist()), encoding="ascii")
+    (stage / layout.CERTIFIED_BLOCKS).write_text("".join(f"{number}\n" for number in ids.tolist()), encoding="ascii")
 
 
 def checked(stage: Path, program: Optional[Path]) -> Certified:
     """Returns what the program proves of the texts in a folder. Raises ProgramError if they are no schedule."""
     if program is None:
         return Certified(None, None)
-    words = [word for kind, name in names.CERTIFIED.items() for word in (f"--{kind}", str(stage / name))]
+    words = [word for kind, name in layout.CERTIFIED.items() for word in (f"--{kind}", str(stage / name))]
     ran = subprocess.run([str(program), "check", *words], capture_output=True, text=True)
     lines = ran.stdout.splitlines()
     if ran.returncode != 0 or len(lines) != 3 or lines[0] != "SCHEDULE":
