@@ -110,7 +110,8 @@ def finish(figure: Figure, path: Path) -> None:
         engine.execute(figure)
         figure.set_layout_engine("none")
     # Without version and date in the metadata the same plan gives the same bytes.
-    figure.savefig(path, metadata={"Software": None})
+    # At the usual level of zlib a tenth of the bytes costs a third of the time.
+    figure.savefig(path, metadata={"Software": None}, pil_kwargs={"compress_level": 3})
     with matplotlib.rc_context({"svg.hashsalt": "pitplan"}):
         for name in ALSO.get():
             figure.savefig(path.with_suffix(f".{name}"), metadata=UNDATED[name])
