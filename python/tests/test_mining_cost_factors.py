@@ -18,7 +18,7 @@ from helpers.flows import (
 from helpers.periods import column, entries, periods, solved
 from helpers.pushbacks import PUSHBACKS, pillars
 from helpers.random_tests import examples
-from helpers.verified import UNVERIFIED, wrong
+from helpers.verified import UNVERIFIED, schedule_folder, wrong
 from hypothesis import given, strategies as st
 
 import pitplan
@@ -40,13 +40,7 @@ BY_HAND = 2600 / 1.1 + (1400 - 400) / 1.21 + 600 / 1.331
 def scheduled(plan_folder):
     """Schedules the pushbacks of a project, demands that its folder is right, and gives it."""
 
-    def made(words, text=PUSHBACKS):
-        path = plan_folder(pillars(), text + words)
-        pitplan.write_schedule(path, writing=UNVERIFIED)
-        assert wrong(path.parent / "plan/schedule") == set()
-        return path.parent / "plan/schedule"
-
-    return made
+    return lambda words, text=PUSHBACKS: schedule_folder(plan_folder(pillars(), text + words))
 
 
 def table(folder, name):

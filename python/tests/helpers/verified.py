@@ -5,7 +5,7 @@ import os
 
 from conftest import PROJECT, rows
 
-from pitplan import Writing, verify
+from pitplan import Writing, verify, write_schedule
 from pitplan.commands.answers import Answered, write_tables
 from pitplan.core.layout import FOLDERS, SOLVER
 from pitplan.solver import mine_files
@@ -62,3 +62,11 @@ def ore_everywhere():
     """Forty-two blocks on two levels, all of which pay, at coordinates of seven digits."""
     table = rows(7, 3, 2, cu=lambda i, j, k: 6)
     return table.assign(x=table["x"] + 600_000, y=table["y"] + 6_512_000)
+
+
+def schedule_folder(path):
+    """Schedules the pushbacks of a project, demands that its folder is right, and gives it."""
+    folder = path.parent / "plan/schedule"
+    write_schedule(path, writing=UNVERIFIED)
+    assert wrong(folder) == set()
+    return folder
