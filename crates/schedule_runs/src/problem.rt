@@ -4,7 +4,7 @@ ghost use Rattle.pit_model.specs.Graph.{AreSamePairs};
 ghost use Rattle.pit_model.specs.Size.{most_blocks};
 ghost use Rattle.minelib_reader.specs.PrecGrammar.{SpellsPrec};
 ghost use Rattle.schedule_runs.specs.ProblemRead.{AreTerms, SpellsProblem};
-ghost use Rattle.schedule_runs.specs.Refusals.{RefusesArcs};
+ghost use Rattle.schedule_runs.specs.Refusals.{IsMemoryOrBeyond, RefusesArcs, RefusesProblem};
 ghost use Rattle.schedule_texts.specs.ProblemText.{lists};
 
 use crate::refused::Refused;
@@ -32,7 +32,8 @@ fn read_graph(alloc: Global, n: u32, text: &[u8]) -> Result<Graph, Fault>
 fn terms_of(alloc: Global, read: &Lists) -> Result<Vec<Term>, Refused>
     requires values { length read.now.values.items ≡ read.now.counts.values * 3 }
     requires uses { length read.now.uses.items ≡ read.now.counts.uses * 4 }
-    ensures { IfOk result (λ v. AreTerms (lists read.now.counts read.now.discounts.items read.now.capacities.items read.now.values.items read.now.uses.items read.now.amounts.items) v.items) }
+    ensures terms { IfOk result (λ v. AreTerms (lists read.now.counts read.now.discounts.items read.now.capacities.items read.now.values.items read.now.uses.items read.now.amounts.items) v.items) }
+    ensures refused { IfErr result IsMemoryOrBeyond }
 {
     let mut terms = value_terms(alloc, &read.values, read.counts.values as usize)?;
     add_use_terms(&read.uses, read.counts.uses as usize, &mut terms)?;
@@ -79,7 +80,8 @@ pub(crate) fn read_problem(
     text: &[u8],
     precedence: &[u8],
 ) -> Result<Problem, Refused>
-    ensures { IfOk result (λ p. SpellsProblem text.now precedence.now p) }
+    ensures spelled { IfOk result (λ p. SpellsProblem text.now precedence.now p) }
+    ensures refused { IfErr result (RefusesProblem text.now precedence.now) }
 {
     let lists = match parse_problem(alloc, text) {
         Ok(lists) => lists,

@@ -1,5 +1,6 @@
 //! The commands `check` and `bound`, from the bytes of texts to the bytes that are written.
-ghost use Rattle.std.specs.Prelude.{◌≡◌, ◌<◌, ◌^◌, IfOk, IfErr};
+ghost use Rattle.std.specs.Prelude.{◌≡◌, ◌<◌, ◌⊎◌, ◌^◌, IfOk, IfErr};
+ghost use Rattle.schedule_runs.specs.Refusals.{IsFailedWrite, RefusesBoundOf, RefusesTexts};
 ghost use Rattle.schedule_runs.specs.Runs.{IsBoundWritten, IsCheckedSchedule, IsCheckedAndBounded};
 
 use crate::problem::read_problem;
@@ -30,7 +31,8 @@ pub fn run_check<W: OutBytes>(
     out: &mut W,
 ) -> Result<Verdict, Refused>
     requires { (W.progress out.old).failures < 2 ^ 63 }
-    ensures { IfOk result (λ v. IsCheckedSchedule texts.entry.problem.now texts.entry.precedence.now schedule.now v (W.progress out.old) (W.progress out.new)) }
+    ensures checked { IfOk result (λ v. IsCheckedSchedule texts.entry.problem.now texts.entry.precedence.now schedule.now v (W.progress out.old) (W.progress out.new)) }
+    ensures refused { IfErr result (λ e. ((W.progress out.new ≡ W.progress out.old) × RefusesTexts texts.entry.problem.now texts.entry.precedence.now schedule.now e) ⊎ IsFailedWrite (W.progress out.old) (W.progress out.new) e) }
 {
     let problem = read_problem(alloc, texts.problem, texts.precedence)?;
     let shares = read_shares(alloc, &problem, schedule)?;
@@ -54,7 +56,8 @@ pub fn run_check_and_bound<W: OutBytes>(
     out: &mut W,
 ) -> Result<Verdict, Refused>
     requires { (W.progress out.old).failures < 2 ^ 63 }
-    ensures { IfOk result (λ v. IsCheckedAndBounded texts.entry.problem.now texts.entry.precedence.now schedule.now prices.now v (W.progress out.old) (W.progress out.new)) }
+    ensures checked { IfOk result (λ v. IsCheckedAndBounded texts.entry.problem.now texts.entry.precedence.now schedule.now prices.now v (W.progress out.old) (W.progress out.new)) }
+    ensures refused { IfErr result (λ e. ((W.progress out.new ≡ W.progress out.old) × (RefusesTexts texts.entry.problem.now texts.entry.precedence.now schedule.now e ⊎ RefusesBoundOf texts.entry.problem.now texts.entry.precedence.now prices.now e)) ⊎ IsFailedWrite (W.progress out.old) (W.progress out.new) e) }
 {
     let problem = read_problem(alloc, texts.problem, texts.precedence)?;
     let shares = read_shares(alloc, &problem, schedule)?;
@@ -78,7 +81,8 @@ pub fn run_bound<W: OutBytes>(
     out: &mut W,
 ) -> Result<(), Refused>
     requires { (W.progress out.old).failures < 2 ^ 63 }
-    ensures { IfOk result (λ _. IsBoundWritten texts.entry.problem.now texts.entry.precedence.now prices.now (W.progress out.old) (W.progress out.new)) }
+    ensures bounded { IfOk result (λ _. IsBoundWritten texts.entry.problem.now texts.entry.precedence.now prices.now (W.progress out.old) (W.progress out.new)) }
+    ensures refused { IfErr result (λ e. ((W.progress out.new ≡ W.progress out.old) × RefusesBoundOf texts.entry.problem.now texts.entry.precedence.now prices.now e) ⊎ IsFailedWrite (W.progress out.old) (W.progress out.new) e) }
 {
     let problem = read_problem(alloc, texts.problem, texts.precedence)?;
     let bound = bound_of(alloc, &problem, prices)?;

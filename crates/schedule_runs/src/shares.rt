@@ -1,6 +1,7 @@
 //! The shares of a schedule that a text lists.
 ghost use Rattle.std.specs.Prelude.{◌≡◌, ◌<◌, ◌≤◌, ◌*◌, ◌+◌, ◌^◌, ℕ, pos, IfOk, IfErr, IfSome, length, get_or};
 ghost use Rattle.schedule_model.specs.Schedule.{whole_block};
+ghost use Rattle.schedule_runs.specs.Refusals.{IsMemoryOrShare, RefusesSchedule};
 ghost use Rattle.schedule_runs.specs.SharesRead.{AreListed, AreSums, IsListedShare, IsShareOf, SpellsShares, place_of, share_in};
 
 use crate::refused::Refused;
@@ -59,7 +60,8 @@ fn lawful_share(problem: &Problem, numbers: &[i64], j: usize) -> Option<Share>
 /// Returns the shares that are listed.
 fn listed_shares(alloc: Global, problem: &Problem, numbers: &[i64]) -> Result<Vec<Share>, Refused>
     requires { (count : ℕ) × (length numbers.now ≡ count * 4) }
-    ensures { IfOk result (λ v. AreListed problem.now numbers.now v.items) }
+    ensures listed { IfOk result (λ v. AreListed problem.now numbers.now v.items) }
+    ensures refused { IfErr result IsMemoryOrShare }
 {
     let mut listed = Vec::new(alloc);
     for j in 0..numbers.len() / 4 {
@@ -92,7 +94,8 @@ fn add_share(
     requires inside { j < length listed.now }
     requires lawful { IsShareOf problem.now (share_in listed.now j) }
     requires before { AreSums problem.now listed.now j shares.old }
-    ensures { IfOk result (λ _. AreSums problem.now listed.now (j + 1) shares.new) }
+    ensures sums { IfOk result (λ _. AreSums problem.now listed.now (j + 1) shares.new) }
+    ensures refused { IfErr result IsMemoryOrShare }
 {
     let share = listed[j];
     let place = place_of(problem, share);
@@ -107,7 +110,8 @@ fn add_share(
 /// Returns all shares: at each place the sum of those that are listed there.
 fn sums_of(alloc: Global, problem: &Problem, listed: &[Share]) -> Result<Vec<u32>, Refused>
     requires { (j : ℕ) → j < length listed.now → IsShareOf problem.now (share_in listed.now j) }
-    ensures { IfOk result (λ v. AreSums problem.now listed.now (length listed.now) v.items) }
+    ensures sums { IfOk result (λ v. AreSums problem.now listed.now (length listed.now) v.items) }
+    ensures refused { IfErr result IsMemoryOrShare }
 {
     problem.law();
     let nodes = problem.periods() as usize * problem.blocks() as usize;
@@ -128,7 +132,8 @@ pub(crate) fn read_shares(
     problem: &Problem,
     text: &[u8],
 ) -> Result<Vec<u32>, Refused>
-    ensures { IfOk result (λ v. SpellsShares text.now problem.now v.items) }
+    ensures spelled { IfOk result (λ v. SpellsShares text.now problem.now v.items) }
+    ensures refused { IfErr result (RefusesSchedule text.now) }
 {
     let numbers = match parse_shares(alloc, text) {
         Ok(numbers) => numbers,

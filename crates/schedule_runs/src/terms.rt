@@ -1,7 +1,8 @@
 //! The terms of a problem, of the numbers that a text lists.
-ghost use Rattle.std.specs.Prelude.{◌≡◌, ◌<◌, ◌≤◌, ◌+◌, ◌*◌, ◌^◌, ℕ, pos, length, get_or, IfOk, IfSome};
+ghost use Rattle.std.specs.Prelude.{◌≡◌, ◌<◌, ◌≤◌, ◌+◌, ◌*◌, ◌^◌, ℕ, pos, length, get_or, IfErr, IfOk, IfSome};
 ghost use Rattle.schedule_model.specs.Problem.{no_term};
 ghost use Rattle.schedule_runs.specs.ProblemRead.{IsUseTerm, IsValueTerm};
+ghost use Rattle.schedule_runs.specs.Refusals.{IsMemoryOrBeyond};
 
 use crate::refused::Refused;
 use schedule_model::{Effect, Term};
@@ -56,6 +57,7 @@ pub(crate) fn value_terms(alloc: Global, values: &[i64], count: usize) -> Result
     requires { length values.now ≡ count * 3 }
     ensures count { IfOk result (λ v. length v.items ≡ count) }
     ensures terms { IfOk result (λ v. (k : ℕ) → k < count → IsValueTerm values.now k (get_or v.items k no_term)) }
+    ensures refused { IfErr result IsMemoryOrBeyond }
 {
     let mut terms = Vec::new(alloc);
     for k in 0..count {
@@ -77,6 +79,7 @@ pub(crate) fn add_use_terms(
     ensures count { IfOk result (λ _. length terms.new.items ≡ length terms.old.items + count) }
     ensures kept { IfOk result (λ _. (k : ℕ) → k < length terms.old.items → get_or terms.new.items k no_term ≡ get_or terms.old.items k no_term) }
     ensures terms { IfOk result (λ _. (k : ℕ) → k < count → IsUseTerm uses.now k (get_or terms.new.items (length terms.old.items + k) no_term)) }
+    ensures refused { IfErr result IsMemoryOrBeyond }
 {
     for k in 0..count {
         match use_term(uses, k) {

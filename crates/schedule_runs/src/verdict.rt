@@ -4,6 +4,7 @@ ghost use Rattle.schedule_model.specs.Bound.{IsLagrangianBound, IsRoundedUp};
 ghost use Rattle.schedule_model.specs.Problem.{capacity};
 ghost use Rattle.scheduling.specs.Checked.{RefusesShares};
 ghost use Rattle.scheduling.specs.Limits.{ArePriceNumbers};
+ghost use Rattle.schedule_runs.specs.Refusals.{IsMemoryOrPrice, RefusesPriceText};
 ghost use Rattle.schedule_runs.specs.Verdicts.{IsBoundAt, IsBoundOf, IsRoundedDown, Says};
 
 use crate::refused::Refused;
@@ -63,7 +64,8 @@ fn capacity(problem: &Problem, limit: u32, period: u32) -> i64
 /// Returns why shares are no schedule.
 fn fault_of(problem: &Problem, shares: &[u32], error: ScheduleError) -> Result<Verdict, Refused>
     requires { RefusesShares problem.now shares.now error }
-    ensures { IfOk result (Says problem.now shares.now) }
+    ensures says { IfOk result (Says problem.now shares.now) }
+    ensures refused { IfErr result (λ e. e ≡ Refused.NoMemory) }
 {
     match error {
         ScheduleError::MinedTwice(block, period) => Ok(Verdict::MinedTwice(block, period)),
@@ -86,7 +88,8 @@ pub(crate) fn verdict_of(
     problem: &Problem,
     shares: &[u32],
 ) -> Result<Verdict, Refused>
-    ensures { IfOk result (Says problem.now shares.now) }
+    ensures says { IfOk result (Says problem.now shares.now) }
+    ensures refused { IfErr result (λ e. e ≡ Refused.NoMemory) }
 {
     match check_schedule(alloc, problem, shares) {
         Ok(value) => Ok(Verdict::Schedule(rounded_down(value))),
@@ -95,7 +98,9 @@ pub(crate) fn verdict_of(
 }
 
 /// Returns a refusal of prices as one of a run.
-fn refused_by(error: BoundError) -> Refused {
+fn refused_by(error: BoundError) -> Refused
+    ensures { IsMemoryOrPrice result }
+{
     match error {
         BoundError::NoMemory => Refused::NoMemory,
         BoundError::PriceCount => Refused::Beyond,
@@ -106,7 +111,8 @@ fn refused_by(error: BoundError) -> Refused {
 
 /// Returns the bound at prices, in units of 10^-12.
 fn exact_bound(alloc: Global, problem: &Problem, prices: &[i64]) -> Result<i128, Refused>
-    ensures { IfOk result (IsLagrangianBound problem.now prices.now) }
+    ensures bound { IfOk result (IsLagrangianBound problem.now prices.now) }
+    ensures refused { IfErr result IsMemoryOrPrice }
 {
     match lagrangian_bound(alloc, problem, prices) {
         Ok(bound) => Ok(bound),
@@ -116,7 +122,8 @@ fn exact_bound(alloc: Global, problem: &Problem, prices: &[i64]) -> Result<i128,
 
 /// Checks that numbers are prices of the limits in each period.
 fn checked_prices(problem: &Problem, prices: &[i64]) -> Result<(), Refused>
-    ensures { OnOk result (ArePriceNumbers problem.now prices.now) }
+    ensures prices { OnOk result (ArePriceNumbers problem.now prices.now) }
+    ensures refused { IfErr result IsMemoryOrPrice }
 {
     match check_prices(problem, prices) {
         Ok(()) => Ok(()),
@@ -126,7 +133,8 @@ fn checked_prices(problem: &Problem, prices: &[i64]) -> Result<(), Refused>
 
 /// Returns the bound at prices, in millionths, rounded up: no schedule is worth more.
 fn bound_at(alloc: Global, problem: &Problem, prices: &[i64]) -> Result<i128, Refused>
-    ensures { IfOk result (IsBoundAt problem.now prices.now) }
+    ensures bound { IfOk result (IsBoundAt problem.now prices.now) }
+    ensures refused { IfErr result IsMemoryOrPrice }
 {
     problem.law();
     schedule_is_bounded();
@@ -141,7 +149,8 @@ fn bound_at(alloc: Global, problem: &Problem, prices: &[i64]) -> Result<i128, Re
 ///
 /// The first fault of the text, lack of memory, or a price or a value that is out of range.
 pub(crate) fn bound_of(alloc: Global, problem: &Problem, text: &[u8]) -> Result<i128, Refused>
-    ensures { IfOk result (IsBoundOf problem.now text.now) }
+    ensures bound { IfOk result (IsBoundOf problem.now text.now) }
+    ensures refused { IfErr result (RefusesPriceText problem.now.limits problem.now.periods text.now) }
 {
     let prices = match parse_prices(alloc, problem.limits(), problem.periods(), text) {
         Ok(prices) => prices,

@@ -10,14 +10,14 @@ use Rattle.schedule_runs.specs.Verdicts.{IsBoundAt}
 use Rattle.schedule_runs.proofs.Bounding.{none_is_worth_more}
 use Rattle.schedule_runs.proofs.verdict.bound_at.Goals as goal
 
-pub returns : goal.returns
-returns c =
+pub returns-clause-bound : goal.returns-clause-bound
+returns-clause-bound c =
     let problem = c.args.problem.now in
     let prices = c.args.prices.now in
     let exact = c.in_ok-exact.exact in
     let shown = c.rounded_up.result in
     let e : to_z w128 (of_z w128 shown) ≡ shown = to_z-of_z w128 shown (record { sfits = c.rounded_up.type_inv }) in
-    let bound : IsLagrangianBound problem prices exact = c.in_ok-exact.ensures in
+    let bound : IsLagrangianBound problem prices exact = c.in_ok-exact.ensures.bound in
     let up : IsRoundedUp exact shown = search rules in
     let are : ArePriceNumbers problem prices = search rules in
     subst (IsBoundAt problem prices) (sym e)
