@@ -72,7 +72,7 @@ complete -c pitplan -n '__fish_seen_subcommand_from schedule' -l json -d 'print 
 complete -c pitplan -n '__fish_seen_subcommand_from schedule' -l no-figures -d 'draw no figures, and remove those of an earlier run in the folder'
 complete -c pitplan -n '__fish_seen_subcommand_from schedule' -l solver -r -fa 'library program' -d 'solve by the library, on arrays, or by the program, on files, which are kept (default: the one that PITSHELL_LIBRARY or PITSHELL names, otherwise the library if it is installed)'
 complete -c pitplan -n '__fish_seen_subcommand_from schedule' -l by -r -fa 'pushback block' -d 'schedule the benches of pushbacks (pushback), or single blocks with an upper bound on the NPV of all such schedules (block) (default: pushback)'
-complete -c pitplan -n '__fish_seen_subcommand_from schedule' -l certificate -d 'by block: write the certificate of the schedule, of which pitschedule proves value and bound if it is installed'
+complete -c pitplan -n '__fish_seen_subcommand_from schedule' -l certificate -d 'write the certificate of the schedule, of which pitschedule proves value and bound if it is installed'
 complete -c pitplan -n '__fish_seen_subcommand_from schedule' -s h -l help -d 'show this help message and exit'
 complete -c pitplan -n '__fish_seen_subcommand_from sensitivity' -fa '(__fish_complete_suffix .toml)'
 complete -c pitplan -n '__fish_seen_subcommand_from sensitivity' -l set -r -f -d 'set a key of the project, for example economics.mining_cost=2.6 or metals.copper.price=9000 (may be repeated)'

@@ -13,7 +13,7 @@ import pitplan
 from pitplan import PlanError, ProgramError, load
 from pitplan.cli import main
 from pitplan.core import paths
-from pitplan.scheduling.blocks import certificate
+from pitplan.scheduling import certificate
 
 # The ore of three pillars of 1, 0.7 and 0.5 % copper, of 100 t each.
 DIRTY = {"as_ppm": lambda i, j, k: 0 if k else (200, 100, 50)[i]}
@@ -113,7 +113,7 @@ def test_another_value_or_bound_is_found(plan_folder, key):
 def test_what_no_certificate_can_state_is_refused(plan_folder, old, new, why):
     assert YEARLY.count(old) == 1
     project = load(plan_folder(pillars(), YEARLY.replace(old, new)))
-    with pytest.raises(PlanError, match=f"the schedule by block has no certificate: it cannot state {why}"):
+    with pytest.raises(PlanError, match=f"the schedule has no certificate: it cannot state {why}"):
         pitplan.write_block_schedule(project, writing=UNVERIFIED, certificate=True)
 
 

@@ -4,7 +4,8 @@ from dataclasses import replace
 
 import numpy as np
 import pytest
-from helpers.benches import benches_of, demand_diggable, problem_of
+from helpers.benches import demand_diggable
+from helpers.flow_cases import blended, lying, slack_of, two_benches
 from helpers.flows import (
     blending,
     complete_optimum,
@@ -21,14 +22,12 @@ from helpers.random_tests import examples
 from hypothesis import given, strategies as st
 
 from pitplan import PlanError
-from pitplan.config.stockpiles import Stockpile
 from pitplan.economics.value_bins import edges_of
 from pitplan.scheduling.bench_sequencing import Limits
 from pitplan.scheduling.flow import scheduler
 from pitplan.scheduling.flow.bound import Lagrangian, upper_bound
 from pitplan.scheduling.flow.cutoffs import cutoffs
 from pitplan.scheduling.flow.flows import best
-from pitplan.scheduling.flow.model import FlowModel, OpeningOre
 from pitplan.scheduling.flow.ore import Ore
 from pitplan.scheduling.flow.parcels import Material, by_choice
 from pitplan.scheduling.flow.programme import FlowProgramme
@@ -41,14 +40,6 @@ def test_bins_are_even_by_tonnes_as_far_as_values_let_them():
     assert edges_of(np.array([1.0, 10, 10]), np.array([100.0, 100, 100]), 5).tolist() == [5.5]
     assert edges_of(np.array([7.0, 7]), np.array([1.0, 2]), 3).tolist() == []
     assert edges_of(worth, tonnes, 1).tolist() == [] and edges_of(np.zeros(0), np.zeros(0), 3).tolist() == []
-
-
-def two_benches(limits, years, cost=None):
-    """Ore of 1 and of 10 a tonne, 100 t of each, over 100 t of the rich; mining costs 1 a tonne. They sink a bench a year."""
-    benches = benches_of((1, 0, 200, 0, -200), (1, 1, 100, 0, -100))
-    amounts = {"feed_tonnes": np.array([[100.0, 100, 100]]), "recovered_copper": np.ones((1, 3))}
-    ore = Ore(np.array([0, 0, 1]), np.array([1, 2, 2]), np.array([[100.0, 1000, 1000]]), amounts)
-    return FlowModel(problem_of(benches, limits), ore, years, () if cost is None else (Stockpile(cost),))
 
 
 @pytest.mark.parametrize(
@@ -99,17 +90,6 @@ def test_a_mill_that_stands_still_in_all_years():
     assert optimum.value == pytest.approx(0) and scheduler.from_optimum(model, optimum).dug.shape == (2, 0)
 
 
-def blended(cost):
-    """A bench of 100 t with 180 ppm of arsenic over one with 60; a bench is mined a year, and there are two. The mill takes 150 t a year with
-    100 ppm at most. A tonne of the upper ore gains 10, of the lower 100."""
-    benches = benches_of((1, 0, 100, 0, 0), (1, 1, 100, 0, 0))
-    excess = 100 * (np.array([[180.0, 60]]) - 100)
-    amounts = {"feed_tonnes": np.array([[100.0, 100]]), "grade_as_max": excess}
-    ore = Ore(np.array([0, 1]), np.array([2, 1]), np.array([[1000.0, 10_000]]), amounts)
-    limits = Limits({"feed_tonnes": 150, "total_tonnes": 100, "grade_as_max": 0.0})
-    return FlowModel(problem_of(benches, limits), ore, 2, () if cost is None else (Stockpile(cost),))
-
-
 @pytest.mark.parametrize(("cost", "dirty"), [(None, 0.0), (0.0, 50.0), (4.0, 50.0), (11.0, 0.0)])
 def test_arsenic_is_blended_from_the_stockpile_by_hand(cost, dirty):
     """In year 1 the ore is too dirty for the mill. If it waits, 50 t of it go with the clean ore of year 2: (50 x 180 + 100 x 60) / 150 is 100."""
@@ -122,19 +102,6 @@ def test_arsenic_is_blended_from_the_stockpile_by_hand(cost, dirty):
     assert flows.dug.tolist() == [[1, 0], [0, 1]] and flows.direct[0].tolist() == [[0, 0], [0, 1]]
     assert flows.reclaimed.sum(axis=(0, 1)).tolist() == [[0, pytest.approx(dirty / 100)], [0, 0]]
     assert flows.used("grade_as_max").max() < 1e-6
-
-
-def lying(gain, excess, capacity=None):
-    """The mine of `blended` with 60 t on the stockpile at the start, of which a tonne gains so much before its reclaim cost of 1."""
-    model = blended(1.0)
-    ore = Ore(
-        np.zeros(1, dtype=np.int64),
-        np.ones(1, dtype=np.int64),
-        np.array([[60.0 * (gain - 1.0)]]),
-        {"feed_tonnes": np.array([[60.0]]), "grade_as_max": np.array([[60.0 * excess]])},
-    )
-    pile = Stockpile(1.0, capacity=capacity)
-    return replace(model, lots=OpeningOre(ore, np.zeros(1, dtype=np.int64)), stockpiles=(pile,))
 
 
 @pytest.mark.parametrize(
@@ -168,10 +135,6 @@ def test_two_limits_that_no_flow_meets_are_an_error():
     model = two_benches(Limits({"feed_tonnes": 200}, least={"feed_tonnes": 150.0}, vertical_advance_rate=1.0), 2)
     with pytest.raises(PlanError, match="infeasible"):
         FlowProgramme(model).solved()
-
-
-def slack_of(model):
-    return 3e-6 * max(1.0, np.abs(model.benches.of("cash_flow")).sum() + np.abs(model.ore.gain).sum())
 
 
 @examples(14)

@@ -204,7 +204,7 @@ def add_schedule(subs: Subparsers) -> None:
     add_solver(sub)
     text = "schedule the benches of pushbacks (pushback), or single blocks with an upper bound on the NPV of all such schedules (block)"
     sub.add_argument("--by", choices=("pushback", "block"), default="pushback", help=f"{text} (default: pushback)")
-    text = "by block: write the certificate of the schedule, of which pitschedule proves value and bound if it is installed"
+    text = "write the certificate of the schedule, of which pitschedule proves value and bound if it is installed"
     sub.add_argument("--certificate", action="store_true", help=text)
 
 

@@ -133,7 +133,6 @@ def pushbacks(options: Namespace) -> int:
 def schedule(options: Namespace) -> int:
     """Raises KeyboardInterrupt after the best schedule is written if the search was interrupted."""
     from pitplan.core.atomic_files import read_json
-    from pitplan.errors import PlanError
     from pitplan.report.columns import OF_BLOCKS, OF_METHODS
     from pitplan.results import names
 
@@ -142,12 +141,8 @@ def schedule(options: Namespace) -> int:
 
     project, by_block = project_of(options), options.by == "block"
     folder = options.out or project.folder / ("block_schedule" if by_block else "schedule")
-    if options.certificate and not by_block:
-        raise PlanError("--certificate: found a schedule of pushbacks, expected one by block: add --by block")
-    if by_block:
-        table = write_block_schedule(project, folder, writing_of(options), options.certificate)
-    else:
-        table = write_schedule(project, folder, writing_of(options))
+    write = write_block_schedule if by_block else write_schedule
+    table = write(project, folder, writing_of(options), options.certificate)
     columns = (OF_BLOCKS if by_block else OF_METHODS).of(table, project)
     print_answer(table, columns, folder, options.json)
     if read_json(folder / (names.BLOCK_SCHEDULE if by_block else names.SCHEDULE_RECORD))["interrupted"]:

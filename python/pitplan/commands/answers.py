@@ -52,6 +52,12 @@ class Answered:
             return schedule_tables.of_pushbacks(self.schedule)
         return None if self.blocks is None else schedule_tables.of_blocks(self.blocks)
 
+    @property
+    def is_certified(self) -> bool:
+        """Whether there is a certificate of the schedule."""
+        found = self.schedule or self.blocks
+        return found is not None and found.certified is not None
+
 
 @dataclass(frozen=True)
 class Tables:
@@ -131,7 +137,7 @@ def tables_of(answered: Answered) -> list[str]:
     found = [names.TABLE, names.SHELLS, names.YEARS, *([names.PUSHBACKS] if answered.pushbacks else [])]
     found += [names.SCHEDULE, names.SCHEDULE_RECORD, names.WORKBOOK] if answered.schedule else []
     found += [names.BLOCK_SCHEDULE, names.BOUND, names.WORKBOOK] if answered.blocks else []
-    found += names.OF_CERTIFICATE if answered.blocks and answered.blocks.certified else []
+    found += names.OF_CERTIFICATE if answered.is_certified else []
     if answered.schedule or answered.blocks:
         found += [names.METHODS, names.INVENTORY, names.CASH_FLOW, names.VALUATION, names.GRADE_TONNAGE]
     if answered.schedule:
@@ -152,10 +158,10 @@ def write_tables(answered: Answered, stage: Path) -> Tables:
         (stage / layout.SOLVER / mine_files.ANSWER).write_bytes(solution.answer)
     blocks = shell_tables.blocks(plan, solution) if pushbacks is None else nested.blocks(pushbacks)
     if answered.schedule is not None:
-        from pitplan.scheduling import inventory, pushback_schedule
+        from pitplan.scheduling import inventory, pushback_blocks, pushback_schedule
 
-        blocks["year"] = pushback_schedule.blocks_year(answered.schedule)[blocks["id"].to_numpy()]
-        blocks["bin"] = pushback_schedule.blocks_bin(answered.schedule)[blocks["id"].to_numpy()]
+        blocks["year"] = pushback_blocks.blocks_year(answered.schedule)[blocks["id"].to_numpy()]
+        blocks["bin"] = pushback_blocks.blocks_bin(answered.schedule)[blocks["id"].to_numpy()]
         for name, shares in inventory.blocks_shares(answered.schedule).items():
             blocks[name] = shares[blocks["id"].to_numpy()]
         years = pd.concat([years, pushback_schedule.years(answered.schedule)], ignore_index=True)

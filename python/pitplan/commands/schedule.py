@@ -12,7 +12,7 @@ from pitplan.core import paths
 from pitplan.core.optional_packages import load_library
 from pitplan.export import xlsx
 from pitplan.pushbacks import nested
-from pitplan.scheduling import pushback_record, pushback_schedule
+from pitplan.scheduling import certificate as certificates, pushback_certificate, pushback_record, pushback_schedule
 from pitplan.solver import problem
 
 from .answers import Answered, write_answer
@@ -22,7 +22,9 @@ if TYPE_CHECKING:
     from pitplan.scheduling.blocks.tables import ScheduledBlocks
 
 
-def write_schedule(project: Source, folder: Optional[Place] = None, writing: Writing = Writing()) -> pd.DataFrame:
+def write_schedule(
+    project: Source, folder: Optional[Place] = None, writing: Writing = Writing(), certificate: bool = False
+) -> pd.DataFrame:
     """Schedules the benches of pushbacks by years, as `pitplan schedule` does.
 
     The folder gets all files that `write_pushbacks` writes, with the year of each block in blocks.csv and the years of each method in
@@ -38,6 +40,9 @@ def write_schedule(project: Source, folder: Optional[Place] = None, writing: Wri
         Where the files go. Default: schedule in the project's output folder.
     writing : Writing
         How they are written.
+    certificate : bool
+        Write the texts of the schedule that is shown, its problem and prices into the folder certificate, and let pitschedule prove value and
+        bound if it is installed.
 
     Returns
     -------
@@ -50,7 +55,9 @@ def write_schedule(project: Source, folder: Optional[Place] = None, writing: Wri
         Without openpyxl.
     PlanError
         If the project has no `[pushbacks]`, the pit is empty or takes too many years, or a result differs from its independent
-        recalculation.
+        recalculation. With a certificate also if values differ by year, years have costs, or there are dumps.
+    ProgramError
+        If pitschedule does not prove the certificate.
     """
     project = read(project)
     target = project.folder / "schedule" if folder is None else Path(folder)
@@ -58,6 +65,9 @@ def write_schedule(project: Source, folder: Optional[Place] = None, writing: Wri
     with begun(project, target, writing, nested.ending(project)) as run:
         pushbacks = nested.divide(run.mine.plan, run.mine, writing.progress)
         schedule = pushback_schedule.make(pushbacks, writing.progress)
+        if certificate:
+            with writing.progress.step("certifying the schedule"):
+                schedule = pushback_certificate.certified(schedule, run.stage, paths.schedule_program())
         run.record["notes"] += [*pushbacks.notes, *pushback_record.notes(schedule)]
         write_answer(Answered(pushbacks.plan, pushbacks.solution, pushbacks, schedule), run)
     return pushback_schedule.methods(schedule)
@@ -122,8 +132,6 @@ def write_block_schedule(
 
 def certified(made: ScheduledBlocks, run: Run) -> ScheduledBlocks:
     """Writes the certificate of a schedule by block, and returns the schedule with what is proved of it."""
-    from pitplan.scheduling.blocks import certificate
-
     with run.writing.progress.step("certifying the schedule"):
-        certificate.write(made.certificate, made.planned.cells, run.stage)
-        return replace(made, certified=certificate.checked(run.stage, paths.schedule_program()))
+        certificates.write(made.certificate, made.planned.cells.tolist(), run.stage)
+        return replace(made, certified=certificates.checked(run.stage, paths.schedule_program()))

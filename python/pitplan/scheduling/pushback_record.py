@@ -36,6 +36,7 @@ def record(schedule: YearlySchedule) -> dict[str, Any]:
         "stockpiles": [it.name for it in schedule.model.stockpiles],
         **({"dumps": [it.name for it in schedule.model.dumps]} if schedule.model.dumps else {}),
         "interrupted": schedule.interrupted,
+        **({"certificate": schedule.certified.record} if schedule.certified else {}),
         "solver": f"HiGHS of scipy {scipy.__version__}",
     }
 
@@ -74,6 +75,7 @@ def notes(schedule: YearlySchedule) -> list[str]:
         found.append("WARNING: milp found no schedule within its time limit")
     elif schedule.milp_upper_bound is not None:
         found.append(f"upper bound of milp on schedules by these value bins: {schedule.milp_upper_bound:,.0f}")
+    found += [schedule.certified.note] if schedule.certified else []
     for name, values in (cutoffs(schedule.flows[schedule.shown], schedule.names) or {}).items():
         told = ", ".join(f"{worth:.2f}" for worth in values)
         found.append(

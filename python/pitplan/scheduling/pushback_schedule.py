@@ -24,6 +24,7 @@ from pitplan.pushbacks.bench_table import CASH, ORE, ROCK, PushbackBenches
 from pitplan.pushbacks.nested import Pushbacks
 
 from .bench_sequencing import Problem, running
+from .certificate import Certified
 from .flow import bound, integer, opening, parcels, scheduler, tables
 from .flow.conflicts import Conflict
 from .flow.dumping import SET
@@ -70,6 +71,8 @@ class YearlySchedule:
         What the integer programme had shown by its end that no schedule of these parcels exceeds; None if it was not solved.
     interrupted : bool
         Whether a method is missing since the run was interrupted.
+    certified : Certified, optional
+        What is proved of the method that is shown; None if there is no certificate.
     """
 
     pushbacks: Pushbacks
@@ -83,6 +86,7 @@ class YearlySchedule:
     interrupted: bool = False
     prices: Prices = field(default_factory=dict)
     lots: Optional[Lots] = None
+    certified: Optional[Certified] = None
 
     @property
     def problem(self) -> Problem:
@@ -378,22 +382,3 @@ def methods(schedule: YearlySchedule) -> pd.DataFrame:
             }
         )
     return pd.DataFrame(rows)
-
-
-def blocks_year(schedule: YearlySchedule) -> np.ndarray:
-    """Returns for each cell the year by whose end its bench of its pushback is mined, by the method that is shown; 0 if it never is."""
-    shares, grid = schedule.shares[schedule.shown], schedule.pushbacks.plan.grid
-    # Before the first year nothing is mined.
-    through = (np.pad(shares, ((0, 0), (1, 0))).cumsum(axis=1) > 1 - 1e-6).argmax(axis=1)
-    year_of = np.zeros((len(schedule.pushbacks.factors) + 1, grid.shape[0]), dtype=np.int16)
-    year_of[schedule.benches.pushback, schedule.benches.level] = through
-    return year_of[schedule.pushbacks.pushback, np.arange(grid.count) // grid.per_level]
-
-
-def blocks_bin(schedule: YearlySchedule) -> np.ndarray:
-    """Returns for each cell the value bin of its ore, from 1; 0 if it is none, with dumps 0 or a number below it for the set that accepts it."""
-    found, sets = np.zeros(schedule.pushbacks.plan.grid.count, dtype=np.int16), schedule.material.sets
-    if sets is not None:
-        found[:] = -np.maximum(sets.of_cell, 0)
-    found[schedule.material.cells] = schedule.material.blocks.bin
-    return found

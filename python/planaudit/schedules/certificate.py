@@ -18,39 +18,30 @@ from planaudit.inputs.matching import SHARE
 from planaudit.inputs.tables import TABLES, YEAR, read_table
 from planaudit.rules import TOLD, Rule, rule
 from planaudit.schedules.bounds import MIN, MUST_MINE, Bound
+from planaudit.schedules.certificate_texts import FOLDER, KEY, NAME, ROUNDING, UNFIT, UNIT, Texts
 from planaudit.schedules.discounts import discount
 
-KEY, FOLDER = "certificate", "certificate"
-NAME = "certificate"
 HOLDS = "the certificate has the block values, limits, discount factors, multipliers and years of the run, and its value and bound are those of the schedule"
-# Numbers of the texts have six decimals.
-UNIT = 1e-6
-# Of all discounted cash, costs and revenue, by which rounded discount factors and shares may change a sum.
-ROUNDING = 2e-6
 
 
 def verify(answer: Answer, told: dict[str, Any]) -> list[Rule]:
     """Verifies the certificate, if block_schedule.json names one."""
     if KEY not in told:
         return []
-    texts = Texts(answer)
+    texts = Texts(answer.folder / FOLDER)
     if not texts.fit:
-        return [rule(NAME, HOLDS, ["a share is of no block, period or destination of the problem"])]
-    differences = [*texts.unlike_values(), *texts.unlike_shares(), *texts.unlike_periods(), *texts.unlike_results(told)]
+        return [rule(NAME, HOLDS, [UNFIT])]
+    found = BlockCertificate(answer, texts)
+    differences = [*found.unlike_values(), *found.unlike_shares(), *found.unlike_periods(), *found.unlike_results(told)]
     return [rule(NAME, HOLDS, differences[:TOLD], len(differences))]
 
 
 @dataclass(frozen=True)
-class Texts:
-    """The texts of the folder certificate, next to the results of the run."""
+class BlockCertificate:
+    """The texts next to the results of the run."""
 
     answer: Answer
-
-    def lines(self, name: str, word: str) -> np.ndarray:
-        """Returns the numbers of the lines that begin with a word, shape (lines, numbers)."""
-        text = (self.answer.folder / FOLDER / f"schedule.{name}").read_text(encoding="ascii")
-        found = [line.split()[1:] for line in text.splitlines() if line.split(maxsplit=1)[:1] == [word]]
-        return np.array(found, dtype=float).reshape(len(found), -1)
+    texts: Texts
 
     @cached_property
     def written(self) -> pd.DataFrame:
@@ -62,29 +53,13 @@ class Texts:
     @cached_property
     def values(self) -> np.ndarray:
         """The value of each block as waste and in each process, shape (blocks, destinations)."""
-        amounts, terms = self.lines("problem", "AMOUNTS"), self.lines("problem", "VALUE").astype(int)
-        return amounts[:, terms[:, 1]]
-
-    @property
-    def fit(self) -> bool:
-        """Whether each share is of a block, period and destination of the problem."""
-        places, counts = self.lines("shares", "SHARE")[:, :3], (len(self.values), self.periods, self.values.shape[1])
-        return bool((places < counts).all())
-
-    def sizes(self, limit: int) -> np.ndarray:
-        """Returns the sum of the amounts of a limit without their signs, by period, shape (periods,)."""
-        amounts, found = self.lines("problem", "AMOUNTS"), np.zeros(self.periods)
-        for place, of_limit, column, _ in self.lines("problem", "USE").astype(int):
-            if of_limit == limit:
-                found += np.abs(amounts[:, column]) @ self.shares[:, :, place]
-        return found
+        return np.column_stack([amounts for _, amounts in sorted(self.texts.terms().items())])
 
     @cached_property
     def shares(self) -> np.ndarray:
         """The share of each block by period and destination, shape (blocks, periods, destinations)."""
-        found = np.zeros((len(self.values), self.periods, self.values.shape[1]))
-        for block, period, place, share in self.lines("shares", "SHARE"):
-            found[int(block), int(period), int(place)] += share
+        found = np.zeros((len(self.values), self.texts.periods, self.values.shape[1]))
+        np.add.at(found, tuple(self.texts.places.T), self.texts.shares[:, 3])
         return found
 
     def unlike_values(self) -> Iterator[str]:
@@ -113,12 +88,12 @@ class Texts:
     def unlike_periods(self) -> Iterator[str]:
         """Yields what differs in discount factors, limits and multipliers."""
         bound = Bound(
-            self.answer, read_table(self.answer.folder / TABLES / "bound.csv", ["limit", "side"]), self.periods
+            self.answer, read_table(self.answer.folder / TABLES / "bound.csv", ["limit", "side"]), self.texts.periods
         )
         factors = [discount(self.answer, year) for year in bound.every_year]
-        if np.abs(self.lines("problem", "DISCOUNTS")[0] - factors).max() > UNIT:
+        if np.abs(self.texts.discounts - factors).max() > UNIT:
             yield "discount factors differ"
-        capacities, prices = self.lines("problem", "CAPACITIES"), self.lines("prices", "PRICE")
+        capacities, prices = self.texts.lines("problem", "CAPACITIES"), self.texts.lines("prices", "PRICE")
         sides = [key for key in dict.fromkeys(zip(bound.prices["limit"], bound.prices["side"])) if key[0] != MUST_MINE]
         if len(sides) != len(capacities) or len(sides) != len(prices):
             yield f"{len(capacities)} limits and {len(prices)} rows of prices for {len(sides)}"
@@ -127,18 +102,14 @@ class Texts:
             sign = -1 if side == MIN else 1
             own = np.array([sign * bound.limits[name, side, year] for year in bound.every_year])
             told = bound.prices[(bound.prices["limit"] == name) & (bound.prices["side"] == side)]["price"].to_numpy()
-            if (np.abs(of_years - own) > ROUNDING * self.sizes(number) + UNIT).any():
+            if (np.abs(of_years - own) > ROUNDING * self.texts.sizes(number) + UNIT).any():
                 yield f"{name} {side}: capacities {of_years.tolist()} for {own.tolist()}"
             if (np.abs(paid - np.maximum(sign * told, 0)) > UNIT).any():
                 yield f"{name} {side}: prices {paid.tolist()} for {told.tolist()}"
 
-    @property
-    def periods(self) -> int:
-        return int(self.lines("problem", "DISCOUNTS").shape[1])
-
     def unlike_results(self, told: dict[str, Any]) -> Iterator[str]:
         """Yields value and bound of the certificate if they are not those of the schedule."""
-        discounts = self.lines("problem", "DISCOUNTS")[0]
+        discounts = self.texts.discounts
         worth = self.shares * self.values[:, None, :] * discounts[None, :, None]
         proved = told[KEY]
         if proved["value"] is None:

@@ -173,10 +173,7 @@ class Bound:
         """What each block, or each of some lots, earns in a process in each year, directly or from a stockpile, less prices, shape (blocks, years)."""
         blocks, kept = lots or self.blocks, stockpile.recovery if stockpile else {}
         shares = {f"recovered_{metal}": kept.get(metal, 1.0) for metal in self.blocks.net_prices}
-        base = blocks.gain[process] - (stockpile.reclaim_cost if stockpile else 0.0) * blocks.feed
-        for metal, share in kept.items():
-            lost = (1 - share) * blocks.of_process(f"recovered_{metal}", process)
-            base = base - self.blocks.net_prices[metal][process] * lost
+        base = self.undiscounted(process, stockpile, lots)
         found = np.empty((len(blocks.feed), self.years))
         unsold = sum(
             self.blocks.charges[metal][process] * (1 - share) * blocks.of_process(f"recovered_{metal}", process)
@@ -192,6 +189,17 @@ class Bound:
             found -= self.charged(name, side, shares.get(name, 1.0) * blocks.of_process(name, process))
         # A block without revenue in a process is never sent there.
         return np.where(blocks.takes[process][:, None], found, -np.inf)
+
+    def undiscounted(
+        self, process: int, stockpile: Optional[Stockpile] = None, lots: Optional[OpeningLots] = None
+    ) -> np.ndarray:
+        """Returns what each whole block, or each of some lots, earns in a process at the base price, directly or from a stockpile, shape (blocks,)."""
+        blocks = lots or self.blocks
+        found = blocks.gain[process] - (stockpile.reclaim_cost if stockpile else 0.0) * blocks.feed
+        for metal, share in (stockpile.recovery if stockpile else {}).items():
+            lost = (1 - share) * blocks.of_process(f"recovered_{metal}", process)
+            found = found - self.blocks.net_prices[metal][process] * lost
+        return np.asarray(found)
 
     def in_stockpile(self, stockpile: Stockpile) -> np.ndarray:
         """What each block earns that is placed on a stockpile in each year, and reclaimed in its best later year or never."""

@@ -27,6 +27,7 @@ from planaudit.schedules import (
     methods as ways_table,
     price_paths,
     pushback_bounds,
+    pushback_certificate,
 )
 from planaudit.schedules.discounts import discount, present_costs
 from planaudit.schedules.grade_limits import grade_limits, most_of
@@ -90,9 +91,19 @@ def verify(answer: Answer) -> list[Rule]:
         inventory.verify(flow, told["shown"]),
         grade_tonnage.verify(answer),
         pushback_bounds.verify(answer, told, by_year(answer, int(told["years"]))),
+        *verify_certificate(answer, told, flow),
         verify_years_of_blocks(ways, told, sums),
         *verify_prices(answer, told["shown"]),
     ]
+
+
+def verify_certificate(answer: Answer, told: dict[str, Any], flow: MaterialFlow) -> list[Rule]:
+    """Verifies the certificate, if there is one."""
+    years = int(told["years"])
+    bound = pushback_bounds.Bound(
+        answer, pd.DataFrame(columns=["limit", "side", "year", "price"]), years, by_year(answer, years)
+    )
+    return pushback_certificate.verify(bound, told, flow)
 
 
 def verify_prices(answer: Answer, shown: str) -> list[Rule]:

@@ -18,8 +18,9 @@ from pitplan.core import paths
 from pitplan.core.atomic_files import staged_file
 from pitplan.core.progress import on_standard_error, silent
 from pitplan.errors import PlanError, ProgramError
+from pitplan.scheduling import certificate
 
-from . import certificate
+from .certificate import of_schedule
 from .from_minelib import of_minelib
 from .problem import BlockProblem
 from .scheduler import Scheduled, solve
@@ -76,8 +77,8 @@ def certified(problem: BlockProblem, found: Scheduled, folder: Path) -> str:
     """Writes the certificate of a schedule, and returns what is proved of it."""
     k = np.unravel_index(np.abs(problem.values[:, :, 0]).argmax(), problem.values.shape[:2])
     discounts = problem.values[k] / problem.values[k][0]
-    made = certificate.of_schedule(problem, found.schedule, found.multipliers, discounts)
-    certificate.write(made, np.arange(problem.blocks), folder)
+    made = of_schedule(problem, found.schedule, found.multipliers, discounts)
+    certificate.write(made, range(problem.blocks), folder)
     return certificate.checked(folder, paths.schedule_program()).note
 
 

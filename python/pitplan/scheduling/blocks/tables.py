@@ -18,9 +18,10 @@ from pitplan.economics.period_costs import COSTS, of_project
 from pitplan.pits.best_worst_case import year_discounts
 from pitplan.plan import Plan
 from pitplan.pushbacks.bench_table import CASH, ORE, ROCK
+from pitplan.scheduling.certificate import Certificate, Certified
 from pitplan.scheduling.methods import BLOCK
 
-from .certificate import Certificate, Certified, of_schedule
+from .certificate import of_schedule
 from .from_plan import PlannedBlocks, cash_of, of_plan
 from .keys import unapplied
 from .scheduler import Scheduled, gap_of, solve

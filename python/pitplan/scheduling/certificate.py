@@ -1,0 +1,339 @@
+"""A schedule as the texts that the proved program `pitschedule` checks: the problem, its precedences, the schedule and prices of its limits."""
+
+from __future__ import annotations
+
+import subprocess
+from collections.abc import Sequence
+from dataclasses import dataclass
+from pathlib import Path
+from typing import Any, Optional
+
+import numpy as np
+from numpy.typing import NDArray
+
+from pitplan.core import layout
+from pitplan.errors import PlanError, ProgramError
+
+from .methods import PROVED
+
+# Numbers of the texts are millionths.
+UNIT = 10**6
+# The greatest amount, capacity and price that the program reads, and how many nodes, destinations, columns, terms and capacities.
+MOST_AMOUNT, MOST_CAPACITY, MOST_PRICE = 10**16, 10**18, 10**15
+MOST_NODES, MOST_DESTINATIONS, MOST_COLUMNS, MOST_TERMS, MOST_CAPACITIES = 4_194_304, 64, 1_024, 1_024, 65_536
+# Shares may exceed a capacity by this share of all amounts in the sum, and by this part of each block for rounding; the text then has what is used.
+HAIR, ROUNDING = 1e-6, 2e-6
+WHOLE = "the schedule has no certificate"
+
+
+@dataclass(frozen=True)
+class Term:
+    """What each block adds to its value or to a limit if it is sent to a destination.
+
+    Attributes
+    ----------
+    destination : int
+    amounts : int array, shape (blocks,)
+        In millionths.
+    lag : int
+        How many periods after mining it counts.
+    """
+
+    destination: int
+    amounts: NDArray[np.int64]
+    lag: int = 0
+
+
+@dataclass(frozen=True)
+class Row:
+    """A limit of the texts.
+
+    Attributes
+    ----------
+    terms : tuple of Term
+        What blocks use.
+    capacity : int array, shape (periods,)
+        In millionths.
+    price : int array, shape (periods,)
+        0 or more, in millionths.
+    """
+
+    terms: tuple[Term, ...]
+    capacity: NDArray[np.int64]
+    price: NDArray[np.int64]
+
+
+@dataclass(frozen=True)
+class Shares:
+    """The shares of blocks, one place after the other; each array has the shape (places,).
+
+    Attributes
+    ----------
+    block, period, destination : int array
+    share : int array
+        In millionths.
+    """
+
+    block: NDArray[np.int64]
+    period: NDArray[np.int64]
+    destination: NDArray[np.int64]
+    share: NDArray[np.int64]
+
+    def of(self, destination: int) -> Shares:
+        """Returns the shares of a destination."""
+        some = self.destination == destination
+        return Shares(self.block[some], self.period[some], self.destination[some], self.share[some])
+
+
+@dataclass(frozen=True)
+class Predecessors:
+    """The direct predecessors of each block: those of block u are `blocks[starts[u]:starts[u + 1]]`."""
+
+    starts: NDArray[Any]
+    blocks: NDArray[Any]
+
+
+@dataclass(frozen=True)
+class Certificate:
+    """What is certified.
+
+    Attributes
+    ----------
+    destinations : int
+        How many there are.
+    values : tuple of Term
+        What blocks are worth, before discounting.
+    discounts : int array, shape (periods,)
+        Discount factors, in millionths.
+    rows : tuple of Row
+        The limits.
+    predecessors : Predecessors
+    shares : Shares
+    """
+
+    destinations: int
+    values: tuple[Term, ...]
+    discounts: NDArray[np.int64]
+    rows: tuple[Row, ...]
+    predecessors: Predecessors
+    shares: Shares
+
+
+@dataclass(frozen=True)
+class Certified:
+    """What the program has proved: the value of the schedule, rounded down, and the most that any schedule is worth, rounded up; None if it is not
+    installed."""
+
+    value: Optional[float]
+    bound: Optional[float]
+    destinations: tuple[tuple[str, str, int], ...] = ()
+    limits: tuple[tuple[str, str], ...] = ()
+
+    @property
+    def record(self) -> dict[str, Any]:
+        """What the record of the schedule says; of schedules of pushbacks with the destinations and the limits of the texts."""
+        named = {"destinations": [list(it) for it in self.destinations], "limits": [list(it) for it in self.limits]}
+        return {"value": self.value, "bound": self.bound, **(named if self.destinations else {})}
+
+    @property
+    def note(self) -> str:
+        """What a planner should know of it."""
+        if self.value is None or self.bound is None:
+            return "the certificate of the schedule is not checked: pitschedule is not installed"
+        return (
+            f"{PROVED}the schedule keeps all precedences and limits, and is worth {self.value:,.2f}; no schedule within them is worth "
+            f"more than {self.bound:,.2f}. Block values and limits are as in the folder certificate; they are verified, not proved"
+        )
+
+
+def millionths(numbers: NDArray[np.float64]) -> NDArray[np.int64]:
+    """Returns numbers in millionths. Raises PlanError if one is out of range."""
+    scaled = np.rint(np.asarray(numbers, dtype=float) * UNIT)
+    if (np.abs(scaled) > MOST_AMOUNT).any():
+        raise PlanError(f"{WHOLE}: {np.abs(numbers).max():.6g} is above {MOST_AMOUNT / UNIT:.0e}")
+    return scaled.astype(np.int64)
+
+
+@dataclass(frozen=True)
+class LimitOfYears:
+    """A limit as planners state it.
+
+    Attributes
+    ----------
+    name : str
+    most : array, shape (periods,)
+        Infinite where there is no limit.
+    price : array, shape (periods,)
+    """
+
+    name: str
+    most: NDArray[np.float64]
+    price: NDArray[np.float64]
+
+
+def row_of(limit: LimitOfYears, terms: Sequence[Term], shares: Shares) -> Row:
+    """Returns a limit of the texts, whose capacities are not below what the schedule uses by more than rounding.
+
+    Raises
+    ------
+    PlanError
+        If the schedule uses more, or if a capacity or a price is out of range.
+    """
+    most, price = limit.most, np.maximum(limit.price, 0)
+    used, loose = usage(terms, shares, len(most)), slack(terms, shares, len(most))
+    greatest = [int(np.maximum(term.amounts, 0).sum()) for term in terms]
+    capacity = np.where(np.isfinite(most), np.rint(np.where(np.isfinite(most), most, 0) * UNIT), sum(greatest))
+    if (used > capacity + loose + 1).any():
+        place = int((used - capacity).argmax())
+        why = f"{limit.name} uses {used[place] / UNIT:.10g} of {capacity[place] / UNIT:.10g} in year {place + 1}"
+        raise PlanError(f"{WHOLE}: {why}")
+    if (np.abs(capacity) > MOST_CAPACITY).any() or (price * UNIT > MOST_PRICE).any():
+        raise PlanError(f"{WHOLE}: a limit or a price of {limit.name} is out of range")
+    capacity = np.maximum(capacity.astype(np.int64), used)
+    return Row(tuple(terms), capacity, np.rint(price * UNIT).astype(np.int64))
+
+
+def usage(terms: Sequence[Term], shares: Shares, periods: int) -> NDArray[np.int64]:
+    """Returns what is used in each period, in millionths, rounded up; exact."""
+    used = [0] * periods
+    for term in terms:
+        some = shares.of(term.destination)
+        amounts = term.amounts[some.block]
+        for period, share, amount in zip((some.period + term.lag).tolist(), some.share.tolist(), amounts.tolist()):
+            if period < periods:
+                used[period] += share * amount
+    return np.array([-(-it // UNIT) for it in used], dtype=np.int64)
+
+
+def slack(terms: Sequence[Term], shares: Shares, periods: int) -> NDArray[np.float64]:
+    """Returns by how much rounded shares and the tolerance of a solver may change what is used in each period, in millionths."""
+    found = np.zeros(periods)
+    for term in terms:
+        some = shares.of(term.destination)
+        period = some.period + term.lag
+        inside = period < periods
+        sizes = np.abs(term.amounts[some.block]) * (HAIR * some.share / UNIT + ROUNDING)
+        found += np.bincount(period[inside], sizes[inside], minlength=periods)
+    return found
+
+
+def demand_size(certificate: Certificate, columns: int) -> None:
+    """Raises PlanError if the texts have more of something than the program reads."""
+    blocks, periods = len(certificate.predecessors.starts) - 1, len(certificate.discounts)
+    uses = len(certificate.values) + sum(len(row.terms) for row in certificate.rows)
+    for count, most, name in (
+        (blocks * periods, MOST_NODES, "blocks times periods"),
+        (certificate.destinations, MOST_DESTINATIONS, "destinations"),
+        (columns, MOST_COLUMNS, "columns of amounts"),
+        (uses, MOST_TERMS, "values and uses of destinations"),
+        (len(certificate.rows) * periods, MOST_CAPACITIES, "limits times periods"),
+    ):
+        if count > most:
+            raise PlanError(
+                f"{WHOLE}: found {count:,} {name}, pitschedule reads {most:,} at most: use fewer years, stockpiles or limits"
+            )
+
+
+# ---- texts
+
+
+class Columns:
+    """The columns of amounts, each once."""
+
+    def __init__(self) -> None:
+        self.numbers: dict[bytes, int] = {}
+        self.columns: list[NDArray[np.int64]] = []
+
+    def place(self, column: NDArray[np.int64]) -> int:
+        """Returns the number of a column."""
+        key = np.ascontiguousarray(column).tobytes()
+        if key not in self.numbers:
+            self.numbers[key] = len(self.columns)
+            self.columns.append(column)
+        return self.numbers[key]
+
+
+def decimal(number: int) -> str:
+    """Returns millionths as a decimal."""
+    whole, part = divmod(abs(number), UNIT)
+    sign = "-" if number < 0 else ""
+    return f"{sign}{whole}.{part:06d}" if part else f"{sign}{whole}"
+
+
+def line(word: str, numbers: NDArray[np.int64]) -> str:
+    return " ".join([word, *map(decimal, numbers.tolist())])
+
+
+def problem_text(certificate: Certificate) -> str:
+    """Returns the text of the problem. Raises PlanError if it is too large for the program."""
+    columns = Columns()
+    values = [f"VALUE {it.destination} {columns.place(it.amounts)} {it.lag}" for it in certificate.values]
+    uses = [
+        f"USE {it.destination} {r} {columns.place(it.amounts)} {it.lag}"
+        for r, row in enumerate(certificate.rows)
+        for it in row.terms
+    ]
+    demand_size(certificate, len(columns.columns))
+    amounts = np.stack(columns.columns, axis=1)
+    counts = {
+        "BLOCKS": len(amounts),
+        "PERIODS": len(certificate.discounts),
+        "DESTINATIONS": certificate.destinations,
+        "COLUMNS": amounts.shape[1],
+        "LIMITS": len(certificate.rows),
+        "VALUES": len(values),
+        "USES": len(uses),
+    }
+    lines = ["PROBLEM 1", *(f"{word} {count}" for word, count in counts.items())]
+    lines += [line("DISCOUNTS", certificate.discounts), *(line("CAPACITIES", row.capacity) for row in certificate.rows)]
+    lines += [*values, *uses, *(line("AMOUNTS", of_block) for of_block in amounts)]
+    return "\n".join(lines) + "\n"
+
+
+def precedence_text(predecessors: Predecessors) -> str:
+    """Returns the text of the precedences."""
+    starts, blocks = predecessors.starts.tolist(), predecessors.blocks.tolist()
+    rows = [(block, blocks[first:end]) for block, (first, end) in enumerate(zip(starts, starts[1:])) if end > first]
+    return "".join(f"{block} {len(others)} {' '.join(map(str, others))}\n" for block, others in rows)
+
+
+def schedule_text(shares: Shares) -> str:
+    """Returns the text of the schedule."""
+    places = zip(shares.block.tolist(), shares.period.tolist(), shares.destination.tolist(), shares.share.tolist())
+    lines = [f"SHARE {block} {period} {to} {decimal(share)}" for block, period, to, share in places]
+    return "\n".join(["SCHEDULE 1", f"SHARES {len(lines)}", *lines]) + "\n"
+
+
+def prices_text(certificate: Certificate) -> str:
+    """Returns the text of the prices."""
+    return "\n".join(["PRICES 1", *(line("PRICE", row.price) for row in certificate.rows)]) + "\n"
+
+
+# ---- files
+
+
+def write(certificate: Certificate, names: Sequence[Any], stage: Path) -> None:
+    """Writes the four texts, and a line with the name of each block, into a folder."""
+    texts = {
+        "problem": problem_text(certificate),
+        "prec": precedence_text(certificate.predecessors),
+        "schedule": schedule_text(certificate.shares),
+        "prices": prices_text(certificate),
+    }
+    (stage / layout.CERTIFICATE).mkdir(parents=True, exist_ok=True)
+    for kind, name in layout.CERTIFIED.items():
+        (stage / name).write_text(texts[kind], encoding="ascii")
+    (stage / layout.CERTIFIED_BLOCKS).write_text("".join(f"{name}\n" for name in names), encoding="utf-8")
+
+
+def checked(stage: Path, program: Optional[Path]) -> Certified:
+    """Returns what the program proves of the texts in a folder. Raises ProgramError if they are no schedule."""
+    if program is None:
+        return Certified(None, None)
+    words = [word for kind, name in layout.CERTIFIED.items() for word in (f"--{kind}", str(stage / name))]
+    ran = subprocess.run([str(program), "check", *words], capture_output=True, text=True)
+    lines = ran.stdout.splitlines()
+    if ran.returncode != 0 or len(lines) != 3 or lines[0] != "SCHEDULE":
+        said = (ran.stdout + ran.stderr).strip().replace("\n", "; ")
+        raise ProgramError(f"{program}: the certificate is not that of a schedule: {said}")
+    return Certified(float(lines[1].removeprefix("VALUE: ")), float(lines[2].removeprefix("BOUND: ")))

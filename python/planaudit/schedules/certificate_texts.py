@@ -1,0 +1,92 @@
+"""The texts of the folder certificate, of which pitschedule proves what follows from them."""
+
+from __future__ import annotations
+
+from dataclasses import dataclass
+from functools import cached_property
+from pathlib import Path
+from typing import Optional
+
+import numpy as np
+
+# The name of the rule, the key of records, and the folder.
+NAME, KEY, FOLDER = "certificate", "certificate", "certificate"
+UNFIT = "a share is of no block, period or destination of the problem"
+# Numbers of the texts have six decimals.
+UNIT = 1e-6
+# Of all discounted cash, costs and revenue, by which rounded discount factors and shares may change a sum.
+ROUNDING = 2e-6
+
+
+@dataclass(frozen=True)
+class Texts:
+    """The texts of a folder."""
+
+    folder: Path
+
+    def lines(self, name: str, word: str) -> np.ndarray:
+        """Returns the numbers of the lines that begin with a word, shape (lines, numbers)."""
+        found = [words[1:] for words in self.words(name) if words[:1] == [word]]
+        return np.array(found, dtype=float).reshape(len(found), -1)
+
+    def words(self, name: str) -> list[list[str]]:
+        """Returns the words of each line of a text."""
+        text = (self.folder / f"schedule.{name}").read_text(encoding="utf-8")
+        return [line.split() for line in text.splitlines()]
+
+    @cached_property
+    def amounts(self) -> np.ndarray:
+        """The amounts of each block, shape (blocks, columns)."""
+        return self.lines("problem", "AMOUNTS")
+
+    @cached_property
+    def uses(self) -> np.ndarray:
+        """Destination, limit, column and lag of each use, shape (uses, 4)."""
+        return self.lines("problem", "USE").astype(int).reshape(-1, 4)
+
+    @cached_property
+    def discounts(self) -> np.ndarray:
+        return np.asarray(self.lines("problem", "DISCOUNTS")[0])
+
+    @property
+    def periods(self) -> int:
+        return len(self.discounts)
+
+    @cached_property
+    def places(self) -> np.ndarray:
+        """Block, period and destination of each share, shape (shares, 3)."""
+        return np.asarray(self.shares[:, :3].astype(np.int64))
+
+    @cached_property
+    def shares(self) -> np.ndarray:
+        """Block, period, destination and share of each line, shape (lines, 4)."""
+        return self.lines("shares", "SHARE").reshape(-1, 4)
+
+    @property
+    def destinations(self) -> int:
+        return int(self.lines("problem", "DESTINATIONS")[0, 0])
+
+    @property
+    def fit(self) -> bool:
+        """Whether each share is of a block, period and destination of the problem."""
+        return bool((self.shares[:, :3] < (len(self.amounts), self.periods, self.destinations)).all())
+
+    def terms(self, limit: Optional[int] = None) -> dict[tuple[int, int], np.ndarray]:
+        """Returns the value of each block, or what it uses of a limit, by destination and lag, each of shape (blocks,)."""
+        rows = self.lines("problem", "VALUE").astype(int) if limit is None else self.uses[self.uses[:, 1] == limit]
+        found: dict[tuple[int, int], np.ndarray] = {}
+        for row in rows:
+            key = int(row[0]), int(row[-1])
+            found[key] = found.get(key, 0.0) + self.amounts[:, row[-2]]
+        return found
+
+    def sizes(self, limit: int) -> np.ndarray:
+        """Returns the sum of the amounts of a limit without their signs, by period, shape (periods,)."""
+        found = np.zeros(self.periods)
+        for (destination, lag), amounts in self.terms(limit).items():
+            some = self.places[:, 2] == destination
+            block, period = self.places[some, 0], self.places[some, 1] + lag
+            inside = period < self.periods
+            sizes = np.abs(amounts[block]) * (self.shares[some, 3] + 1.0)
+            found += np.bincount(period[inside], sizes[inside], minlength=self.periods)
+        return found
