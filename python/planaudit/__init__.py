@@ -41,7 +41,7 @@ from planaudit.errors import AuditError, PackageError
 from planaudit.rules import Rule
 
 if TYPE_CHECKING:
-    from planaudit.folders import demand, verify, verify_folder, verify_scenarios, verify_sensitivity
+    from planaudit.folders import demand, read_ahead, verify, verify_folder, verify_scenarios, verify_sensitivity
 else:
 
     def __getattr__(name: str) -> Any:
@@ -65,6 +65,7 @@ __all__ = [
     "PackageError",
     "Rule",
     "demand",
+    "read_ahead",
     "verify",
     "verify_folder",
     "verify_scenarios",

@@ -8,11 +8,14 @@ from itertools import zip_longest
 from pathlib import Path
 from typing import Optional
 
+import pandas as pd
+
 from planaudit.blocks import constraints, missing_blocks, pit_limits, reblocked
 from planaudit.errors import AuditError
 from planaudit.ground import depletion, slopes
-from planaudit.inputs import answer as answers, hashes
+from planaudit.inputs import answer as answers, block_table, hashes
 from planaudit.inputs.answer import Answer
+from planaudit.inputs.run import Run
 from planaudit.money import block_values, haulage
 from planaudit.pits import conventions, pushbacks, sums, years
 from planaudit.revenue_factors import factor_text
@@ -33,7 +36,7 @@ CHECKS = (
 )
 
 
-def verify(written: Path, folder: Optional[Path] = None) -> list[Rule]:
+def verify(written: Path, folder: Optional[Path] = None, table: Optional[pd.DataFrame] = None) -> list[Rule]:
     """Verifies the files of a plan.
 
     Parameters
@@ -42,6 +45,8 @@ def verify(written: Path, folder: Optional[Path] = None) -> list[Rule]:
         The folder with the files.
     folder : Path, optional
         While a run goes on its output folder, to which the files will be moved.
+    table : DataFrame, optional
+        The planner's table, as `read_ahead` returns it. Default: it is read.
 
     Returns
     -------
@@ -53,11 +58,19 @@ def verify(written: Path, folder: Optional[Path] = None) -> list[Rule]:
     AuditError
         If the folder has no results, a table of it lacks a column, or the planner's table has changed since.
     """
-    answer = answers.read(written, folder)
+    answer = answers.read(written, folder, table)
     try:
         return rules_of(answer)
     except KeyError as error:
         raise AuditError(f"{written}: a table has no column {error}: run pitplan again") from error
+
+
+def read_ahead(written: Path, folder: Path) -> pd.DataFrame:
+    """Returns the planner's table of a run whose results are not written yet. Raises AuditError if it cannot be read."""
+    try:
+        return block_table.read(Run(folder, written).as_run({}))
+    except OSError as error:
+        raise AuditError(f"{error.filename}: cannot be read: {error.strerror}") from error
 
 
 def rules_of(answer: Answer) -> list[Rule]:

@@ -28,7 +28,8 @@ from pitplan.solver.program import Solution
 from ..plan import Plan
 from . import schedule_tables
 from .schedule_tables import ScheduleTables
-from .writing import Run, finish, note_verified, write_table
+from .verification import verifying
+from .writing import Run, finish, write_table
 
 if TYPE_CHECKING:
     from pitplan.scheduling.blocks.tables import ScheduledBlocks
@@ -89,18 +90,18 @@ def write_answer(answered: Answered, run: Run) -> pd.DataFrame:
     check_fixed(run.mine, answered.solution, factor, progress)
     note_answer(answered, factor, run)
     run.record["figures"] = run.writing.draws
-    note_verified(plan, run)
     drawn: list[str] = []
-    if run.writing.draws:
-        from .drawing import draw
+    with verifying(plan, run):
+        if run.writing.draws:
+            from .drawing import draw
 
-        with progress.step("drawing"):
-            drawn = draw(answered, tables, factor, stage)
-    if tables.schedule is not None:
-        from . import workbook
+            with progress.step("drawing"):
+                drawn = draw(answered, tables, factor, stage)
+        if tables.schedule is not None:
+            from . import workbook
 
-        with progress.step("writing the workbook"):
-            workbook.write(answered, tables, stage)
+            with progress.step("writing the workbook"):
+                workbook.write(answered, tables, stage)
     more = tables.schedule.price_tables if tables.schedule is not None else {}
     finish(plan, run.record, [*mine_files.of_program(stage), *tables_of(answered), *more, *drawn], stage)
     html.write(stage / names.REPORT, stage, run.project)

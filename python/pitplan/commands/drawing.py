@@ -2,11 +2,12 @@
 
 from __future__ import annotations
 
+from collections.abc import Callable, Iterator
+from functools import partial
 from pathlib import Path
 from typing import TYPE_CHECKING
 
-import pandas as pd
-
+from pitplan.core.processes import run_all
 from pitplan.figures import (
     annual,
     block_schedule,
@@ -27,8 +28,12 @@ if TYPE_CHECKING:
     from .answers import Answered, Tables
 
 
+# The name of a figure, and what draws it into a file.
+Drawing = tuple[str, Callable[[Path], object]]
+
+
 def draw(answered: Answered, tables: Tables, chosen: float, stage: Path) -> list[str]:
-    """Draws the pictures of shells, and those of pushbacks and schedules if there are any.
+    """Draws the pictures of shells, and those of pushbacks and schedules if there are any, at the same time.
 
     Parameters
     ----------
@@ -48,52 +53,54 @@ def draw(answered: Answered, tables: Tables, chosen: float, stage: Path) -> list
     """
     project = answered.plan.project
     formats = project.figures.formats if project.figures else ()
+    drawings = [
+        *of_shells(answered, tables, chosen),
+        *of_pushbacks(answered),
+        *of_pushback_schedule(answered, tables),
+        *of_any_schedule(answered, tables),
+    ]
     with also_as(formats):
-        of_shells = draw_shells(answered, tables.shells, chosen, stage)
-        annual.write_years(tables.years, project, chosen, stage / PICTURES["years"])
-        drawn = of_shells | draw_pushbacks(answered, stage) | draw_schedules(answered, tables, stage)
-    return files_of(drawn, formats)
+        run_all([partial(write, stage / name) for name, write in drawings])
+    return files_of({name: name for name, _ in drawings}, formats)
 
 
-def draw_shells(answered: Answered, table: pd.DataFrame, chosen: float, stage: Path) -> dict[str, str]:
-    """Draws the shells; returns the files of the pictures by name."""
+def of_shells(answered: Answered, tables: Tables, chosen: float) -> Iterator[Drawing]:
+    """Yields the figures of shells."""
     plan = answered.plan
-    scene = plans_sections.scene_of(plan, answered.solution, chosen)
-    write_pit_by_pit(table, plan.project.economics.currency, chosen, stage / PICTURES["pit_by_pit"])
-    plans_sections.write_plans(scene, stage / PICTURES["plans"])
-    plans_sections.write_sections(scene, stage / PICTURES["sections"])
+    scene, project = plans_sections.scene_of(plan, answered.solution, chosen), plan.project
+    currency = project.economics.currency
+    yield PICTURES["pit_by_pit"], partial(write_pit_by_pit, tables.shells, currency, chosen)
+    yield PICTURES["years"], partial(annual.write_years, tables.years, project, chosen)
+    yield PICTURES["plans"], partial(plans_sections.write_plans, scene)
+    yield PICTURES["sections"], partial(plans_sections.write_sections, scene)
     kinds = geology.kinds_of(plan)
-    if not kinds:
-        return PICTURES
-    geology.write_sections(scene, kinds, stage / GEOLOGY_PICTURES["geology"])
-    return PICTURES | GEOLOGY_PICTURES
+    if kinds:
+        yield GEOLOGY_PICTURES["geology"], partial(geology.write_sections, scene, kinds)
 
 
-def draw_pushbacks(answered: Answered, stage: Path) -> dict[str, str]:
-    """Draws the pushbacks, if there are any; returns the files of the pictures by name."""
-    if answered.pushbacks is None:
-        return {}
-    scene = pushbacks.scene_of(answered.pushbacks)
-    pushbacks.write_plans(scene, stage / PUSHBACK_PICTURES["pushback_plans"])
-    pushbacks.write_sections(scene, stage / PUSHBACK_PICTURES["pushback_sections"])
-    return PUSHBACK_PICTURES
+def of_pushbacks(answered: Answered) -> Iterator[Drawing]:
+    """Yields the figures of pushbacks, if there are any."""
+    if answered.pushbacks is not None:
+        scene = pushbacks.scene_of(answered.pushbacks)
+        yield PUSHBACK_PICTURES["pushback_plans"], partial(pushbacks.write_plans, scene)
+        yield PUSHBACK_PICTURES["pushback_sections"], partial(pushbacks.write_sections, scene)
 
 
-def draw_schedules(answered: Answered, tables: Tables, stage: Path) -> dict[str, str]:
-    """Draws the schedule of pushbacks or of blocks, if there is one; returns the files of the pictures by name."""
-    drawn: dict[str, str] = {}
+def of_pushback_schedule(answered: Answered, tables: Tables) -> Iterator[Drawing]:
+    """Yields the figures of a schedule of pushbacks, if there is one."""
     if answered.schedule is not None:
-        drawn = SCHEDULE_PICTURES
-        gantt.write_gantt(answered.schedule, stage / drawn["schedule_gantt"])
-        schedule.write_tonnes(answered.schedule, stage / drawn["schedule_tonnes"])
-        schedule.write_cumulative(answered.schedule, tables.years, stage / drawn["schedule_value"])
+        made = answered.schedule
+        yield SCHEDULE_PICTURES["schedule_gantt"], partial(gantt.write_gantt, made)
+        yield SCHEDULE_PICTURES["schedule_tonnes"], partial(schedule.write_tonnes, made)
+        yield SCHEDULE_PICTURES["schedule_value"], partial(schedule.write_cumulative, made, tables.years)
+
+
+def of_any_schedule(answered: Answered, tables: Tables) -> Iterator[Drawing]:
+    """Yields the figures of a schedule by block, and those of both kinds of schedules."""
     if answered.blocks is not None:
-        drawn = drawn | BLOCK_PICTURES
-        block_schedule.write(answered.blocks, stage / BLOCK_PICTURES["block_schedule"])
+        yield BLOCK_PICTURES["block_schedule"], partial(block_schedule.write, answered.blocks)
     if tables.schedule is not None:
         metal = answered.plan.project.metals[0]
-        grade_tonnage.write(tables.schedule.grade_tonnage, metal, stage / drawn["grade_tonnage"])
+        yield BLOCK_PICTURES["grade_tonnage"], partial(grade_tonnage.write, tables.schedule.grade_tonnage, metal)
         if tables.schedule.prices is not None:
-            drawn = drawn | PRICE_PICTURES
-            price_paths.write(tables.schedule.prices, stage / PRICE_PICTURES["price_paths"])
-    return drawn
+            yield PRICE_PICTURES["price_paths"], partial(price_paths.write, tables.schedule.prices)

@@ -18,7 +18,8 @@ from pitplan.solver import mine_files, problem
 
 from ..errors import PlanError
 from .answers import check_fixed
-from .writing import Place, Run, Source, Writing, begun, finish, note_verified, read, write_table
+from .verification import verifying
+from .writing import Place, Run, Source, Writing, begun, finish, read, write_table
 
 
 def write_pit(
@@ -57,7 +58,8 @@ def write_pit(
         table, blocks = compared(run, revenue_factor)
         write_table(blocks, run.stage)
         write_csv(shown(table), run.stage / names.PITS, project)
-        note_verified(run.mine.plan, run)
+        with verifying(run.mine.plan, run):
+            pass
         finish(run.mine.plan, run.record, [*mine_files.of_program(run.stage), names.TABLE, names.PITS], run.stage)
     return table
 

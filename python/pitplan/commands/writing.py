@@ -4,13 +4,12 @@ from __future__ import annotations
 
 import os
 from contextlib import contextmanager
-from dataclasses import asdict, dataclass
+from dataclasses import asdict, dataclass, replace
 from pathlib import Path
 from typing import Any, Iterable, Iterator, Optional, Union
 
 import pandas as pd
 
-import planaudit
 from pitplan.blockmodel.figure_bounds import demand_within
 from pitplan.config import project_writer
 from pitplan.config.figures import FORMATS
@@ -27,7 +26,7 @@ from pitplan.solver.problem import Mine
 
 from ..errors import InputWarning, PlanError, ResultWarning
 from ..plan import Plan, prepared
-from .audited import verified
+from .audit_process import AuditProcess, is_apart, reading_ahead
 
 # A project, or the path of its project.toml; and a folder.
 Source = Union[str, Path, Project]
@@ -115,6 +114,8 @@ class Run:
         The folder in which files are written before they are moved to their place.
     writing : Writing
         How the folder is written.
+    audit : tuple of AuditProcess
+        The process that verifies the results, if it has begun to read the table.
     """
 
     project: Project
@@ -122,6 +123,7 @@ class Run:
     record: dict[str, Any]
     stage: Path
     writing: Writing
+    audit: tuple[AuditProcess, ...] = ()
 
 
 def read(project: Source) -> Project:
@@ -166,7 +168,9 @@ def begun(project: Project, folder: Path, writing: Writing, planned: Optional[Pr
         solver = chosen(project.solver)
         plan = prepared(planned or project, progress=writing.progress)
         with staged_run(project, plan, solver, folder, writing) as run:
-            yield run
+            is_wanted = writing.verifies and is_apart(len(plan.table))
+            with reading_ahead(run.stage, is_wanted) as audit:
+                yield replace(run, audit=tuple(audit))
     warn(plan.notes, InputWarning)
     warn([note for note in run.record["notes"] if note not in plan.notes], ResultWarning)
 
@@ -182,16 +186,6 @@ def staged_run(project: Project, plan: Plan, solver: Solver, folder: Path, writi
         with progress.step("writing blocks and precedences" if solver.by == PROGRAM else "listing precedences"):
             mine = problem.ready(plan, solver, stage / layout.SOLVER)
         yield Run(project, mine, plan.record(mine.pairs) | {"solver": asdict(solver)}, stage, writing)
-
-
-def note_verified(plan: Plan, run: Run) -> None:
-    """Recalculates all staged results independently, and records the rules that hold. Raises PlanError if one does not."""
-    record, stage = run.record, run.stage
-    record["project"] = os.path.relpath(plan.project.path, stage.parent)
-    record["verified"] = []
-    if run.writing.verifies:
-        write_json(stage / names.RECORD, record)
-        record["verified"] = verified(lambda: planaudit.verify(stage, stage.parent), run.writing.progress)
 
 
 def staged_input(path: Path, stage: Path) -> Path:

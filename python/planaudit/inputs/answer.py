@@ -306,7 +306,7 @@ class Answer:
         )
 
 
-def read(written: Path, folder: Optional[Path] = None) -> Answer:
+def read(written: Path, folder: Optional[Path] = None, table: Optional[pd.DataFrame] = None) -> Answer:
     """Reads the results of a plan. If the project's file has changed since the run, they must fit that file.
 
     Parameters
@@ -315,6 +315,8 @@ def read(written: Path, folder: Optional[Path] = None) -> Answer:
         The folder with the files.
     folder : Path, optional
         While the run goes on the output folder, to which the files will be moved.
+    table : DataFrame, optional
+        The planner's table. Default: it is read.
 
     Raises
     ------
@@ -332,7 +334,7 @@ def read(written: Path, folder: Optional[Path] = None) -> Answer:
         own = [own_name(name) for name in (*project.columns, project.table.tonnes)]
         results = (*said_of(project), *FREE, PUSHBACK, YEAR, BIN, MINED, *shares_of(project), *own)
         blocks = read_blocks(written / "tables/blocks.csv", project, results)
-        rows = rows_of(project, blocks, record["grid"])
+        rows = rows_of(project, blocks, record["grid"], table)
         return (read_shells if "shells" in record else read_pits)(written, record, project, blocks, rows)
     except OSError as error:
         raise AuditError(f"{error.filename}: cannot be read: run pitplan shells first") from error

@@ -99,7 +99,7 @@ def read_blocks(path: Path, project: Project, said: Optional[tuple[str, ...]] = 
             low_memory=False,
         )
     demand_numbers(found, path.name, texts)
-    return found.rename(columns={word: YEAR})
+    return found.rename(columns={word: YEAR}, copy=False)
 
 
 def plain_blocks(path: Path, wanted: Optional[set[str]], texts: list[str]) -> Optional[pd.DataFrame]:
