@@ -91,6 +91,20 @@ def test_the_clause_is_no_part_of_what_is_tried(mutant: edits.Mutant) -> None:
 
 
 @pytest.mark.parametrize(
+    ("name", "comment", "code"),
+    [("code.rt", "    /// Returns the pit.\n", "fn pit() {} // code\n"), ("specs.antt", "-- the pit\n", "pit : List ℕ -- code\n")],
+)
+def test_a_comment_leaves_the_state_of_a_source_as_it_is(tmp_path: pathlib.Path, name: str, comment: str, code: str) -> None:
+    file = tmp_path / name
+    file.write_text(code)
+    before = states.bytes_of(file)
+    file.write_text(comment + code)
+    assert states.bytes_of(file) == before == code.encode()
+    file.write_text(code.replace("pit", "pits"))
+    assert states.bytes_of(file) != before
+
+
+@pytest.mark.parametrize(
     ("head", "kind", "by"),
     [
         ("clause: first returns\n", edits.CLAUSE, "first returns"),

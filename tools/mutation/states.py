@@ -2,7 +2,7 @@
 
 For the prover: the crate's sources, definitions, proofs and mutants for the prover. For the others: the mutant, its crate's sources,
 definitions and proofs, and those of the crate, or the test, that must refuse it. In each case the files of definitions of other crates
-that these cite, directly or through others, belong to it.
+that these cite, directly or through others, belong to it. Lines that are comments do not.
 """
 
 import functools
@@ -14,6 +14,8 @@ from crates import TOP
 from mutation import edits
 
 CITES = re.compile(r"\buse Rattle\.(\w+)\.specs\.([\w.-]+)")
+# A line that is a comment, by the ending of the file.
+COMMENTS = {".rt": re.compile(rb"^[ \t]*//.*\n", re.MULTILINE), ".antt": re.compile(rb"^[ \t]*--.*\n", re.MULTILINE)}
 DIGITS = 16
 
 
@@ -44,9 +46,11 @@ def with_cited(crate: str) -> frozenset[pathlib.Path]:
 
 
 def bytes_of(file: pathlib.Path) -> bytes:
-    """What a file is to the prover: a mutant without the clause that it is to be refused at."""
+    """What a file is to the prover: a mutant without the clause that it is to be refused at, a source without lines of comments."""
     text = file.read_bytes()
-    return re.sub(rb"^clause: .*\n", b"", text, flags=re.MULTILINE) if file.suffix == ".edit" else text
+    if file.suffix == ".edit":
+        return re.sub(rb"^clause: .*\n", b"", text, flags=re.MULTILINE)
+    return COMMENTS[file.suffix].sub(b"", text) if file.suffix in COMMENTS else text
 
 
 @functools.cache

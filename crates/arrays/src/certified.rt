@@ -27,7 +27,7 @@ pub struct Certified {
     pub flow: Vec<i128>,
 }
 
-/// The certificate of a mine. Refused for want of memory alone.
+/// Returns the certificate of a mine. Error: `NoMemory`.
 fn certificate_of(alloc: Global, mine: &Instance) -> Result<Certificate, ArrayError>
     ensures certifies { IfOk result (IsCertificateOf mine.now) }
     ensures refused { IfErr result (λ e. (e.refusal ≡ Refusal.NoMemory) × (e.place ≡ 0)) }
@@ -42,8 +42,9 @@ fn certificate_of(alloc: Global, mine: &Instance) -> Result<Certificate, ArrayEr
     }
 }
 
-/// Marks the pit of the mine that the arrays encode, and answers its worth and the flow that shows it. Refused as `mine_of` is, where the
-/// blocks of a row do not rise (7), and where there is not a mark for each block (17). The marks are then as they were.
+/// Marks the pit of the mine that the arrays encode, and returns its value and the flow that proves it optimal. Errors: those of
+/// `mine_of`; 7 if the blocks of a row do not increase; 17 if there is not a mark for each block. After an error the marks are
+/// unchanged.
 pub fn mark_certified(
     alloc: Global,
     values: &[i64],

@@ -1,4 +1,4 @@
-//! The revenues and the costs of a deposit's blocks, from arrays, or why they are none.
+//! The revenues and the costs of a deposit's blocks, from arrays, or why the arrays encode none.
 ghost use Rattle.std.specs.Prelude.{◌≡◌, ◌≤◌, ◌^◌, ◌⊎◌, pos, ◌≤ℤ◌, length, IfOk, IfErr, IfSome, IfNone};
 ghost use Rattle.pit_model.specs.Deposit.{IsAmount};
 ghost use Rattle.pit_model.specs.Size.{most_blocks};
@@ -43,8 +43,8 @@ fn first_wrong(amounts: &[i64]) -> Option<ArrayError>
     None
 }
 
-/// Revenues and costs of as many blocks. Refused by the first of the revenues, and then of the costs, that is negative (15) or above
-/// 10^18 (4), and for want of memory (1).
+/// Returns the revenues and costs of as many blocks. Errors: the first of the revenues, and then of the costs, that is negative
+/// (15) or above 10^18 (4); lack of memory (1).
 pub fn columns_of(alloc: Global, revenues: &[i64], costs: &[i64]) -> Result<Columns, ArrayError>
     requires few { length revenues.now ≤ most_blocks }
     requires counted { length costs.now ≡ length revenues.now }

@@ -18,9 +18,9 @@ fn write_front(blocks: &[u32], room: &mut [u32])
     }
 }
 
-/// Writes the blocks of the cycle that the rows of so many blocks have, each of which needs the next, and the last the first, as far as
-/// there is room, and answers how many they are; None where they have no cycle. Refused as `mine_of` is by its rows; the room is then as
-/// it was.
+/// Writes the blocks of a cycle in the rows of `blocks` blocks, as far as there is room, and returns how many there are; None if
+/// the graph is acyclic. Each block needs the next, and the last needs the first. Errors: those of `mine_of` for its rows. After an
+/// error the room is unchanged.
 pub fn find_cycle(
     alloc: Global,
     blocks: usize,

@@ -5,7 +5,7 @@ ghost use Rattle.arrays.specs.Firsts.{AreFirsts, AreTaken};
 
 use pit_model::Shell;
 
-/// Gives a number to the blocks of a pit that have none yet, which is told by the number `none`.
+/// Gives a number to the blocks of a pit that have none yet, that is, whose number is `none`.
 fn take(pit: &[u32], number: u32, none: u32, firsts: &mut [u32])
     requires below { All (λ u. u < length firsts.old) pit.now }
     requires another { number ≢ none }

@@ -48,7 +48,7 @@ pub fn blocks_with(alloc: Global, numbers: &[u8], number: u8) -> Result<Vec<u32>
         .collect(alloc)
 }
 
-/// What numbers fix of a graph's blocks. Refused for want of memory, and by the least barred block that must be dug (21).
+/// Returns what numbers fix of a graph's blocks. Errors: the least barred block that is forced in (21); lack of memory (1).
 pub fn fixed_by(alloc: Global, graph: &Graph, numbers: &[u8]) -> Result<Fixed, ArrayError>
     requires { AreForBlocks graph.now.blocks numbers.now }
     ensures fixes { IfOk result (λ f. fixed_of f.lists ≡ fixed_by numbers.now) }

@@ -71,9 +71,9 @@ fn graph_of_rows(alloc: Global, blocks: u32, rows: Csr) -> Result<Arc<Graph>, Ar
     }
 }
 
-/// The graph of so many blocks that rows encode, or why they encode none: the first that applies of too many blocks or pairs (4), rows
-/// out of place (7), a block that there is not (8), one that needs itself (9), one that is named twice (10), a cycle (14); and for want
-/// of memory (1). Time is linear in blocks and pairs.
+/// Returns the graph of `blocks` blocks that the rows encode. Errors, the first that applies: too many blocks or pairs (4), rows
+/// out of place (7), an unknown block (8), one that needs itself (9), one that is named twice (10), a cycle (14); lack of memory
+/// (1). Time is linear in blocks and pairs.
 pub fn graph_of(alloc: Global, blocks: usize, rows: &CsrView<'_>) -> Result<Arc<Graph>, ArrayError>
     ensures few { IfOk result (λ g. blocks ≤ most_blocks) }
     ensures encoded { IfOk result (λ g. EncodesGraph blocks rows.now.offsets.now rows.now.targets.now g.value) }

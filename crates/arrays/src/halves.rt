@@ -30,7 +30,7 @@ pub fn split_i128(number: i128) -> Halves
     }
 }
 
-/// Whether there is room for the two halves of so many numbers, and for no more.
+/// Returns whether there is room for the two halves of `count` numbers, and for no more.
 pub fn have_room(count: usize, high: &[i64], low: &[u64]) -> bool
     ensures { IsTrue result ↔ (length high.now ≡ count) × (length low.now ≡ count) }
 {

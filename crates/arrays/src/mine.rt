@@ -36,7 +36,7 @@ pub fn widened(alloc: Global, values: &[i64]) -> Result<Vec<i128>, AllocError>
     Ok(list)
 }
 
-/// The mine that the arrays encode, or why they encode none: as `graph_of` says, and for want of memory (1). Time is linear in blocks and
+/// Returns the mine that the arrays encode. Errors: those of `graph_of`, and lack of memory (1). Time is linear in blocks and
 /// pairs.
 pub fn mine_of(alloc: Global, values: &[i64], rows: &CsrView<'_>) -> Result<Instance, ArrayError>
     ensures encoded { IfOk result (IsEncoded values.now rows.now.offsets.now rows.now.targets.now) }

@@ -22,8 +22,8 @@ pub struct DepositArrays<'a> {
     pub rows: CsrView<'a>,
 }
 
-/// The factors of a list. Refused by the first that is above 100,000 or the one too many (4), or not greater than the one before (19),
-/// and for want of memory (1).
+/// Returns the factors of a list. Errors: the first that is above 100,000, or the first beyond 1,000 (4); the first not greater
+/// than the one before (19); lack of memory (1).
 fn factors_of(alloc: Global, list: &[u32]) -> Result<Factors, ArrayError>
     ensures list { IfOk result (λ f. f ≡ list.now) }
     ensures refused { IfErr result (λ e. RefusesFactors list.now e.refusal) }
@@ -50,10 +50,10 @@ fn worths_of(alloc: Global, shells: &[Shell]) -> Result<Vec<i128>, AllocError>
     Ok(worths)
 }
 
-/// Writes for each block the number, from 0, of the first factor whose pit holds it, and how many factors there are where none does;
-/// and answers the worth of each factor's pit, in billionths. Refused where there is not a cost and a number for each revenue (17), as
-/// `mine_of` is by its rows, by the first amount that is negative (15) or above 10^18 (4), by a list of factors that does not rise (19),
-/// goes above 100,000 or has more than 1,000 (4), and for want of memory (1). The numbers are then as they were.
+/// Writes for each block the number, from 0, of the first factor whose pit holds it, or the number of factors if none does, and
+/// returns the value of each factor's pit, in billionths. Errors: not a cost and a number for each revenue (17); those of `mine_of`
+/// for its rows; the first amount that is negative (15) or above 10^18 (4); a list of factors that does not increase (19), goes
+/// above 100,000 or has more than 1,000 (4); lack of memory (1). After an error the numbers are unchanged.
 pub fn mark_shells(
     alloc: Global,
     deposit: &DepositArrays<'_>,

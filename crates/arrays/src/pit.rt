@@ -46,9 +46,9 @@ fn solve_pit(
     }
 }
 
-/// Marks the pit of the mine that the arrays encode, and answers its worth. A number of 1 forces its block in, 2 bars it, and 0
-/// leaves it open; there may be none at all. Refused as `mine_of` is; where there is not a mark for each block, or numbers for only
-/// some (17); by a number above 2 (3); and where a barred block must be dug (21). The marks are then as they were.
+/// Marks the pit of the mine that the arrays encode, and returns its value. A number of 1 forces its block in, 2 bars it, and 0
+/// leaves it open; there may be no numbers at all. Errors: those of `mine_of`; not a mark for each block, or numbers for only some
+/// (17); a number above 2 (3); a barred block that is forced in (21). After an error the marks are unchanged.
 pub fn mark_pit(
     alloc: Global,
     arrays: &MineArrays<'_>,

@@ -6,9 +6,9 @@
 pub enum CertificateLine {
     /// A line before the blocks of the pit.
     Head(Head),
-    /// So many blocks, of which the next is at least `from`; then `FLOW:` with how many arcs follow.
+    /// This many blocks, the next of them at least `from`; then `FLOW:` with the number of arcs that follow.
     Block { left: u32, from: u32 },
-    /// So many arcs, of which the next has at least the number `from`; then the end.
+    /// This many arcs, the next of them with a number of at least `from`; then the end.
     Arc { left: u32, from: u32 },
 }
 

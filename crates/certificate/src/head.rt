@@ -1,5 +1,5 @@
-//! The lines of a certificate's text before the blocks of the pit: its title, the graph's counts, and in format 2 the fixed
-//! blocks, which are to be those that were given. `lines` checks each line but for that, and `reader` goes on behind them.
+//! The lines of a certificate's text before the blocks of the pit: its title, the graph's counts, and in format 2 the fixed blocks,
+//! which must be the given ones. `lines` checks each line except for that, and `reader` goes on after them.
 ghost use Rattle.std.specs.Prelude.{◌≡◌, ◌<◌, IfOk};
 ghost use Rattle.minelib_reader.specs.Answer.{Gives};
 ghost use Rattle.minelib_reader.specs.Text.{row, fields_of};

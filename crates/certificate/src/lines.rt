@@ -30,7 +30,7 @@ fn one_field(text: &[u8]) -> Option<&[u8]>
     }
 }
 
-/// How many lines follow, of which there are at most so many.
+/// The number of lines that follow, at most the given one.
 #[tactic(auto, unfolding(crate::specs::CertificateLines::count_line))]
 pub fn read_count(word: &[u8], most: u32, r: Row) -> Result<u32, Fault>
     ensures gives { Gives (λ n. n) result (count_line word.now most (row r.entry.line (fields_of r.entry.text.now))) }

@@ -95,7 +95,7 @@ fn take_line(
     }
 }
 
-/// Nothing is due any more, in a text of so many lines.
+/// Nothing is due any more, in a text of this many lines.
 #[tactic(auto, unfolding(crate::specs::CertificateLines::end_at))]
 fn check_end(due: CertificateLine, count: u64) -> Result<(), Fault>
     requires { count < 2 ^ 63 }

@@ -61,7 +61,7 @@ fn put_list<W: OutBytes>(writer: &mut W, out: &mut Out, word: &[u8], ids: &[u32]
     put_ids(writer, out, ids);
 }
 
-/// Writes the lines before those of the pit: in format 2, where a block is fixed, and else in format 1.
+/// Writes the lines before those of the pit: in format 2 if a block is fixed, otherwise in format 1.
 fn put_head<W: OutBytes>(writer: &mut W, out: &mut Out, graph: &Graph, fixed: &Fixed)
     requires { IsReady (W.progress writer.old) out.old }
     ensures puts { Puts (W.progress writer.old) out.old (W.progress writer.new) out.new (certificate_head graph.now fixed.now.lists) }

@@ -31,8 +31,8 @@ use std::thread::Threads;
 /// # Errors
 ///
 /// The first fault of the files (3 to 14) or of the columns (15, 16), lack of memory (1), a failed read (2), a used-up budget at
-/// some factor (20) and a worker that could not be started (22), all with nothing written; and a failed write (18), with a
-/// beginning of the text written.
+/// some factor (20) or a worker that could not be started (22): nothing is written. A failed write (18): the beginning of the text
+/// is written.
 #[tactic(auto, using(crate::proofs::Keeping::still_kept, crate::proofs::Keeping::still_kept_if_any))]
 pub fn run_shells<R: Threads + Wait + Sync, B: InBytes, P: InBytes, W: OutBytes>(
     rt: &R,

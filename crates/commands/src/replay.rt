@@ -117,8 +117,8 @@ fn put_end<W: OutBytes>(
 ///
 /// # Errors
 ///
-/// The first fault of the files (3 to 14, 17, 21), lack of memory (1), a failed read (2), and a used-up budget of the journal with
-/// a merger arc left (20), all with nothing written; and a failed write (18), with a beginning of the answer written.
+/// The first fault of the files (3 to 14, 17, 21), lack of memory (1), a failed read (2), or a used-up budget of the journal with a
+/// merger arc left (20): nothing is written. A failed write (18): the beginning of the answer is written.
 #[tactic(auto, using(crate::proofs::Keeping::still_kept, crate::proofs::Keeping::still_kept_if_any))]
 pub fn run_replay<M: InBytes, P: InBytes, F: InBytes, J: InBytes, W: OutBytes>(
     alloc: Global,

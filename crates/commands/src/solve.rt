@@ -195,9 +195,9 @@ fn solve_mine<J: OutBytes, C: OutBytes, R: Threads + Wait + Sync>(
 ///
 /// # Errors
 ///
-/// The first fault of the files (3 to 14, 21), lack of memory (1), a failed read (2) and a worker that could not be started (22),
-/// all with nothing written; a used-up budget (20), with the whole journal written and nothing else; and a failed write (18), with
-/// a beginning of these texts in their order.
+/// The first fault of the files (3 to 14, 21), lack of memory (1), a failed read (2) or a worker that could not be started (22):
+/// nothing is written. A used-up budget (20): the whole journal is written, and nothing else. A failed write (18): the beginning of
+/// these texts is written, in their order.
 #[tactic(auto, using(crate::proofs::Keeping::still_kept, crate::proofs::Keeping::still_kept_if_any))]
 pub fn run_solve<
     R: Threads + Wait + Sync,

@@ -1,5 +1,5 @@
-//! Counters for whoever watches a run. They go where the mine goes, and no answer depends on them: no clause can say what
-//! an atomic word holds, and none here tries to.
+//! Counters for observers of a run. They travel with the mine, and no answer depends on them: no clause can say what an atomic word
+//! holds, and none here tries to.
 
 use crate::phase::Phase;
 use crate::stats::Stats;
@@ -95,7 +95,7 @@ impl Counters {
         }
     }
 
-    /// The run is at this phase now. Whoever waits for another phase wakes.
+    /// The run enters this phase. Observers that wait for another phase wake.
     pub fn enter(&self, phase: Phase) {
         if let Some(words) = &self.words {
             words.phase.store(u64::from(phase.place()), SeqCst);
@@ -103,28 +103,28 @@ impl Counters {
         }
     }
 
-    /// So many bytes of an input were read.
+    /// Adds bytes of an input that were read.
     pub fn read(&self, bytes: u64) {
         if let Some(words) = &self.words {
             words.bytes.fetch_add(bytes, Relaxed);
         }
     }
 
-    /// So many blocks of the model are read.
+    /// Adds blocks of the model that were read.
     pub fn blocks_read(&self, blocks: u64) {
         if let Some(words) = &self.words {
             words.blocks.store(blocks, Relaxed);
         }
     }
 
-    /// So many pairs are read.
+    /// Adds pairs that were read.
     pub fn pairs_read(&self, pairs: u64) {
         if let Some(words) = &self.words {
             words.pairs.store(pairs, Relaxed);
         }
     }
 
-    /// A merger was made: of a plan while the run is at one, and else of the run.
+    /// Counts a merger: of the plan while the run makes one, otherwise of the run.
     pub fn merged(&self) {
         if let Some(words) = &self.words {
             let is_plan = words.phase.load(Relaxed) == u64::from(Phase::Planning.place());
@@ -137,7 +137,7 @@ impl Counters {
         }
     }
 
-    /// So many blocks got the next label.
+    /// Adds blocks that got the next label.
     pub fn relabelled(&self, blocks: u64) {
         if let Some(words) = &self.words {
             words.relabels.fetch_add(blocks, Relaxed);
@@ -166,7 +166,7 @@ impl Counters {
         }
     }
 
-    /// The price factor that is solved now, from 1, of so many.
+    /// Sets the price factor that is solved now, from 1, and the number of factors.
     pub fn at_factor(&self, factor: u64, factors: u64) {
         if let Some(words) = &self.words {
             words.factor.store(factor, Relaxed);

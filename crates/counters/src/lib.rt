@@ -1,4 +1,4 @@
-//! What a run has done up to now, counted for whoever watches it.
+//! What a run has done up to now, counted for its observers.
 #![tactic(auto)]
 
 mod counters;

@@ -1,6 +1,6 @@
 //! What was counted, as plain numbers.
 
-/// What a run had done when it was looked at.
+/// What a run had done when its counters were read.
 #[derive(Clone, Copy, PartialEq, Eq, Debug)]
 pub struct Stats {
     /// Bytes of the inputs, and the blocks and pairs that they spell.
@@ -17,7 +17,7 @@ pub struct Stats {
     pub sweeps: u64,
     pub asks: u64,
     pub stale: u64,
-    /// Of so many price factors, the one that is solved, from 1; 0 where none is.
+    /// The price factor that is solved, from 1; 0 before the first.
     pub factor: u64,
     pub factors: u64,
 }

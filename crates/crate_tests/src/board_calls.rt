@@ -3,7 +3,7 @@ ghost use Rattle.std.specs.Prelude.{◌≡◌, ◌<◌, ◌≤◌, length};
 
 use proposals::{Board, BoardId, HolderSeat, Verdict, WorkerSeat};
 
-/// Asks for an arc, where there are so many: whether it was asked for.
+/// Asks for an arc of a board of known size, and returns whether it was asked for.
 pub fn ask_for<B: BoardId>(board: &Board<B>, seat: &mut WorkerSeat<B>, arc: u32) -> bool {
     arc < board.arcs() && board.ask(seat, arc)
 }

@@ -28,7 +28,7 @@ fn wait_for_reply<B: BoardId, R: Wait>(
     None
 }
 
-/// How a worker and the holder tell each other: the worker that the holder is to rest, the holder that it does, and the worker
+/// How a worker and the holder signal each other: the worker that the holder is to rest, the holder that it does, and the worker
 /// that it is done.
 #[derive(Drop)]
 struct Signs {
@@ -114,7 +114,7 @@ fn answer_until<B: BoardId, R: Wait>(
     }
 }
 
-/// A worker asks for so many arcs while the holder answers: what fails of that, or of what stands on the board in the end.
+/// A worker asks for `arcs` arcs while the holder answers. Returns what fails of that, or of the final state of the board.
 fn at_once<B: BoardId + Send + Sync, R: Threads + Wait + Sync>(
     rt: &R,
     board: &Board<B>,

@@ -141,7 +141,7 @@ fn each_of_64_workers_makes_a_merger(rt: HostRuntime) -> Result<(), Fail> {
     Ok(())
 }
 
-/// What the journal counts of a solve of so many pairs of blocks.
+/// What the journal counts of a solve of this many pairs of blocks.
 fn counts_of_pairs<R: Threads + Wait + Sync>(
     rt: &R,
     alloc: Global,
@@ -152,7 +152,7 @@ fn counts_of_pairs<R: Threads + Wait + Sync>(
     counts(rt, alloc, &mine, crew, &OpenGate)
 }
 
-/// What the journal counts of a solve of so many ores below waste.
+/// What the journal counts of a solve of this many ores below waste.
 fn counts_of_ores<R: Threads + Wait + Sync>(
     rt: &R,
     alloc: Global,
@@ -182,7 +182,7 @@ fn asks_of_workers_make_the_mergers(rt: HostRuntime) -> Result<(), Fail> {
     Ok(())
 }
 
-/// Each copy is two mergers, of which the second is none before the first. Three copies have no plan: the first sweep makes one of
+/// Each copy is two mergers; the second is no merger before the first. Three copies have no plan: the first sweep makes one of
 /// each, the driver one more, and a second sweep the two that are left. A hundred have one, by which the workers make all of them
 /// in one sweep, and ask for nothing else.
 #[test]

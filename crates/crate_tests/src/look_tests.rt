@@ -77,7 +77,8 @@ fn a_look_shows_what_was_answered(rt: HostRuntime) -> Result<(), Fail> {
     pass_or_name(failure_of(&rt, rt.alloc(), &ASKED_THRICE, &AskThenLook))
 }
 
-/// Applies the arcs in turn and tells the seat: whether each was a merger arc, memory was there, and the seat was told of all.
+/// Applies the arcs in turn and informs the seat. Returns whether each was a merger arc, memory was there, and the seat was
+/// informed of all.
 fn all_applied<S: LockId, R: Wait>(
     rt: &R,
     holder: &mut Holder<S>,
@@ -99,7 +100,7 @@ fn opened<S: LockId>(shared: &mut SharedTree<S>) -> Result<(LookSeat<S>, bool), 
     Ok(look_shows(seat, &OPENING))
 }
 
-/// Applies the arcs and tells the seat: whether a look from it shows this then. The seat comes back.
+/// Applies the arcs, informs the seat, and returns whether a read from it then shows this. The seat is returned.
 fn sees_after<S: LockId, R: Wait>(
     rt: &R,
     holder: &mut Holder<S>,
@@ -117,7 +118,7 @@ fn is_full<S: LockId>(shared: &SharedTree<S>) -> bool {
     shared.look_seat().is_err()
 }
 
-/// Two seats look while the driver makes three mergers. The first is told of the first merger, the second of all.
+/// Two seats read while the driver makes three mergers. The first is informed of the first merger, the second of all.
 struct LooksBesideMergers;
 
 impl Trial for LooksBesideMergers {

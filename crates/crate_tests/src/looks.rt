@@ -1,4 +1,4 @@
-//! What looks at the versions of `FOUR_BLOCKS` show, worked out by hand.
+//! What reads of the versions of `FOUR_BLOCKS` show, worked out by hand.
 use versions::{ListId, LookSeat, Version};
 
 /// Which of the four blocks are strong, and which of the three arcs are merger arcs.

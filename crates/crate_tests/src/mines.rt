@@ -15,7 +15,7 @@ pub struct SmallMine {
     pub prec: &'static str,
 }
 
-/// Four blocks, of which block 0 needs 1 and 3, and block 2 needs 1: a merger cuts the path within a branch.
+/// Four blocks: block 0 needs 1 and 3, and block 2 needs 1. A merger cuts the path within a branch.
 pub const FOUR_BLOCKS: SmallMine = SmallMine {
     model: "NAME: t\nTYPE: UPIT\nNBLOCKS: 4\nOBJECTIVE_FUNCTION:\n0 1\n1 -2\n2 5\n3 -2\n",
     prec: "0 2 1 3\n2 1 1\n",
@@ -40,14 +40,14 @@ pub const EIGHT_OVER_ONE: SmallMine = SmallMine {
     prec: "1 1 0\n2 1 0\n3 1 0\n4 1 0\n5 1 0\n6 1 0\n7 1 0\n8 1 0\n",
 };
 
-/// Two blocks of ore, 1 and 4, need block 0, which each pays for alone: arcs 0 and 2, of which either is a merger arc until the
-/// other was merged over. Behind each stands a pair of blocks that is a merger by itself: arcs 1 and 3.
+/// Two blocks of ore, 1 and 4, need block 0, which each pays for alone. Arcs 0 and 2 are each a merger arc until the other is
+/// merged over. After each stands a pair of blocks that is a merger by itself: arcs 1 and 3.
 pub const ONE_WASTE_FOR_TWO: SmallMine = SmallMine {
     model: "NAME: t\nTYPE: UPIT\nNBLOCKS: 7\nOBJECTIVE_FUNCTION:\n0 -1\n1 5\n2 -3\n3 5\n4 5\n5 -3\n6 5\n",
     prec: "1 1 0\n3 1 2\n4 1 0\n6 1 5\n",
 };
 
-/// Four pairs of blocks, of which the second needs the first and pays for it: each pair is one merger.
+/// Four pairs of blocks. The second of each needs the first and pays for it: each pair is one merger.
 pub const FOUR_PAIRS: SmallMine = SmallMine {
     model: "NAME: t\nTYPE: UPIT\nNBLOCKS: 8\nOBJECTIVE_FUNCTION:\n0 -3\n1 5\n2 -3\n3 5\n4 -3\n5 5\n6 -3\n7 5\n",
     prec: "1 1 0\n3 1 2\n5 1 4\n7 1 6\n",
@@ -122,15 +122,15 @@ impl Written {
     }
 }
 
-/// So many copies of a mine of two blocks, at most 1,000, numbered two at a time: the second block needs the first, and pays
-/// for it. Each copy is one merger.
+/// This many copies of a mine of two blocks, at most 1,000, numbered two at a time: the second block needs the first, and pays for
+/// it. Each copy is one merger.
 pub fn pairs_of_blocks(alloc: Global, copies: u32) -> Result<Instance, Fault> {
     let mut texts = Written::of_blocks(alloc, 2 * copies.min(1000))?;
     texts.add_pairs(copies)?;
     read(alloc, &texts.model, &texts.prec)
 }
 
-/// So many copies of a mine of three blocks, at most 1,000, numbered three at a time: ore below ore below waste. The upper ore
+/// This many copies of a mine of three blocks, at most 1,000, numbered three at a time: ore below ore below waste. The upper ore
 /// does not pay for the waste, and both do. Each copy is two mergers, the upper one first.
 pub fn ores_below_waste(alloc: Global, copies: u32) -> Result<Instance, Fault> {
     let mut texts = Written::of_blocks(alloc, 3 * copies.min(1000))?;

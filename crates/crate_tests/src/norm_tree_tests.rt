@@ -1,5 +1,5 @@
-//! Three traces over the pairs (0, 1), (0, 3), (2, 1), worked by hand: where a merger cuts the path within a branch,
-//! where it cuts between two strong branches, and where a residual is used up exactly and the link stays.
+//! Three traces over the pairs (0, 1), (0, 3), (2, 1), worked by hand. A merger cuts the path within a branch, one cuts it between
+//! two strong branches, and one uses a residual up exactly, so that the link stays.
 use crate::mines::{
     FOUR_BLOCKS, FOUR_BLOCKS_THAT_PAY, FOUR_BLOCKS_WITH_AN_EQUAL_RESIDUAL, SmallMine, spelled,
 };

@@ -7,7 +7,7 @@ use std::alloc::Global;
 use std::sync::Wait;
 use std::thread::Threads;
 
-/// So many workers, each of which draws so many arcs at once, within a budget of mergers.
+/// Workers that draw `chunk` arcs at a time each, within a budget of mergers.
 #[derive(Clone, Copy)]
 pub struct Crew {
     pub workers: u32,

@@ -10,7 +10,7 @@ use std::test::*;
 use std::thread;
 use std::thread::Threads;
 
-/// Holds so many workers back, each at its ask, until all have asked.
+/// Holds this many workers back, each at its ask, until all have asked.
 #[derive(Drop)]
 struct AllAsked {
     workers: u32,
@@ -59,7 +59,7 @@ fn counts_of_all_at_once<R: Threads + Wait + Sync>(
     Ok(Some(counted))
 }
 
-/// The journal has an entry for each worker, of which one is a merger and the driver's is none: so seven are stale.
+/// The journal has an entry for each worker. One of them is a merger, and the driver's is not: so seven are stale.
 #[test]
 fn one_of_eight_asks_at_once_is_applied(rt: HostRuntime) -> Result<(), Fail> {
     let crew = Crew {

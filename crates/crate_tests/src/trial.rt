@@ -37,7 +37,7 @@ pub struct Setting {
     pub merger: Option<u32>,
 }
 
-/// What a lock begins with, of which no type has the name yet.
+/// What a lock begins with, before a type has its name.
 struct Setup<'a> {
     list: UnnamedList,
     unnamed: UnnamedBoard,
@@ -68,12 +68,12 @@ fn failure_left(tree: &NormTree, journal: &[Entry], setting: &Setting) -> Failed
     ])
 }
 
-/// What was seen to fail, or else what fails of what was left.
+/// The first failure that was seen, otherwise a failure of what was left.
 fn first_of(seen: Result<Failed, Fault>, left: Failed) -> Result<Failed, Fault> {
     Ok(seen?.or(left))
 }
 
-/// Ends the lock: what was seen to fail, or else what fails of what it leaves.
+/// Ends the lock, and returns the failure that was seen, otherwise one of what the lock leaves.
 fn end<S: LockId, R: Wait>(
     rt: &R,
     shared: SharedTree<S>,

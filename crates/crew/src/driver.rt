@@ -16,7 +16,7 @@ use std::sync::Wait;
 use std::thread::Threads;
 use tree_lock::{Entry, Holder, LockId, Verdict};
 
-/// The merger arc with the least number, over as many threads as there are processors; None where there is none.
+/// Returns the merger arc with the least number, searched by as many threads as there are processors; None without one.
 fn first_merger<R: Threads + Sync>(rt: &R, tree: &NormTree) -> Option<u32>
     ensures { IsFirstMerger tree.now.mine tree.now.tree result }
 {
@@ -30,8 +30,8 @@ fn first_merger<R: Threads + Sync>(rt: &R, tree: &NormTree) -> Option<u32>
         )
 }
 
-/// Decides the merger arc with the least number, with an entry under the driver's seat; None where none is left.
-/// Refused for want of memory alone, and then nothing changed.
+/// Decides the merger arc with the least number, with an entry under the driver's seat; None if none is left. Error: `NoMemory`,
+/// and then nothing changed.
 pub fn decide_first<S: LockId, R: Threads + Wait + Sync>(
     rt: &R,
     holder: &mut Holder<S>,
@@ -46,8 +46,8 @@ pub fn decide_first<S: LockId, R: Threads + Wait + Sync>(
     }
 }
 
-/// Decides the first merger arc, and answers whether the solve has ended: none was left, or the budget is used up. Else its
-/// merger was made. Refused for want of memory alone.
+/// Decides the first merger arc, and returns whether the solve has ended: none was left, or the budget is used up. Otherwise its
+/// merger was made. Error: `NoMemory`.
 pub fn is_ended<S: LockId, R: Threads + Wait + Sync>(
     rt: &R,
     holder: &mut Holder<S>,
@@ -77,7 +77,7 @@ fn outcome_of<S: LockId>(alloc: Global, holder: &Holder<S>) -> Result<Outcome, F
     }
 }
 
-/// The outcome of the holder's tree, and its journal. Refused for want of memory alone.
+/// Returns the outcome of the holder's tree, and its journal. Error: `NoMemory`.
 pub fn end_of<S: LockId, R: Wait>(
     rt: &R,
     alloc: Global,

@@ -1,7 +1,7 @@
-//! Where a worker tells that it asked and that it was served. A test holds workers back there; the program does not.
+//! Where a worker signals that it asked and that it was served. A test holds workers back there; the program does not.
 
-/// Is told of a worker's steps, and may let it wait there. No answer depends on it. A worker may hold the tree's lock when it tells,
-/// so it must not be made to wait for what another can only do with the lock.
+/// Receives a worker's steps, and may let the worker wait. No answer depends on it. A worker may hold the tree's lock when it
+/// signals, so it must not wait for what another can only do with the lock.
 pub trait Gate {
     /// The worker's ask stands on the board, and it has not served yet.
     fn asked(&self, worker: u32);

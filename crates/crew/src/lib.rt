@@ -1,5 +1,5 @@
-//! Solves an instance by workers at one tree: each looks at the published version and asks for merger arcs, and whoever holds
-//! the lock decides what stands on the board. The driver makes what they left over.
+//! Solves an instance by workers at one tree. Each reads the published version and asks for merger arcs; the holder of the lock
+//! decides the asks on the board. The driver makes the mergers that are left.
 #![tactic(auto)]
 
 mod driver;

@@ -1,5 +1,5 @@
-//! Many workers solve one instance at one tree: each asks for merger arcs on the board, and whoever holds the lock decides what
-//! stands there (flat combining: Hendler, Incze, Shavit and Tzafrir 2010). The driver makes what they left over.
+//! Many workers solve one instance at one tree. Each asks for merger arcs on the board, and the holder of the lock decides the asks
+//! (flat combining: Hendler, Incze, Shavit and Tzafrir 2010). The driver makes the mergers that are left.
 ghost use Rattle.std.specs.Prelude.{◌≡◌, ◌≤◌, IfOk, IfErr};
 ghost use Rattle.faults.specs.Refused.{no_seat, IsNoRoom};
 ghost use Rattle.pit_model.specs.JournalText.{most_seat};
@@ -23,7 +23,7 @@ use std::sync::Wait;
 use std::thread::Threads;
 use tree_lock::{Entry, Holder, LockId, SharedTree, UnnamedList};
 
-/// So many workers have a seat; the driver's is seat 0.
+/// The most workers that have a seat; the driver's is seat 0.
 const MOST_WORKERS: u32 = 64;
 
 /// What a solve begins with: the opening tree and its budget, and the list of mergers and the board, which have no name yet.
@@ -51,7 +51,7 @@ fn workers_of<S: LockId>(
     Ok(workers)
 }
 
-/// The workers, and the tree for the holder alone, which is given up where a seat was refused.
+/// Returns the workers, and the tree for the holder alone, which is released if a seat was refused.
 fn with_workers<S: LockId, R: Wait>(
     rt: &R,
     alloc: Global,
@@ -125,12 +125,12 @@ fn solve_at<S: LockId + Send + Sync, G: Gate + Sync, R: Threads + Wait + Sync>(
     run_crew(rt, alloc, crew, holder)
 }
 
-/// Solves with so many workers, 1 to 64, at one tree, each of which draws so many arcs at once, and gives the journal of what
-/// was decided: it is lawful for the instance and the budget, whatever the schedule. `Exhausted` comes where the budget is
-/// used up and a merger arc is left. The gate is told of the workers' steps.
+/// Solves with `workers` workers, 1 to 64, at one tree, each with `chunk` arcs at a time, and returns the journal of
+/// decisions: it is lawful for the instance and the budget under any schedule. The outcome is `Exhausted` if the budget is used
+/// up and a merger arc is left. The gate receives the workers' steps.
 ///
-/// Refused for want of memory (1), and where more workers are asked for than there are seats, a seat was refused or a worker
-/// could not be started (22); those that were have then ended.
+/// Errors: lack of memory (1); more workers than seats, a refused seat, or a worker that could not be started (22). Workers that
+/// were started have then ended.
 pub fn solve_shared<G: Gate + Sync, R: Threads + Wait + Sync>(
     rt: &R,
     alloc: Global,

@@ -67,7 +67,7 @@ fn run_workers<
     }
 }
 
-/// No mine has so many arcs that more would count.
+/// No mine has more arcs than this counts.
 fn as_count(length: usize) -> u32 {
     length.min(u32::MAX as usize) as u32
 }
@@ -144,7 +144,8 @@ impl<'a, S: LockId + Send + Sync, G: Gate + Sync> Crew<'a, S, G> {
         Ok(())
     }
 
-    /// The driver's decision after a sweep: it answers whether the solve has ended, and else makes the chunks of the next sweep.
+    /// Makes the driver's decision after a sweep: returns whether the solve has ended, otherwise makes the chunks of the next
+    /// sweep.
     fn decide<R: Threads + Wait + Sync>(
         &mut self,
         rt: &R,
@@ -164,8 +165,8 @@ impl<'a, S: LockId + Send + Sync, G: Gate + Sync> Crew<'a, S, G> {
         Ok(false)
     }
 
-    /// A sweep under the lock; then each worker meets the holder, and the driver decides, which has it for itself. It answers the
-    /// holder, and whether the solve has ended. Where it was refused the holder is given up.
+    /// Makes a sweep under the lock; then each worker meets the holder, and the driver, which has the holder for itself, decides.
+    /// Returns the holder, and whether the solve has ended. After an error the holder is released.
     fn round<R: Threads + Wait + Sync>(
         &mut self,
         rt: &R,
@@ -192,9 +193,8 @@ impl<'a, S: LockId + Send + Sync, G: Gate + Sync> Crew<'a, S, G> {
         }
     }
 
-    /// Sweeps again and again, until the driver finds no merger arc after a sweep, or the budget is used up: after each sweep
-    /// it decides one arc at most. Refused for want of memory (1), and where a worker could not be started (22); the holder is
-    /// then given up.
+    /// Makes sweeps until the driver finds no merger arc after one, or the budget is used up: after each sweep it decides one arc
+    /// at most. Errors: lack of memory (1), a worker that could not be started (22); the holder is then released.
     pub fn run<R: Threads + Wait + Sync>(
         &mut self,
         rt: &R,

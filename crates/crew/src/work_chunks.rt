@@ -1,7 +1,7 @@
-//! The arcs that a sweep goes over, in chunks, each of which one worker draws. The first sweep goes over a plan (`merging`), in
-//! which a branch of the solved tree is never parted: mergers in different branches don't touch each other, so that no worker
-//! asks for what another's merger made stale. A later one goes over the merger arcs that the tree has when it begins. No answer
-//! depends on it: what is asked for is decided under the lock.
+//! The arcs that a sweep goes over, in chunks, each drawn by one worker. The first sweep goes over a plan (`merging`), which never
+//! divides a branch of the solved tree: mergers in different branches do not touch each other, so no worker asks for what another's
+//! merger made stale. A later one goes over the merger arcs that the tree has when it begins. No answer depends on it: asks are
+//! decided under the lock.
 ghost use Rattle.std.specs.Prelude.{◌≡◌, IfErr};
 ghost use Rattle.faults.specs.Refused.{no_memory};
 
@@ -31,7 +31,7 @@ fn mergers_by_branch(alloc: Global, plan: &Plan) -> Result<Vec<u32>, AllocError>
     Ok(counts)
 }
 
-/// For each branch the number of its chunk: a chunk takes in whole branches, until it has at least so many mergers.
+/// Returns for each branch the number of its chunk: a chunk takes in whole branches, until it has at least `least` mergers.
 fn chunk_of_each(alloc: Global, counts: &[u32], least: u32) -> Result<Vec<u32>, AllocError> {
     let mut numbers = Vec::with_capacity(alloc, counts.len())?;
     let mut number = 0u32;
@@ -48,7 +48,7 @@ fn chunk_of_each(alloc: Global, counts: &[u32], least: u32) -> Result<Vec<u32>, 
 }
 
 impl WorkChunks {
-    /// So many chunks without an arc.
+    /// Returns `chunks` chunks without an arc.
     fn empty(alloc: Global, chunks: usize) -> Result<WorkChunks, Fault>
         ensures { IfErr result (λ e. e ≡ no_memory) }
     {
@@ -61,7 +61,7 @@ impl WorkChunks {
         Ok(work)
     }
 
-    /// Over the mergers of a plan, in its order, with at least so many to a chunk.
+    /// Returns chunks over the mergers of a plan, in its order, with at least `least` to a chunk.
     fn planned(alloc: Global, plan: &Plan, least: u32) -> Result<WorkChunks, Fault>
         ensures { IfErr result (λ e. e ≡ no_memory) }
     {
@@ -78,7 +78,7 @@ impl WorkChunks {
         Ok(work)
     }
 
-    /// Puts an arc into the last chunk, or into a new one where that has so many.
+    /// Puts an arc into the last chunk, or into a new one if that has `most`.
     fn put(&mut self, alloc: Global, arc: u32, most: u32) -> Result<(), AllocError> {
         match self.chunks.last_mut() {
             Some(chunk) if chunk.len() < most as usize => chunk.push(arc)?,
@@ -91,8 +91,8 @@ impl WorkChunks {
         Ok(())
     }
 
-    /// Over the merger arcs that a tree has, in the order of their numbers, with so many to a chunk. Refused for want of memory
-    /// alone.
+    /// Returns chunks over the merger arcs that a tree has, in the order of their numbers, with `most` to a chunk. Error:
+    /// `NoMemory`.
     pub fn over_mergers(alloc: Global, tree: &NormTree, most: u32) -> Result<WorkChunks, Fault>
         ensures { IfErr result (λ e. e ≡ no_memory) }
     {
@@ -105,7 +105,7 @@ impl WorkChunks {
         Ok(work)
     }
 
-    /// For the first sweep, over an opening tree. Refused for want of memory alone.
+    /// Returns the chunks of the first sweep, over an opening tree. Error: `NoMemory`.
     pub fn opening(alloc: Global, tree: &NormTree, chunk: u32) -> Result<WorkChunks, Fault>
         ensures { IfErr result (λ e. e ≡ no_memory) }
     {

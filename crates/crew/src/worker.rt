@@ -1,5 +1,5 @@
-//! One worker of mode shared: in a sweep it draws chunks of arcs, looks at the published version, asks for a merger arc that
-//! it sees there, serves the board under the lock where nobody else did, and collects its reply.
+//! One worker of mode shared. In a sweep it draws chunks of arcs, reads the published version, and asks for a merger arc that it
+//! sees there. It serves the board under the lock if nobody else did, and collects its reply.
 ghost use Rattle.std.specs.Prelude.{◌≡◌, ◌<◌, ◌≤◌, suc, None, IfSome, IsTrue};
 ghost use Rattle.pit_model.specs.Mine.{arcs};
 ghost use Rattle.crew.specs.Solved.{IsSynchronised, HasSeen, LooksFor};
@@ -10,11 +10,11 @@ use proposals::{Board, CounterId, DrawSeat, Draws, WorkerSeat};
 use std::sync::{MutexGuard, Wait};
 use tree_lock::{Holder, LockId, LookSeat, SharedTree, Verdict};
 
-/// So many asks of its own a worker serves before it lets go of the lock. Two that hand the lock over at each ask sleep and wake
-/// one another each time, which takes longer than what is done with it.
+/// How many asks of its own a worker serves before it releases the lock. Two workers that hand the lock over at each ask sleep and
+/// wake one another each time, which takes longer than what is done with it.
 const ASKS_IN_TURN: u32 = 64;
 
-/// So often a worker looks for a reply to its ask while another has the lock, before it waits for the lock: whoever has it answers
+/// How often a worker checks for a reply to its ask while another has the lock, before it waits for the lock: the holder answers
 /// all asks at each of its own.
 const LOOKS_BEFORE_WAITING: u32 = 1_000;
 
@@ -58,7 +58,7 @@ impl<'a, S: LockId> HeldLock<'a, S> {
     }
 }
 
-/// A worker's number, from 1, and its seats. The seat to look from is None while it is lent, and never between calls.
+/// A worker's number, from 1, and its seats. The reader's seat is absent while it is lent, and never between calls.
 #[derive(Drop)]
 pub struct Worker<S: LockId> {
     number: u32,
@@ -86,8 +86,8 @@ impl<S: LockId> Worker<S> {
         }
     }
 
-    /// Whether the version that is published now shows the arc as a merger arc; no where there is no version. It is left before
-    /// an ask, so that whoever publishes waits for one test at most.
+    /// Returns whether the published version shows the arc as a merger arc; no if there is no version. The version is left before
+    /// an ask, so that the publisher waits for one test at most.
     fn sees_merger(&mut self, arc: u32) -> bool
         ensures shown { LooksFor S.mine arc self.old.looks self.new.looks result }
         ensures seen { IsTrue result → HasSeen S.mine arc self.new.looks }
@@ -134,8 +134,8 @@ impl<S: LockId> Worker<S> {
         (goes_on, held.left())
     }
 
-    /// Collects the reply of whoever has the lock, or serves once the lock is free. It waits for the lock only where it found it
-    /// taken so often.
+    /// Collects the reply of the holder, or serves once the lock is free. It waits for the lock only after it found it taken this
+    /// often.
     fn synchronise_with_holder<'a, G: Gate, L: CounterId, R: Wait>(
         &mut self,
         rt: &R,
@@ -222,8 +222,8 @@ impl<S: LockId> Worker<S> {
         }
     }
 
-    /// Lets its seats meet the holder's after a sweep. What it asked and collected then agrees with the entries under its seat,
-    /// and it is told of all mergers that were made.
+    /// Synchronises its seats with the holder's after a sweep. What it asked and collected then agrees with the entries under its
+    /// seat, and it knows all mergers that were made.
     pub fn synchronise(&mut self, board: &Board<S>, holder: &mut Holder<S>)
         ensures same { holder.new ≡ holder.old }
         ensures asks { self.new.asks ≡ self.old.asks }

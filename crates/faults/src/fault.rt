@@ -50,7 +50,7 @@ impl Fault {
         Fault::nowhere(Refusal::NoSeat)
     }
 
-    /// What is answered where the budget of so many mergers is used up.
+    /// The answer if the budget of this many mergers is used up.
     pub fn exhausted(count: u64) -> Fault
         ensures { result ≡ exhausted count }
     {

@@ -1,8 +1,8 @@
-//! What can be wrong, with the number and the words under which it is told.
+//! What can be wrong, with the number and the words under which it is reported.
 ghost use Rattle.std.specs.Prelude.{◌≡◌, ◌≤◌, length};
 ghost use Rattle.faults.specs.Words.{number_of, words_of};
 
-/// What was wrong, in the order of the numbers under which it is told, from 1 to 22.
+/// What was wrong, in the order of the numbers under which it is reported, from 1 to 22.
 #[derive(Debug, Drop)]
 pub enum Refusal {
     NoMemory,
@@ -18,7 +18,7 @@ pub enum Refusal {
     WrongFieldCount,
     EndsEarly,
     AfterEnd,
-    /// The blocks of a cycle, each of which needs the next, and the last the first.
+    /// The blocks of a cycle: each needs the next, and the last needs the first.
     Cycle(Vec<u32>),
     /// The least block with a negative number in a chosen column.
     NegativeColumn(u32),

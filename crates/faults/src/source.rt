@@ -16,7 +16,7 @@ pub enum Source {
 }
 
 impl Source {
-    /// The words that name the input, with ` in ` before them; nothing where there is none.
+    /// Returns the words that name the input, with ` in ` before them; nothing without one.
     pub fn words(self) -> &'static str
         ensures text { result.now ≡ source_text self }
         ensures short { length result.now ≤ 40 }

@@ -17,8 +17,8 @@ pub struct Ending {
     pub err: Vec<u8>,
 }
 
-/// Solves the mine that the files of the names spell, with room for so many bytes on standard output and on standard error. If the
-/// exit status is 0, exactly the text of its pit was written, in every mode.
+/// Solves the mine that the files of the names spell, with room for a given number of bytes on standard output and on standard
+/// error. If the exit status is 0, exactly the text of its pit was written, in every mode.
 pub fn solve_in_memory<R: AllocGlobal + Threads + Wait + Sync>(
     rt: &R,
     files: &mut MemoryFiles<'_>,

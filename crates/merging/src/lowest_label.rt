@@ -36,7 +36,7 @@ pub struct LowestLabel {
     arcs: Vec<u32>,
     /// How many blocks have each label.
     counts: Vec<u32>,
-    /// The blocks of one label in the branch that a turn looks through, and how many they are.
+    /// The blocks of one label in the branch that a turn searches, and how many there are.
     branch: Vec<u32>,
     found: usize,
     waiting: LabelBuckets,

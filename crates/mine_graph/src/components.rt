@@ -1,4 +1,4 @@
-//! The connected components of a graph: classes of blocks that arcs join, in whichever direction. From the least block without a
+//! The connected components of a graph: classes of blocks that arcs join, in either direction. From the least block without a
 //! component, a breadth-first search visits neighbour after neighbour. So time is linear in blocks and arcs, and components are
 //! numbered in the order of their least blocks.
 ghost use Rattle.std.specs.Prelude.{◌≡◌, ◌<◌, ◌+◌, ◌^◌, ℕ, false, length, get_or, IfOk};

@@ -15,7 +15,7 @@ pub fn acyclic_is_well_founded()
     ensures { AcyclicIsWellFounded }
 {}
 
-/// The least block that the block needs of those of which something is left.
+/// Returns the least block that the block needs among those with something left.
 fn least_needed(rows: CsrView<'_>, left: &[u32], block: u32) -> u32
     requires rising { AreRising (pairs_in rows) }
     requires range { AreInRange (pairs_in rows) (length left.now) }
@@ -34,8 +34,8 @@ fn least_needed(rows: CsrView<'_>, left: &[u32], block: u32) -> u32
     block
 }
 
-/// Walks from a block, each time to the least needed block of which something is left. It answers the place of the first
-/// repeated block, and how long the walk is then.
+/// Walks from a block, each time to the least needed block with something left. Returns the place of the first repeated
+/// block, and the length of the walk then.
 fn walk_round(
     rows: CsrView<'_>,
     left: &[u32],
@@ -70,7 +70,7 @@ fn walk_round(
     (0, 0)
 }
 
-/// The list of the cycle that the walk from the first block left over comes to.
+/// Returns the list of the cycle in which the walk from the first block left over ends.
 pub fn cycle_of(
     alloc: Global,
     rows: CsrView<'_>,

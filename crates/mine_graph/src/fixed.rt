@@ -70,8 +70,8 @@ fn settled_marks(alloc: Global, n: u32, fixed: &Fixed) -> Result<Vec<bool>, Allo
 }
 
 impl Fixed {
-    /// The blocks of the first list forced in, and those of the second barred. Refused for want of memory, and by the least
-    /// barred block that must be dug (21). Time is linear in blocks and pairs.
+    /// Returns the blocks of the first list as forced in, and those of the second as barred. Errors: the least barred block that is
+    /// forced in (21); lack of memory (1). Time is linear in blocks and pairs.
     pub fn new(
         alloc: Global,
         graph: &Graph,
@@ -117,7 +117,7 @@ impl Fixed {
         }
     }
 
-    /// The blocks forced in, rising, as they were given.
+    /// Returns the blocks forced in, increasing, as given.
     pub fn forced(&self) -> &[u32]
         ensures { result.now ≡ self.now.lists.forced }
     {
@@ -127,7 +127,7 @@ impl Fixed {
         }
     }
 
-    /// The blocks barred, rising, as they were given.
+    /// Returns the blocks barred, increasing, as given.
     pub fn barred(&self) -> &[u32]
         ensures { result.now ≡ self.now.lists.barred }
     {
@@ -164,7 +164,7 @@ impl Fixed {
         !self.must_dig(u) && !self.must_leave(u)
     }
 
-    /// The rest: the open blocks with the pairs among them. Refused for want of memory alone.
+    /// Returns the reduced mine: the open blocks with the pairs among them. Error: `NoMemory`.
     pub fn rest(&self, graph: &Graph) -> Result<Part, Fault>
         requires { IsFixedOf graph.now self.now }
         ensures rest { IfOk result (λ p. IsFixedRest graph.now (fixed_of self.now.lists) (forced_closure self.now) (barred_closure self.now) p.blocks.items p.graph) }

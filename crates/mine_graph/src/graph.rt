@@ -199,8 +199,8 @@ impl Graph {
         &rows.targets[begin..end]
     }
 
-    /// The transposed graph: the blocks that need a block there are those that it needs here. Refused for want of
-    /// memory alone. Time is linear in blocks and pairs.
+    /// Returns the transposed graph: the blocks that need a block there are those that it needs here. Error: `NoMemory`. Time is
+    /// linear in blocks and pairs.
     pub fn reversed(&self) -> Result<Graph, Fault>
         ensures reversed { IfOk result (λ g. IsReversed self.now g) }
         ensures no_memory { IfErr result (λ e. e ≡ no_memory) }

@@ -111,7 +111,7 @@ impl Instance {
         &self.graph
     }
 
-    /// The values alone. The graph is given up, and its memory where no one else holds it.
+    /// Returns the values alone. The graph is released, and its memory if no one else holds it.
     pub fn into_values(self) -> Values
         ensures { result ≡ self.values }
     {

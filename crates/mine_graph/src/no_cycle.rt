@@ -9,7 +9,7 @@ use csr::{Csr, first_left, in_degrees_left, transposed_rows};
 use faults::{Fault, Refusal, Source};
 use std::alloc::Global;
 
-/// Refused by the cycle that the pairs have, where they have one, and for want of memory.
+/// Errors: the cycle that the pairs have, if they have one (14); lack of memory (1).
 fn refuse_cycle(alloc: Global, n: u32, rows: &Csr) -> Result<(), Fault>
     requires few_blocks { n < 2 ^ 31 }
     requires few { length rows.now.pairs < 2 ^ 32 }
@@ -31,8 +31,8 @@ fn refuse_cycle(alloc: Global, n: u32, rows: &Csr) -> Result<(), Fault>
     }
 }
 
-/// Refused by the cycle that the pairs have, where they have one, and for want of memory. Without a cycle it takes memory for
-/// the blocks alone.
+/// Errors: the cycle that the pairs have, if they have one (14); lack of memory (1). Without a cycle it allocates for the blocks
+/// alone.
 pub fn check_acyclic(alloc: Global, n: u32, rows: &Csr) -> Result<(), Fault>
     requires few_blocks { n < 2 ^ 31 }
     requires few { length rows.now.pairs < 2 ^ 32 }

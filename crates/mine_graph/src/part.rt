@@ -124,8 +124,7 @@ fn blocks_with(alloc: Global, labels: &[u32], label: u32) -> Result<Vec<u32>, Al
 }
 
 impl Graph {
-    /// The blocks that are not marked, with the pairs among them, in time linear in blocks and pairs. Refused for want of
-    /// memory alone.
+    /// Returns the blocks that are not marked, with the pairs among them, in time linear in blocks and pairs. Error: `NoMemory`.
     pub fn without(&self, taken: &[bool]) -> Result<Part, Fault>
         requires { length taken.now ≡ self.now.blocks }
         ensures part { IfOk result (λ p. IsPart self.now (λ u. not (get_or taken.now u false)) p.blocks.items p.graph) }

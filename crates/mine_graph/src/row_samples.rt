@@ -22,7 +22,7 @@ pub fn row_between(starts: &[u32], least: u32, most: u32, place: u32) -> u32
     least + ends.partition_point(|&end| end <= place) as u32
 }
 
-/// Returns the sample after `mark`, or the last row if there is none.
+/// Returns the sample after `mark`, or the last row without one.
 pub fn next_row_sample(row_samples: &[u32], mark: usize, last: u32) -> u32
     requires { mark < length row_samples.now }
     ensures before { mark + 1 < length row_samples.now → result ≡ get_or row_samples.now (mark + 1) 0 }

@@ -1,4 +1,4 @@
-//! The values of blocks by themselves, as they are left of an instance whose graph is given up.
+//! The values of blocks by themselves, as they remain of an instance whose graph is released.
 ghost use Rattle.std.specs.Prelude.{◌≡◌, ◌<◌, ◌≤◌, ◌^◌, ℕ, ℤ, pos, ◌+ℤ◌, ◌≤ℤ◌, Bool, List, length, get_or, set, IfOk};
 ghost use Rattle.std.specs.List.{All};
 ghost use Rattle.pit_model.specs.Sum.{total, when};

@@ -205,7 +205,7 @@ pub fn parse_blocks(alloc: Global, text: &[u8]) -> Result<BlockTable, Fault>
     parse_watched(alloc, text, &Counters::none())
 }
 
-/// The same as `parse_blocks` gives. Counters are told of each block.
+/// Returns what `parse_blocks` returns. The counters receive each block.
 fn parse_watched(alloc: Global, text: &[u8], counters: &Counters) -> Result<BlockTable, Fault>
     ensures exact { Gives (λ t. t) result (table_of text.now) }
     ensures spelled { IfOk result (λ t. SpellsTable text.now t) }

@@ -33,7 +33,7 @@ pub trait InBytes {
         ensures known { Keeps (known_text self.old) (known_text self.new) }
         ensures sound { IsSound self.old → (IsErr result → (progress self.old).allowance ≡ 0) × IsSound self.new };
 
-    /// How many bytes the source holds in all, as far as it says; else 0. No clause speaks of it.
+    /// Returns the number of bytes that the source holds in all, if it says so; otherwise 0. No clause speaks of it.
     fn size(&self) -> u64 {
         0
     }

@@ -1,5 +1,5 @@
-//! The text of a file of fixed blocks: for each of them a line with the word `in` or `out` and its id; ids rise from line to
-//! line, whichever the word. Each line is checked in the order of `specs/Fixed.antt`; the first fault ends the reading.
+//! The text of a file of fixed blocks: for each of them a line with the word `in` or `out` and its id; ids increase from line to
+//! line, with either word. Each line is checked in the order of `specs/Fixed.antt`; the first fault ends the reading.
 ghost use Rattle.std.specs.Prelude.{◌≡◌, ◌↔◌, ℕ, List, Ok, Err, ◌<◌, ◌^◌, IfOk, IfErr};
 ghost use Rattle.std.specs.Io.KnownBytes.{Keeps};
 ghost use Rattle.faults.specs.declared.fault.Fault.{Fault as AnyFault};
@@ -86,8 +86,8 @@ pub fn fixed_law()
     ensures faulty { (n : ℕ) (text : List ℕ) (fault : AnyFault) → (fixed_blocks_of n text ≡ Err fault) ↔ IsFirstFixedFault n text fault }
 {}
 
-/// The blocks of n that a text forces in, and those that it bars, each list rising; else the first fault of the text, or
-/// `NoMemory`.
+/// Returns the blocks of n that a text forces in, and those that it bars, each list increasing. Errors: the first fault of the
+/// text; `NoMemory`.
 pub fn parse_fixed(alloc: Global, text: &[u8], n: u32) -> Result<(Vec<u32>, Vec<u32>), Fault>
     // Which blocks or which fault it is.
     ensures exact { Gives (λ v. fixed_lists v.0.items v.1.items) result (fixed_blocks_of n text.now) }

@@ -73,7 +73,7 @@ impl<S: InputStream + Drop> FileReader<S> {
         FileReader::with_counters(stream, Counters::none())
     }
 
-    /// The same as `new` gives. These counters are told how many bytes are read.
+    /// Returns what `new` returns. These counters receive the number of bytes that are read.
     pub fn with_counters(stream: S, counters: Counters) -> FileReader<S>
         ensures start { ⟦<FileReader<S> as InBytes>⟧.progress result ≡ unread (2 ^ 40) }
         ensures known { ⟦<FileReader<S> as InBytes>⟧.known_text result ≡ prepend_known [] (S.remaining stream) }

@@ -15,7 +15,7 @@ pub type Decimal = i128;
 /// The most digits of a whole number.
 pub(crate) const MOST_DIGITS: usize = 10;
 
-/// So many digits are always less than a word of 64 bits holds.
+/// The number of digits that always fit into a word of 64 bits.
 const MOST_IN_WORD: usize = 19;
 
 /// The number that the digits at the front write, and how many they are; of more than `most`, the first `most`.
@@ -39,7 +39,7 @@ pub(crate) fn front_digits(text: &[u8], most: usize) -> (u64, usize)
     (value, end)
 }
 
-/// The same as `digits` gives, at whatever length.
+/// Returns what `digits` returns, at any length.
 #[tactic(auto, unfolding(crate::specs::Number::digits_of))]
 fn long_digits(text: &[u8], most: usize) -> Option<u128>
     requires { most ≤ 38 }
@@ -118,7 +118,7 @@ pub fn cut(text: &[u8], byte: u8) -> Option<(&[u8], &[u8])>
     }
 }
 
-/// So many digits behind the point, in millionths.
+/// Returns `len` digits after the point, in millionths.
 fn scaled(part: u128, len: usize) -> u128
     requires short { len ≤ 6 }
     requires small { part < 10 ^ len }

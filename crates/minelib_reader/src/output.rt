@@ -11,8 +11,8 @@ use crate::tally::Tally;
 use std::alloc::Global;
 use std::io;
 
-/// Keeps what is written, up to so many bytes in all. A write past that, and one for which no memory is left,
-/// counts as failed.
+/// Keeps what is written, up to a limit of bytes in all. A write past the limit, and one for which no memory is left, counts as
+/// failed.
 #[derive(Drop)]
 pub struct MemoryWriter {
     pub text: Vec<u8>,

@@ -28,10 +28,10 @@ use csr::{Csr, CsrBuilder};
 use faults::{Fault, Refusal, Source};
 use std::alloc::{AllocError, Global};
 
-/// So many lines are numbered at most, which is more than any file has.
+/// The most lines that are numbered, which is more than any file has.
 const MOST_LINES: u64 = (1 << 63) - 1;
 
-/// What the lines before tell a line: how many they are, the least id that it may have, and how many pairs they have.
+/// What a line needs to know of the lines before: how many there are, the least id that it may have, and how many pairs they have.
 #[derive(Clone, Copy)]
 struct Before {
     line: u64,
@@ -60,7 +60,7 @@ fn in_precedence(refusal: Refusal, line: u64) -> Fault
     Fault::at_line(Source::Precedence, refusal, line)
 }
 
-/// A block of so many, and the line that names the blocks that it needs.
+/// A block, how many blocks there are, and the line that names the predecessors of the block.
 #[derive(Clone, Copy)]
 struct Block {
     n: u32,
@@ -68,7 +68,7 @@ struct Block {
     line: u64,
 }
 
-/// One predecessor of a block, by the whole number of its field, where the marks tell those that were seen on its line.
+/// One predecessor of a block, by the whole number of its field; marks show the predecessors that were seen on its line.
 #[tactic(auto, unfolding(crate::specs::Prec::need_of))]
 fn read_need(block: Block, marks: &[u32], whole: Option<u64>) -> Result<u32, Fault>
     requires sizes { length marks.now ≡ block.n }
@@ -129,8 +129,8 @@ fn mark_needs(block: Block, needs: &[u32], marks: &mut Vec<u32>)
     }
 }
 
-/// Adds the pairs of a block, from left to right, behind those of the blocks that are marked. Predecessors seen are marked, in whatever
-/// order they come.
+/// Adds the pairs of a block, from left to right, after those of the blocks that are marked. Predecessors that were seen are
+/// marked, in any order.
 fn push_marked(
     block: Block,
     marks: &mut Vec<u32>,
@@ -198,8 +198,7 @@ fn over_limit(line: u64, count: u64, rest: &[u8]) -> Fault
     in_precedence(Refusal::OverLimit, line)
 }
 
-/// The id of a line and how many predecessors it names, checked up to these. Whether there are so many, the caller
-/// finds as it reads them.
+/// The id of a line and how many predecessors it names, checked up to these. Their actual number the caller finds as it reads them.
 #[tactic(auto, unfolding(crate::specs::Prec::front_of))]
 fn read_front<'a>(n: u32, before: Before, r: Row<'a>) -> Result<PrecFront<'a>, Fault>
     requires few { before.total ≤ most_pairs }
@@ -232,7 +231,7 @@ fn read_front<'a>(n: u32, before: Before, r: Row<'a>) -> Result<PrecFront<'a>, F
     Ok(PrecFront { id, count, rest })
 }
 
-/// Adds the pairs of a line, and answers what it and the lines before tell the next.
+/// Adds the pairs of a line, and returns what the next line needs to know of it and of the lines before.
 fn read_line(
     n: u32,
     before: Before,
@@ -278,8 +277,8 @@ fn read_line(
     }
 }
 
-/// Adds the pairs of some lines, and answers what they and the lines before tell the next. `NoMemory` too where more bytes came than
-/// lines can be numbered.
+/// Adds the pairs of some lines, and returns what the next line needs to know of them and of the lines before. It is `NoMemory` too
+/// if more bytes came than lines can be numbered.
 fn read_lines(
     n: u32,
     before: Before,
@@ -327,8 +326,8 @@ fn parse_lines(alloc: Global, text: &[u8], n: u32) -> Result<Csr, Fault>
     Ok(needs.finish(n)?)
 }
 
-/// The pairs of all lines that a reader has left, read piece by piece. Counters are told of the pairs of each piece. A fault in
-/// the text is told when the text is known whole, so the rest of it is read.
+/// Returns the pairs of all lines that a reader has left, read piece by piece. The counters receive the pairs of each piece. A
+/// fault in the text is reported after the whole text is read.
 fn read_pieces<R: InBytes>(alloc: Global, reader: &mut R, n: u32) -> Result<Csr, Fault>
     requires countable { (R.progress reader.old).failures < 2 ^ 63 }
     ensures exact { Answers (λ v. v.pairs) (prec_of n) sources.Precedence (R.progress reader.old) (R.progress reader.new) (R.IsAtEnd reader.new) result }

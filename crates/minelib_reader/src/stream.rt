@@ -1,6 +1,6 @@
-//! The streams of the system under the devices, and one call of theirs at a time.
-//! `Read` and `Write` never say that a call succeeds, so over them alone a device that makes no call and always fails would keep
-//! its promises. Of a stream of this module it may be known that no call fails. A file is one, and so is whatever `Write` moves.
+//! The streams of the system under the devices, and one call of theirs at a time. `Read` and `Write` never say that a call
+//! succeeds, so over them alone a device that makes no call and always fails would keep its promises. Of a stream of this module it
+//! may be known that no call fails. A file is one, and so is everything that `Write` moves.
 ghost use Rattle.std.specs.Prelude.{IsErr, IsOk, IsTrue};
 ghost use Rattle.std.specs.Io.{ReadsAtMost, WritesAtMost};
 ghost use Rattle.std.specs.Io.KnownBytes.{ReadConsumes, WriteAppends};

@@ -194,7 +194,7 @@ pub fn parse_upit(alloc: Global, text: &[u8]) -> Result<Model, Fault>
     parse_watched(alloc, text, &Counters::none())
 }
 
-/// The same as `parse_upit` gives. Counters are told of each block.
+/// Returns what `parse_upit` returns. The counters receive each block.
 fn parse_watched(alloc: Global, text: &[u8], counters: &Counters) -> Result<Model, Fault>
     ensures exact { Gives (λ m. upit m.n m.values.items) result (upit_of text.now) }
     ensures spelled { IfOk result (λ m. SpellsUpit text.now (upit m.n m.values.items)) }

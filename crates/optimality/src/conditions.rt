@@ -1,5 +1,5 @@
-//! The check of a certificate, from whatever solver it comes: by the graph, the values and plain sums, one pass over the
-//! pairs and one over the blocks once the excesses and the reached blocks are known. It knows nothing of the tree.
+//! The check of a certificate, from any solver: by the graph, the values and plain sums, one pass over the pairs and one over the
+//! blocks once the excesses and the reached blocks are known. It knows nothing of the tree.
 ghost use Rattle.std.specs.Prelude.{◌≡◌, ◌<◌, ◌≤◌, ◌↔◌, ◌&&◌, ℕ, IsTrue, length, IfOk, IfErr};
 ghost use Rattle.std.specs.List.{All};
 ghost use Rattle.faults.specs.Refused.{no_memory};
@@ -144,10 +144,10 @@ fn open_inside(alloc: Global, fixed: &Fixed, inside: &[bool]) -> Result<Vec<bool
         .collect(alloc)
 }
 
-/// Whether the blocks and the flow meet the conditions of a certificate of the instance with these blocks fixed: then, and then
-/// alone, the flow shows that the blocks are the smallest closed set of greatest worth among those that hold each block forced
-/// in and none that is barred. Refused for want of memory alone. Memory is linear in blocks and pairs, and time is too, but for halving
-/// rows where a pair's block or flow is looked for. (Picard 1976)
+/// Returns whether the blocks and the flow meet the conditions of a certificate of the instance with these blocks fixed. If so, and
+/// only then, the flow proves that the blocks are the minimal closed set of maximum value among those that contain each forced
+/// block and no barred one. Error: `NoMemory`. Memory is linear in blocks and pairs. Time is linear too, except for binary search
+/// of a pair's block or flow in a row. (Picard 1976)
 pub fn check(
     alloc: Global,
     mine: &Instance,

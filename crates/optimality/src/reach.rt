@@ -1,5 +1,5 @@
-//! The blocks that are reached inside a set by steps of positive residual from its blocks of positive excess: a queue takes in
-//! block after block, each once, so that time is linear in blocks and pairs, but for halving a row to find the flow that comes over it.
+//! The blocks that are reached inside a set by steps of positive residual from its blocks of positive excess. A queue takes in
+//! block after block, each once, so time is linear in blocks and pairs, except for binary search in a row for the flow over it.
 ghost use Rattle.std.specs.Prelude.{◌≡◌, ◌<◌, ◌≤◌, ◌↔◌, ℕ, pos, int_lt, true, false, IsTrue, length, get_or, IfOk};
 ghost use Rattle.pit_model.specs.Graph.{second_of};
 ghost use Rattle.pit_model.specs.Mine.{arcs};
@@ -68,7 +68,7 @@ fn sends(graph: &Graph, flow: &[i128], from: u32, to: u32) -> bool
     }
 }
 
-/// Visits the blocks from which flow comes to a block.
+/// Visits the blocks whose flow enters a block.
 fn visit_users(search: &mut BreadthFirst, inside: &[bool], graph: &Graph, flow: &[i128], block: u32)
     requires block { block < graph.now.blocks }
     requires counted { length flow.now ≡ length graph.now.pairs }

@@ -9,8 +9,8 @@ ghost use Rattle.pit_model.specs.ExampleLists.{ShortLists};
 ghost use Rattle.pit_model.specs.FactorLimits.{LimitsOfFactors};
 ghost use Rattle.pit_model.specs.PriceLimits.{LimitsOfPrices};
 
-/// What three mergers make of a fork of four blocks: a link that is cut, one cut between two strong branches, and a residual
-/// that is used up exactly, which keeps its link; and which merger arc the first run takes each time.
+/// Three mergers of a fork of four blocks: one cuts a link, one cuts between two strong branches, and one uses a residual up
+/// exactly, which keeps its link. Also the merger arc that the first run takes each time.
 pub fn traces_of_forks()
     ensures { TracesOfForks }
 {}

@@ -13,9 +13,9 @@ use mine_graph::{Fixed, Instance};
 use pit_model::Direction;
 use std::alloc::Global;
 
-/// Finds the pit of a mine with fixed blocks: of the closed sets that hold each block forced in and none that is barred, the
-/// smallest of greatest worth, or the largest, as the direction says. The mine's graph is given up as soon as the instance that is
-/// searched has been made of it, so no two graphs are held while one is solved.
+/// Finds the pit of a mine with fixed blocks: of the closed sets that contain each forced block and no barred one, the minimal one
+/// of maximum value, or the maximal one, as the direction says. The mine's graph is released as soon as the instance that is
+/// searched has been made of it, so no two graphs are held during a solve.
 ///
 /// # Errors
 ///
@@ -39,7 +39,7 @@ pub fn find_pit<S: PitSolver>(
     searched.pit(alloc, fixed, found)
 }
 
-/// Finds the pit of a mine of which no block is fixed. Refused as `find_pit` is.
+/// Finds the pit of a mine without fixed blocks. Errors: those of `find_pit`.
 pub fn find_pit_without_fixed_blocks<S: PitSolver>(
     solver: &S,
     alloc: Global,

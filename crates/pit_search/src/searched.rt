@@ -27,7 +27,7 @@ struct OpenPart {
     rest: Instance,
 }
 
-/// The rest of a mine, whose graph is given up. Refused for want of memory alone.
+/// Returns the reduced mine, and releases the graph. Error: `NoMemory`.
 fn open_part(alloc: Global, mine: Instance, fixed: &Fixed) -> Result<OpenPart, Fault>
     requires { IsFixedOf (graph_of_mine mine) fixed.now }
     ensures open { IfOk result (λ p. IsOpenPart mine fixed.now p.blocks p.rest) }
@@ -49,8 +49,8 @@ fn open_part(alloc: Global, mine: Instance, fixed: &Fixed) -> Result<OpenPart, F
     })
 }
 
-/// The instance that is searched for the pit of a rest toward a direction: itself, or its dual; and the values of the mine, where
-/// the instance has others. The rest's graph is given up where it is turned. Refused for want of memory alone.
+/// Returns the instance that is searched for the pit of a reduced mine toward a direction: itself, or its dual; and the values of
+/// the mine, if the instance has others. The graph of the reduced mine is released if it is transposed. Error: `NoMemory`.
 fn toward(
     alloc: Global,
     direction: Direction,
@@ -74,7 +74,8 @@ fn toward(
     }
 }
 
-/// The pit of a rest toward a direction, by the least pit of the instance that is searched for it. Refused for want of memory alone.
+/// Returns the pit of a reduced mine toward a direction, by the minimal pit of the instance that is searched for it. Error:
+/// `NoMemory`.
 fn pit_toward(
     alloc: Global,
     direction: Direction,
@@ -91,8 +92,8 @@ fn pit_toward(
     }
 }
 
-/// The pit of a mine of n blocks, by that of its rest: joined with what must be dug, where blocks are fixed. Refused for want of
-/// memory alone.
+/// Returns the pit of a mine of n blocks, by that of its reduced mine: joined with the forced closure if blocks are fixed. Error:
+/// `NoMemory`.
 fn whole_pit(
     alloc: Global,
     n: u32,
@@ -136,8 +137,8 @@ pub struct Searched {
 }
 
 impl Searched {
-    /// What is searched for the pit of a mine with fixed blocks. The graph of the mine is given up where another is made of it.
-    /// Refused for want of memory alone.
+    /// Returns what is searched for the pit of a mine with fixed blocks. The graph of the mine is released if another is made of
+    /// it. Error: `NoMemory`.
     pub fn of(
         alloc: Global,
         mine: Instance,
@@ -164,7 +165,7 @@ impl Searched {
         })
     }
 
-    /// The pit of the mine, by the least pit of the instance. Refused for want of memory alone.
+    /// Returns the pit of the mine, by the minimal pit of the instance. Error: `NoMemory`.
     pub fn pit(self, alloc: Global, fixed: &Fixed, found: Vec<u32>) -> Result<FoundPit, Fault>
         requires search { IsSearch fixed.now self }
         requires shown { ShowsPit self.instance found.items }

@@ -32,7 +32,7 @@ impl PitSolver for SequentialSolver {
     }
 }
 
-/// The pit of a mine with fixed blocks toward a direction, as `Search::pit` finds it. Refused for want of memory alone.
+/// Returns the pit of a mine with fixed blocks toward a direction, as `Search::pit` finds it. Error: `NoMemory`.
 pub fn solve_pit_sequential(
     alloc: Global,
     mine: Instance,

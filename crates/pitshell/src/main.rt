@@ -30,7 +30,7 @@ fn ended(rt: &HostRuntime, outcome: Result<Status, Fault>) -> ExitCode {
     ExitCode::from(report_fault(&mut StreamWriter::new(io::writer(&rt.stderr())), &outcome))
 }
 
-/// Tells what `clap` has to say: help, the version, or what is wrong with the command line. Want of memory is a fault here too.
+/// Prints what `clap` reports: help, the version, or what is wrong with the command line. Lack of memory is a fault here too.
 fn explain(rt: &HostRuntime, error: &clap::Error) -> ExitCode {
     if error.kind() == ErrorKind::OutOfMemory {
         return ended(rt, Err(Fault::from(AllocError)));
@@ -39,7 +39,7 @@ fn explain(rt: &HostRuntime, error: &clap::Error) -> ExitCode {
     ExitCode::from(error.exit_code() as u8)
 }
 
-/// Tells what does not go together on the command line.
+/// Prints what does not go together on the command line.
 fn not_understood(rt: &HostRuntime, line: &str) -> ExitCode {
     let _ = rt.eprintln(line);
     ExitCode::from(2)
@@ -52,7 +52,7 @@ enum NoWords {
     NotText,
 }
 
-/// The words of the command line. The system tells an argument that is no text as invalid data.
+/// Returns the words of the command line. The system reports an argument that is no text as invalid data.
 fn words_of(rt: &HostRuntime) -> Result<Vec<String>, NoWords> {
     match env::args(rt) {
         Ok(words) => words.collect(rt.alloc()).map_err(|_| NoWords::NoMemory),

@@ -16,10 +16,10 @@ pub enum Options<'a> {
     Replay(ReplayOptions<'a>),
 }
 
-/// What is to be told of a run beside its answer.
+/// What is reported of a run besides its answer.
 #[derive(Clone, Copy)]
 pub struct WatchOptions<'a> {
-    /// After so many seconds a line, each time.
+    /// The seconds after which a line is printed, each time.
     pub every: Option<u64>,
     /// The file of what the run did.
     pub stats: Option<&'a str>,
@@ -40,7 +40,7 @@ impl<'a> WatchOptions<'a> {
         }
     }
 
-    /// Whether nothing is to be told.
+    /// Returns whether nothing is reported.
     pub fn is_nothing(&self) -> bool {
         self.every.is_none() && self.stats.is_none()
     }

@@ -38,12 +38,12 @@ pub struct Output {
     place: Option<Place>,
 }
 
-/// Whether both are of one file, under whatever names.
+/// Returns whether both are of one file, under any names.
 fn is_same(one: &Metadata, other: &Metadata) -> bool {
     one.dev() == other.dev() && one.ino() == other.ino()
 }
 
-/// Whether the file is one of these. One that cannot be looked at counts as the same.
+/// Returns whether the file is one of these. One whose metadata cannot be read counts as the same.
 fn is_among(found: &Metadata, files: &[Option<&File>]) -> bool {
     files.iter().flatten().any(|file| match file.metadata() {
         Ok(other) => is_same(found, &other),
@@ -133,9 +133,8 @@ fn create_beside(
 }
 
 impl Output {
-    /// Makes a file, or what it is written to before it takes its name. Refused where it cannot be made or may not be
-    /// written, where it is one of the inputs and outputs that are taken or the file of standard output, and for want of
-    /// memory.
+    /// Makes a file, or what it is written to before it takes its name. Errors: it cannot be made or may not be written, it is one
+    /// of the inputs and outputs that are taken or the file of standard output, or lack of memory.
     pub fn create(rt: &HostRuntime, path: &str, taken: &[Option<&File>]) -> Result<Output, Fault>
         ensures refused { IfErr result IsUnmade }
     {

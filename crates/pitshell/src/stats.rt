@@ -23,7 +23,7 @@ fn leads_to(rt: &HostRuntime, found: &Metadata, name: Option<&str>) -> bool {
     }
 }
 
-/// Makes the file, where one is wanted. Refused where it cannot be made or is one of the inputs (18), and for want of memory (1).
+/// Makes the file, if one is wanted. Errors: it cannot be made or is one of the inputs (18); lack of memory (1).
 pub fn make_stats(
     rt: &HostRuntime,
     path: Option<&str>,
@@ -51,7 +51,7 @@ pub fn shells_inputs<'a>(options: &ShellsOptions<'a>) -> [Option<&'a str>; 3] {
     [Some(options.blocks), Some(options.prec), None]
 }
 
-/// The most memory that the program had, in kilobytes as the system tells it; 0 where it does not.
+/// Returns the most memory that the program had, in kilobytes as the system reports it; 0 if it does not.
 fn peak(rt: &HostRuntime) -> u64 {
     let Ok(text) = fs::read_to_string(rt, "/proc/self/status") else {
         return 0;

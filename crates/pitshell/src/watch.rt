@@ -1,12 +1,12 @@
-//! Tells of a run while it goes on: a thread of its own sleeps on the counters of the run, wakes at each change of phase, which it
-//! times, and writes a line to standard error as often as is asked for.
+//! Reports on a run while it goes on. A thread of its own sleeps on the counters of the run, and wakes at each change of phase,
+//! which it times. It writes a line to standard error as often as the user asked.
 
 use counters::{Counters, Phase, Stats};
 use std::alloc::{AllocError, AllocGlobal, Global};
 use std::sync::Wait;
 use std::time::{Clock, Duration};
 
-/// So many seconds a watcher sleeps at most where no lines are asked for.
+/// The most seconds that an observer sleeps if no lines are asked for.
 const LONGEST_SLEEP: u64 = 3600;
 
 /// How long a run was at each phase.

@@ -57,9 +57,10 @@ impl PitshellFound {
     }
 }
 
-/// The pit of the mine that the arrays encode: block u is worth `values[u]` millionths, and needs the blocks `needs[k]` for k from
-/// `starts[u]` up to, and without, `starts[u + 1]`. `numbers[u]` is 1 where block u is forced in, 2 where it is barred, else 0; there
-/// may be none at all. Of the best sets it is the smallest, or the greatest. Where the answer is 0, `marks[u]` is 1 if block u is in the pit, and else 0.
+/// Finds the pit of the mine that the arrays encode. Block u is worth `values[u]` millionths, and needs the blocks `needs[k]` for k
+/// from `starts[u]` up to, and without, `starts[u + 1]`. `numbers[u]` is 1 if block u is forced in, 2 if it is barred, otherwise 0;
+/// there may be no numbers at all. Of the best sets it is the minimal, or the maximal one. If the result is 0, `marks[u]` is 1 for
+/// each block u of the pit, and 0 for all others.
 #[unsafe(no_mangle)]
 pub extern "C" fn pitshell_solve(
     alloc: Global,
@@ -97,10 +98,10 @@ pub extern "C" fn pitshell_solve(
     }
 }
 
-/// The nested pits of the deposit that the arrays encode: block u yields `revenues[u]` and costs `costs[u]` millionths, and needs blocks as
-/// in `pitshell_solve`; at a factor f it is worth f * revenue - 1000 * cost, in billionths. Where the answer is 0, `firsts[u]` is the
-/// number, from 0, of the first factor whose pit holds block u, or how many factors there are where none does, and the pit of factor k
-/// is worth `worths_high[k]` times 2^64 plus `worths_low[k]`.
+/// Finds the nested pits of the deposit that the arrays encode. Block u yields `revenues[u]` and costs `costs[u]` millionths, and
+/// needs blocks as in `pitshell_solve`; at a factor f it is worth f * revenue - 1000 * cost, in billionths. If the result is 0,
+/// `firsts[u]` is the number, from 0, of the first factor whose pit holds block u, or the number of factors if none does. The pit
+/// of factor k is worth `worths_high[k]` times 2^64 plus `worths_low[k]`.
 #[unsafe(no_mangle)]
 pub extern "C" fn pitshell_shells(
     alloc: Global,
@@ -188,8 +189,8 @@ pub extern "C" fn pitshell_certificate(
     }
 }
 
-/// Whether a flow shows that the marked blocks are the pit of the mine that the arrays encode, whoever made it; places, parts and rows are
-/// as in `pitshell_certificate`. Where the answer is 0, `yes` says so.
+/// Checks whether a flow, from any solver, proves that the marked blocks are the pit of the mine that the arrays encode. Positions,
+/// parts and rows are as in `pitshell_certificate`. If the result is 0, `yes` says so.
 #[unsafe(no_mangle)]
 pub extern "C" fn pitshell_check(
     alloc: Global,
@@ -237,9 +238,8 @@ pub extern "C" fn pitshell_check(
     }
 }
 
-/// The cycle that the rows of so many blocks have, for which the other calls refuse them. Where the answer is 0, `count` is how many
-/// blocks it has, of which each needs the next, and the last the first, and `cycle` begins with them, as far as there is room; or it is 0,
-/// where there is no cycle.
+/// Finds a cycle in the rows, for which the other calls refuse them. If the result is 0, `count` is the number of its blocks: each
+/// needs the next, and the last needs the first. `cycle` begins with them, as far as there is room. Without a cycle `count` is 0.
 #[unsafe(no_mangle)]
 pub extern "C" fn pitshell_cycle(
     alloc: Global,

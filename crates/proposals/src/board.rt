@@ -73,9 +73,9 @@ impl UnnamedBoard {
 }
 
 impl<B: BoardId> Board<B> {
-    /// The board under the name `B`, with a seat for each worker, in order, and the holder's, on which so many arcs may be
-    /// asked for. Nothing was asked, answered or collected, nothing is claimed, and no word was looked at.
-    /// Errors: `NoMemory` where memory for the seats was refused.
+    /// Returns the board under the name `B`, with a seat for each worker, in order, and the holder's, and room for asks of `arcs`
+    /// arcs. Nothing was asked, answered or collected, nothing is claimed, and no word was read. Errors: `NoMemory` if memory for
+    /// the seats was refused.
     pub fn new(
         alloc: Global,
         unnamed: UnnamedBoard,

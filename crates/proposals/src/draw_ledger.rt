@@ -1,5 +1,5 @@
-//! What the seats at a counter know, and what the counter is told when it is made, as plain data.
-//! Contracts and the rule in `specs/Drawn.antt` speak of them.
+//! What the seats at a counter know, and what the counter knows from the start, as plain data. Contracts and the rule in
+//! `specs/Drawn.antt` speak of them.
 use std::collections::LinkedList;
 
 /// What a seat knows: the number of chunks, how many seats it stands for, and the numbers that the counter gave to it, in order.

@@ -1,5 +1,5 @@
-//! The rule of the counter, and what its one kind of step tells.
-//! The rule is defined in `specs/Drawn.antt`; `proofs/Drawing.antt` shows that each step keeps it.
+//! The rule of the counter, and what a seat learns from its one kind of step. The rule is defined in `specs/Drawn.antt`;
+//! `proofs/Drawing.antt` shows that each step keeps it.
 use crate::draw_ledger::{Batch, DrawLedger};
 use atomic_table::{Join, Play, Split, TableRule};
 

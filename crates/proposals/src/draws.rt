@@ -1,5 +1,5 @@
-//! The counter of chunks: a table of one word, from which each seat draws numbers, each number once.
-//! It has one kind of step. Workers draw the chunks that they go over, and whoever has all seats again closes it.
+//! The counter of chunks: a table of one word, from which each seat draws numbers, each number once. It has one kind of step.
+//! Workers draw the chunks that they go over; the owner of all seats closes it in the end.
 ghost use Rattle.std.specs.Prelude.{◌≡◌, ◌<◌, ◌≤◌, [], length, IfOk, IfErr, MatchOption};
 ghost use Rattle.proposals.specs.Drawn.{batch, whole, new_seats, Gets, GetsNone, all_drawn, IsEachBelowOnce};
 ghost use Rattle.faults.specs.Refused.{no_memory, no_seat};
@@ -15,7 +15,7 @@ use std::marker::{Model, PhantomData};
 type Counter = Table<(), DrawLedger, Batch, Counts, Global>;
 
 /// A counter from which seats draw the numbers of chunks, from 0. To a contract it is the number of its seats. It is not `Drop`, so
-/// that whoever has it must end it by `close`, with all its seats.
+/// its owner must end it by `close`, with all its seats.
 pub struct Draws<L: CounterId> {
     counter: Counter,
     seats: u32,
@@ -59,8 +59,7 @@ impl Model for UnnamedDraws {
 }
 
 impl UnnamedDraws {
-    /// Takes the memory of a counter that stands at 0, for so many chunks and seats.
-    /// Errors: `NoSeat` where the table was refused.
+    /// Allocates a counter at 0, for `chunks` chunks and `seats` seats. Errors: `NoSeat` if the table was refused.
     pub fn new(alloc: Global, chunks: u32, seats: u32) -> Result<UnnamedDraws, Fault>
         ensures made { IfOk result (λ draws. (draws.chunks ≡ chunks) × (draws.seats ≡ seats)) }
         ensures refused { IfErr result (λ fault. fault ≡ no_seat) }

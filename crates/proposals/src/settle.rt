@@ -10,9 +10,9 @@ use crate::steps::{Agree, JoinBoard, JoinSeats};
 use std::mem;
 
 impl<B: BoardId> Board<B> {
-    /// Lets two seats meet. What each knows stays as it was, and the two then agree:
-    /// the answered arcs are the asked ones, or those without a last one that is unanswered,
-    /// and the collected replies are the answered ones, or those without a last one that is still open.
+    /// Synchronises two seats. What each knows stays unchanged, and the two then agree: the answered arcs are the asked ones, or
+    /// those without a last one that is unanswered. The collected replies are the answered ones, or those without a last one that
+    /// is still open.
     pub fn settle(&self, worker: &mut WorkerSeat<B>, holder: &mut HolderSeat<B>)
         ensures same { (worker.new ≡ worker.old) × (holder.new ≡ holder.old) }
         ensures meets { Meets worker.old (slice_index_or holder.old.served worker.old.cell nothing_served) }

@@ -1,5 +1,5 @@
-//! The rule of the board, and what each kind of step tells the seat that makes it.
-//! The rule and the steps are defined in `specs/Ledger.antt`; `proofs/` shows that each step keeps the rule.
+//! The rule of the board, and what the seat that makes a step learns from each kind of step. The rule and the steps are defined in
+//! `specs/Ledger.antt`; `proofs/` shows that each step keeps the rule.
 use crate::seat_state::SeatState;
 use atomic_table::{Join, Play, Split, TableRule};
 

@@ -18,7 +18,7 @@ fn apply<S: LockId, R: Wait>(rt: &R, holder: &mut Holder<S>, arc: u32) -> Result
     }
 }
 
-/// Decides the arc that comes behind so many mergers.
+/// Decides the arc that follows after `count` mergers.
 fn apply_next<S: LockId, R: Wait>(
     rt: &R,
     holder: &mut Holder<S>,

@@ -1,5 +1,5 @@
 //! Runs what needs no memory once it is prepared. Then it decides arcs at a tree under its lock, by the driver and by asks of
-//! workers; where memory is refused it looks whether all is as it was, and goes on. `tests/test_refused_memory.py` runs it with each
+//! workers. If memory is refused it checks that all is unchanged, and goes on. `tests/test_refused_memory.py` runs it with each
 //! request for memory refused in turn, and with all from one on.
 #![tactic(auto)]
 

@@ -5,10 +5,10 @@ use mine_graph::{Graph, Instance};
 use std::alloc::Global;
 use std::sync::Arc;
 
-/// Its arcs, each of which is a merger arc until it is merged over. They are so many that a journal grows among them.
+/// Its arcs: each is a merger arc until it is merged over. A journal grows among them.
 pub const ARCS: [u32; 6] = [0, 1, 2, 3, 4, 5];
 
-/// Refused for want of memory alone.
+/// Error: `NoMemory`.
 pub fn mine(alloc: Global) -> Result<Instance, Fault> {
     let pairs = [(1, 0), (3, 2), (5, 4), (7, 6), (9, 8), (11, 10)];
     let needs = Csr::from_pairs(alloc, 12, &pairs)?;

@@ -10,7 +10,7 @@ use proposals::{
 use std::alloc::Global;
 use std::marker::Brand;
 
-/// The trees, and the board and the counter of which no type has the name yet.
+/// The trees, and the board and the counter before a type has their names.
 #[derive(Drop)]
 struct Prepared {
     traces: [Trace; 3],
@@ -105,7 +105,7 @@ fn run<B: BoardId, L: CounterId>(
     })
 }
 
-/// Prepares all and runs it. The name of the first thing that was not as it must be. Refused for want of memory, and where a seat was.
+/// Prepares all and runs it. Returns the name of the first thing that is wrong. Errors: `NoMemory`, or a refused seat.
 pub fn run_prepared(alloc: Global) -> Result<Option<&'static str>, Fault> {
     let prepared = Prepared {
         traces: [

@@ -1,5 +1,5 @@
-//! A worker solves a small mine. Where memory is refused to its pass over the board, it leaves the sweep, its ask is taken back, and
-//! the driver goes on: the journal tells whether it was.
+//! A worker solves a small mine. If memory is refused to its pass over the board, it leaves the sweep, its ask is taken back, and
+//! the driver goes on: the journal shows it.
 use crew::{OpenGate, solve_shared};
 use csr::Csr;
 use faults::Fault;
@@ -9,8 +9,8 @@ use std::sync::{Arc, Wait};
 use std::thread::Threads;
 use tree_lock::Entry;
 
-/// What one worker and the driver decided over two blocks of ore, each below a block of waste. The worker asks for arc 0 first,
-/// which is also the driver's first. Refused for want of memory, and where a thread or a seat was.
+/// Returns what one worker and the driver decided over two blocks of ore, each below a block of waste. The worker asks for arc 0
+/// first, which is also the driver's first. Errors: `NoMemory`, or a refused thread or seat.
 pub fn solved<R: AllocGlobal + Threads + Wait + Sync>(rt: &R) -> Result<Vec<Entry>, Fault> {
     let alloc = rt.alloc();
     let needs = Csr::from_pairs(alloc, 4, &[(0, 3), (1, 2)])?;

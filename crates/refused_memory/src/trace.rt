@@ -37,7 +37,7 @@ fn over(arc: u32, parents: [Option<u32>; 4]) -> TracedMerger {
 }
 
 impl Trace {
-    /// A merger cuts the path within a branch. Refused for want of memory alone, as the others are.
+    /// A merger cuts the path within a branch. Error, here and below: `NoMemory`.
     pub fn cuts_within_a_branch(alloc: Global) -> Result<Trace, Fault> {
         let values = vec![in alloc; 1, -2, 5, -2]?;
         Ok(Trace {

@@ -23,7 +23,7 @@ pub struct Workplace<S: LockId> {
 
 /// What is tried at a tree, before a witness.
 pub trait WitnessedTrial {
-    /// Refused for want of memory, where that is refused to the witness, or again to the call that the trial is of.
+    /// Error: `NoMemory`, if it is refused to the witness, or again to the call on trial.
     fn at<S: LockId, R: Wait>(
         &self,
         rt: &R,
@@ -33,7 +33,7 @@ pub trait WitnessedTrial {
     ) -> Result<(), Fault>;
 }
 
-/// What a lock begins with, of which no type has the name yet.
+/// What a lock begins with, before a type has its name.
 struct Setup {
     tree: NormTree,
     list: UnnamedList,
@@ -76,7 +76,7 @@ fn try_at<S: LockId, T: WitnessedTrial, R: Wait>(
     tried
 }
 
-/// The trial at the opening tree of a mine. Refused for want of memory, and where a seat was.
+/// Makes the trial at the opening tree of a mine. Errors: `NoMemory`, or a refused seat.
 pub fn try_with<T: WitnessedTrial, R: Wait>(
     rt: &R,
     alloc: Global,

@@ -1,4 +1,4 @@
-//! Looks whether journal, flow and version are those of the first so many mergers, as one thread makes them.
+//! Checks that journal, flow and version are those of the first mergers, as one thread makes them.
 use crate::mine::ARCS;
 use faults::Fault;
 use mine_graph::Instance;
@@ -23,7 +23,7 @@ pub struct Witness<'a, S: LockId> {
     pub seen: Seen,
 }
 
-/// The tree after so many mergers.
+/// Returns the tree after `count` mergers.
 fn tree_after(alloc: Global, mine: &Instance, count: usize) -> Result<NormTree, Fault> {
     let mut tree = NormTree::start(alloc, mine)?;
     for arc in &ARCS[..count.min(ARCS.len())] {
@@ -32,7 +32,7 @@ fn tree_after(alloc: Global, mine: &Instance, count: usize) -> Result<NormTree, 
     Ok(tree)
 }
 
-/// Whether the journal has so many mergers, in the order of their arcs.
+/// Returns whether the journal has `count` mergers, in the order of their arcs.
 fn is_journal<S: LockId>(holder: &Holder<S>, count: usize) -> bool {
     let journal = holder.journal();
     journal.len() == count
@@ -86,7 +86,7 @@ impl<'a, S: LockId> Witness<'a, S> {
         }
     }
 
-    /// Compares journal, flow and version with those of so many mergers. Refused for want of memory alone.
+    /// Compares journal, flow and version with those of `count` mergers. Error: `NoMemory`.
     pub fn compare(&mut self, holder: &Holder<S>, count: usize) -> Result<(), Fault> {
         let tree = tree_after(self.alloc, self.mine, count)?;
         let flow = holder.tree().flow()?.as_slice() == tree.flow()?.as_slice();

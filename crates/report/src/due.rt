@@ -14,6 +14,6 @@ pub enum JournalLine {
     Budget,
     /// `ENTRIES:` with how many follow.
     Count { budget: Option<u64> },
-    /// So many entries; then the end.
+    /// This many entries; then the end.
     Entries { budget: Option<u64>, left: u64 },
 }

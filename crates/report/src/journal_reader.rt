@@ -81,7 +81,7 @@ fn take_line(
     }
 }
 
-/// The budget, where nothing is due any more, in a text of so many lines.
+/// The budget, if nothing is due any more, in a text of this many lines.
 #[tactic(auto, unfolding(crate::specs::JournalLines::journal_end_at))]
 fn check_end(due: JournalLine, count: u64) -> Result<Option<u64>, Fault>
     requires { count < 2 ^ 63 }

@@ -36,7 +36,7 @@ fn sign_of(number: i128) -> &'static [u8]
     if number < 0 { b"-" } else { b"" }
 }
 
-/// Writes a number of units, of which so many make 1, with as many decimals as there is place for digits.
+/// Writes a number of units, `unit` of them to 1, with as many decimals as there is place for digits.
 fn put_with_decimals<W: OutBytes>(
     writer: &mut W,
     out: &mut Out,

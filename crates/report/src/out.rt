@@ -68,7 +68,7 @@ fn flush<W: OutBytes>(writer: &mut W, out: &mut Out)
     out.len = 0;
 }
 
-/// Makes room for so many bytes.
+/// Makes room for `count` bytes.
 fn make_room<W: OutBytes>(writer: &mut W, out: &mut Out, count: usize)
     requires ready { IsReady (W.progress writer.old) out.old }
     requires short { count ≤ 65536 }

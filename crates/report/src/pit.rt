@@ -35,8 +35,8 @@ pub fn put_line<W: OutBytes>(writer: &mut W, out: &mut Out, id: u32)
     end_line(writer, out);
 }
 
-/// Writes the text of a pit of so many blocks, with its worth in millionths. Refused where a write failed: a beginning
-/// of the text was written then. It takes no memory.
+/// Writes the text of a pit of a mine of n blocks, with its value in millionths. Error: a failed write, after which the beginning
+/// of the text is written. It allocates nothing.
 pub fn write_pit<W: OutBytes>(writer: &mut W, n: u32, pit: &[u32], worth: i128) -> Result<(), Fault>
     requires { (W.progress writer.old).failures < 2 ^ 63 }
     ensures text { Writes (W.progress writer.old) (W.progress writer.new) (pit_text n pit.now worth) result }

@@ -56,8 +56,8 @@ fn all_shells<G: Gate + Sync, R: Threads + Wait + Sync>(
 /// shell before leaves, for the greatest pit on the dual of that rest; a budget of mergers counts for each factor. Workers
 /// report their steps to the gate.
 ///
-/// Refused for want of memory (1), where the budget is used up with a merger arc left on some factor's rest (20), and where
-/// a worker could not be started (22).
+/// Errors: lack of memory (1), a used-up budget with a merger arc left on some factor's reduced mine (20), a worker that could not
+/// be started (22).
 pub fn shells<G: Gate + Sync, R: Threads + Wait + Sync>(
     rt: &R,
     alloc: Global,

@@ -51,7 +51,7 @@ pub enum PitOutcome {
 /// The greatest pit of a mine with fixed blocks: of the closed sets that hold each block forced in and none that is barred, the
 /// largest of greatest worth. A budget counts the mergers of the dual instance. The graph is shared with the caller.
 ///
-/// Refused for want of memory (1), and in mode shared where a worker could not be started (22).
+/// Errors: lack of memory (1); in mode shared a worker that could not be started (22).
 pub fn solve_greatest<G: Gate + Sync, R: Threads + Wait + Sync>(
     rt: &R,
     alloc: Global,

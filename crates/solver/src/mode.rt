@@ -9,7 +9,7 @@ pub enum Mode {
     },
     /// Each part that no pair joins to another by itself.
     Parts,
-    /// By so many workers, 1 to 64, at one tree, each of which goes over so many arcs at once, 1 to 67,108,864.
+    /// By `workers` workers, 1 to 64, at one tree, with `chunk` arcs at a time for each, 1 to 67,108,864.
     Shared {
         workers: u32,
         budget: Option<u64>,

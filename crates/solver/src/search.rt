@@ -28,7 +28,7 @@ pub struct Search<'a, R, G> {
     pub alloc: Global,
     pub mode: Mode,
     pub direction: Direction,
-    /// Is told of the steps of workers.
+    /// Receives the steps of workers.
     pub gate: &'a G,
 }
 
@@ -91,8 +91,8 @@ impl<R: Threads + Wait + Sync, G: Gate + Sync> Search<'_, R, G> {
         }
     }
 
-    /// The minimal pit of an instance. By one thread without a budget, and by parts, no certificate is made. Refused for want of
-    /// room, and where the budget is used up with a merger arc left (20).
+    /// Returns the minimal pit of an instance. By one thread without a budget, and by parts, no certificate is made. Errors: lack
+    /// of memory (1), a used-up budget with a merger arc left (20).
     pub fn minimal_pit(&self, instance: &Instance) -> Result<Vec<u32>, Fault>
         ensures shown { IfOk result (λ pit. ShowsPit instance.now pit.items) }
         ensures within { IfOk result (λ _. EndsWithin self.now.mode instance.now) }
@@ -105,12 +105,12 @@ impl<R: Threads + Wait + Sync, G: Gate + Sync> Search<'_, R, G> {
         }
     }
 
-    /// The pit of a mine with fixed blocks: of the closed sets that hold each block forced in and none that is barred, the
-    /// smallest of greatest worth, or the largest, as the direction says. The mine's graph is given up as soon as the instance
-    /// that is searched has been made of it, so no two graphs are held while one is solved.
+    /// Returns the pit of a mine with fixed blocks: of the closed sets that contain each forced block and no barred one, the
+    /// minimal one of maximum value, or the maximal one, as the direction says. The mine's graph is released as soon as the
+    /// instance that is searched has been made of it, so no two graphs are held during a solve.
     ///
-    /// Refused for want of memory (1), in mode shared where a worker could not be started (22), and where the budget is used up
-    /// with a merger arc left (20); for the greatest pit it counts the mergers of the dual instance.
+    /// Errors: lack of memory (1), in mode shared a worker that could not be started (22), a used-up budget with a merger arc left
+    /// (20). For the greatest pit the budget counts the mergers of the dual instance.
     pub fn pit(&self, mine: Instance, fixed: &Fixed) -> Result<FoundPit, Fault>
         requires { IsFixedOf (graph_of_mine mine) fixed.now }
         ensures found { IfOk result (IsFound self.now.direction mine (fixed_of fixed.now.lists)) }
@@ -125,10 +125,11 @@ impl<R: Threads + Wait + Sync, G: Gate + Sync> Search<'_, R, G> {
         find_pit(&FnSolver { solve }, self.alloc, mine, fixed, self.direction)
     }
 
-    /// How the mode's solve of a mine with fixed blocks for its least pit ended, whatever the direction: with a certificate of the
-    /// mine; and in mode shared the journal of the rest, by the rest's own numbers. Where nothing is fixed, no graph is copied.
+    /// Returns how the mode's solve of a mine with fixed blocks for its minimal pit ended, in either direction: with a certificate
+    /// of the mine; and in mode shared the journal of the reduced mine, by its own numbers. If nothing is fixed, no graph is
+    /// copied.
     ///
-    /// Refused for want of memory (1), and in mode shared where a worker could not be started (22).
+    /// Errors: lack of memory (1); in mode shared a worker that could not be started (22).
     pub fn solve_with_journal(
         &self,
         instance: &Instance,

@@ -28,9 +28,9 @@ use versions::{LookSeat, Publisher};
 /// The seat under which the driver's entries stand.
 const DRIVER: u32 = 0;
 
-/// To a contract it is its tree, its journal and its budget, the arcs that are published, what was answered to each worker and is
-/// claimed from it, and the cells of the workers whose words it looked at, in order. Tree and budget are those of the lock's id. It
-/// is not `Drop`, since its end waits for readers that have not left: end it by `into_parts`.
+/// To a contract it is its tree, its journal and its budget, the published arcs, the answers to each worker and the claims of it,
+/// and the cells of the workers whose words it read, in order. Tree and budget are those of the lock's id. It is not `Drop`, since
+/// its end waits for readers that have not left: end it by `into_parts`.
 pub struct Holder<S: LockId> {
     pub(crate) published_journal: PublishedJournal<S>,
     pub(crate) seat: HolderSeat<S>,
@@ -67,11 +67,11 @@ impl<S: LockId> Holder<S> {
         }
     }
 
-    /// What is true of each holder, the law of the lock. It is of the instance and the budget that the lock's id names. The
-    /// journal is lawful, under the seats of the workers, of arcs that may be asked for, and of the driver, of arcs of the
-    /// instance; the tree is its replay by one thread, and normalised; the mergers are at most the budget's, and at most
-    /// P * (n + 1) + n, P the sum of the positive values. The entries under each worker's seat are what was answered to it, and
-    /// nothing is claimed. The published arcs are those of the applied entries, and what readers see of them is the tree.
+    /// The law of the lock: what is true of each holder. It is of the instance and the budget that the lock's id names. The journal
+    /// is lawful, under the seats of the workers, of arcs that may be asked for, and of the driver, of arcs of the instance. The
+    /// tree is its replay by one thread, and normalised. The mergers are at most the budget's, and at most P * (n + 1) + n, P the
+    /// sum of the positive values. The entries under each worker's seat are the answers to it, and nothing is claimed. The
+    /// published arcs are those of the applied entries, and readers see the tree through them.
     pub fn law(&self)
         ensures mine { self.now.mine ≡ S.mine }
         ensures budget { self.now.budget ≡ S.budget }
@@ -138,8 +138,8 @@ impl<S: LockId> Holder<S> {
         self.published_journal.decide(rt, DRIVER, arc)
     }
 
-    /// Tells a seat to look from of all mergers that were made: all that it saw or was told of before was a prefix of these.
-    /// True where nothing is left to be published, which is always.
+    /// Informs a reader's seat of all mergers that were made: all that it saw or knew before was a prefix of these. True if nothing
+    /// is left to be published, which is always.
     pub fn tell(&mut self, seat: &mut LookSeat<S>) -> bool
         ensures same { self.new ≡ self.old }
         ensures told { seat.new ≡ applied_arcs self.old.journal }
@@ -150,7 +150,7 @@ impl<S: LockId> Holder<S> {
         self.published_journal.tell(seat)
     }
 
-    /// Lets a worker's seat meet the holder's. What each knows stays as it was, and the entries under the worker's seat and
+    /// Synchronises a worker's seat with the holder's. What each knows stays unchanged, and the entries under the worker's seat and
     /// what it asked and collected then agree.
     pub fn settle(&mut self, board: &Board<S>, worker: &mut WorkerSeat<S>)
         ensures same { (worker.new ≡ worker.old) × (self.new ≡ self.old) }

@@ -1,5 +1,5 @@
-//! The tree under its lock: each proposal is decided by whoever holds it, with an entry in the journal. Readers look at the
-//! published version without the lock.
+//! The tree under its lock: the holder decides each proposal, with an entry in the journal. Readers read the published version
+//! without the lock.
 #![tactic(auto)]
 
 mod holder;

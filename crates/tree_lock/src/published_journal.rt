@@ -99,7 +99,7 @@ impl<V: ListId> PublishedJournal<V> {
         (publisher.into_tree(rt), journal)
     }
 
-    /// Tells the seat of all that is published; true where nothing is pending, which is always.
+    /// Informs the seat of all that is published; true if nothing is pending, which is always.
     pub fn tell(&mut self, seat: &mut LookSeat<V>) -> bool
         ensures same { self.new ≡ self.old }
         ensures told { seat.new ≡ self.old.published }
@@ -116,7 +116,7 @@ impl<V: ListId> PublishedJournal<V> {
         lawful_verdict(self.tree(), self.budget, self.applied, arc)
     }
 
-    /// Tells the counters of the instance of a decision.
+    /// Counts a decision in the counters of the instance.
     fn count(&self, verdict: Verdict) {
         let counters = self.tree().instance().counters();
         counters.decided(verdict == Verdict::Stale);

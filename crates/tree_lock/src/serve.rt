@@ -12,7 +12,7 @@ use proposals::Board;
 use std::sync::Wait;
 
 impl<S: LockId> Holder<S> {
-    /// Looks at the word of one worker, whatever comes of it, and tells whether an ask of it was served.
+    /// Reads the word of one worker, and returns whether an ask of it was served.
     fn serve_one<R: Wait>(&mut self, rt: &R, board: &Board<S>, worker: u32) -> Result<bool, Fault>
         requires { (0 < worker) × (worker ≤ S.workers) }
         ensures served { IfOk result (ServesOne worker self.old self.new) }
@@ -33,13 +33,13 @@ impl<S: LockId> Holder<S> {
         }
     }
 
-    /// One pass over the board, workers rising: it looks at the word of each worker once, and each ask that it finds there is
-    /// decided and answered, with an entry under its worker's seat, at most one for each worker; an applied merger is published
-    /// before its answer. It answers how many were. An arc that the instance does not have is stale. It waits for readers that
-    /// have not left an old version.
+    /// One pass over the board, in increasing order of workers. It reads the word of each worker once; each ask that it finds there
+    /// is decided and answered, with an entry under its worker's seat, at most one for each worker. An applied merger is published
+    /// before its answer. It returns how many asks were answered. An arc that the instance does not have is stale. It waits for
+    /// readers that have not left an old version.
     ///
-    /// Errors: `NoMemory` where memory for an entry or its merger was refused: all is then as after the asks answered before
-    /// it, its ask stands as it stood, and the pass ends: the words of that worker and of those before it were looked at.
+    /// Errors: `NoMemory` if memory for an entry or its merger was refused. All is then as after the asks answered before it, its
+    /// ask stays open, and the pass ends: the words of that worker and of those before it were read.
     pub fn serve<R: Wait>(&mut self, rt: &R, board: &Board<S>) -> Result<u32, Fault>
         ensures served { IfOk result (Serves self.old self.new) }
         ensures looked { IfOk result (λ _. LooksAtFirst S.workers self.old self.new) }

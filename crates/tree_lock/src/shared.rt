@@ -97,8 +97,8 @@ impl<S: LockId> SharedTree<S> {
         self.lock.try_lock()
     }
 
-    /// Takes the lock and tells the seat of all mergers that were made by then: all that it saw or was told of before was a
-    /// prefix of these. True where nothing is left to be published, which is always.
+    /// Takes the lock and informs the seat of all mergers that were made by then: all that it saw or knew before was a prefix of
+    /// these. True if nothing is left to be published, which is always.
     pub fn tell<R: Wait>(&self, rt: &R, seat: &mut LookSeat<S>) -> bool
         ensures before { IsPrefix seat.old seat.new }
         ensures all { result ≡ true }

@@ -1,4 +1,4 @@
-//! Versions of the tree: readers look at a published one without a lock, while the holder of the lock changes the other copy.
+//! Versions of the tree: readers read a published one without a lock, while the holder of the lock changes the other copy.
 #![tactic(auto)]
 
 mod link;

@@ -11,7 +11,7 @@ use std::marker::PhantomData;
 /// Arcs are below this, and the length of the list is counted in units of this.
 pub(crate) const UNIT: u64 = 1 << 26;
 
-/// So many arcs a list takes at most: a journal of them would fill more than a terabyte.
+/// The most arcs that a list takes: a journal of them would fill more than a terabyte.
 pub(crate) const MOST: u64 = 1 << 36;
 
 /// The word, of the id's book.

@@ -1,5 +1,4 @@
-//! Who writes the list of arcs. There is one, so it knows the list whole, and with it that whatever anyone saw is a
-//! prefix of it.
+//! The writer of the list of arcs. There is one, so it knows the list whole, and so all that anyone saw is a prefix of it.
 ghost use Rattle.std.specs.Prelude.{◌≡◌, ◌<◌, ◌^◌, [], ◌∷◌, ◌++◌, length, IfOk, IfErr};
 ghost use mathlib.Core.List.{IsPrefix};
 ghost use Rattle.logbook.specs.Pages.{nib, may_write};
@@ -132,7 +131,7 @@ impl<V: ListId> ListWriter<V> {
         }
     }
 
-    /// The list begins with whatever was seen of it.
+    /// The list begins with all that was seen of it.
     pub fn confirm(&mut self, other: &Prefix<V>)
         ensures same { self.new ≡ self.old }
         ensures begins { IsPrefix other.now self.old }

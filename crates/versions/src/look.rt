@@ -1,5 +1,5 @@
-//! Looks at the published version: without a lock, without waiting and without memory.
-//! A seat remembers what it saw and was told of, so that no later look shows less.
+//! Reads of the published version: without a lock, without waiting and without memory. A seat remembers what it saw and knew, so
+//! that no later read shows less.
 ghost use Rattle.std.specs.Prelude.{◌≡◌, ◌<◌, IfOk, IfErr, MatchResult};
 ghost use mathlib.Core.List.{IsPrefix};
 ghost use Rattle.faults.specs.Refused.{no_seat};
@@ -15,7 +15,7 @@ use left_right::reader::{Factory, Reader, Reading};
 use mine_graph::Instance;
 use std::marker::Model;
 
-/// What gives seats to look from. Threads may share it. To a contract it is the arcs that each new seat is told of.
+/// Gives readers' seats. Threads may share it. To a contract it is the arcs that each new seat knows.
 #[derive(Drop)]
 pub struct LookSeats<V: ListId> {
     factory: Factory<TreeCopy<V>, (), Unruled>,
@@ -30,8 +30,8 @@ impl<V: ListId> Model for LookSeats<V> {
     ghost view = { λ s. s.list };
 }
 
-/// A seat to look from. To a contract it is the arcs that it saw or was told of: those of its last look or of its last
-/// telling, which begin with all before.
+/// A reader's seat. To a contract it is the arcs that it saw or knows: those of its last read or of its last message, which begin
+/// with all before.
 #[derive(Drop)]
 pub struct LookSeat<V: ListId> {
     reader: Reader<TreeCopy<V>, (), Unruled>,
@@ -86,23 +86,22 @@ impl<V: ListId> LookSeats<V> {
 }
 
 impl<V: ListId> LookSeat<V> {
-    /// What it saw or was told of.
+    /// Returns what it saw or knows.
     pub(crate) fn list(&self) -> &Prefix<V>
         ensures { result.now ≡ self.now }
     {
         &self.list
     }
 
-    /// It is told of this list.
+    /// It knows this list from now on.
     pub(crate) fn learn(&mut self, list: Prefix<V>)
         ensures { self.new ≡ list }
     {
         self.list = list;
     }
 
-    /// The version that is published now. It takes no lock, waits for nobody and takes no memory.
-    /// Its arcs begin with all that the seat saw or was told of. The seat comes back where there is no version to be had:
-    /// where the publisher is gone.
+    /// Returns the published version. It takes no lock, waits for nobody and allocates nothing. Its arcs begin with all that the
+    /// seat saw or knew. The seat is returned if there is no version: the publisher is gone.
     pub fn look(self) -> Result<Version<V>, LookSeat<V>>
         ensures { MatchResult result (λ version. IsPrefix self version) (λ seat. seat ≡ self) }
     {
@@ -159,7 +158,8 @@ impl<V: ListId> Version<V> {
         self.reading.get().tree().is_merger(arc)
     }
 
-    /// Leaves it: the seat, which remembers what it saw. The publisher waits for whoever has not left an old version.
+    /// Leaves it and returns the seat, which remembers what it saw. The publisher waits for readers that have not left an old
+    /// version.
     pub fn leave(self) -> LookSeat<V>
         ensures { result ≡ self }
     {

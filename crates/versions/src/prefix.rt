@@ -1,5 +1,5 @@
-//! A prefix of the list of arcs, as someone saw it: so many arcs, and the last of them.
-//! What is known of the arcs before is known in the proofs alone, so a prefix takes two numbers.
+//! A prefix of the list of arcs, as someone saw it: its length, and the last of its arcs. The arcs before are known in the proofs
+//! alone, so a prefix takes two numbers.
 ghost use Rattle.std.specs.Prelude.{◌≡◌, [], ◌∷◌, ◌++◌, IsTrue, IfSome};
 ghost use mathlib.Core.List.{IsPrefix};
 ghost use Rattle.versions.specs.Published.{are_same};

@@ -25,8 +25,8 @@ use std::sync::Wait;
 
 type Copies<V> = Writer<TreeCopy<V>, Addition<V>, (), Unruled>;
 
-/// To a contract it is the arcs that were merged over, all of which are published. It is not `Drop`, since its end waits for
-/// readers: end it by `into_tree`.
+/// To a contract it is the arcs that were merged over, all of them published. It is not `Drop`, since its end waits for readers:
+/// end it by `into_tree`.
 pub struct Publisher<V: ListId>
 where
     TreeCopy<V>: Absorb<Addition<V>, State = TreeCopy<V>>,
@@ -49,7 +49,7 @@ where
     ghost invariant = { λ p. IsPublished V.mine p.copies.desk.shown.value p.list_writer (drop p.copies.behind p.copies.log.items) };
 }
 
-/// Shows readers the copy that has taken in every arc. It waits for those that still look at that copy.
+/// Shows readers the copy that has taken in every arc. It waits for those that still read the other copy.
 fn shown<V: ListId, R: Wait>(copies: Copies<V>, rt: &R) -> Copies<V>
     ensures shown { result.desk.shown.value ≡ fold taken_in copies.desk.shown.value (drop copies.behind copies.log.items) }
     ensures none_left { drop result.behind result.log.items ≡ [] }
@@ -67,8 +67,8 @@ fn show<V: ListId, R: Wait>(copies: &mut Copies<V>, rt: &R)
 }
 
 impl<V: ListId> Publisher<V> {
-    /// Publishes the opening tree, and makes a copy of it and room for so many seats.
-    /// Errors: `NoMemory` where memory was refused, `NoSeat` where the table of places was.
+    /// Publishes the opening tree, and makes a copy of it and room for `seats` seats. Errors: `NoMemory` if memory was refused,
+    /// `NoSeat` if the table of places was.
     pub fn new(
         alloc: Global,
         list: UnnamedList,
@@ -146,8 +146,8 @@ impl<V: ListId> Publisher<V> {
         Ok(())
     }
 
-    /// Tells the seat of all that is published: all that it saw or was told of before was a prefix of that.
-    /// True where nothing is pending, which is always.
+    /// Informs the seat of all that is published: all that it saw or knew before was a prefix of that. True if nothing is pending,
+    /// which is always.
     pub fn tell(&mut self, seat: &mut LookSeat<V>) -> bool
         ensures same { self.new ≡ self.old }
         ensures told { seat.new ≡ self.old }

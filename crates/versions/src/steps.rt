@@ -32,7 +32,7 @@ impl Gain<ArcLink, u64> for Nothing {
     ghost after = { λ names about answer. ftrue };
 }
 
-/// A look at the word.
+/// A read of the word.
 pub struct Look;
 
 impl Play<ArcLink, u64> for Look {
@@ -67,7 +67,7 @@ impl Play<ArcLink, u64> for Widen {
     ghost then = { Widens };
 }
 
-/// The writer's look at a list that it knows whole.
+/// The writer's read of a list that it knows whole.
 pub struct Confirm;
 
 impl Play<ArcLink, u64> for Confirm {

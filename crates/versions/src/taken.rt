@@ -1,5 +1,5 @@
-//! The arcs that a copy of the tree has taken in. Each comes with the list before it, so that a copy knows its list whichever
-//! arcs it takes in at once; only of the last one has the list's word to tell.
+//! The arcs that a copy of the tree has taken in. Each is added with the list before it, so that a copy knows its list, however
+//! many arcs it takes in at a time; the list's word reports only the last one.
 ghost use Rattle.std.specs.Prelude.{◌≡◌, [], ◌∷◌, ◌++◌, IfSome, IsTrue};
 ghost use Rattle.versions.specs.Published.{are_same};
 
@@ -47,7 +47,7 @@ impl<V: ListId> Addition<V> {
 #[derive(Drop)]
 pub struct TakenIn<V: ListId> {
     told: Prefix<V>,
-    /// An arc behind them of which the list's word did not tell when it was taken in, as in no run. The next addition tells of it.
+    /// An arc after them that the list's word had not reported when it was taken in, as in no run. The next addition reports it.
     last: Option<u32>,
 }
 
@@ -94,7 +94,7 @@ impl<V: ListId> TakenIn<V> {
         }
     }
 
-    /// They, as a prefix of the list, where it told of the last one, as in each run.
+    /// Returns them as a prefix of the list, if it reported the last one, as in each run.
     pub fn told(&self) -> Option<&Prefix<V>>
         ensures { IfSome result (λ told. told.now ≡ self.now) }
     {
