@@ -82,7 +82,7 @@ complete -c pitplan -n '__fish_seen_subcommand_from sensitivity' -l no-verify -d
 complete -c pitplan -n '__fish_seen_subcommand_from sensitivity' -l json -d 'print the table as JSON, with unrounded numbers, and the path of the report or table'
 complete -c pitplan -n '__fish_seen_subcommand_from sensitivity' -l no-figures -d 'draw no figures, and remove those of an earlier run in the folder'
 complete -c pitplan -n '__fish_seen_subcommand_from sensitivity' -l solver -r -fa 'library program' -d 'solve by the library, on arrays, or by the program, on files, which are kept (default: the one that PITSHELL_LIBRARY or PITSHELL names, otherwise the library if it is installed)'
-complete -c pitplan -n '__fish_seen_subcommand_from sensitivity' -l on -r -f -d 'solve the cases on local (processes of this machine, by Dask) or tcp://host:port (a Dask scheduler) (default: one by one)'
+complete -c pitplan -n '__fish_seen_subcommand_from sensitivity' -l on -r -f -d 'solve the cases on local (processes of this machine, by Dask) or tcp://host:port (a Dask scheduler) (default: processes of this machine without Dask, one for each processor)'
 complete -c pitplan -n '__fish_seen_subcommand_from sensitivity' -l workers -r -f -d 'number of processes of local (default: one for each processor)'
 complete -c pitplan -n '__fish_seen_subcommand_from sensitivity' -s h -l help -d 'show this help message and exit'
 complete -c pitplan -n '__fish_seen_subcommand_from compare' -fa '(__fish_complete_directories)'

@@ -1,4 +1,4 @@
-"""Tasks in processes, and the verification of large models in a process of its own."""
+"""Tasks in processes of their own: figures, cases of a sensitivity, and the verification of large models."""
 
 import json
 import os
@@ -6,18 +6,19 @@ import shutil
 import signal
 import subprocess
 import sys
+import time
 from dataclasses import replace
 
 import pytest
 from helpers.pushbacks import UPRIGHT, pillars
 
 import pitplan
-from pitplan import MissingPackage, PlanError, Writing, load
+from pitplan import MissingPackage, PlanError, ProgramError, Writing, load
 from pitplan.blockmodel import reader
 from pitplan.commands import audit_process
 from pitplan.commands.audit_process import AuditProcess
 from pitplan.core import paths, processes
-from pitplan.core.processes import run_all
+from pitplan.core.processes import each_done, run_all
 from planaudit.__main__ import main
 
 
@@ -33,14 +34,32 @@ def failing(error):
     return task
 
 
-def test_tasks_run_in_several_processes(tmp_path):
+def test_tasks_run_in_processes_of_their_own(tmp_path):
     files = [tmp_path / str(number) for number in range(5)]
-    run_all([noting(file, "done") for file in files], most=3)
+    assert sorted(each_done([noting(file, "done") for file in files], most=3)) == [0, 1, 2, 3, 4]
     numbers = [file.read_text().split() for file in files]
     assert all(words == "done" for _, words in numbers)
-    # This process takes every third task, from the first.
-    assert [number == str(os.getpid()) for number, _ in numbers] == [True, False, False, True, False]
-    assert len({number for number, _ in numbers}) == 3
+    assert len({number for number, _ in numbers} | {str(os.getpid())}) == 6
+
+
+def test_no_more_run_at_a_time_than_asked_for(tmp_path):
+    """The third begins only when one of the first two has ended, and these wait for each other."""
+    first, second, third = (tmp_path / name for name in "abc")
+
+    def meeting(own, other):
+        def task():
+            own.write_text("")
+            while not other.exists():
+                time.sleep(0.01)
+
+        return task
+
+    tasks = [
+        meeting(first, second),
+        meeting(second, first),
+        lambda: third.write_text(str(len(list(tmp_path.iterdir())))),
+    ]
+    assert sorted(each_done(tasks, most=2)) == [0, 1, 2] and third.read_text() == "2"
 
 
 def test_one_process_runs_all_itself(tmp_path):
@@ -72,7 +91,7 @@ def test_an_error_that_cannot_be_sent_comes_by_its_words(tmp_path):
 
 
 def test_a_killed_process_is_an_error(tmp_path):
-    with pytest.raises(RuntimeError, match="a process ended with status -9"):
+    with pytest.raises(ProgramError, match="a process ended with status -9: free some memory"):
         run_all([noting(tmp_path / "a"), lambda: os.kill(os.getpid(), signal.SIGKILL)], most=2)
 
 
@@ -81,6 +100,31 @@ def test_an_interruption_ends_all_processes(tmp_path):
         run_all([failing(KeyboardInterrupt()), lambda: signal.pause()], most=2)
     with pytest.raises(ChildProcessError):
         os.waitpid(-1, os.WNOHANG)
+
+
+def test_who_stops_waiting_ends_all_processes(tmp_path):
+    done = each_done([noting(tmp_path / "a"), lambda: signal.pause()], most=2)
+    assert next(done) == 0
+    done.close()
+    with pytest.raises(ChildProcessError):
+        os.waitpid(-1, os.WNOHANG)
+
+
+def test_a_long_error_is_sent_whole():
+    with pytest.raises(PlanError, match="x{200000}$"):
+        run_all([failing(PlanError("x" * 200_000)), lambda: None], most=2)
+
+
+# ---- a sensitivity
+
+
+def test_cases_in_processes_are_those_of_one(plan_folder, monkeypatch):
+    text = UPRIGHT + '[sensitivity]\nparameters = ["price", "mining_cost"]\nchanges = [-0.1, 0.1]\n'
+    project = load(plan_folder(pillars(), text))
+    one = pitplan.write_sensitivity(project, project.folder / "one")
+    monkeypatch.setattr(processes, "cores", lambda: 3)
+    several = pitplan.write_sensitivity(project, project.folder / "several")
+    assert len(one) == 5 and one.equals(several)
 
 
 # ---- the verification

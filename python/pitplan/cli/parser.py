@@ -219,7 +219,7 @@ def add_sensitivity(subs: Subparsers) -> None:
     add_json(sub)
     add_figures(sub)
     add_solver(sub)
-    text = "solve the cases on local (processes of this machine, by Dask) or tcp://host:port (a Dask scheduler) (default: one by one)"
+    text = "solve the cases on local (processes of this machine, by Dask) or tcp://host:port (a Dask scheduler) (default: processes of this machine without Dask, one for each processor)"
     sub.add_argument("--on", type=scheduler_of, metavar="WHERE", help=text)
     add_workers(sub)
 

@@ -44,7 +44,7 @@ def write_sensitivity(
     folder : str or Path, optional
         Where the files go. Default: sensitivity in the project's output folder.
     where : Where, optional
-        The Dask cluster that solves the cases. Default: one after the other in this process.
+        The Dask cluster that solves the cases. Default: processes of this machine, one for each processor.
     writing : Writing
         How they are written.
 

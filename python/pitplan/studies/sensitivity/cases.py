@@ -10,8 +10,10 @@ project, each case finds shells of its own between these, as fine as `largest_in
 from __future__ import annotations
 
 import json
+import time
 from dataclasses import dataclass, replace
 from decimal import Decimal
+from functools import partial
 from itertools import product
 from pathlib import Path
 from typing import Any
@@ -26,6 +28,7 @@ from pitplan.config.sensitivity import SensitivityRules
 from pitplan.core import keyed_arrays
 from pitplan.core.atomic_files import hashes_of, staged_file
 from pitplan.core.optional_packages import load
+from pitplan.core.processes import each_done
 from pitplan.core.progress import Progress, silent
 from pitplan.errors import PlanError
 from pitplan.pits import shell_tables
@@ -165,13 +168,15 @@ def demand_whole(plan: Plan) -> None:
 def answer_all(
     missing: dict[Case, Path], asked: Asked, where: dask_pool.Where | None, progress: Progress = silent
 ) -> None:
-    """Solves these cases, one after the other in this process or where Dask solves, and writes each result to its path."""
-    if where is None:
-        for number, (case, path) in enumerate(missing.items(), 1):
-            with progress.step(f"{number} of {len(missing)}: {case.label}"):
-                answer(case, asked, path)
-    elif missing:
+    """Solves these cases, as many at the same time as there are processors or where Dask solves, and writes each result to its path."""
+    if where is not None and missing:
         over_dask(missing, asked, where, progress)
+        return
+    tasks = [partial(answer, case, asked, path) for case, path in missing.items()]
+    labels = [case.label for case in missing]
+    began = time.perf_counter()
+    for count, number in enumerate(each_done(tasks), 1):
+        progress.say(f"{count} of {len(missing)}: {labels[number]}, after {time.perf_counter() - began:.1f} s")
 
 
 def solve(project: Project, folder: Path, where: dask_pool.Where | None, progress: Progress = silent) -> Sensitivity:
@@ -183,7 +188,7 @@ def solve(project: Project, folder: Path, where: dask_pool.Where | None, progres
     folder : Path
         The output folder; results are in its folder cases.
     where : Where, optional
-        Where Dask solves. Default: one case after the other in this process.
+        Where Dask solves. Default: processes of this machine, one for each processor.
     progress : Progress
 
     Raises
