@@ -17,14 +17,14 @@ _pitplan() {
     local command=${COMP_WORDS[1]} before=${COMP_WORDS[COMP_CWORD - 1]} options="" valued="" given=0 k
     COMPREPLY=()
     if [ "$COMP_CWORD" -eq 1 ]; then
-        _pitplan_words "init check completion prepare shells pit pushbacks schedule sensitivity compare scenarios gather scenario report view export audit verify convert --version -h --help"
+        _pitplan_words "init check completion prepare shells pit pushbacks schedule sensitivity compare scenarios gather scenario report view export audit verify convert serve --version -h --help"
         return
     fi
     case "$command $before" in
     "init --out" | "view --out" | "export --out")
         _pitplan_paths file && return
         ;;
-    "check --set" | "prepare --set" | "shells --set" | "pit --set" | "pit --revenue-factor" | "pit --rf" | "pushbacks --set" | "schedule --set" | "sensitivity --set" | "sensitivity --on" | "sensitivity --workers" | "scenarios --set" | "scenarios --on" | "scenarios --workers" | "scenarios --revenue-factor" | "scenarios --rf" | "gather --revenue-factor" | "gather --rf" | "export --revenue-factor" | "export --rf" | "audit --revenue-factor" | "audit --rf")
+    "check --set" | "prepare --set" | "shells --set" | "pit --set" | "pit --revenue-factor" | "pit --rf" | "pushbacks --set" | "schedule --set" | "sensitivity --set" | "sensitivity --on" | "sensitivity --workers" | "scenarios --set" | "scenarios --on" | "scenarios --workers" | "scenarios --revenue-factor" | "scenarios --rf" | "gather --revenue-factor" | "gather --rf" | "export --revenue-factor" | "export --rf" | "audit --revenue-factor" | "audit --rf" | "serve --port")
         return
         ;;
     "prepare --out" | "shells --out" | "pit --out" | "pushbacks --out" | "schedule --out" | "sensitivity --out" | "compare --out" | "scenarios --out" | "report --sensitivity" | "audit --out" | "convert --out")
@@ -69,6 +69,7 @@ _pitplan() {
     audit) options="--out --quiet --revenue-factor --rf -h --help" valued="--out --revenue-factor --rf" ;;
     verify) options="-h --help" valued="" ;;
     convert) options="-h --help --out" valued="--out" ;;
+    serve) options="--port --no-browser -h --help" valued="--port" ;;
     esac
     # Arguments before this one: words that are neither options nor their values, which bash divides at = and :.
     for ((k = 2; k < COMP_CWORD; k++)); do
@@ -103,6 +104,7 @@ _pitplan() {
         "verify "0) _pitplan_paths folder && return ;;
         "convert "0) _pitplan_words "minelib" && return ;;
         "convert "*) _pitplan_paths file && return ;;
+        "serve "0) _pitplan_paths folder && return ;;
         esac
         ;;
     esac

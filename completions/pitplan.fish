@@ -21,6 +21,7 @@ complete -c pitplan -n __fish_use_subcommand -a export -d 'Write the shells for 
 complete -c pitplan -n __fish_use_subcommand -a audit -d 'Write a folder by which others can check one shell'
 complete -c pitplan -n __fish_use_subcommand -a verify -d 'Recalculate the results of a folder independently'
 complete -c pitplan -n __fish_use_subcommand -a convert -d 'Convert published files of MineLib to those of pitshell'
+complete -c pitplan -n __fish_use_subcommand -a serve -d 'Show the projects and results of a folder in the browser, and run commands there'
 complete -c pitplan -n '__fish_seen_subcommand_from init' -F
 complete -c pitplan -n '__fish_seen_subcommand_from init' -l out -r -F -d 'project to write (default: project.toml next to the table)'
 complete -c pitplan -n '__fish_seen_subcommand_from init' -l figures -d 'draw histograms of grades and density, a plan and a section, next to the project'
@@ -143,3 +144,7 @@ complete -c pitplan -n '__fish_seen_subcommand_from convert' -fa 'minelib'
 complete -c pitplan -n '__fish_seen_subcommand_from convert' -F
 complete -c pitplan -n '__fish_seen_subcommand_from convert' -s h -l help -d 'show this help message and exit'
 complete -c pitplan -n '__fish_seen_subcommand_from convert' -l out -r -fa '(__fish_complete_directories)' -d 'the folder for mine.upit, mine.prec, mine.blocks'
+complete -c pitplan -n '__fish_seen_subcommand_from serve' -fa '(__fish_complete_directories)'
+complete -c pitplan -n '__fish_seen_subcommand_from serve' -l port -r -f -d 'port, 0 to 65535 (default: 0, any free one)'
+complete -c pitplan -n '__fish_seen_subcommand_from serve' -l no-browser -d 'print the address only'
+complete -c pitplan -n '__fish_seen_subcommand_from serve' -s h -l help -d 'show this help message and exit'

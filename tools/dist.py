@@ -34,7 +34,7 @@ Priority: optional
 Installed-Size: {kilobytes}
 Depends: libc6 (>= {c_library})
 Recommends: {layer}
-Suggests: python3-vtk9, python3-ezdxf, python3-gdal, libjs-three, python3-dask, python3-distributed
+Suggests: python3-vtk9, python3-ezdxf, python3-gdal, libjs-three, python3-dask, python3-distributed, python3-starlette, python3-uvicorn
 Description: ultimate pits of open mines, by a solver with a machine-checked proof
  The program pitshell finds the smallest closed set of blocks of greatest
  worth, and a machine-checked proof shows that what it writes is right. The

@@ -22,6 +22,9 @@ python3-pulp          tests    the test of a bound by another solver
 coinor-cbc            tests    the same: that solver
 python3-dask          tests    pitplan scenarios --on local, or on a cluster
 python3-distributed   tests    the same
+python3-starlette     tests    pitplan serve
+python3-uvicorn       tests    the same
+python3-httpx         tests    the tests that ask its server
 parallel              tests    the test of pitplan scenarios --on parallel
 fish                  tests    the test of pitplan's completions
 zsh                   tests    the same
@@ -41,6 +44,8 @@ man-db                tests    the test that the manual pages are shown
 chromium              all      the tests that open the 3D page, and print the report
 python3-tornado       all      the test that clicks in the 3D page
 poppler-utils         all      the test that reads the printed report
+python3-selenium      all      the tests that click in the browser application
+chromium-driver       all      the same
 python3-coverage      changes  tools/planted_changes.py
 g++                   bench    other people's maximum flows, beside which the program is timed
 libboost-graph-dev    bench    the same

@@ -11,9 +11,9 @@ from helpers.verified import UNVERIFIED
 
 import pitplan
 from pitplan import PlanError, ProgramError, load
-from pitplan.cli import main
 from pitplan.core import paths
 from pitplan.scheduling import certificate
+from pitplan.scheduling.blocks.certificate import shares_of
 
 # The ore of three pillars of 1, 0.7 and 0.5 % copper, of 100 t each.
 DIRTY = {"as_ppm": lambda i, j, k: 0 if k else (200, 100, 50)[i]}
@@ -148,16 +148,11 @@ def test_a_run_without_removes_an_earlier_certificate(plan_folder):
     assert "certificate" not in json.loads((folder / "block_schedule.json").read_text())
 
 
-def test_pushbacks_have_no_certificate(plan_folder, capsys):
-    path = plan_folder(pillars(), YEARLY)
-    assert main(["schedule", str(path), "--certificate", "--out", str(path.parent / "out")]) == 1
-    assert "expected one by block: add --by block" in capsys.readouterr().err
-    assert not (path.parent / "out").exists()
-
-
 def test_whole_shares_add_up():
     """Thirds of a block are 333,333 and 333,334 millionths."""
     from pitplan.scheduling.blocks.schedule import BlockSchedule
 
     thirds = BlockSchedule(np.array([0, 2]), np.array([[1 / 3, 1 / 3, 1 / 3], [0.5, 0.5, 0]]))
-    assert certificate.whole_shares(thirds, 2).tolist() == [[333334, 333333, 333333], [0, 0, 0]]
+    found = shares_of(thirds, 2)
+    assert found.share.tolist() == [333334, 333333, 333333]
+    assert (found.block.tolist(), found.period.tolist(), found.destination.tolist()) == ([0] * 3, [0] * 3, [0, 1, 2])

@@ -23,7 +23,7 @@ LAYERS = (
         "export",
         "figures",
     ),
-    *("report", "commands", "api", "cli", "__main__"),
+    *("report", "commands", "api", "web", "cli", "__main__"),
 )
 PACKAGE = ROOT / "python" / "pitplan"
 MODULES = sorted(PACKAGE.rglob("*.py"))

@@ -75,14 +75,34 @@ class Odd(Exception):
         super().__init__(f"{one} and {other}")
 
 
+@pytest.fixture
+def started(monkeypatch):
+    """The numbers of the processes that are started."""
+    found, start = [], processes.Child.__init__
+
+    def noted(self, number, task):
+        start(self, number, task)
+        found.append(self.process)
+
+    monkeypatch.setattr(processes.Child, "__init__", noted)
+    return found
+
+
+def none_is_left(started):
+    """Whether all have ended, and have been waited for."""
+    for number in started:
+        with pytest.raises(ChildProcessError):
+            os.waitpid(number, os.WNOHANG)
+    return len(started) > 0
+
+
 @pytest.mark.parametrize("place", [0, 1, 2])
-def test_the_error_of_a_task_is_raised_and_no_process_is_left(tmp_path, place):
+def test_the_error_of_a_task_is_raised_and_no_process_is_left(tmp_path, started, place):
     tasks = [noting(tmp_path / "a"), noting(tmp_path / "b"), noting(tmp_path / "c")]
     tasks[place] = failing(PlanError("no room", ("on the disk",)))
     with pytest.raises(PlanError, match="no room"):
         run_all(tasks, most=3)
-    with pytest.raises(ChildProcessError):
-        os.waitpid(-1, os.WNOHANG)
+    assert none_is_left(started)
 
 
 def test_an_error_that_cannot_be_sent_comes_by_its_words(tmp_path):
@@ -95,19 +115,17 @@ def test_a_killed_process_is_an_error(tmp_path):
         run_all([noting(tmp_path / "a"), lambda: os.kill(os.getpid(), signal.SIGKILL)], most=2)
 
 
-def test_an_interruption_ends_all_processes(tmp_path):
+def test_an_interruption_ends_all_processes(started):
     with pytest.raises(KeyboardInterrupt):
         run_all([failing(KeyboardInterrupt()), lambda: signal.pause()], most=2)
-    with pytest.raises(ChildProcessError):
-        os.waitpid(-1, os.WNOHANG)
+    assert none_is_left(started)
 
 
-def test_who_stops_waiting_ends_all_processes(tmp_path):
+def test_who_stops_waiting_ends_all_processes(tmp_path, started):
     done = each_done([noting(tmp_path / "a"), lambda: signal.pause()], most=2)
     assert next(done) == 0
     done.close()
-    with pytest.raises(ChildProcessError):
-        os.waitpid(-1, os.WNOHANG)
+    assert none_is_left(started)
 
 
 def test_a_long_error_is_sent_whole():

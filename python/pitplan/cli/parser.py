@@ -30,6 +30,7 @@ from .shared_options import (
     add_workers,
     add_writing,
     factor_of,
+    port_of,
     positive,
     scheduler_of,
     where_of,
@@ -112,7 +113,17 @@ def parser() -> Parser:
     subs.group("studies", add_sensitivity, add_compare, add_scenarios, add_gather, add_scenario)
     subs.group("outputs", add_report, add_view, add_export, add_audit, add_verify)
     subs.group("other formats", add_convert)
+    subs.group("browser", add_serve)
     return top
+
+
+def add_serve(subs: Subparsers) -> None:
+    more = "Only this machine reaches it, by the address with the token that is printed. Jobs go on after Ctrl-C."
+    does = "show the projects and results of a folder in the browser, and run commands there"
+    sub = subs.add("serve", does, subcommands.serve, more)
+    sub.add_argument("folder", nargs="?", type=Path, default=Path("."), help="folder with projects (default: this one)")
+    sub.add_argument("--port", type=port_of, default=0, metavar="N", help="port, 0 to 65535 (default: 0, any free one)")
+    sub.add_argument("--no-browser", action="store_true", help="print the address only")
 
 
 def add_init(subs: Subparsers) -> None:

@@ -98,6 +98,13 @@ def factor_of(text: str) -> float:
         raise ArgumentTypeError(said) from None
 
 
+def port_of(text: str) -> int:
+    """A port of this machine, or 0 for any free one."""
+    if not (text.isascii() and text.isdigit() and int(text) <= 65_535):
+        raise ArgumentTypeError(f"found {text!r}, expected a whole number from 0 to 65535")
+    return int(text)
+
+
 def positive(text: str) -> int:
     if not text.isdigit() or int(text) < 1:
         raise ArgumentTypeError(f'found "{text}", expected a whole number from 1 on')

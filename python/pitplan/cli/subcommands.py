@@ -273,6 +273,14 @@ def verify(options: Namespace) -> int:
     return 0
 
 
+def serve(options: Namespace) -> int:
+    from .. import __version__
+    from ..web.server import Settings, serve
+
+    serve(Settings(options.folder, options.port, not options.no_browser, __version__))
+    return 0
+
+
 def completion(options: Namespace) -> int:
     from .completions import script
 

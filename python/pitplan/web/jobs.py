@@ -1,0 +1,241 @@
+"""Jobs: commands that run as child processes, one after the other, with their state in files."""
+
+from __future__ import annotations
+
+import json
+import os
+import re
+import signal
+import subprocess
+import sys
+from contextlib import suppress
+from dataclasses import asdict, dataclass, replace
+from datetime import datetime
+from pathlib import Path
+from typing import Any, Optional
+
+from pitplan.core import paths
+from pitplan.core.atomic_files import write_json
+
+from .workspace import NotThere
+
+# Below the folder that is served.
+FOLDER = ".pitplan-serve/jobs"
+JOB, STATE, LOG, ANSWER, CANCEL, CLAIM = "job.json", "state.json", "log", "answer", "cancel", "claimed"
+WAITING, RUNNING, DONE, FAILED, CANCELLED, LOST = "waiting", "running", "done", "failed", "cancelled", "lost"
+ENDED = (DONE, FAILED, CANCELLED, LOST)
+# A line of the log that names a step, and the seconds that it took if it has ended.
+STEP = re.compile(r"^(?P<what>.+?) \.\.(?:.*?)(?: (?P<seconds>\d+\.\d) s)?$")
+
+
+@dataclass(frozen=True)
+class Step:
+    """A step of a job, and the seconds that it took; None while it goes on."""
+
+    what: str
+    seconds: Optional[float]
+
+
+@dataclass(frozen=True)
+class Job:
+    """A command that was asked for.
+
+    Attributes
+    ----------
+    number : int
+        From 1.
+    words : tuple of str
+        The words after `pitplan`.
+    project : str
+        The name of its project.
+    folder : str
+        The name of its output folder; empty if it has none.
+    asked : str
+        When, in ISO format.
+    status : str
+        WAITING, RUNNING, or how it ended.
+    started, ended : str
+        When, in ISO format; empty before.
+    code : int, optional
+        The exit status of the command.
+    """
+
+    number: int
+    words: tuple[str, ...]
+    project: str
+    folder: str
+    asked: str
+    status: str = WAITING
+    started: str = ""
+    ended: str = ""
+    code: Optional[int] = None
+
+    @property
+    def has_ended(self) -> bool:
+        return self.status in ENDED
+
+    @property
+    def seconds(self) -> Optional[float]:
+        """How long it took; None before its end."""
+        if not (self.started and self.ended):
+            return None
+        return (datetime.fromisoformat(self.ended) - datetime.fromisoformat(self.started)).total_seconds()
+
+
+class Jobs:
+    """The jobs of a folder.
+
+    Parameters
+    ----------
+    root : Path
+        The folder that is served, in which commands run.
+    """
+
+    def __init__(self, root: Path) -> None:
+        self.root, self.folder = root, root / FOLDER
+        self.runners: list[subprocess.Popen[bytes]] = []
+
+    def ask(self, words: tuple[str, ...], project: str, folder: str) -> Job:
+        """Adds a job to the queue and returns it."""
+        self.folder.mkdir(parents=True, exist_ok=True)
+        number = 1 + max((job.number for job in self.all()), default=0)
+        while True:
+            try:
+                self.of(number).mkdir()
+                break
+            except FileExistsError:
+                number += 1
+        job = Job(number, words, project, folder, now())
+        write_json(self.of(number) / JOB, asdict(job))
+        self.pump()
+        return self.read(number)
+
+    def of(self, number: int) -> Path:
+        return self.folder / str(number)
+
+    def all(self) -> list[Job]:
+        """Returns all jobs, the newest first."""
+        numbers = [int(it.name) for it in self.folder.glob("*") if it.name.isdigit()] if self.folder.is_dir() else []
+        found = []
+        for number in sorted(numbers, reverse=True):
+            with suppress(NotThere):
+                found.append(self.read(number))
+        return found
+
+    def read(self, number: int) -> Job:
+        """Returns a job with its state. Raises NotThere if there is none."""
+        try:
+            said: dict[str, Any] = json.loads((self.of(number) / JOB).read_text(encoding="utf-8"))
+            said["words"] = tuple(said["words"])
+            job = Job(**said)
+        except (OSError, ValueError, TypeError, KeyError) as error:
+            raise NotThere(f"job {number}: there is none") from error
+        state = self.state(number)
+        if state is None:
+            return replace(job, status=CANCELLED) if (self.of(number) / CANCEL).exists() else job
+        job = replace(job, **{name: state[name] for name in ("status", "started", "ended", "code") if name in state})
+        if job.status == RUNNING and not is_alive(state):
+            # It may have ended since its state was read.
+            again = self.state(number) or state
+            if again["status"] == RUNNING:
+                return replace(job, status=LOST)
+            return replace(
+                job, **{name: again[name] for name in ("status", "started", "ended", "code") if name in again}
+            )
+        return job
+
+    def state(self, number: int) -> Optional[dict[str, Any]]:
+        """Returns what the runner of a job has written; None before it runs."""
+        try:
+            return dict(json.loads((self.of(number) / STATE).read_text(encoding="utf-8")))
+        except (OSError, ValueError):
+            return None
+
+    def pump(self) -> None:
+        """Starts the oldest job that waits, unless one runs."""
+        self.runners = [it for it in self.runners if it.poll() is None]
+        jobs = self.all()
+        if self.runners or any(job.status == RUNNING for job in jobs):
+            return
+        waiting = [job for job in jobs if job.status == WAITING]
+        if waiting:
+            self.start(waiting[-1])
+
+    def start(self, job: Job) -> None:
+        """Starts the runner of a job, which goes on without the server."""
+        words = [sys.executable, "-P", "-m", "pitplan.web.job_runner", str(self.of(job.number)), str(self.root)]
+        beside = os.pathsep.join([str(paths.PACKAGES), *filter(None, [os.environ.get("PYTHONPATH")])])
+        runner = subprocess.Popen(
+            words,
+            cwd=self.root,
+            env={**os.environ, "PYTHONPATH": beside},
+            stdin=subprocess.DEVNULL,
+            stdout=subprocess.DEVNULL,
+            stderr=subprocess.DEVNULL,
+            start_new_session=True,
+        )
+        self.runners.append(runner)
+
+    def cancel(self, number: int) -> None:
+        """Ends a job: takes it from the queue, or interrupts its command. Raises NotThere if there is none."""
+        job = self.read(number)
+        if job.has_ended:
+            return
+        (self.of(number) / CANCEL).touch()
+        state = self.state(number)
+        if state is not None and is_alive(state):
+            with suppress(ProcessLookupError):
+                os.kill(int(state["runner"]), signal.SIGTERM)
+
+    def log(self, number: int) -> str:
+        """Returns what the command of a job has written to standard error."""
+        try:
+            return (self.of(number) / LOG).read_text(encoding="utf-8", errors="replace")
+        except OSError:
+            return ""
+
+    def answer(self, number: int) -> str:
+        """Returns what the command of a job has printed."""
+        try:
+            return (self.of(number) / ANSWER).read_text(encoding="utf-8", errors="replace")
+        except OSError:
+            return ""
+
+    def usual_seconds(self, job: Job) -> Optional[float]:
+        """Returns how long the last such job took that succeeded; None without one."""
+        same = (
+            it for it in self.all() if it.status == DONE and it.words[:1] == job.words[:1] and it.project == job.project
+        )
+        return next((it.seconds for it in same if it.number < job.number), None)
+
+
+def steps_of(log: str) -> list[Step]:
+    """Returns the steps of a log, the last one without seconds if it goes on."""
+    found: dict[str, Step] = {}
+    for line in log.splitlines():
+        step = STEP.match(line)
+        if step:
+            seconds = None if step["seconds"] is None else float(step["seconds"])
+            found[step["what"]] = Step(step["what"], seconds)
+    return list(found.values())
+
+
+def now() -> str:
+    return datetime.now().isoformat(timespec="milliseconds")
+
+
+def begun_at(process: int) -> str:
+    """Returns when a process began, in ticks since the machine's start; empty if there is none."""
+    try:
+        said = Path(f"/proc/{process}/stat").read_text(encoding="utf-8", errors="replace")
+    except OSError:
+        return ""
+    fields = said.rpartition(")")[2].split()
+    # A process that has ended, and that nobody has waited for, does nothing any more.
+    return "" if fields[0] == "Z" else fields[19]
+
+
+def is_alive(state: dict[str, Any]) -> bool:
+    """Returns whether the runner that wrote a state is alive; another process may have got its number since."""
+    began = begun_at(int(state.get("runner", 0)))
+    return bool(began) and began == state.get("began")

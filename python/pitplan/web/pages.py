@@ -1,0 +1,284 @@
+"""The pages: each answers a request."""
+
+from __future__ import annotations
+
+import asyncio
+import json
+import shlex
+from collections.abc import AsyncIterator, Awaitable, Callable
+from dataclasses import asdict
+from pathlib import Path
+from typing import Any, Optional
+from urllib.parse import parse_qsl, quote
+
+from jinja2 import Environment, FileSystemLoader, StrictUndefined
+from starlette.requests import Request
+from starlette.responses import FileResponse, HTMLResponse, RedirectResponse, Response, StreamingResponse
+from starlette.routing import Route
+
+from pitplan.core import paths
+from pitplan.errors import PlanError
+
+from . import results_page, run_form
+from .jobs import Job, Jobs, steps_of
+from .run_form import COMMANDS, OPTIONS, WrongForm
+from .security import SANDBOX
+from .workspace import RECORDS, NotThere, Workspace
+
+TEMPLATES = paths.PACKAGE / "templates" / "web"
+STATIC = {"app.css": "text/css; charset=utf-8", "app.js": "text/javascript; charset=utf-8"}
+# What a browser shows of the files of results; all others are downloaded.
+SHOWN = {
+    ".png": "image/png",
+    ".svg": "image/svg+xml",
+    ".html": "text/html; charset=utf-8",
+    ".txt": "text/plain; charset=utf-8",
+}
+MOST_BYTES = 64 * 1024
+# How often the events of a job look for news, in seconds.
+PACE = 0.25
+Answer = Callable[[Request], Awaitable[Response]]
+
+
+class Pages:
+    """The pages of a folder.
+
+    Parameters
+    ----------
+    workspace : Workspace
+    jobs : Jobs
+    version : str
+        That of pitplan, at the foot of each page.
+    """
+
+    def __init__(self, workspace: Workspace, jobs: Jobs, version: str) -> None:
+        self.workspace, self.jobs = workspace, jobs
+        self.templates = Environment(
+            loader=FileSystemLoader(TEMPLATES),
+            autoescape=True,
+            undefined=StrictUndefined,
+            trim_blocks=True,
+            lstrip_blocks=True,
+        )
+        self.templates.filters |= {
+            "path": quote,
+            "command": command_line,
+            "ago": short_time,
+            "grouped": results_page.grouped,
+        }
+        self.templates.globals |= {"version": version}
+
+    @property
+    def routes(self) -> list[Route]:
+        """The addresses."""
+        return [
+            Route("/", self.answering(self.home)),
+            Route("/project", self.answering(self.project)),
+            Route("/run", self.answering(self.run), methods=["POST"]),
+            Route("/jobs", self.answering(self.all_jobs)),
+            Route("/job", self.answering(self.job)),
+            Route("/job/events", self.answering(self.events)),
+            Route("/job/cancel", self.answering(self.cancel), methods=["POST"]),
+            Route("/result", self.answering(self.result)),
+            Route("/table", self.answering(self.table)),
+            Route("/file", self.answering(self.file)),
+            Route("/static/{name}", self.answering(self.static)),
+        ]
+
+    def answering(self, answer: Answer) -> Answer:
+        """Returns the answer with a page in place of an error of the planner's."""
+
+        async def answered(request: Request) -> Response:
+            try:
+                return await answer(request)
+            except NotThere as error:
+                return self.error(404, str(error))
+            except WrongForm as error:
+                return self.error(422, str(error))
+            except PlanError as error:
+                return self.error(400, str(error))
+
+        return answered
+
+    def page(self, template: str, status: int = 200, **parts: Any) -> Response:
+        return HTMLResponse(self.templates.get_template(template).render(**parts), status_code=status)
+
+    def error(self, status: int, why: str) -> Response:
+        return self.page("error.html", status, title="Not possible", why=why)
+
+    # ---- projects and results
+
+    async def home(self, request: Request) -> Response:
+        """The projects and the results of the folder."""
+        projects, results = self.workspace.projects(), self.workspace.results()
+        running = [job for job in self.jobs.all() if not job.has_ended]
+        return self.page(
+            "home.html", title="Projects", root=self.workspace.root, projects=projects, results=results, running=running
+        )
+
+    async def project(self, request: Request) -> Response:
+        """A project, and the form that runs it."""
+        name = request.query_params.get("name", "")
+        path = self.workspace.place(name)
+        found = self.workspace.project_in(path) if path.suffix == ".toml" else []
+        if not found:
+            raise NotThere(f"{name}: is no project: it has no section [table]")
+        folders = {
+            command.name: run_form.default_folder(path, command, self.workspace) for command in COMMANDS.values()
+        }
+        results = [it for it in self.workspace.results() if it.project == name]
+        jobs = [job for job in self.jobs.all() if job.project == name][:10]
+        return self.page(
+            "project.html",
+            title=found[0].title,
+            project=found[0],
+            text=path.read_text(encoding="utf-8", errors="replace"),
+            commands=list(COMMANDS.values()),
+            options=OPTIONS,
+            chosen=run_form.CHOSEN,
+            folders=folders,
+            results=results,
+            jobs=jobs,
+        )
+
+    async def run(self, request: Request) -> Response:
+        """Starts a command."""
+        asked = run_form.read(await form_of(request), self.workspace)
+        job = self.jobs.ask(asked.words, asked.project, asked.folder)
+        return RedirectResponse(f"/job?number={job.number}", status_code=303)
+
+    async def result(self, request: Request) -> Response:
+        """An output folder."""
+        name = request.query_params.get("name", "")
+        folder = self.workspace.place(name)
+        if not folder.is_dir():
+            raise NotThere(f"{name}: is no output folder")
+        found = next((it for it in self.workspace.results() if it.name == self.workspace.name(folder)), None)
+        if found is None:
+            raise NotThere(f"{name}: is no output folder of pitplan: it has no record")
+        return self.page(
+            "result.html",
+            title=f"{found.kind}: {found.name}",
+            result=found,
+            page=results_page.page_of(folder, self.workspace),
+        )
+
+    async def table(self, request: Request) -> Response:
+        """A table, to sort, filter and copy."""
+        name = request.query_params.get("name", "")
+        path = self.workspace.place(name)
+        if path.suffix != ".csv":
+            raise NotThere(f"{name}: is no table")
+        table = results_page.read_table(path)
+        return self.page(
+            "table.html",
+            title=path.name,
+            name=name,
+            table=table,
+            head=results_page.head_of(path),
+            most=results_page.MOST_ROWS,
+        )
+
+    async def file(self, request: Request) -> Response:
+        """A file of an output folder: figures and pages are shown, all others are downloaded."""
+        path = self.workspace.place(request.query_params.get("name", ""))
+        if not path.is_file() or not self.is_result(path):
+            raise NotThere(f"{path.name}: is no file of an output folder")
+        kind = SHOWN.get(path.suffix)
+        if kind is None:
+            return FileResponse(path, filename=path.name)
+        headers = {"Content-Security-Policy": SANDBOX} if path.suffix in (".html", ".svg") else {}
+        return FileResponse(path, media_type=kind, headers=headers)
+
+    def is_result(self, path: Path) -> bool:
+        """Returns whether a file belongs to an output folder."""
+        above = [it for it in path.parents if it.is_relative_to(self.workspace.root)]
+        return any((it / record).is_file() for it in above for record in RECORDS)
+
+    async def static(self, request: Request) -> Response:
+        """The style and the script of all pages."""
+        name = request.path_params["name"]
+        if name not in STATIC:
+            raise NotThere(f"{name}: no such file")
+        return FileResponse(TEMPLATES / name, media_type=STATIC[name])
+
+    # ---- jobs
+
+    async def all_jobs(self, request: Request) -> Response:
+        return self.page("jobs.html", title="Jobs", jobs=self.jobs.all())
+
+    async def job(self, request: Request) -> Response:
+        """A job with its progress, which the page keeps up to date."""
+        job = self.jobs.read(number_of(request.query_params.get("number", "")))
+        return self.page("job.html", title=f"Job {job.number}", job=job, state=self.state_of(job))
+
+    async def events(self, request: Request) -> Response:
+        """The progress of a job as server-sent events, until it has ended."""
+        job = self.jobs.read(number_of(request.query_params.get("number", "")))
+        return StreamingResponse(self.news(job.number), media_type="text/event-stream")
+
+    async def news(self, number: int) -> AsyncIterator[str]:
+        """Yields the state of a job whenever it is another."""
+        last = ""
+        while True:
+            job = self.jobs.read(number)
+            state = json.dumps(self.state_of(job))
+            if state != last:
+                last = state
+                yield f"data: {state}\n\n"
+            if job.has_ended:
+                return
+            await asyncio.sleep(PACE)
+
+    def state_of(self, job: Job) -> dict[str, Any]:
+        """Returns what the page of a job shows."""
+        log = self.jobs.log(job.number)
+        return {
+            "status": job.status,
+            "steps": [asdict(step) for step in steps_of(log)],
+            "log": log[-20_000:],
+            "answer": self.jobs.answer(job.number)[-20_000:],
+            "started": job.started,
+            "seconds": job.seconds,
+            "usual": self.jobs.usual_seconds(job),
+            "folder": job.folder if job.folder and self.has_result(job.folder) else "",
+        }
+
+    def has_result(self, folder: str) -> bool:
+        return any((self.workspace.root / folder / record).is_file() for record in RECORDS)
+
+    async def cancel(self, request: Request) -> Response:
+        """Ends a job."""
+        number = number_of((await form_of(request)).get("number", ""))
+        self.jobs.cancel(number)
+        return RedirectResponse(f"/job?number={number}", status_code=303)
+
+
+async def form_of(request: Request) -> dict[str, str]:
+    """Returns the fields of a form. Raises WrongForm if it is too long or no text."""
+    body = b""
+    async for part in request.stream():
+        body += part
+        if len(body) > MOST_BYTES:
+            raise WrongForm(f"The form is longer than {MOST_BYTES:,} bytes")
+    try:
+        return dict(parse_qsl(body.decode("utf-8"), keep_blank_values=True, strict_parsing=bool(body)))
+    except ValueError as error:
+        raise WrongForm("The form cannot be read") from error
+
+
+def number_of(text: str) -> int:
+    """Returns the number of a job. Raises NotThere if it is none."""
+    if not (text.isascii() and text.isdigit() and len(text) < 10):
+        raise NotThere(f"job {text}: there is none")
+    return int(text)
+
+
+def command_line(words: tuple[str, ...]) -> str:
+    """Returns a command as it is typed."""
+    return shlex.join(["pitplan", *words])
+
+
+def short_time(iso: Optional[str]) -> str:
+    """Returns a time of the ISO format to the second."""
+    return (iso or "").replace("T", " ").partition(".")[0]

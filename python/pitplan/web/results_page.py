@@ -1,0 +1,136 @@
+"""What the page of an output folder shows: its notes, tables, figures and files."""
+
+from __future__ import annotations
+
+import csv
+import json
+from collections.abc import Callable
+from dataclasses import dataclass
+from decimal import Decimal, InvalidOperation
+from pathlib import Path
+from typing import Any
+
+from pitplan.config import project_writer
+from pitplan.config.project import load
+from pitplan.core import layout
+from pitplan.errors import PlanError
+from pitplan.results.sheet_heads import heads_of
+
+from .workspace import RECORDS, Workspace
+
+# The most rows of a table on a page; a longer one is downloaded.
+MOST_ROWS = 2_000
+PICTURES = (".png", ".svg")
+# The tables that planners read first, in this order.
+FIRST = ("methods.csv", "shells.csv", "pushbacks.csv", "years.csv", "sensitivity.csv", "valuation.csv", "cash_flow.csv")
+
+
+@dataclass(frozen=True)
+class Table:
+    """The rows of a table as texts, and how many there are in all."""
+
+    names: list[str]
+    rows: list[list[str]]
+    count: int
+
+    @property
+    def are_numbers(self) -> list[bool]:
+        """Whether each column has numbers, or nothing, in all rows."""
+        columns = zip(*self.rows) if self.rows else [() for _ in self.names]
+        return [bool(column) and all(it == "" or is_number(it) for it in column) for column in columns]
+
+
+def is_number(text: str) -> bool:
+    try:
+        return Decimal(text).is_finite()
+    except InvalidOperation:
+        return False
+
+
+def grouped(text: str) -> str:
+    """Returns a number with its digits in groups of three, and any other text as it is."""
+    return f"{Decimal(text):,f}" if is_number(text) else text
+
+
+def head_of(path: Path) -> Callable[[str], str]:
+    """Returns what makes the heading of a column of a table, with its unit if the project of the run beside it can be read."""
+    project = path.parents[1] / project_writer.AS_RUN
+    if project.is_file():
+        try:
+            return heads_of(load(project))
+        except PlanError:
+            pass
+    return str
+
+
+def read_table(path: Path) -> Table:
+    """Reads a table that pitplan has written. Raises PlanError if it is none."""
+    try:
+        with open(path, encoding="utf-8", newline="") as file:
+            reader = csv.reader(file)
+            names: list[str] = next(reader, [])
+            rows: list[list[str]] = []
+            count = 0
+            for row in reader:
+                count += 1
+                if count <= MOST_ROWS:
+                    rows.append(row)
+    except (OSError, ValueError, csv.Error) as error:
+        raise PlanError(f"{path.name}: cannot be read as a table: {error}") from error
+    return Table(names, rows, count)
+
+
+@dataclass(frozen=True)
+class Page:
+    """The parts of the page.
+
+    Attributes
+    ----------
+    notes : list of str
+    verified : int
+        How many rules of the verification hold.
+    figures, tables, pages, files : list of str
+        Names from the folder that is served: pictures; tables; report and 3D view; all files.
+    """
+
+    notes: list[str]
+    verified: int
+    figures: list[str]
+    tables: list[str]
+    pages: list[str]
+    files: list[str]
+
+
+def page_of(folder: Path, workspace: Workspace) -> Page:
+    """Returns the parts of the page of an output folder. Raises PlanError if it has no record."""
+    record = record_of(folder)
+    files = sorted(
+        it
+        for it in folder.rglob("*")
+        if it.is_file() and not any(part.startswith(".") for part in it.relative_to(folder).parts)
+    )
+    named = [(it, workspace.name(it)) for it in files if it.resolve().is_relative_to(workspace.root)]
+    figures = [name for it, name in named if it.suffix in PICTURES and it.parent.name == layout.FIGURES]
+    tables = [(it, name) for it, name in named if it.suffix == ".csv" and it.parent.name == layout.TABLES]
+    order = {name: place for place, name in enumerate(FIRST)}
+    tables.sort(key=lambda pair: (order.get(pair[0].name, len(order)), pair[1]))
+    pages = [name for it, name in named if it.suffix == ".html" and it.parent == folder]
+    notes = [str(note) for note in record.get("notes", [])]
+    return Page(
+        notes,
+        len(record.get("verified", [])),
+        figures,
+        [name for _, name in tables],
+        pages,
+        [name for _, name in named],
+    )
+
+
+def record_of(folder: Path) -> dict[str, Any]:
+    """Reads the record of an output folder. Raises PlanError if there is none."""
+    for name in RECORDS:
+        try:
+            return dict(json.loads((folder / name).read_text(encoding="utf-8")))
+        except (OSError, ValueError, TypeError):
+            continue
+    raise PlanError(f"{folder.name}: is no output folder of pitplan: it has no record")

@@ -1,0 +1,127 @@
+"""Who may use the application: the browser that was opened with the token, on this machine, from its own pages."""
+
+from __future__ import annotations
+
+import hmac
+import secrets
+from dataclasses import dataclass, field
+from typing import Optional
+from urllib.parse import urlsplit
+
+from starlette.datastructures import Headers, MutableHeaders
+from starlette.requests import Request
+from starlette.responses import PlainTextResponse, RedirectResponse, Response
+from starlette.types import ASGIApp, Message, Receive, Scope, Send
+
+# The page that takes the token of the address that pitplan prints.
+ENTER = "/enter"
+SAFE = ("GET", "HEAD")
+# No script or style of a page is its own text, so text of a project can never become one.
+POLICY = (
+    "default-src 'none'; script-src 'self'; style-src 'self'; img-src 'self' data:; connect-src 'self'; "
+    "form-action 'self'; frame-ancestors 'none'; base-uri 'none'"
+)
+# Reports and 3D views hold their scripts and figures. A page in a sandbox has no cookie and reaches no address.
+SANDBOX = (
+    "sandbox allow-scripts; default-src 'none'; script-src 'unsafe-inline'; style-src 'unsafe-inline'; img-src data:"
+)
+HEADERS = {
+    "Content-Security-Policy": POLICY,
+    "X-Content-Type-Options": "nosniff",
+    "Referrer-Policy": "same-origin",
+    "Cache-Control": "no-store",
+    "Cross-Origin-Opener-Policy": "same-origin",
+    "Cross-Origin-Resource-Policy": "same-origin",
+}
+
+
+@dataclass(frozen=True)
+class Access:
+    """The addresses and the token of a server.
+
+    Attributes
+    ----------
+    port : int
+    token : str
+        Random; it opens the application, and is the browser's cookie then.
+    """
+
+    port: int
+    token: str = field(default_factory=lambda: secrets.token_urlsafe(32))
+
+    @property
+    def hosts(self) -> frozenset[str]:
+        """What the header Host may be: a name that an attacker points to this machine is none."""
+        return frozenset(f"{name}:{self.port}" for name in ("127.0.0.1", "localhost"))
+
+    @property
+    def cookie(self) -> str:
+        """The name of the cookie, of this port alone."""
+        return f"pitplan-serve-{self.port}"
+
+    @property
+    def address(self) -> str:
+        """The address that opens the application."""
+        return f"http://127.0.0.1:{self.port}{ENTER}?token={self.token}"
+
+    def refusal(self, request: Request) -> Optional[Response]:
+        """Returns why a request is refused; None if it is not."""
+        headers = request.headers
+        if headers.get("host", "") not in self.hosts:
+            return refused(421, "This server answers only to 127.0.0.1 and localhost.")
+        if request.method not in SAFE and not self.is_own(headers):
+            return refused(403, "This request comes from another site.")
+        if request.url.path != ENTER and not self.is_known(request):
+            return refused(403, "Open the address that pitplan serve has printed: it holds the token of this server.")
+        return None
+
+    def is_own(self, headers: Headers) -> bool:
+        """Returns whether a request that changes something comes from a page of the application."""
+        origin = headers.get("origin")
+        if origin is None:
+            return headers.get("sec-fetch-site") == "same-origin"
+        parts = urlsplit(origin)
+        return parts.scheme == "http" and parts.netloc == headers.get("host")
+
+    def is_known(self, request: Request) -> bool:
+        """Returns whether the browser has the cookie."""
+        return self.matches(request.cookies.get(self.cookie, ""))
+
+    def matches(self, word: str) -> bool:
+        return hmac.compare_digest(word.encode(), self.token.encode())
+
+    def enter(self, request: Request) -> Response:
+        """Sets the cookie of a browser that has the token, and shows the first page."""
+        if not self.matches(request.query_params.get("token", "")):
+            return refused(403, "This token is not that of this server: open the address that it has printed.")
+        response = RedirectResponse("/", status_code=303)
+        response.set_cookie(self.cookie, self.token, httponly=True, samesite="strict", path="/")
+        return response
+
+
+def refused(status: int, why: str) -> Response:
+    return PlainTextResponse(f"{why}\n", status_code=status)
+
+
+class Guard:
+    """Lets requests to the application if their access is granted, and sets the headers of all responses."""
+
+    def __init__(self, app: ASGIApp, access: Access) -> None:
+        self.app, self.access = app, access
+
+    async def __call__(self, scope: Scope, receive: Receive, send: Send) -> None:
+        if scope["type"] != "http":
+            # There are no web sockets. The server's own start and end pass.
+            if scope["type"] == "lifespan":
+                await self.app(scope, receive, send)
+            return
+
+        async def with_headers(message: Message) -> None:
+            if message["type"] == "http.response.start":
+                headers = MutableHeaders(scope=message)
+                for name, value in HEADERS.items():
+                    headers.setdefault(name, value)
+            await send(message)
+
+        refusal = self.access.refusal(Request(scope))
+        await (refusal or self.app)(scope, receive, with_headers)

@@ -1,0 +1,174 @@
+"""The projects and the results below a folder, and paths that never lead out of it."""
+
+from __future__ import annotations
+
+import json
+import os
+from collections.abc import Iterator
+from dataclasses import dataclass
+from datetime import datetime
+from pathlib import Path
+from typing import Any
+
+import tomllib
+
+from pitplan.config import project_writer
+from pitplan.core import layout
+from pitplan.errors import PlanError
+from pitplan.results import names
+
+# Folders below the one that is served are searched to this depth.
+DEPTH = 5
+# The record of each kind of results, with the title of those without a plan.
+RECORDS = {
+    names.RECORD: "",
+    names.SENSITIVITY_RECORD: "Sensitivity",
+    "scenarios.json": "Scenarios",
+    names.COMPARISON: "Comparison",
+}
+# What the record of a plan is called, by a key that it has, the last first.
+KINDS = (("by_block", "Schedule by block"), ("schedule", "Schedule"), ("pushbacks", "Pushbacks"), ("shells", "Shells"))
+
+
+class NotThere(PlanError):
+    """A path that does not exist, or that leads out of the folder."""
+
+
+@dataclass(frozen=True)
+class ProjectFile:
+    """A project.
+
+    Attributes
+    ----------
+    name : str
+        Its path from the folder that is served.
+    title : str
+        Its title, or the reason why it cannot be read.
+    table : str
+        The block model that it names.
+    is_readable : bool
+    """
+
+    name: str
+    title: str
+    table: str
+    is_readable: bool = True
+
+
+@dataclass(frozen=True)
+class Result:
+    """An output folder.
+
+    Attributes
+    ----------
+    name : str
+        Its path from the folder that is served.
+    kind : str
+        What it has, such as Shells.
+    project : str
+        The path of its project from the folder that is served; empty if that is not below it.
+    written : datetime
+        When its record was written.
+    """
+
+    name: str
+    kind: str
+    project: str
+    written: datetime
+
+
+@dataclass(frozen=True)
+class Workspace:
+    """A folder with projects and results.
+
+    Attributes
+    ----------
+    root : Path
+        Without symbolic links.
+    """
+
+    root: Path
+
+    def place(self, name: str) -> Path:
+        """Returns the path of a file or folder by its name.
+
+        Raises
+        ------
+        NotThere
+            If there is none, if it is hidden, or if it leads out of the folder by `..` or a symbolic link.
+        """
+        refused = NotThere(f"{name}: no such file below the folder that is served")
+        if "\0" in name or any(part.startswith(".") for part in Path(name).parts):
+            raise refused
+        try:
+            path = (self.root / name).resolve(strict=True)
+        except (OSError, RuntimeError) as error:
+            raise refused from error
+        if not path.is_relative_to(self.root):
+            raise refused
+        return path
+
+    def name(self, path: Path) -> str:
+        """Returns the name of a file or folder; "." of the folder itself."""
+        return path.relative_to(self.root).as_posix()
+
+    def folders(self) -> Iterator[tuple[Path, list[str]]]:
+        """Yields the folders that are searched, each with the names of its files."""
+        for at, below, files in os.walk(self.root):
+            depth = len(Path(at).relative_to(self.root).parts)
+            inside = (*layout.FOLDERS, layout.INPUTS) if any(name in files for name in RECORDS) else ()
+            below[:] = sorted(it for it in below if not it.startswith(".") and it not in inside and depth < DEPTH)
+            yield Path(at), sorted(files)
+
+    def projects(self) -> list[ProjectFile]:
+        """Returns the projects: TOML files with a section `[table]`, except those that runs have recorded."""
+        found = []
+        for folder, files in self.folders():
+            for file in files:
+                if file.endswith(".toml") and file != project_writer.AS_RUN:
+                    found += self.project_in(folder / file)
+        return found
+
+    def project_in(self, path: Path) -> list[ProjectFile]:
+        """Returns the project in a file, if it is one."""
+        name = self.name(path)
+        try:
+            data = tomllib.loads(path.read_text(encoding="utf-8"))
+        except (OSError, ValueError) as error:
+            return [ProjectFile(name, f"cannot be read: {error}", "", False)]
+        table = data.get("table")
+        if not isinstance(table, dict):
+            return []
+        return [ProjectFile(name, str(data.get("title", path.stem)), str(table.get("file", "")))]
+
+    def results(self) -> list[Result]:
+        """Returns the output folders, the newest first."""
+        found = []
+        for folder, files in self.folders():
+            for record, kind in RECORDS.items():
+                if record in files:
+                    found += self.result_in(folder, record, kind)
+                    break
+        return sorted(found, key=lambda it: it.written, reverse=True)
+
+    def result_in(self, folder: Path, record: str, kind: str) -> list[Result]:
+        """Returns the results in a folder by their record; none if it is cut or gone."""
+        path = folder / record
+        try:
+            said = json.loads(path.read_text(encoding="utf-8"))
+            written = datetime.fromtimestamp(path.stat().st_mtime)
+        except (OSError, ValueError):
+            return []
+        if not isinstance(said, dict):
+            return []
+        return [Result(self.name(folder), kind or kind_of(said), self.project_of(folder, said), written)]
+
+    def project_of(self, folder: Path, said: dict[str, Any]) -> str:
+        """Returns the name of the project of a record; empty if it is not below the folder that is served."""
+        path = (folder / str(said.get("project", ""))).resolve()
+        return self.name(path) if path.is_file() and path.is_relative_to(self.root) else ""
+
+
+def kind_of(record: dict[str, Any]) -> str:
+    """Returns what a plan's results are called."""
+    return next((kind for key, kind in KINDS if key in record), "Pit")

@@ -1,0 +1,224 @@
+"""The browser application in Chromium: from a project to its results by clicks, and jobs that outlive page and server."""
+
+import json
+import os
+import shutil
+import signal
+import subprocess
+import sys
+import time
+
+import pytest
+from browser import CHROMIUM, needs_chromium
+from conftest import PROJECT, rows
+from helpers.pushbacks import PUSHBACKS, pillars
+
+from pitplan.core import paths
+
+DRIVER = shutil.which("chromedriver")
+pytestmark = [needs_chromium, pytest.mark.skipif(DRIVER is None, reason="needs the Debian package chromium-driver")]
+# How elements are found, and the key that clicks.
+ID, CSS, LINK, TAG, ENTER = "id", "css selector", "link text", "tag name", "\ue007"
+
+
+class Server:
+    """A server of a folder, in a process of its own."""
+
+    def __init__(self, root, port=0):
+        words = [sys.executable, "-P", "-m", "pitplan", "serve", str(root), "--no-browser", "--port", str(port)]
+        environment = {**os.environ, "PYTHONPATH": str(paths.PACKAGES)}
+        self.process = subprocess.Popen(words, stderr=subprocess.PIPE, text=True, env=environment)
+        self.process.stderr.readline()
+        self.opening = self.process.stderr.readline().strip()
+        self.address = self.opening.partition("/enter")[0]
+
+    @property
+    def port(self):
+        return int(self.address.rpartition(":")[2])
+
+    def kill(self):
+        self.process.send_signal(signal.SIGKILL)
+        self.process.communicate()
+
+
+@pytest.fixture(scope="module")
+def driver():
+    """A browser for all tests of this module."""
+    webdriver = pytest.importorskip("selenium.webdriver", reason="needs the Debian package python3-selenium")
+    service = pytest.importorskip("selenium.webdriver.chrome.service")
+    options = webdriver.ChromeOptions()
+    options.binary_location = CHROMIUM
+    for word in (
+        "--headless=new",
+        "--no-sandbox",
+        "--window-size=1366,768",
+        "--disable-gpu",
+        "--disable-dev-shm-usage",
+    ):
+        options.add_argument(word)
+    found = webdriver.Chrome(service=service.Service(DRIVER), options=options)
+    yield found
+    found.quit()
+
+
+@pytest.fixture
+def root(tmp_path):
+    folder = tmp_path.resolve() / "mines"
+    folder.mkdir()
+    pillars().to_csv(folder / "blocks.csv", index=False)
+    (folder / "project.toml").write_text(PUSHBACKS)
+    return folder
+
+
+@pytest.fixture
+def server(root):
+    found = Server(root)
+    yield found
+    found.kill()
+
+
+def enter(driver, server):
+    """Opens the application by its address; the server may need a moment to answer."""
+    for _ in range(100):
+        try:
+            driver.get(server.opening)
+        except Exception:  # The browser has no name for a refused connection.
+            time.sleep(0.1)
+            continue
+        if "Projects" in driver.title:
+            return
+        time.sleep(0.1)
+    raise AssertionError(driver.page_source)
+
+
+def wait(driver, condition, seconds=60):
+    end = time.monotonic() + seconds
+    while not condition(driver):
+        assert time.monotonic() < end, driver.page_source
+        time.sleep(0.1)
+
+
+def click(driver, words):
+    driver.find_element(LINK, words).click()
+
+
+def status_of(driver):
+    return driver.find_element(ID, "status").text
+
+
+def steps_of(driver):
+    """The steps on the page, read at one time, since the page renews them."""
+    return driver.execute_script("return Array.from(document.querySelectorAll('#steps li'), it => it.textContent)")
+
+
+def start(driver, command):
+    """Runs a command of the project by clicks."""
+    form = next(it for it in driver.find_elements(CSS, "details.run") if it.text.startswith(command))
+    if form.get_attribute("open") is None:
+        form.find_element(TAG, "summary").click()
+    form.find_element(CSS, "button").click()
+    wait(driver, lambda it: "/job?number=" in it.current_url)
+
+
+def complaints(driver):
+    """What the browser has to complain of, such as a script that the policy refuses."""
+    return [it["message"] for it in driver.get_log("browser") if it["level"] in ("SEVERE", "WARNING")]
+
+
+def test_from_a_project_to_a_schedule_by_clicks(driver, server, root):
+    enter(driver, server)
+    complaints(driver)
+    click(driver, "Test hill")
+    start(driver, "schedule")
+    wait(driver, lambda it: status_of(it) == "done")
+    assert any(it.startswith("verifying") and it.endswith(" s") for it in steps_of(driver))
+    assert driver.find_element(ID, "command").text == "pitplan schedule project.toml --out=plan/schedule"
+    click(driver, "Show results")
+    figures = driver.find_elements(CSS, "figure img")
+    assert len(figures) >= 6
+    driver.execute_script("arguments[0].scrollIntoView()", figures[0])
+    wait(driver, lambda it: it.execute_script("return arguments[0].naturalWidth", figures[0]) > 100)
+    click(driver, "years.csv")
+    heading = next(it for it in driver.find_elements(CSS, "th") if it.text.startswith("total_tonnes"))
+    assert heading.text == "total_tonnes (t)"
+    for direction in ("ascending", "descending"):
+        heading.send_keys(ENTER)
+        assert heading.get_attribute("aria-sort") == direction
+    place = heading.get_property("cellIndex")
+    numbers = driver.execute_script(
+        f"return Array.from(document.querySelectorAll('#rows tbody tr'), row => Number(row.cells[{place}].dataset.raw))"
+    )
+    assert numbers == sorted(numbers, reverse=True) and len(set(numbers)) > 1
+    driver.find_element(ID, "filter").send_keys("best")
+    shown = [it for it in driver.find_elements(CSS, "#rows tbody tr") if it.is_displayed()]
+    assert shown and all("best" in it.text for it in shown) and len(shown) < len(numbers)
+    assert complaints(driver) == []
+    record = json.loads((root / "plan/schedule/plan.json").read_text())
+    assert record["schedule"] in ("rule", "lp") and record["verified"]
+
+
+def test_the_report_opens_in_a_sandbox(driver, server, root):
+    enter(driver, server)
+    click(driver, "Test hill")
+    start(driver, "shells")
+    wait(driver, lambda it: status_of(it) == "done")
+    click(driver, "Show results")
+    driver.get(driver.find_element(LINK, "Report").get_attribute("href"))
+    assert "Test hill" in driver.title and driver.find_elements(TAG, "img")
+    assert driver.execute_script("return window.origin") == "null"
+
+
+@pytest.fixture
+def large(root):
+    """A project whose sensitivity takes much longer than the test."""
+    table = rows(40, 40, 20, cu=lambda i, j, k: (i * 7 + j * 5 + k * 3) % 11 / 6)
+    table.to_csv(root / "blocks.csv", index=False)
+    text = PROJECT.replace("processing_capacity = 100", "processing_capacity = 300_000")
+    (root / "project.toml").write_text(text)
+    return root
+
+
+def test_a_job_is_seen_again_after_a_reload_and_cancelled(driver, large, server):
+    enter(driver, server)
+    click(driver, "Test hill")
+    start(driver, "sensitivity")
+    wait(driver, lambda it: status_of(it) == "running" and steps_of(it))
+    driver.refresh()
+    assert status_of(driver) == "running" and steps_of(driver)
+    driver.find_element(CSS, "#cancel button").click()
+    wait(driver, lambda it: status_of(it) == "cancelled")
+    assert not driver.find_element(ID, "cancel").is_displayed()
+    assert "interrupted" in driver.find_element(ID, "log").text
+    assert not (large / "plan/sensitivity/sensitivity.json").exists()
+
+
+def test_a_server_that_is_killed_finds_its_jobs_again(driver, large):
+    first = Server(large)
+    try:
+        enter(driver, first)
+        click(driver, "Test hill")
+        start(driver, "sensitivity")
+        wait(driver, lambda it: status_of(it) == "running")
+    finally:
+        first.kill()
+    second = Server(large, first.port)
+    try:
+        # The token of the server before opens nothing.
+        driver.get(f"{second.address}/jobs")
+        assert "Open the address that pitplan serve has printed" in driver.page_source
+        enter(driver, second)
+        click(driver, "Jobs")
+        click(driver, "1")
+        assert status_of(driver) == "running"
+        driver.find_element(CSS, "#cancel button").click()
+        wait(driver, lambda it: status_of(it) == "cancelled")
+    finally:
+        second.kill()
+
+
+def test_a_wrong_form_says_what_to_do(driver, server):
+    enter(driver, server)
+    click(driver, "Test hill")
+    driver.find_element(ID, "shells-folder").send_keys("../elsewhere")
+    driver.find_element(CSS, "details[open] button").click()
+    assert "expected a folder below the one that is served" in driver.find_element(CSS, "[role=alert]").text
