@@ -103,7 +103,8 @@ def click(driver, words):
 
 
 def status_of(driver):
-    return driver.find_element(ID, "status").text
+    """The status on the page; empty while another page is loaded."""
+    return driver.execute_script("return (document.getElementById('status') || {textContent: ''}).textContent")
 
 
 def steps_of(driver):
