@@ -176,7 +176,10 @@ def smelter(rng: Random, text: str) -> str:
     price, grade = float(text.split("\nprice = ")[1].split("\n")[0]), "26.5" if "percent" in text else "41.7"
     terms = [f"concentrate_grade = {grade}", pick(rng, "", "payable = 0.965"), pick(rng, "", "minimum_deduction = 1.1")]
     terms += [pick(rng, "", "treatment_charge = 87.5"), pick(rng, "", f"refining_charge = {round(price * 0.02, 4)}")]
-    terms.append(pick(rng, "", f"price_participation = {{ base = {round(price * 0.9, 3)}, share = 0.07 }}"))
+    # Below the base only with a charge that exceeds the credit.
+    base = round(price * rng.choice([0.9, 1.05] if terms[-1] else [0.9]), 3)
+    applies = pick(rng, "", ', applies = "above"', ', applies = "both"')
+    terms.append(pick(rng, "", f"price_participation = {{ base = {base}, share = 0.07{applies} }}"))
     terms.append(pick(rng, "", "freight = 61.3", "freight = 61.3\nmoisture = 0.083"))
     kinds = (
         'column = "as_ppm"\nrecovery = 0.62\nsteps = [[900, 3], [2000, 5.5]]\nper = 100',
