@@ -90,6 +90,7 @@ complete -c pitplan -n '__fish_seen_subcommand_from compare' -l out -r -fa '(__f
 complete -c pitplan -n '__fish_seen_subcommand_from compare' -l quiet -d 'print no progress to standard error'
 complete -c pitplan -n '__fish_seen_subcommand_from compare' -l json -d 'print the main table as JSON, unrounded, with the path of the report or table'
 complete -c pitplan -n '__fish_seen_subcommand_from compare' -l no-figures -d 'draw no figures, and remove those of an earlier run from the folder'
+complete -c pitplan -n '__fish_seen_subcommand_from compare' -l no-verify -d 'skip the independent recalculation of the steps of the bridge'
 complete -c pitplan -n '__fish_seen_subcommand_from compare' -l no-bridge -d 'compare the tables only, and run nothing; inputs may have changed since'
 complete -c pitplan -n '__fish_seen_subcommand_from compare' -s h -l help -d 'show this help message and exit'
 complete -c pitplan -n '__fish_seen_subcommand_from scenarios' -fa '(__fish_complete_suffix .toml)'

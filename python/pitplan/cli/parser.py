@@ -231,11 +231,10 @@ def add_compare(subs: Subparsers) -> None:
     add_quiet(sub)
     add_json(sub)
     add_figures(sub)
-    sub.add_argument(
-        "--no-bridge",
-        action="store_true",
-        help="compare the tables only, and run nothing; inputs may have changed since",
-    )
+    text = "skip the independent recalculation of the steps of the bridge"
+    sub.add_argument("--no-verify", action="store_true", help=text)
+    text = "compare the tables only, and run nothing; inputs may have changed since"
+    sub.add_argument("--no-bridge", action="store_true", help=text)
 
 
 def add_scenarios(subs: Subparsers) -> None:
