@@ -208,6 +208,22 @@ def test_npv_is_rebuilt_from_the_sheet(tmp_path, with_workbooks):
     assert found["discounted cash flow; total: NPV"][1] == pytest.approx(npv, abs=0.001)
 
 
+def test_another_price_in_the_sheet_gives_the_cash_flow_at_that_price(tmp_path, with_workbooks):
+    """170 t earn 980 more each after royalty, of which the smelter keeps 100 for each of 100 payable tonnes of the concentrate."""
+    openpyxl = pytest.importorskip("openpyxl")
+    folder = written_to(tmp_path)
+    book = openpyxl.load_workbook(folder / "tables/schedule.xlsx")
+    for row in book["cash_flow"].iter_rows():
+        if row[0].value == "price of copper":
+            row[3].value = 9000
+    book.save(tmp_path / "dearer.xlsx")
+    sheet = office.recalculated(tmp_path / "dearer.xlsx", tmp_path)["cash_flow"]
+    found = {row[0]: row[3] for row in sheet.iter_rows(values_only=True)}
+    assert found["royalty"] == pytest.approx(0.02 * 170 * 9000)
+    assert found["price participation copper"] == pytest.approx(15_000)
+    assert found["cash flow"] == pytest.approx(LINES["cash_flow"] + 170 * 980 - 10_000, abs=0.001)
+
+
 def test_charges_of_all_processes_are_varied_as_the_selling_cost(tmp_path):
     """At 10 % more the selling cost of the cathode is 1,050 more, and the smelter charges 8,070; its participation stays."""
     table().to_csv(tmp_path / "blocks.csv", index=False)
