@@ -6,9 +6,11 @@ import pandas as pd
 import pytest
 from conftest import PROJECT, rows
 from helpers import worked_cash_flow
+from matplotlib.figure import Figure
 
 import pitplan
 from pitplan import verify
+from pitplan.figures import grade_tonnage as figures
 from pitplan.pits.grade_tonnage import nice
 
 GRADES = {(3, 4, 1): 6, (7, 4, 1): 2, (5, 2, 2): 0.9, (3, 3, 2): 1.5, (8, 4, 2): 1.8, (6, 4, 1): 0.7, (4, 4, 1): 3}
@@ -84,9 +86,24 @@ def test_a_changed_number_is_found(written, tmp_path, name, mark):
     assert wrong(folder) == {"grade tonnage"}
 
 
-def test_the_figure_is_written(written, tmp_path):
-    from pitplan.figures import grade_tonnage
+def test_lines_of_cutoffs_name_their_rock_type_and_process():
+    """Of three rock types the lowest and the highest cut-off, each in the process in which it is lowest."""
+    marks = {"leach OX": 0.07, "mill OX": 0.4, "mill SUL": 0.17, "leach SUL": 0.5, "leach MIX": 0.1, "mill MIX": 0.2}
+    rows = [{"mark": f"marginal {place}", "cutoff_grade": grade} for place, grade in marks.items()]
+    lines = lines_of(pd.DataFrame([*rows, {"mark": "", "cutoff_grade": 0.0}]))
+    assert lines == {"marginal: OX, leach": 0.07, "marginal: SUL, mill": 0.17}
+    assert lines_of(pd.DataFrame({"mark": ["break_even mill"], "cutoff_grade": [0.3]})) == {"break-even": 0.3}
+    two = pd.DataFrame({"mark": ["break_even mill R", "break_even mill S"], "cutoff_grade": [0.3, 0.4]})
+    assert lines_of(two) == {"break-even: R": 0.3, "break-even: S": 0.4}
 
+
+def lines_of(table):
+    axis = Figure().subplots()
+    figures.mark(axis, table)
+    return {line.get_label(): line.get_xdata()[0] for line in axis.lines}
+
+
+def test_the_figure_is_written(written, tmp_path):
     metal = pitplan.load(written.parent.parent / "project.toml").metals[0]
-    grade_tonnage.write(table(written), metal, tmp_path / "picture.png")
+    figures.write(table(written), metal, tmp_path / "picture.png")
     assert (tmp_path / "picture.png").stat().st_size > 5_000

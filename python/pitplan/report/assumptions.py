@@ -96,7 +96,7 @@ def of_processes(names: Sequence[str]) -> str:
 
 def smelter(metal: Metal, terms: Smelter, currency: str) -> Iterator[tuple[str, str]]:
     """Yields the smelter terms of a metal."""
-    less = f", less at least {number(terms.minimum_deduction)} {metal.sign}" if terms.minimum_deduction else ""
+    less = f", minimum deduction {number(terms.minimum_deduction)} {metal.sign}" if terms.minimum_deduction else ""
     some = of_processes(terms.processes) if isinstance(terms.processes, tuple) else ""
     yield f"payable {metal.name}", f"{percent(terms.payable)}{less}{some}"
     if terms.concentrate_grade is not None:
