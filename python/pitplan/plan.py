@@ -6,7 +6,7 @@ import json
 import sys
 from dataclasses import dataclass, field, replace
 from functools import cached_property
-from typing import Any, Optional
+from typing import Any, Optional, Union
 
 import numpy as np
 import pandas as pd
@@ -14,6 +14,7 @@ from numpy.typing import NDArray
 
 from pitplan.blockmodel import depletion, missing_blocks, plausibility, reader, resource_classes
 from pitplan.blockmodel.grid import Grid
+from pitplan.blockmodel.reader import Table
 from pitplan.config.economics import PER_REVENUE_FACTOR
 from pitplan.config.periods import PERIOD, YEAR
 from pitplan.config.project import Project
@@ -254,15 +255,15 @@ class Plan:
         }
 
 
-def prepared(project: Project, table: Optional[pd.DataFrame] = None, progress: Progress = silent) -> Plan:
+def prepared(project: Project, table: Union[pd.DataFrame, Table, None] = None, progress: Progress = silent) -> Plan:
     """Reads the block model of a checked project, and prepares the mine: grid, block values and slope precedences.
 
     Parameters
     ----------
     project : Project
         The project.
-    table : DataFrame, optional
-        One row per block, in place of the file of the project, under the column names that the project gives.
+    table : DataFrame or Table, optional
+        One row per block, in place of the file of the project, under the column names that the project gives; or a table that was read and checked.
     progress : Progress
         Reports the steps; silent by default.
 
