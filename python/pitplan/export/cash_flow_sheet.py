@@ -13,6 +13,7 @@ from pitplan.config.project import Project
 from pitplan.config.smelter import BOTH
 from pitplan.economics.smelter_terms import concentrate, payable_share
 from pitplan.results.cash_flow_columns import CASH_FLOW
+from pitplan.scheduling import methods
 
 from .period_sheet import PLAIN, SAME, SUM, Line, PeriodSheet
 
@@ -54,7 +55,7 @@ class CashFlowSheet:
         """Returns the sheet."""
         method = self.table["method"].iloc[0]
         heads = (
-            f"{self.project.title}: cash flow of the schedule by {method}",
+            f"{self.project.title}: cash flow of the schedule, {methods.NAMES.get(method, 'by block')}",
             f"Costs, capex and tax are positive; money in {self.currency}. Totals, cash flows, unit costs, discount factors and NPVs are formulas.",
         )
         parts = (self.physicals(), self.revenue(), self.costs(), self.free(), self.unit_costs(), self.discounting())
