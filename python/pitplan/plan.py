@@ -24,7 +24,7 @@ from pitplan.core.progress import Progress, silent
 from pitplan.core.revenue_factors import BASE_PRICE, factor_text
 from pitplan.economics import block_values, haulage, period_costs
 from pitplan.economics.block_values import Values
-from pitplan.economics.cost_lines import multiplied_costs
+from pitplan.economics.cost_lines import multiplied_amounts
 from pitplan.economics.weighing import reference_level
 from pitplan.precedences import MOST_PAIRS, Needs, Pairs
 from pitplan.preparation import Preparation
@@ -159,9 +159,9 @@ class Plan:
         return frame.sort_values("id").reset_index(drop=True)
 
     @cached_property
-    def multiplied_costs(self) -> dict[str, NDArray[np.float64]]:
+    def multiplied_amounts(self) -> dict[str, NDArray[np.float64]]:
         """The costs of ore that factors of periods multiply, by their amounts, in the currency, shape (processes, cells)."""
-        return multiplied_costs(self.table, self.grid, self.project, self.values)
+        return multiplied_amounts(self.table, self.grid, self.project, self.values)
 
     @property
     def reference(self) -> float:
