@@ -1,5 +1,6 @@
 """Grade-tonnage curves by part and class, against sums with pandas and cut-offs worked out by hand."""
 
+import json
 import shutil
 
 import pandas as pd
@@ -48,6 +49,30 @@ def test_tonnes_above_each_cutoff_are_those_of_the_blocks(written):
         copper = (some["tonnes"] * some["cu"]).sum() / 100
         assert (row.tonnes, row.in_situ_copper) == pytest.approx((some["tonnes"].sum(), copper), abs=0.001)
     assert wrong(written) == set()
+
+
+@pytest.mark.parametrize("write", [pitplan.write_shells, pitplan.write_pushbacks])
+def test_shells_and_pushbacks_have_the_curves_too(written, tmp_path, write):
+    """Above a cut-off of 0 the pit holds the tonnes of its shell, or of all pushbacks; a changed number, another pit and a missing class are found."""
+    shutil.copytree(written.parent.parent, tmp_path, dirs_exist_ok=True, ignore=shutil.ignore_patterns("plan"))
+    write(tmp_path / "project.toml", tmp_path / "out", writing=PLAIN)
+    found, path = table(tmp_path / "out"), tmp_path / "out/tables/grade_tonnage.csv"
+    pit = found[(found["part"] == "pit") & (found["cutoff_grade"] == 0) & (found["mark"] == "")]
+    if write is pitplan.write_shells:
+        selected = json.loads((tmp_path / "out/plan.json").read_text())["shells"]["selected"]
+        due = pd.read_csv(tmp_path / "out/tables/shells.csv").set_index("revenue_factor").loc[selected, "tonnes"]
+        assert found["part"].unique().tolist() == ["model", "pit"]
+    else:
+        due = pd.read_csv(tmp_path / "out/tables/pushbacks.csv")["tonnes"].sum()
+        assert found["part"].unique().tolist() == ["model", "pit", "pushback 1", "pushback 2"]
+    assert set(pit["class"]) == {"indicated", "inferred"} and pit["tonnes"].sum() == pytest.approx(due, abs=0.01)
+    assert wrong(tmp_path / "out") == set()
+    for changed in (
+        found.assign(tonnes=found["tonnes"].where(found.index != pit.index[0], 1.0)),
+        found[(found["part"] != "pit") | (found["class"] != "inferred")],
+    ):
+        changed.to_csv(path, index=False)
+        assert "grade tonnage" in wrong(tmp_path / "out")
 
 
 def test_marked_cutoffs_are_as_worked_out_by_hand(written):

@@ -25,7 +25,7 @@ CHROMIUM, PDFTOTEXT = shutil.which("chromium"), shutil.which("pdftotext")
 PARTS = ["Key results", "Assumptions", "Pit-by-pit analysis", "Plans and sections", "Pushbacks", "Grade and tonnage"]
 PARTS += ["Schedule", "Ore by resource class", "Cash flow", "Sensitivity", "Risks", "JORC Table 1, section 4", "Inputs"]
 PARTS += ["Verification"]
-OF_SCHEDULES = ("Pushbacks", "Grade and tonnage", "Schedule", "Ore by resource class")
+OF_SCHEDULES = ("Pushbacks", "Schedule", "Ore by resource class")
 MORE = """[pushbacks]
 count = 2
 [schedule]

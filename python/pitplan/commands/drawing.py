@@ -21,7 +21,15 @@ from pitplan.figures import (
 from pitplan.figures.pit_by_pit import write_pit_by_pit
 from pitplan.figures.style import also_as, files_of
 
-from .writing import BLOCK_PICTURES, GEOLOGY_PICTURES, PICTURES, PRICE_PICTURES, PUSHBACK_PICTURES, SCHEDULE_PICTURES
+from .writing import (
+    BLOCK_PICTURES,
+    CURVE_PICTURES,
+    GEOLOGY_PICTURES,
+    PICTURES,
+    PRICE_PICTURES,
+    PUSHBACK_PICTURES,
+    SCHEDULE_PICTURES,
+)
 
 if TYPE_CHECKING:
     from .answers import Answered, Tables
@@ -51,7 +59,9 @@ def draw(answered: Answered, tables: Tables, chosen: float, stage: Path) -> list
     with also_as(formats):
         of_shells = draw_shells(answered, tables.shells, chosen, stage)
         annual.write_years(tables.years, project, chosen, stage / PICTURES["years"])
-        drawn = of_shells | draw_pushbacks(answered, stage) | draw_schedules(answered, tables, stage)
+        grade_tonnage.write(tables.grade_tonnage, project.metals[0], stage / CURVE_PICTURES["grade_tonnage"])
+        of_parts = draw_pushbacks(answered, stage) | draw_schedules(answered, tables, stage)
+        drawn = of_shells | CURVE_PICTURES | of_parts
     return files_of(drawn, formats)
 
 
@@ -90,10 +100,7 @@ def draw_schedules(answered: Answered, tables: Tables, stage: Path) -> dict[str,
     if answered.blocks is not None:
         drawn = drawn | BLOCK_PICTURES
         block_schedule.write(answered.blocks, stage / BLOCK_PICTURES["block_schedule"])
-    if tables.schedule is not None:
-        metal = answered.plan.project.metals[0]
-        grade_tonnage.write(tables.schedule.grade_tonnage, metal, stage / drawn["grade_tonnage"])
-        if tables.schedule.prices is not None:
-            drawn = drawn | PRICE_PICTURES
-            price_paths.write(tables.schedule.prices, stage / PRICE_PICTURES["price_paths"])
+    if tables.schedule is not None and tables.schedule.prices is not None:
+        drawn = drawn | PRICE_PICTURES
+        price_paths.write(tables.schedule.prices, stage / PRICE_PICTURES["price_paths"])
     return drawn
