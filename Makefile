@@ -29,11 +29,12 @@ library:
 dist: build library
 	tools/dist.py
 
-# Renews what repeats a command line, the columns of tables or measurements: man page of pitshell, completions, FORMATS, stored words of
+# Renews what repeats a command line, the columns of tables or measurements: man pages, completions, FORMATS, stored words of
 # tests, tables of README and SPEED.
 docs:
 	test -x $(PROGRAM) || $(MAKE) build
 	tools/make_docs.py
+	tools/make_manual.py
 	tools/columns_page.py
 	tools/bench_tables.py
 	tools/pitplan completion bash > completions/pitplan.bash

@@ -59,7 +59,7 @@ _pitplan() {
     pushbacks) options="--set --out --quiet --no-verify --json --no-figures --solver -h --help" valued="--set --out --solver" ;;
     schedule) options="--set --out --quiet --no-verify --json --no-figures --solver --by --certificate -h --help" valued="--set --out --solver --by" ;;
     sensitivity) options="--set --out --quiet --no-verify --json --no-figures --solver --on --workers -h --help" valued="--set --out --solver --on --workers" ;;
-    compare) options="--out --quiet --json --no-figures --no-bridge -h --help" valued="--out" ;;
+    compare) options="--out --quiet --json --no-figures --no-verify --no-bridge -h --help" valued="--out" ;;
     scenarios) options="--set --out --quiet --no-verify --no-figures --solver --by --on --workers --revenue-factor --rf --partial -h --help" valued="--set --out --solver --by --on --workers --revenue-factor --rf" ;;
     gather) options="--quiet --no-verify --no-figures --revenue-factor --rf --partial -h --help" valued="--revenue-factor --rf" ;;
     scenario) options="--quiet -h --help" valued="" ;;

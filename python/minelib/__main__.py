@@ -13,14 +13,16 @@ from .text import MinelibError
 
 
 def add_arguments(parser: argparse.ArgumentParser) -> None:
-    parser.add_argument("files", nargs="+", type=Path, metavar="FILE", help=f"files of one mine: {', '.join(FORMATS)}")
-    text = "the folder for mine.upit, mine.prec, mine.blocks"
+    parser.add_argument(
+        "files", nargs="+", type=Path, metavar="FILE", help=f"published files of one mine ({', '.join(FORMATS)})"
+    )
+    text = "write mine.upit, mine.prec and mine.blocks into this folder"
     parser.add_argument("--out", type=Path, required=True, metavar="FOLDER", help=text)
 
 
 def main(arguments: Optional[Sequence[str]] = None, name: str = "minelib") -> int:
     """0 where the files are written, 1 where they are refused, with a sentence on standard error; `name` is what was called."""
-    parser = argparse.ArgumentParser(prog=name, description="Published MineLib files to those of pitshell.")
+    parser = argparse.ArgumentParser(prog=name, description="Convert published files of MineLib to those of pitshell.")
     add_arguments(parser)
     return ended(name.split()[0], lambda: run(parser.parse_args(arguments)), (MinelibError,))
 

@@ -6,7 +6,7 @@ import json
 import sys
 from dataclasses import dataclass, field, replace
 from functools import cached_property
-from typing import Any, Optional
+from typing import Any, Optional, Union
 
 import numpy as np
 import pandas as pd
@@ -14,6 +14,7 @@ from numpy.typing import NDArray
 
 from pitplan.blockmodel import depletion, missing_blocks, plausibility, reader, resource_classes
 from pitplan.blockmodel.grid import Grid
+from pitplan.blockmodel.reader import Table
 from pitplan.config.economics import PER_REVENUE_FACTOR
 from pitplan.config.periods import PERIOD, YEAR
 from pitplan.config.project import Project
@@ -23,7 +24,7 @@ from pitplan.core.progress import Progress, silent
 from pitplan.core.revenue_factors import BASE_PRICE, factor_text
 from pitplan.economics import block_values, haulage, period_costs
 from pitplan.economics.block_values import Values
-from pitplan.economics.cost_lines import multiplied_costs
+from pitplan.economics.cost_lines import multiplied_amounts
 from pitplan.economics.weighing import reference_level
 from pitplan.precedences import MOST_PAIRS, Needs, Pairs
 from pitplan.preparation import Preparation
@@ -158,9 +159,9 @@ class Plan:
         return frame.sort_values("id").reset_index(drop=True)
 
     @cached_property
-    def multiplied_costs(self) -> dict[str, NDArray[np.float64]]:
+    def multiplied_amounts(self) -> dict[str, NDArray[np.float64]]:
         """The costs of ore that factors of periods multiply, by their amounts, in the currency, shape (processes, cells)."""
-        return multiplied_costs(self.table, self.grid, self.project, self.values)
+        return multiplied_amounts(self.table, self.grid, self.project, self.values)
 
     @property
     def reference(self) -> float:
@@ -254,15 +255,15 @@ class Plan:
         }
 
 
-def prepared(project: Project, table: Optional[pd.DataFrame] = None, progress: Progress = silent) -> Plan:
+def prepared(project: Project, table: Union[pd.DataFrame, Table, None] = None, progress: Progress = silent) -> Plan:
     """Reads the block model of a checked project, and prepares the mine: grid, block values and slope precedences.
 
     Parameters
     ----------
     project : Project
         The project.
-    table : DataFrame, optional
-        One row per block, in place of the file of the project, under the column names that the project gives.
+    table : DataFrame or Table, optional
+        One row per block, in place of the file of the project, under the column names that the project gives; or a table that was read and checked.
     progress : Progress
         Reports the steps; silent by default.
 

@@ -6,8 +6,8 @@ A plan takes every step and gives its blocks their values. Scenarios take the st
 from __future__ import annotations
 
 import copy
-from dataclasses import dataclass, field
-from typing import Callable, Optional
+from dataclasses import dataclass, field, replace
+from typing import Callable, Optional, Union
 
 import numpy as np
 import pandas as pd
@@ -101,9 +101,16 @@ Step = Callable[[Preparation], None]
 
 
 def read_table(
-    project: Project, table: Optional[pd.DataFrame] = None, progress: Progress = silent, any_size: bool = True
+    project: Project,
+    table: Union[pd.DataFrame, Table, None] = None,
+    progress: Progress = silent,
+    any_size: bool = True,
 ) -> Preparation:
-    """Reads and checks the project's table, or checks the one that is given. Raises PlanError with row and column of a wrong field."""
+    """Reads and checks the project's table, or checks the one that is given, unless it was checked already. Raises PlanError with row and column of
+    a wrong field."""
+    if isinstance(table, Table):
+        # The rules of [table] apply once.
+        return Preparation(project, replace(table, frame=table.frame.copy()), progress, any_size)
     source = str(project.table.file) if table is None else "table"
     with progress.step(f"reading {source}"):
         checked = reader.read(project) if table is None else reader.checked(table, project)

@@ -20,7 +20,7 @@ from planaudit.money import block_values, haulage
 from planaudit.pits import conventions, pushbacks, sums, years
 from planaudit.revenue_factors import factor_text
 from planaudit.rules import TOLD, Rule, rule
-from planaudit.schedules import block_schedule, pushback_schedule
+from planaudit.schedules import block_schedule, grade_tonnage, pushback_schedule
 from planaudit.studies import block_scenarios, scenarios, sensitivity
 
 OF_PITS = (slopes.verify, sums.verify, sums.verify_worth, years.verify)
@@ -82,6 +82,7 @@ def rules_of(answer: Answer) -> list[Rule]:
     more += [haulage.verify(answer, block_values.sample(answer))] if answer.project.haulage else []
     more += [verify_free(answer, answer.free)] if answer.free else []
     more += pushbacks.verify(answer) if answer.pushbacks is not None else []
+    more += [grade_tonnage.verify(answer)] if grade_tonnage.is_written(answer) else []
     more += by_record(block_schedule.verify, answer, block_schedule.FILE) if answer.is_by_block else []
     more += by_record(pushback_schedule.verify, answer, pushback_schedule.FILE) if answer.schedule is not None else []
     return [*(check(answer) for check in CHECKS), *more]

@@ -194,10 +194,7 @@ def test_the_command_line_tells_value_bound_and_gap(plan_folder, capsys):
     )
     assert "round 1: bound " in said.err and "relaxation 3,971 over" in said.err
     page = (path.parent / "plan" / "block_schedule" / "report.html").read_text()
-    assert (
-        "head grade of the pit at revenue factor 1.00</span>" in page
-        and 'title="tables/methods.csv row 2 column npv"' in page
-    )
+    assert "head grade of the mill feed</span>" in page and 'title="tables/methods.csv row 2 column npv"' in page
     assert "tables/methods.csv" in page and "the schedule and its upper bound, the other numbers" in page
 
 

@@ -195,7 +195,7 @@ def test_the_workbook_recalculates_reserves_and_npv(hill, tmp_path):
     book = office.recalculated(hill / "tables/schedule.xlsx", tmp_path)
     assert book.sheetnames == ["cash_flow", "reserves", "inventory", "methods", "years", "shells"]
     cells = [list(row) for row in book["reserves"].iter_rows(values_only=True)]
-    assert cells[0][0] == "Test hill: mill feed of the schedule by block" and cells[2][0] == "Ore"
+    assert cells[0][0] == "Test hill: mill feed of the schedule, by block" and cells[2][0] == "Ore"
     assert cells[3][:5] == [None, "class", "in situ (t)", "mill feed (t)", "head grade copper (%)"]
     due = table(hill, "inventory").query("category == 'ore'")
     classes = due.groupby("cls")[["total_tonnes", "feed_tonnes", "contained_copper"]].sum()

@@ -1,6 +1,8 @@
 """`pitplan compare`: differences of inputs, results and periods, and bridges whose steps are runs of their own."""
 
 import json
+from dataclasses import replace
+from pathlib import Path
 
 import pandas as pd
 import pytest
@@ -11,6 +13,8 @@ from helpers.pushbacks import PUSHBACKS, pillars
 import pitplan
 from pitplan import PlanError
 from pitplan.cli import main
+from pitplan.commands import shells
+from pitplan.core.atomic_files import hash_of
 from pitplan.figures import comparison as figures
 from pitplan.studies.comparison.inputs import Change, changes
 from pitplan.studies.comparison.runs import names_of
@@ -56,6 +60,29 @@ def test_each_step_of_a_bridge_is_a_run_with_the_changes_so_far(run):
     assert found.bridge["npv_change"].tolist() == pytest.approx([0, *(b - a for a, b in zip(runs, runs[1:]))], abs=2e-3)
     assert found.bridge["npv_change"].sum() == pytest.approx(runs[-1] - runs[0])
     assert found.results["npv_change"].tolist() == pytest.approx([0, runs[-1] - runs[0]], abs=2e-3)
+
+
+def test_a_step_that_differs_from_its_recalculation_is_refused(run, monkeypatch):
+    """A shell table with another NPV in the step between; without verification it would be in the bridge."""
+    base, other = run("base"), run("other", CHEAP, DEAR)
+    write = shells.write_shells
+
+    def bent(project, folder, writing):
+        write(project, folder, writing)
+        path = Path(folder) / "tables/shells.csv"
+        table = pd.read_csv(path)
+        table["npv_best"] += 5
+        table.to_csv(path, index=False)
+        record = json.loads((Path(folder) / "plan.json").read_text())
+        record["files"]["tables/shells.csv"] = hash_of(path)
+        (Path(folder) / "plan.json").write_text(json.dumps(record))
+
+    monkeypatch.setattr(shells, "write_shells", bent)
+    with pytest.raises(PlanError, match="verification failed|differ"):
+        pitplan.compare([base, other], writing=replace(PLAIN, verifies=True))
+    assert not (base.parent / "comparison").exists()
+    found = pitplan.compare([base, other], writing=replace(PLAIN, verifies=False)).bridge["npv"]
+    assert found.iloc[1] == pytest.approx(npv(run("between", CHEAP)) + 2.5)
 
 
 def test_inputs_key_by_key(run):

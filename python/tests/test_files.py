@@ -21,7 +21,7 @@ from pitplan import BudgetUsedUp, PlanError, ProgramError, load
 from pitplan.cli import main
 from pitplan.commands import drawing
 from pitplan.commands.prepare import write_plan
-from pitplan.commands.writing import GEOLOGY_PICTURES, PICTURES
+from pitplan.commands.writing import CURVE_PICTURES, GEOLOGY_PICTURES, PICTURES
 from pitplan.core import cell_outlines, optional_packages
 from pitplan.core.atomic_files import hash_of, write_json
 from pitplan.core.progress import Progress, silent
@@ -41,7 +41,7 @@ def test_shells_write_tables_pictures_and_a_page_that_needs_no_other_file(solved
     pitplan.write_shells(replace(project, solver="program"), writing=pitplan.Writing(Progress(told), verifies=False))
     assert "drawing .." in told.getvalue()
     names = {*files_in(folder)}
-    pictures = {*PICTURES.values(), *GEOLOGY_PICTURES.values()}
+    pictures = {*PICTURES.values(), *GEOLOGY_PICTURES.values(), *CURVE_PICTURES.values()}
     assert (
         names
         == {
@@ -53,13 +53,14 @@ def test_shells_write_tables_pictures_and_a_page_that_needs_no_other_file(solved
             "tables/blocks.csv",
             "tables/shells.csv",
             "tables/years.csv",
+            "tables/grade_tonnage.csv",
             "solver/shells.txt",
             "report.html",
         }
         | pictures
     )
     page = (folder / "report.html").read_text()
-    assert page.count('<img src="data:image/png;base64,') == len(pictures) == 5 and "http" not in page.replace(
+    assert page.count('<img src="data:image/png;base64,') == len(pictures) == 6 and "http" not in page.replace(
         "http-equiv", ""
     )
 

@@ -1,14 +1,17 @@
 """Grade-tonnage curves by part and class, against sums with pandas and cut-offs worked out by hand."""
 
+import json
 import shutil
 
 import pandas as pd
 import pytest
 from conftest import PROJECT, rows
 from helpers import worked_cash_flow
+from matplotlib.figure import Figure
 
 import pitplan
 from pitplan import verify
+from pitplan.figures import grade_tonnage as figures
 from pitplan.pits.grade_tonnage import nice
 
 GRADES = {(3, 4, 1): 6, (7, 4, 1): 2, (5, 2, 2): 0.9, (3, 3, 2): 1.5, (8, 4, 2): 1.8, (6, 4, 1): 0.7, (4, 4, 1): 3}
@@ -48,6 +51,30 @@ def test_tonnes_above_each_cutoff_are_those_of_the_blocks(written):
     assert wrong(written) == set()
 
 
+@pytest.mark.parametrize("write", [pitplan.write_shells, pitplan.write_pushbacks])
+def test_shells_and_pushbacks_have_the_curves_too(written, tmp_path, write):
+    """Above a cut-off of 0 the pit holds the tonnes of its shell, or of all pushbacks; a changed number, another pit and a missing class are found."""
+    shutil.copytree(written.parent.parent, tmp_path, dirs_exist_ok=True, ignore=shutil.ignore_patterns("plan"))
+    write(tmp_path / "project.toml", tmp_path / "out", writing=PLAIN)
+    found, path = table(tmp_path / "out"), tmp_path / "out/tables/grade_tonnage.csv"
+    pit = found[(found["part"] == "pit") & (found["cutoff_grade"] == 0) & (found["mark"] == "")]
+    if write is pitplan.write_shells:
+        selected = json.loads((tmp_path / "out/plan.json").read_text())["shells"]["selected"]
+        due = pd.read_csv(tmp_path / "out/tables/shells.csv").set_index("revenue_factor").loc[selected, "tonnes"]
+        assert found["part"].unique().tolist() == ["model", "pit"]
+    else:
+        due = pd.read_csv(tmp_path / "out/tables/pushbacks.csv")["tonnes"].sum()
+        assert found["part"].unique().tolist() == ["model", "pit", "pushback 1", "pushback 2"]
+    assert set(pit["class"]) == {"indicated", "inferred"} and pit["tonnes"].sum() == pytest.approx(due, abs=0.01)
+    assert wrong(tmp_path / "out") == set()
+    for changed in (
+        found.assign(tonnes=found["tonnes"].where(found.index != pit.index[0], 1.0)),
+        found[(found["part"] != "pit") | (found["class"] != "inferred")],
+    ):
+        changed.to_csv(path, index=False)
+        assert "grade tonnage" in wrong(tmp_path / "out")
+
+
 def test_marked_cutoffs_are_as_worked_out_by_hand(written):
     """A per cent of feed earns 40 USD. 10 USD of processing need 0.25 %, in situ a quarter more; mining a tonne of feed, 2 USD."""
     found = table(written).query("part == 'model' and mark != ''").drop_duplicates("mark").set_index("mark")
@@ -84,9 +111,24 @@ def test_a_changed_number_is_found(written, tmp_path, name, mark):
     assert wrong(folder) == {"grade tonnage"}
 
 
-def test_the_figure_is_written(written, tmp_path):
-    from pitplan.figures import grade_tonnage
+def test_lines_of_cutoffs_name_their_rock_type_and_process():
+    """Of three rock types the lowest and the highest cut-off, each in the process in which it is lowest."""
+    marks = {"leach OX": 0.07, "mill OX": 0.4, "mill SUL": 0.17, "leach SUL": 0.5, "leach MIX": 0.1, "mill MIX": 0.2}
+    rows = [{"mark": f"marginal {place}", "cutoff_grade": grade} for place, grade in marks.items()]
+    lines = lines_of(pd.DataFrame([*rows, {"mark": "", "cutoff_grade": 0.0}]))
+    assert lines == {"marginal: OX, leach": 0.07, "marginal: SUL, mill": 0.17}
+    assert lines_of(pd.DataFrame({"mark": ["break_even mill"], "cutoff_grade": [0.3]})) == {"break-even": 0.3}
+    two = pd.DataFrame({"mark": ["break_even mill R", "break_even mill S"], "cutoff_grade": [0.3, 0.4]})
+    assert lines_of(two) == {"break-even: R": 0.3, "break-even: S": 0.4}
 
+
+def lines_of(table):
+    axis = Figure().subplots()
+    figures.mark(axis, table)
+    return {line.get_label(): line.get_xdata()[0] for line in axis.lines}
+
+
+def test_the_figure_is_written(written, tmp_path):
     metal = pitplan.load(written.parent.parent / "project.toml").metals[0]
-    grade_tonnage.write(table(written), metal, tmp_path / "picture.png")
+    figures.write(table(written), metal, tmp_path / "picture.png")
     assert (tmp_path / "picture.png").stat().st_size > 5_000

@@ -179,8 +179,8 @@ def test_the_workbook_has_the_grid(plan_folder, with_workbooks):
 def test_the_report_shows_the_npvs_as_a_grid_of_cells(written):
     """A row per cut-off, a column per capacity, in thousands of USD; each number names its cell."""
     found, rows_of_file = studies.of_hill(written, load(written.parent.parent / "project.toml")), hill_of(written)
-    assert found["part"]["headings"] == ["processes.mill.accepts.cu.min", "200", "400", "800"] and not found["picture"]
-    assert found["caption"].startswith("Hill of value: NPV, USD, by processes.mill.capacity (columns)")
+    assert found["part"]["headings"] == ["least cu that mill accepts", "200", "400", "800"] and not found["picture"]
+    assert found["caption"].startswith("Hill of value: NPV, USD, by capacity of mill (columns)")
     for row, cutoff in zip(found["part"]["rows"], CUTOFFS):
         first, *others = row["cells"]
         assert first["text"] == f"{cutoff:g}"
@@ -194,8 +194,10 @@ def test_the_contours_have_a_star_at_the_top(written, tmp_path):
     ax = hill_of_value.plot(hill_of(written), "USD", Figure().subplots())
     (star,) = [line for line in ax.lines if line.get_marker() == "*"]
     assert (star.get_xdata(), star.get_ydata()) == (400, 0.5)
-    assert star.get_label() == "highest NPV: 8,636.36 USD at 400 and 0.5"
-    assert (ax.get_xlabel(), ax.get_ylabel()) == ("processes mill capacity", "processes mill accepts cu min")
+    assert (
+        star.get_label() == "highest NPV: 8,636.36 USD at capacity of mill 400 t a year, least cu that mill accepts 0.5"
+    )
+    assert (ax.get_xlabel(), ax.get_ylabel()) == ("capacity of mill, t a year", "least cu that mill accepts")
     hill_of_value.write(hill_of(written).assign(npv=0.0), "USD", tmp_path / "flat.png")
     assert (tmp_path / "flat.png").stat().st_size > 5_000
 

@@ -1,9 +1,12 @@
-"""The manual page names each subcommand and option of the command line, and no others."""
+"""The manual page is that of the parser: each subcommand and option of the command line, and no others."""
 
 import argparse
 import re
+import runpy
 import subprocess
+import sys
 
+import pytest
 from conftest import ROOT
 
 from pitplan.cli import parser as arguments, shared_options
@@ -13,6 +16,7 @@ from pitplan.results import pit_states
 from pitplan.solver import choice
 
 PAGE = ROOT / "man" / "pitplan.1"
+TOOL = ROOT / "tools" / "make_manual.py"
 # convert minelib has a command line of its own (python/minelib), with --out alone.
 OF_CONVERT = {"--out"}
 
@@ -35,6 +39,31 @@ def test_the_page_has_each_subcommand_and_option_and_no_others():
     assert set(re.findall(r"--[a-z][a-z-]*", named)) == known
 
 
+def test_the_page_is_made_from_the_parser():
+    ran = subprocess.run([sys.executable, TOOL, "--check"], capture_output=True, text=True)
+    assert (ran.returncode, ran.stdout, ran.stderr) == (0, "", "")
+
+
+@pytest.fixture
+def manual(monkeypatch):
+    """The page that the tool makes of a template."""
+    monkeypatch.setattr(sys, "path", list(sys.path))
+    made = runpy.run_path(str(TOOL))
+    return lambda template: made["manual"](made["parts"](), template)
+
+
+def test_the_page_has_words_of_the_help_and_of_the_template(manual):
+    page = manual("@options\n@more smooth\nIt is slow.\n@end\n.SH END\n")
+    assert re.search(r"^\\fB\\-\\-smooth\\fR\nSmooth .*\n\[\\fBexport\\fR\]\nIt is slow\.\n\.TP\n", page, re.MULTILINE)
+    assert page.endswith(".SH END\n") and "@" not in page
+    assert re.search(r"^\\fB\\-\\-to\\fR \\fIFORMAT\\fR\n.* Required\.\n", page, re.MULTILINE)
+
+
+def test_the_template_cannot_add_to_an_option_that_the_parser_lacks(manual):
+    with pytest.raises(SystemExit, match="@options has no @more smoth"):
+        manual("@options\n@more smoth\nIt is slow.\n@end\n")
+
+
 def test_the_page_is_shown_without_warnings():
     shown = subprocess.run(
         ["man", "--warnings", "-l", PAGE],
@@ -43,12 +72,14 @@ def test_the_page_is_shown_without_warnings():
         env={"MANWIDTH": "100", "PATH": "/usr/bin:/bin"},
     )
     assert shown.returncode == 0 and shown.stderr == ""
-    assert "pitplan init [--out FILE] TABLE" in shown.stdout
+    assert "pitplan init [--out FILE] [--figures] TABLE" in shown.stdout
+    assert re.search(r"pitplan audit [^A-Z]*\[--out TARGET\] \[--quiet\] --revenue-factor FACTOR FOLDER", shown.stdout)
 
 
 def test_help_lists_each_subcommand_once():
     top = arguments.parser()
     listed = [line.split()[0] for line in top.format_help().splitlines() if re.match(r"  [a-z]+ +[a-z]", line)]
+    assert [line for line in top.format_help().splitlines() if len(line) > 80 and line.startswith("  ")] == []
     assert listed == list(subparsers(top)) and "usage: pitplan [-h] [--version] SUBCOMMAND ..." in top.format_help()
     assert subparsers(top)["shells"].format_usage().startswith("usage: pitplan shells [-h]")
 

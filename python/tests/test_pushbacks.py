@@ -271,12 +271,13 @@ def test_what_is_right_passes(copied, capsys):
     assert wrong(copied) == {}
     assert main(["verify", str(copied)]) == 0
     told = capsys.readouterr().out.splitlines()
-    assert [line.split(":")[0] for line in told][-5:] == [
+    assert [line.split(":")[0] for line in told][-6:] == [
         "pushback of blocks",
         "pushback walls",
         "pushback fixed",
         "pushbacks",
         "pushback widths",
+        "grade tonnage",
     ]
     page = (copied / "report.html").read_text()
     assert "<h2>Pushbacks</h2>" in page and "the pushbacks, the other numbers" in page and "data:image/png" not in page

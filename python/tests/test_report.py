@@ -25,7 +25,7 @@ CHROMIUM, PDFTOTEXT = shutil.which("chromium"), shutil.which("pdftotext")
 PARTS = ["Key results", "Assumptions", "Pit-by-pit analysis", "Plans and sections", "Pushbacks", "Grade and tonnage"]
 PARTS += ["Schedule", "Ore by resource class", "Cash flow", "Sensitivity", "Risks", "JORC Table 1, section 4", "Inputs"]
 PARTS += ["Verification"]
-OF_SCHEDULES = ("Pushbacks", "Grade and tonnage", "Schedule", "Ore by resource class")
+OF_SCHEDULES = ("Pushbacks", "Schedule", "Ore by resource class")
 MORE = """[pushbacks]
 count = 2
 [schedule]
@@ -176,28 +176,24 @@ def test_the_table_of_a_sensitivity_has_no_share_among_its_amounts(written):
 
 
 def test_the_answer_is_the_first_that_is_told(written):
-    """The schedule's value, bound, rock and life, by the table of its ways; the pit's grades, by the last shell."""
+    """The schedule's value, bound, tonnes, metal and life by the table of its methods; returns, strip ratio and head grades of its own mill feed by
+    its cash flow by line."""
     page = Page((written / "plan" / "schedule" / "report.html").read_text())
     ways = pd.read_csv(written / "plan" / "schedule" / "tables/methods.csv")
     row = 2 + int(ways["npv"].round(2).argmax())
-    names = [
-        "npv",
-        "upper_bound",
-        "tonnes",
-        "feed_tonnes",
-        "unmined_tonnes",
-        "recovered_copper",
-        "recovered_gold",
-        "years",
-    ]
-    assert [source for source, _, _ in page.shown[:8]] == [
+    names = ["npv", "upper_bound", "tonnes", "feed_tonnes", "recovered_copper", "recovered_gold", "years"]
+    shown = page.shown[:12]
+    assert [source for source, _, _ in shown if "methods.csv" in source] == [
         f"tables/methods.csv row {row} column {name}" for name in names
     ]
-    assert page.shown[7][1] == f"{ways['years'][row - 2]} years"
-    assert [source.partition(" column ")[2] for source, _, _ in page.shown[8:10]] == [
-        "head_grade_copper",
-        "head_grade_gold",
-    ]
+    assert shown[11][1] == f"{ways['years'][row - 2]} years"
+    assert [source.rpartition(" ")[2] for source, _, _ in shown[2:4]] == ["irr", "payback"]
+    lines = pd.read_csv(written / "plan" / "schedule" / "tables/cash_flow.csv")
+    lines = lines[lines["method"] == ways["method"][row - 2]].sum(numeric_only=True)
+    ratio, copper, gold = (float(text.split()[0]) for _, text, _ in shown[6:9])
+    assert ratio == pytest.approx(lines["waste_tonnes"] / (lines["total_tonnes"] - lines["waste_tonnes"]), abs=0.005)
+    assert copper == pytest.approx(100 * lines["contained_copper"] / lines["feed_tonnes"], abs=0.0005)
+    assert gold == pytest.approx(lines["contained_gold"] / lines["feed_tonnes"], abs=0.0005)
 
 
 def test_ways_are_the_sums_of_their_years(written):

@@ -9,6 +9,8 @@ from conftest import PROJECT, rows
 from helpers import worked_cash_flow
 
 import pitplan
+from pitplan.report.physicals import physicals
+from pitplan.report.written import Written
 
 PLAIN = pitplan.Writing(figures=False, verifies=False)
 
@@ -80,6 +82,59 @@ def test_each_number_of_the_cash_flow_is_the_cell_that_its_tooltip_names(worked)
         for text, source in row[2:]:
             line, column = re.fullmatch(r"tables/cash_flow.csv row (\d+) column (\w+)", source).groups()
             assert 1000 * float(text.replace(",", "")) == pytest.approx(table.at[int(line) - 2, column], abs=5.1)
+
+
+def test_tonnes_grades_and_metal_of_each_year_are_as_worked_out_by_hand(worked):
+    """Three pillars of 100 t of waste and 100 t of ore; 375 t of feed hold 3.9 t of copper and 450 g of gold."""
+    _, page = worked
+    head, *lines = page.table("Tonnes, head grades and metal of the schedule")
+    assert [text for text, _ in head] == ["quantity", "all", "year 1", "year 2", "year 3"]
+    assert {row[0][0]: [text for text, _ in row[1:]] for row in lines} == {
+        "total material, t": ["600.00", "200.00", "200.00", "200.00"],
+        "waste, t": ["300.00", "100.00", "100.00", "100.00"],
+        "strip ratio": ["1.00", "1.00", "1.00", "1.00"],
+        "mill feed, t": ["375.00", "0.00", "250.00", "125.00"],
+        "feed of mill, t": ["250.00", "0.00", "125.00", "125.00"],
+        "feed of leach, t": ["125.00", "0.00", "125.00", "0.00"],
+        "head grade copper, %": ["1.040", "–", "1.400", "0.320"],
+        "recovered copper, t": ["2.59", "0.00", "2.27", "0.32"],
+        "head grade gold, g/t": ["1.200", "–", "1.600", "0.400"],
+        "recovered gold, g": ["225.00", "0.00", "200.00", "25.00"],
+    }
+    assert lines[2][1][1].endswith("cash_flow.csv: sum of waste_tonnes by that of total_tonnes less waste_tonnes")
+    assert re.fullmatch(r"tables/years.csv row \d+ column feed_tonnes_leach", lines[5][2][1])
+
+
+def test_more_years_than_fit_continue_in_another_table(worked):
+    """Of 13 years eleven are next to the sums, and two below."""
+    folder, _ = worked
+    project = pitplan.load(folder.parent.parent / "project.toml")
+    lines = pd.read_csv(folder / "tables/cash_flow.csv").query("method == 'milp'").iloc[[0, 1, 2] * 4 + [2]]
+    lines = lines.assign(year=range(1, 14)).reset_index(drop=True)
+    years = pd.DataFrame({f"feed_tonnes_{name}": [1.0] * 13 for name in ("mill", "leach")})
+    first, second = physicals(Written("cash_flow.csv", lines), Written("years.csv", years), project)
+    assert first["headings"][:3] == ["quantity", "all", "year 1"] and second["headings"] == [
+        "quantity",
+        "year 12",
+        "year 13",
+    ]
+    assert {len(row["cells"]) for row in first["rows"]} == {13} and {len(row["cells"]) for row in second["rows"]} == {3}
+
+
+def test_key_results_are_those_of_the_schedule(worked):
+    """Head grades of its mill feed, not those of the pit; returns after closure cost and tax; capital of 5,600 USD."""
+    folder, _ = worked
+    values = pd.read_csv(folder / "tables/valuation.csv").query("method == 'milp' and discount_rate == 0.1").iloc[0]
+    shown = re.findall(r'<div><b title="[^"]*">(.*?)</b><span>(.*?)</span></div>', (folder / "report.html").read_text())
+    found = {label: text for text, label in shown}
+    assert (
+        found["Copper head grade of the mill feed"] == "1.040 %"
+        and found["Strip ratio, waste to in-situ ore"] == "1.00"
+    )
+    assert found["Net present value after tax"] == f"{values['npv_after_tax'] / 1000:,.2f} k USD"
+    assert found["Internal rate of return after tax"] == f"{100 * values['irr_after_tax']:,.1f} %"
+    assert found["Payback after tax"] == f"{values['payback_after_tax']:.1f} years" and found["Capital"] == "5.60 k USD"
+    assert "Unmined material" not in found
 
 
 def test_valuation_has_npv_irr_and_payback(worked):

@@ -155,6 +155,29 @@ def test_scenarios_of_processes_are_plans_of_their_own(plan_folder, seed, count,
     demand_plans_of_their_own(path, table, grades_of(table))
 
 
+SMELTER = """price = 8000
+smelter = { processes = "all", concentrate_grade = 26, payable = 0.965, minimum_deduction = 1.1, treatment_charge = 90, refining_charge = 160, \
+price_participation = { base = 7000, share = 0.07 }, moisture = 0.08, freight = 55, penalties = [{ column = "as_ppm", steps = [[900, 40]] }] }
+""".replace(
+    "\\\n", ""
+)
+
+
+@SOME
+@given(st.integers(0, 10**6), st.integers(1, 2))
+def test_scenarios_with_smelter_terms_are_plans_of_their_own(plan_folder, seed, count):
+    """At 4,000 the price participation is a credit, at 11,000 a charge; penalties follow from the grades of each realisation."""
+    table = mine(seed).assign(as_ppm=np.random.default_rng(seed).integers(0, 60, 72))
+    change = ("price = 8000\n", SMELTER.replace('processes = "all", ', "" if count == 1 else 'processes = "all", '))
+    if count == 1:
+        path = plan_folder(table, PROJECT + SETS.replace("\ngold = 80", ""), change)
+    else:
+        path = plan_folder(table, of_processes_text(seed, count, "per_revenue_factor", SETS, change))
+    shared = demand_plans_of_their_own(path, table, grades_of(table))
+    pitplan.gather(shared.folder, writing=UNVERIFIED)
+    assert not [rule.name for rule in verify_folder(shared.folder) if rule.differences]
+
+
 def of_processes_text(seed, count, cutoff, more, *changes):
     """A project of several processes."""
     text = PROJECT + more

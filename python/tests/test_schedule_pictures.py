@@ -262,4 +262,6 @@ def test_a_way_that_mines_nothing_is_drawn_with_a_sentence(schedule, way):
     axes = gantt.plot_gantt(empty, Figure().subplots(1, 2))
     assert "nothing is mined" in [text.get_text() for text in axes[place].texts]
     (note,) = [note for note in pushback_record.notes(empty) if "mines nothing" in note]
-    assert note.startswith(f"{way} mines nothing: at these prices and costs")
+    assert note.startswith(
+        f"{ {'rule': 'rule', 'lp': 'linear programme'}[way] } mines nothing: at these prices and costs"
+    )

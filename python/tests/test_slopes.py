@@ -252,7 +252,7 @@ def test_dip_directions_are_the_opposite_bearings(plan_folder, turn):
     ]
     walls, dips = (plan.walls.patterns[0] for plan in found)
     assert np.array_equal(walls.offsets, dips.offsets) and np.array_equal(walls.angles, dips.angles)
-    assert "60 at 0 80 at 90 60 at 180 30 at 270.5 (dip directions)" in dips.name
+    assert "60 at 0, 80 at 90, 60 at 180, 30 at 270.5 (dip directions)" in dips.name
 
 
 def test_azimuth_of_needs_azimuths(plan_folder):

@@ -4,6 +4,7 @@ import shutil
 from dataclasses import replace
 from decimal import Decimal
 
+import numpy as np
 import pandas as pd
 import pytest
 from conftest import ROOT, rows
@@ -16,6 +17,8 @@ from pitplan import PlanError, load, verify
 from pitplan.config.economics import Metal
 from pitplan.config.smelter import Participation, Smelter
 from pitplan.economics import smelter_terms
+from pitplan.report import assumptions
+from pitplan.scheduling import price_paths
 
 # A block of ore below one of waste. The ore holds 130 t of copper, 5,000 g of gold and 2 t of arsenic.
 TEXT = """
@@ -150,14 +153,42 @@ def test_the_inventory_has_the_payable_metal(concentrate):
 
 
 def test_a_price_by_year_changes_the_participation(tmp_path):
-    """At 8,000 the smelter keeps 50 per payable tonne, at 9,000 150, and below 7,500 nothing."""
+    """At 8,000 the smelter keeps 50 per payable tonne, at 9,000 150."""
     folder = written_to(tmp_path, TEXT.replace("price = 8000\n", "price = 8000\nprices = [9000]\n"))
     found = lines_of(folder)
     assert found["revenue_copper"] == pytest.approx(900_000, abs=0.001)
     assert found["participation_copper"] == pytest.approx(15_000, abs=0.001)
     assert found["cash_flow"] == pytest.approx(710_660 + 98_000 - 10_000, abs=0.001) and wrong(folder) == set()
+
+
+@pytest.mark.parametrize(
+    ("rule", "participation"), [("", -5000), (', applies = "both"', -5000), (', applies = "above"', 0)]
+)
+def test_below_the_base_the_smelter_credits_its_share(tmp_path, rule, participation):
+    """At 7,000, 500 below the base, 50 per payable tonne, unless the terms are for prices above the base alone."""
+    text = TEXT.replace("price = 8000\n", "price = 8000\nprices = [7000]\n").replace(
+        "share = 0.1 }", f"share = 0.1{rule} }}"
+    )
+    folder = written_to(tmp_path, text)
+    found = lines_of(folder)
+    assert found["participation_copper"] == pytest.approx(participation, abs=0.001)
+    assert found["cash_flow"] == pytest.approx(710_660 - 98_000 + 5000 - participation, abs=0.001)
+    assert wrong(folder) == set()
     copper = load(tmp_path / "project.toml").metals[0]
-    assert smelter_terms.charges(copper, Decimal(7000))["participation"] == 0
+    paths = price_paths.net_at(copper, 0.02, np.array([[7000.0, 7500, 8000]]))
+    due = [float(smelter_terms.net(copper, Decimal(price), Decimal("0.02"))) for price in (7000, 7500, 8000)]
+    assert paths[0].tolist() == pytest.approx(due)
+    said = dict(assumptions.prices(load(folder / "project-as-run.toml")))["price participation of copper"]
+    assert said == f"10 % of the price above{' and below' * (participation < 0)} 7,500 USD/t"
+
+
+def test_a_credit_above_all_charges_is_refused(tmp_path):
+    """170 for refining and 0.1 x 0.9615 x 30,500 below the base of 38,500 leave less than nothing."""
+    text = TEXT.replace("base = 7500", "base = 38_500")
+    with pytest.raises(
+        PlanError, match="price_participation of copper: at the price 8000 it credits more than all other charges"
+    ):
+        written_to(tmp_path, text)
 
 
 def test_gold_dore_is_sold_as_worked_out_by_hand(tmp_path):
@@ -378,7 +409,7 @@ def test_ore_that_lies_on_a_stockpile_at_the_start_is_sold_by_the_terms(tmp_path
 
 
 def test_scenarios_have_the_terms_at_their_grades_and_prices(tmp_path):
-    """With 2.6 % of copper there are 800 t of concentrate with 1,625 ppm of arsenic, which is not penalised; at 7,000 nothing is shared."""
+    """With 2.6 % of copper there are 800 t of concentrate with 1,625 ppm of arsenic, which is not penalised; at 7,000 the smelter credits 5,000."""
     blocks = table().assign(sim_a=lambda it: it["cu"], sim_b=lambda it: 2 * it["cu"]).drop(columns="cu")
     blocks.to_csv(tmp_path / "blocks.csv", index=False)
     decks = "".join(f"[[scenarios.prices]]\ncopper = {price}\n" for price in (7000, 8000))
@@ -387,9 +418,9 @@ def test_scenarios_have_the_terms_at_their_grades_and_prices(tmp_path):
     folder = tmp_path / "plan" / "scenarios"
     found = pd.read_csv(folder / "tables/scenarios.csv").query("revenue_factor == 1.0")
     found = found.set_index(["realisation", "price_copper"])["undiscounted_cash_flow"]
-    # 100 or 200 t of copper, with 0, 5,000 or 10,000 of participation; gold brings 152,360; mining and milling cost 140,000.
+    # 100 or 200 t of copper, each 100 t with 5,000 of participation or as much of credit; gold brings 152,360; mining and milling cost 140,000.
     charged = {"sim_a": 32_000 + 17_000 + 30_000 + 1700, "sim_b": 64_000 + 34_000 + 60_000}
-    for price, shared in ((7000, 0), (8000, 5000)):
+    for price, shared in ((7000, -5000), (8000, 5000)):
         for name, tonnes in (("sim_a", 100), ("sim_b", 200)):
             due = tonnes * price * 0.98 + 156_000 * 0.98 - 520 - charged[name] - shared * tonnes / 100 - 140_000
             assert found[name, price] == pytest.approx(due, abs=0.001)

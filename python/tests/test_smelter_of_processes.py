@@ -208,6 +208,22 @@ def test_npv_is_rebuilt_from_the_sheet(tmp_path, with_workbooks):
     assert found["discounted cash flow; total: NPV"][1] == pytest.approx(npv, abs=0.001)
 
 
+def test_another_price_in_the_sheet_gives_the_cash_flow_at_that_price(tmp_path, with_workbooks):
+    """170 t earn 980 more each after royalty, of which the smelter keeps 100 for each of 100 payable tonnes of the concentrate."""
+    openpyxl = pytest.importorskip("openpyxl")
+    folder = written_to(tmp_path)
+    book = openpyxl.load_workbook(folder / "tables/schedule.xlsx")
+    for row in book["cash_flow"].iter_rows():
+        if row[0].value == "price of copper":
+            row[3].value = 9000
+    book.save(tmp_path / "dearer.xlsx")
+    sheet = office.recalculated(tmp_path / "dearer.xlsx", tmp_path)["cash_flow"]
+    found = {row[0]: row[3] for row in sheet.iter_rows(values_only=True)}
+    assert found["royalty"] == pytest.approx(0.02 * 170 * 9000)
+    assert found["price participation copper"] == pytest.approx(15_000)
+    assert found["cash flow"] == pytest.approx(LINES["cash_flow"] + 170 * 980 - 10_000, abs=0.001)
+
+
 def test_charges_of_all_processes_are_varied_as_the_selling_cost(tmp_path):
     """At 10 % more the selling cost of the cathode is 1,050 more, and the smelter charges 8,070; its participation stays."""
     table().to_csv(tmp_path / "blocks.csv", index=False)
@@ -220,9 +236,6 @@ def test_charges_of_all_processes_are_varied_as_the_selling_cost(tmp_path):
     # The participation grows by a tenth of 800 per payable tonne of the concentrate.
     assert cash["price"] - cash[""] == pytest.approx(170 * 800 * 0.98 - 100 * 80, abs=0.001)
     assert wrong(tmp_path / "plan/sensitivity") == set()
-
-
-YEARLY = "cannot be combined with prices of copper by year: give one price, or list the copper of each product"
 
 
 @pytest.mark.parametrize(
@@ -240,8 +253,6 @@ YEARLY = "cannot be combined with prices of copper by year: give one price, or l
         ('["mill"]', '["mill", "leach"]', 'names all that recover copper.*: give "all", and remove selling_cost'),
         ("selling_cost = 150\n", "", "selling_cost: is missing: .* the others sell at it"),
         ('["mill"]', '"all"', r"selling_cost: give it or \[metals.smelter\], not both"),
-        ("price = 8000\n", "price = 8000\nprices = [8000, 9000]\n", YEARLY),
-        ("[pushbacks]", "[[periods]]\nprices = { copper = 9000 }\n[pushbacks]", YEARLY),
     ],
 )
 def test_terms_that_leave_a_process_open_are_named(tmp_path, old, new, said):
@@ -261,23 +272,112 @@ def test_a_metal_of_one_process_needs_no_names(tmp_path):
     assert "selling_cost_copper" not in found and wrong(folder) == set()
 
 
-def test_a_metal_of_each_product_has_prices_by_year(tmp_path):
-    """The remedy of the refusal: two metals with one column give the same cash flow, and prices by year may follow."""
+@pytest.mark.parametrize(
+    ("old", "new"),
+    [
+        ("price = 8000\n", "price = 8000\nprices = [9000]\n"),
+        ("[pushbacks]", "[[periods]]\nprices = { copper = 9000 }\n[pushbacks]"),
+    ],
+)
+def test_a_price_by_year_pays_each_process_by_its_own_terms(tmp_path, old, new):
+    """170 t are paid and earn 980 more each, of which the smelter keeps 100 per payable tonne of the concentrate."""
+    folder = written_to(tmp_path, TEXT.replace(old, new))
+    found = sums_of(folder)
+    assert found["cash_flow"] == pytest.approx(LINES["cash_flow"] + 170 * 980 - 10_000, abs=0.001)
+    assert found["participation_copper"] == pytest.approx(15_000, abs=0.001)
+    assert found["revenue_copper"] == pytest.approx(170 * 9000, abs=0.001) and wrong(folder) == set()
+
+
+# Twelve blocks in two benches, of which both processes may take all: the best process of a block changes with the price of the year.
+YEARS = """
+[shells.specified]
+pushbacks = [0.5]
+[[schedule.stockpiles]]
+name = "low"
+reclaim_cost = 0.5
+recovery = { copper = 0.9 }
+opening = { tonnes = 2_000, rock_type = "SU", cu = 0.9, as_ppm = 150 }
+[[periods]]
+prices = { copper = 7_400 }
+selling_cost_factor = 1.3
+[[periods]]
+prices = { copper = 9_600 }
+[[periods]]
+prices = { copper = 8_000 }
+"""
+WIDE = TEXT.replace("years = 2", "years = 6").replace(
+    "revenue_factors = [0.5, 1.0]", "revenue_factors = [0.5, 0.8, 1.0]"
+)
+WIDE = WIDE.replace("capacity = 10_000", "capacity = 12_000")
+
+
+def as_two_metals(text):
+    """The copper of each product as a metal of its own, with the same column."""
     head, terms = (
-        TEXT[TEXT.index("[[metals]]") : TEXT.index("[metals.smelter]")],
-        TEXT[TEXT.index("[metals.smelter]") :],
+        text[text.index("[[metals]]") : text.index("[metals.smelter]")],
+        text[text.index("[metals.smelter]") :],
     )
     terms = terms[: terms.index("[[processes]]")].replace('processes = ["mill"]\n', "")
-    cathode, concentrate = head.replace('"copper"', '"cathode"'), head.replace("selling_cost = 150\n", "") + terms
-    text = TEXT[: TEXT.index("[[metals]]")] + cathode + concentrate + TEXT[TEXT.index("[[processes]]") :]
-    text = text.replace("recovery = { copper = { OX = 0.7", "recovery = { cathode = { OX = 0.7")
-    (tmp_path / "one").mkdir()
-    assert sums_of(written_to(tmp_path / "one", text))["cash_flow"] == pytest.approx(LINES["cash_flow"], abs=0.001)
-    yearly = text.replace("price = 8000\n", "price = 8000\nprices = [9000]\n")
-    folder = written_to(tmp_path, yearly)
-    # 170 t earn 980 more each, of which the smelter keeps 100 per payable tonne of the concentrate.
-    assert sums_of(folder)["cash_flow"] == pytest.approx(LINES["cash_flow"] + 170 * 980 - 10_000, abs=0.001)
-    assert wrong(folder) == set()
+    cathode = head.replace('"copper"', '"cathode"')
+    concentrate = head.replace('"copper"', '"concentrate"').replace("selling_cost = 150\n", "") + terms
+    rest = text[text.index("[[processes]]") :].replace(
+        "recovery = { copper = { OX = 0.7", "recovery = { cathode = { OX = 0.7"
+    )
+    rest = rest.replace("recovery = { copper = { OX = 0.3", "recovery = { concentrate = { OX = 0.3")
+    rest = rest.replace("recovery = { copper = 0.9 }", "recovery = { cathode = 0.9, concentrate = 0.9 }")
+    for price in ("7_400", "9_600", "8_000"):
+        rest = rest.replace(f"{{ copper = {price} }}", f"{{ cathode = {price}, concentrate = {price} }}")
+    return text[: text.index("[[metals]]")] + cathode + concentrate + rest
+
+
+@pytest.fixture(scope="module")
+def priced_by_year(tmp_path_factory):
+    """The folders of a schedule of pushbacks and of one by block, with the terms of the mill, and with a metal for each product."""
+    found = {}
+    for name, text in (("terms", WIDE + YEARS), ("metals", as_two_metals(WIDE + YEARS))):
+        place = tmp_path_factory.mktemp(name)
+        blocks = rows(3, 2, 2, cu=lambda i, j, k: 0.4 + 0.27 * i + 0.31 * j * k, as_ppm=lambda i, j, k: 60 * i + 90 * j)
+        blocks.assign(tonnes=5_000, rock=["OX", "SU", "SU"] * 4).to_csv(place / "blocks.csv", index=False)
+        (place / "project.toml").write_text(text)
+        pitplan.write_schedule(place / "project.toml", writing=UNVERIFIED)
+        start = text.index("[[schedule.stockpiles]]")
+        (place / "blocks.toml").write_text(text[:start] + text[text.index("[[periods]]") :])
+        pitplan.write_block_schedule(place / "blocks.toml", place / "by_block", writing=UNVERIFIED)
+        found[name] = place / "plan" / "schedule", place / "by_block"
+    return found
+
+
+@pytest.mark.parametrize("kind", [0, 1])
+def test_prices_by_year_agree_with_a_metal_for_each_product(priced_by_year, kind):
+    """Shells, schedules and upper bounds by terms of the mill alone are those of two metals, which have terms of their own."""
+    terms, metals = priced_by_year["terms"][kind], priced_by_year["metals"][kind]
+    for table, columns in {
+        "shells": ["tonnes", "npv_best", "npv_worst", "npv_specified"],
+        "methods": ["npv", "upper_bound", "feed_tonnes"],
+        "years": ["feed_tonnes_leach", "feed_tonnes_mill", "cash_flow", "discounted_cash_flow"],
+    }.items():
+        path = f"tables/{table}.csv"
+        if not (terms / path).exists():
+            continue
+        found, due = pd.read_csv(terms / path), pd.read_csv(metals / path)
+        columns = [it for it in columns if it in due]
+        assert columns and found[columns].to_numpy() == pytest.approx(
+            due[columns].to_numpy(), rel=1e-7, abs=0.01
+        ), table
+    assert wrong(terms) == set() and wrong(metals) == set()
+
+
+def test_changed_cash_flows_of_years_with_their_own_prices_are_found(priced_by_year, tmp_path):
+    """If the terms applied at the base price alone, cash flows would be others."""
+    for number, folder in enumerate(priced_by_year["terms"]):
+        copy = shutil.copytree(folder.parent, tmp_path / str(number) / folder.parent.name) / folder.name
+        for name in ("blocks.csv", "project.toml", "blocks.toml"):
+            shutil.copy(priced_by_year["terms"][1].parent / name, tmp_path / str(number))
+        path = copy / "tables/years.csv"
+        years = pd.read_csv(path)
+        years.loc[0, ["cash_flow", "discounted_cash_flow"]] += 25
+        years.to_csv(path, index=False)
+        assert wrong(copy) != set()
 
 
 def test_terms_of_processes_read_back_as_themselves(tmp_path):
@@ -297,8 +397,8 @@ def test_report_and_notes_say_whose_metal_the_terms_apply_to(tmp_path):
     project = load(tmp_path / "project.toml")
     found = dict(assumptions.prices(project))
     assert found["selling cost of copper"] == "150 USD/t, metal of leach"
-    assert found["payable copper"] == "96.5 %, less at least 1 %, metal of mill"
+    assert found["payable copper"] == "96.5 %, minimum deduction 1 %, metal of mill"
     assert value_notes.smelter_notes(project)[0].startswith("the smelter pays 96.154 % of the copper of mill and")
     whole = tmp_path / "all.toml"
     whole.write_text(TEXT.replace("selling_cost = 150\n", "").replace('["mill"]', '"all"'))
-    assert dict(assumptions.prices(load(whole)))["payable copper"] == "96.5 %, less at least 1 %"
+    assert dict(assumptions.prices(load(whole)))["payable copper"] == "96.5 %, minimum deduction 1 %"

@@ -28,7 +28,7 @@ def box(plan_folder, *changes, **more):
 def expected(folder):
     """12 x 300 + 12 x 100 = 4,800 t; (3,600 x 2 + 1,200 x 0.5) / 4,800 = 1.625 %."""
     return [
-        f"{folder / 'blocks.csv'}: 24 blocks in 24 cells, 4,800 tonnes in tonnes",
+        f"{folder / 'blocks.csv'}: 24 blocks in 24 cells, 4,800 t, tonnes from column tonnes",
         "x: from 0 to 40 m, 4 cells of 10 m, centres in x",
         "y: from 0 to 30 m, 3 cells of 10 m, centres in y",
         "z: from 0 to 20 m, 2 cells of 10 m, centres in z",
@@ -60,7 +60,7 @@ def test_the_report_has_them(solved):
     project, folder = solved
     page = (folder / "report.html").read_text()
     # 10 x 9 x 5 cells, without one level of 5 x 9.
-    assert "405 blocks in 450 cells, 40,500 tonnes in tonnes</li>" in page
+    assert "405 blocks in 450 cells, 40,500 t, tonnes from column tonnes</li>" in page
     assert "<li>x: from 0 to 100 m, 10 cells of 10 m, centres in x</li>" in page
 
 
@@ -79,14 +79,14 @@ def test_gaps_between_blocks_are_cells(plan_folder):
     """Without the upper level's west row of three blocks."""
     table = rows(4, 3, 2, **FLOOR_OF_ORE)
     path = plan_folder(table[(table["z"] < 10) | (table["x"] > 10)])
-    assert ": 21 blocks in 24 cells, 4,500 tonnes in tonnes" in Plan.from_project(path).summary[0]
+    assert ": 21 blocks in 24 cells, 4,500 t, tonnes from column tonnes" in Plan.from_project(path).summary[0]
 
 
 @pytest.mark.parametrize(
     ("words", "said"),
     [
-        ('density = "sg"', "60,000 tonnes in sg (t/m3) times the block size"),
-        ('density = "sg"\nvolume = "m3"', "54,000 tonnes in sg (t/m3) times m3 (m3)"),
+        ('density = "sg"', "60,000 t, tonnes from sg (t/m3) times the block size"),
+        ('density = "sg"\nvolume = "m3"', "54,000 t, tonnes from sg (t/m3) times m3 (m3)"),
     ],
 )
 def test_tonnes_of_a_density_name_their_columns(plan_folder, words, said):
@@ -148,7 +148,7 @@ def test_scenarios_tell_the_grades_of_all_models(plan_folder, tmp_path, capsys):
     path.write_text(path.read_text() + '[scenarios]\ncolumns = { copper = "sim_*" }\n')
     assert main(["scenarios", str(path), "--on", "parallel"]) == 0
     lines = capsys.readouterr().err.splitlines()
-    assert f"{tmp_path / 'blocks.csv'}: 24 blocks in 24 cells, 4,800 tonnes in tonnes" in lines
+    assert f"{tmp_path / 'blocks.csv'}: 24 blocks in 24 cells, 4,800 t, tonnes from column tonnes" in lines
     assert "y: from 0 to 30 m, 3 cells of 10 m, centres in y" in lines and "unused columns: cu" in lines
     assert "copper: sim_1 and so on, of 2 realisations, mean 0.1875, maximum 4 %, priced per tonne" in lines
 

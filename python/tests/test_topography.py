@@ -108,7 +108,7 @@ def test_densities_volumes_and_the_size_of_blocks(plan_folder, tmp_path):
         change = (CUT[0], f'{CUT[1]}\ndensity = "sg"{more}')
         path = plan_folder(table, PROJECT, change)
         assert tonnes_of(path).tolist() == [tonnes]
-        assert [rule.differences for rule in looked_at(pitplan.Plan.from_project(path))] == [()] * 11
+        assert [rule.differences for rule in looked_at(pitplan.Plan.from_project(path))] == [()] * 12
 
 
 def test_blocks_that_are_put_together_are_cut_as_a_whole(plan_folder, tmp_path):
@@ -117,7 +117,7 @@ def test_blocks_that_are_put_together_are_cut_as_a_whole(plan_folder, tmp_path):
     table = rows(2, 1, 2, tonnes=lambda i, j, k: 100 + 100 * i + 200 * k, cu=lambda i, j, k: k)
     plan = pitplan.Plan.from_project(plan_folder(table, PROJECT, (CUT[0], f"{CUT[1]}\nreblock = [2, 1, 2]")))
     assert plan.table["tonnes"].tolist() == [500] and plan.table["cu"].tolist() == [0.7]
-    assert [rule.differences for rule in looked_at(plan)] == [()] * 12
+    assert [rule.differences for rule in looked_at(plan)] == [()] * 13
 
 
 def test_cells_without_rows_are_cut_too(plan_folder, tmp_path):
@@ -128,7 +128,7 @@ def test_cells_without_rows_are_cut_too(plan_folder, tmp_path):
     plan = pitplan.Plan.from_project(plan_folder(table[table["x"] != 15], PROJECT, absent))
     blocks = plan.blocks
     assert blocks.loc[blocks["x"] == 15, "tonnes"].tolist() == [0, 40, 80]
-    assert [rule.differences for rule in looked_at(plan)] == [()] * 11
+    assert [rule.differences for rule in looked_at(plan)] == [()] * 12
 
 
 @pytest.mark.parametrize("degrees", [30, -12.5])
@@ -258,7 +258,7 @@ def test_columns_beyond_the_points_are_left_whole(plan_folder, tmp_path):
         f"WARNING: {file}: 2 columns of blocks lie beyond it; their blocks are not cut",
         f"WARNING: {file}: 1 columns of blocks are partly covered; their blocks are cut by that part",
     ]
-    assert [rule.differences for rule in looked_at(plan)] == [()] * 11
+    assert [rule.differences for rule in looked_at(plan)] == [()] * 12
 
 
 def test_rock_that_the_table_lacks_is_told(plan_folder, tmp_path):

@@ -62,8 +62,9 @@ def test_what_is_right_is_told_rule_by_rule(answered, copied, capsys):
         "years",
         "conventions",
         "inputs",
+        "grade tonnage",
     ]
-    assert len(answered[1]["verified"]) == 10
+    assert len(answered[1]["verified"]) == 11
     assert "no block of any shell lacks a block of its slope cone" in (copied / "report.html").read_text()
 
 
@@ -381,6 +382,7 @@ def test_a_misread_table_fails_the_verification_of_the_run(plan_folder, monkeypa
         "blocks",
         "money",
         "shells",
+        "grade tonnage",
         "years",
     }
     monkeypatch.undo()
@@ -393,7 +395,7 @@ def test_a_table_that_changed_since_the_run_is_read_again(plan_folder):
     pitplan.write_shells(path)
     table = deposit()
     table.assign(cu=table["cu"].where(table["cu"] < 6, 5.9)).to_csv(path.parent / "blocks.csv", index=False)
-    assert wrong(path.parent / "plan") == {"blocks", "inputs", "money", "shells", "years"}
+    assert wrong(path.parent / "plan") == {"blocks", "inputs", "money", "shells", "years", "grade tonnage"}
 
 
 def two_regions():
@@ -412,7 +414,7 @@ def test_cost_by_elevation_is_looked_at(plan_folder, monkeypatch):
     """Levels with centres 5, 15, .., 45 m, of which the lowest and the highest lie beyond the elevations that are named."""
     change = ("mining_cost_per_bench = 0.25", "mining_cost_by_elevation = [[10, 0.7], [20, 0.3], [40, 0.1]]")
     path = plan_folder(deposit(), TEXT, change)
-    assert [rule.differences for rule in looked_at(Plan.from_project(path))] == [()] * 10
+    assert [rule.differences for rule in looked_at(Plan.from_project(path))] == [()] * 11
     monkeypatch.setattr("pitplan.economics.weighing.added_cost", lambda *_: Decimal(0))
     differences = {rule.name: rule.differences for rule in looked_at(Plan.from_project(path)) if rule.differences}
     # 99.7 t, of which each costs 0.7 more.
@@ -426,7 +428,7 @@ def test_a_mine_in_which_nothing_pays_is_right(plan_folder, discounting):
             rows(3, 3, 2), PROJECT, ("discount_rate = 0.1", f'discount_rate = 0.1\ndiscounting = "{discounting}"')
         )
     )
-    assert [rule.differences for rule in looked_at(plan)] == [()] * 10
+    assert [rule.differences for rule in looked_at(plan)] == [()] * 11
 
 
 @pytest.mark.parametrize(
@@ -437,16 +439,16 @@ def test_waste_that_takes_no_time_is_the_first_years(plan_folder, discounting, n
     changes = ("discount_rate = 0.1", f'discount_rate = 0.1\ndiscounting = "{discounting}"')
     table = rows(3, 3, 2, must=lambda i, j, k: int((i, j, k) == (1, 1, 1)))
     plan = Plan.from_project(plan_folder(table, PROJECT + '\n[constraints]\nmust_mine = "must"\n', changes))
-    assert [rule.differences for rule in looked_at(plan)] == [()] * 10
+    assert [rule.differences for rule in looked_at(plan)] == [()] * 11
     shells = pd.read_csv(plan.project.folder / "tables/shells.csv")
     assert shells["npv_best"].tolist() == shells["npv_worst"].tolist() == [pytest.approx(npv, abs=1e-3)] * 3
     plan = Plan.from_project(plan_folder(deposit(), TEXT, changes, ("mining_capacity = 1000\n", "")))
-    assert [rule.differences for rule in looked_at(plan)] == [()] * 10
+    assert [rule.differences for rule in looked_at(plan)] == [()] * 11
 
 
 def test_a_block_without_an_id_is_called_by_its_centre(plan_folder):
     plan = Plan.from_project(plan_folder(ore_everywhere().drop(columns="name"), PROJECT, ('id = "name"\n', "")))
-    assert [rule.differences for rule in looked_at(plan)] == [()] * 10
+    assert [rule.differences for rule in looked_at(plan)] == [()] * 11
     path = plan.project.folder / "tables/blocks.csv"
     plus_one(pd.read_csv(path), "mining_cost").to_csv(path, index=False)
     (rule,) = [rule for rule in verify(plan.project.folder) if rule.name == "money"]
@@ -472,7 +474,7 @@ def test_rows_without_rock_are_no_blocks_that_are_left_standing(plan_folder):
     """Ore below rock, and over it two levels of rows that hold nothing."""
     table = rows(9, 9, 5, tonnes=lambda i, j, k: 100 * (k < 3), cu=lambda i, j, k: 9 * ((i, j, k) == (4, 4, 0)))
     plan = Plan.from_project(plan_folder(table, PROJECT))
-    assert [rule.differences for rule in looked_at(plan)] == [()] * 10
+    assert [rule.differences for rule in looked_at(plan)] == [()] * 11
     blocks = pd.read_csv(plan.project.folder / "tables/blocks.csv")
     assert (blocks.loc[blocks["tonnes"] == 0, "revenue_factor"] == 0).any() and (
         blocks["revenue_factor"] == 0.5
@@ -527,7 +529,7 @@ def test_amounts_with_more_digits_than_floats_have_are_no_difference(plan_folder
         ("decimals = 2", f"decimals = {decimals}"),
     ]
     plan = Plan.from_project(plan_folder(deposit(), TEXT, *changes))
-    assert [rule.differences for rule in looked_at(plan)] == [()] * 10
+    assert [rule.differences for rule in looked_at(plan)] == [()] * 11
 
 
 @pytest.mark.parametrize(("more", "differs"), [("0.01", False), ("0.05", True)])
@@ -580,7 +582,7 @@ AREA = '[[constraints.areas]]\npolygon = "map.csv"\nexclude = '
 def test_areas_that_are_passed_over_are_found(plan_folder, tmp_path, monkeypatch, section, corners, first, count):
     pd.DataFrame(np.array(corners) + [600_000, 6_512_000], columns=["x", "y"]).to_csv(tmp_path / "map.csv", index=False)
     path = plan_folder(ore_everywhere(), PROJECT + "\n" + section)
-    assert [rule.differences for rule in looked_at(Plan.from_project(path))] == [()] * 10
+    assert [rule.differences for rule in looked_at(Plan.from_project(path))] == [()] * 11
     monkeypatch.setattr(constraints, "of_table", lambda *_: constraints.NOTHING)
     (rule,) = [rule for rule in looked_at(Plan.from_project(path)) if rule.differences]
     assert (rule.name, rule.count, len(rule.differences)) == ("fixed", count, min(count, 10))
@@ -604,7 +606,7 @@ def test_a_surface_that_is_passed_over_is_found(plan_folder, tmp_path, monkeypat
     plan = Plan.from_project(path)
     assert len(plan.fixed.forced) == 7 + 2 * 7
     # With the rule of the surface itself.
-    assert [rule.differences for rule in looked_at(plan)] == [()] * 11
+    assert [rule.differences for rule in looked_at(plan)] == [()] * 12
     monkeypatch.setattr(constraints, "of_table", lambda *_: constraints.NOTHING)
     (rule,) = [rule for rule in looked_at(Plan.from_project(path)) if rule.differences]
     assert (rule.name, rule.count, len(rule.differences)) == ("fixed", 7 + 2 * 7, 10)
@@ -676,7 +678,7 @@ def test_random_plans_are_right(plan_folder, seed, cutoff, discounting, shovels)
         ("mining_capacity = 1000\n", shovels),
     ]
     plan = Plan.from_project(plan_folder(table, TEXT, *changes))
-    assert [rule.differences for rule in looked_at(plan)] == [()] * 10
+    assert [rule.differences for rule in looked_at(plan)] == [()] * 11
 
 
 @pytest.mark.parametrize(

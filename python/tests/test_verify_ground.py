@@ -40,7 +40,7 @@ def absent_rule(path):
 
 def test_rock_of_cells_without_rows_is_that_of_the_project(plan_folder):
     path = plan_folder(holed(), PROJECT, ROCK)
-    assert [rule.differences for rule in looked_at(Plan.from_project(path))] == [()] * 10
+    assert [rule.differences for rule in looked_at(Plan.from_project(path))] == [()] * 11
     assert "is filled with 100 t and codes of the project" in absent_rule(path).holds
     assert Plan.from_project(path).blocks.query("name.str.startswith('absent')")["id"].tolist() == CELLS
 

@@ -88,7 +88,7 @@ def of_ground(table: Table, grid: Grid, project: Project) -> list[str]:
     """The lines that no grade alters: blocks, tonnes, extents, columns, and what was told by looking at the text."""
     columns, tonnes = project.table, table.frame[project.table.tonnes].to_numpy()
     lines = [
-        f"{table.source}: {len(table.frame):,} blocks in {grid.count:,} cells, {tonnes.sum():,.0f} tonnes in {rock_of(columns)}"
+        f"{table.source}: {len(table.frame):,} blocks in {grid.count:,} cells, {tonnes.sum():,.0f} t, tonnes from {rock_of(columns)}"
     ]
     lines += [turned_line(grid, project)] if grid.azimuth else []
     lines += [axis.line for axis in axes_of(grid, columns)]
@@ -128,7 +128,7 @@ def axes_of(grid: Grid, columns: TableColumns) -> list[Axis]:
 def rock_of(columns: TableColumns) -> str:
     """The column of tonnes, or those that make them, with units."""
     if columns.density is None:
-        return columns.tonnes
+        return f"column {columns.tonnes}"
     volume = f"{columns.volume} (m3)" if columns.volume else "the block size"
     volume = f"the volume of {', '.join(columns.rules.cell_size)}" if columns.rules.cell_size else volume
     return f"{columns.density} (t/m3) times {volume}"

@@ -41,12 +41,13 @@ class Argument:
 
 @dataclass(frozen=True)
 class Option:
-    """An option: its spellings, what it does, the value that it takes, if any, and whether it may be repeated."""
+    """An option: its spellings, what it does, the value that it takes, if any, and whether it may be repeated or must be given."""
 
     spellings: tuple[str, ...]
     help: str
     value: Argument | None
     repeats: bool
+    required: bool
 
 
 @dataclass(frozen=True)
@@ -103,6 +104,7 @@ def options_of(top: Parser) -> tuple[Option, ...]:
             help_of(action),
             None if action.nargs == 0 else argument_of(action),
             isinstance(action, argparse._AppendAction),
+            action.required,
         )
         for action in top._actions
         if action.option_strings

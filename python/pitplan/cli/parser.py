@@ -127,20 +127,18 @@ def add_serve(subs: Subparsers) -> None:
 
 
 def add_init(subs: Subparsers) -> None:
-    sub = subs.add("init", "write a project for a table of blocks, with each guess marked", subcommands.init)
-    sub.add_argument("table", type=Path, help="block model (.csv, .csv.gz, .zip, .omf, .dm)")
-    sub.add_argument(
-        "--out", type=Path, metavar="FILE", help="project to write (default: project.toml next to the table)"
-    )
-    sub.add_argument(
-        "--figures",
-        action="store_true",
-        help="draw histograms of grades and density, a plan and a section, next to the project",
-    )
+    more = "The project runs without editing. Exports of Vulcan, Datamine, Surpac and Leapfrog are recognised. Print a table of the columns, their nulls, and warnings."
+    sub = subs.add("init", "write a project for a block model, with each guess marked", subcommands.init, more)
+    text = "block model (.csv, .csv.gz, .zip, .omf, .dm)"
+    sub.add_argument("table", type=Path, metavar="TABLE", help=text)
+    text = "write the project to this file (default: project.toml next to the table)"
+    sub.add_argument("--out", type=Path, metavar="FILE", help=text)
+    text = "draw histograms of grades and density, a plan and a section, next to the project"
+    sub.add_argument("--figures", action="store_true", help=text)
 
 
 def add_check(subs: Subparsers) -> None:
-    more = "Print what prepare notes, and write nothing."
+    more = "Print the notes of a run, and write nothing."
     sub = subs.add("check", "read and validate a project and its files, without solving", subcommands.check, more)
     add_project(sub)
     add_set(sub)
@@ -148,13 +146,13 @@ def add_check(subs: Subparsers) -> None:
 
 
 def add_completion(subs: Subparsers) -> None:
-    more = 'For bash: eval "$(pitplan completion bash)".'
-    sub = subs.add("completion", "print the script by which a shell completes pitplan", subcommands.completion, more)
-    sub.add_argument("shell", choices=SHELLS, help="shell that completes")
+    more = 'The packages install it; otherwise, in bash: eval "$(pitplan completion bash)".'
+    sub = subs.add("completion", "print the completion script of a shell", subcommands.completion, more)
+    sub.add_argument("shell", choices=SHELLS, help="shell that reads the script")
 
 
 def add_prepare(subs: Subparsers) -> None:
-    more = "It lists what was rounded, dropped and clipped."
+    more = "plan.json counts what was rounded, removed and clipped."
     sub = subs.add(
         "prepare", "write the solver's input files and plan.json, without solving", subcommands.prepare, more
     )
@@ -176,22 +174,19 @@ def add_shells(subs: Subparsers) -> None:
 
 
 def add_pit(subs: Subparsers) -> None:
-    sub = subs.add(
-        "pit",
-        "solve the pit of one revenue factor with the constraints and without, and compare the two",
-        subcommands.pit,
-    )
+    more = "Compare the two pits: the difference in value is the cost of the constraints."
+    sub = subs.add("pit", "solve one pit with the constraints and without", subcommands.pit, more)
     add_project(sub)
     add_set(sub)
     add_out(sub, "pit in the project's output folder")
     add_writing(sub)
     add_json(sub)
     add_solver(sub)
-    add_factor(sub)
+    add_factor(sub, "solve")
 
 
 def add_pushbacks(subs: Subparsers) -> None:
-    does = "divide the pit of one revenue factor into pushbacks; write tables, figures and the report"
+    does = "divide a pit into pushbacks; write tables, figures and the report"
     sub = subs.add("pushbacks", does, subcommands.pushbacks)
     add_project(sub)
     add_set(sub)
@@ -203,8 +198,8 @@ def add_pushbacks(subs: Subparsers) -> None:
 
 
 def add_schedule(subs: Subparsers) -> None:
-    more = "An interruption while programmes are solved ends these only, and the best schedule so far is written."
-    does = "schedule pushbacks or blocks by years; write tables, figures and the report"
+    more = "Write tables, figures and the report. Ctrl-C ends a programme that is being solved, and the best schedule so far is written."
+    does = "schedule pushbacks or blocks by year or period"
     sub = subs.add("schedule", does, subcommands.schedule, more)
     add_project(sub)
     add_set(sub)
@@ -213,15 +208,18 @@ def add_schedule(subs: Subparsers) -> None:
     add_json(sub)
     add_figures(sub)
     add_solver(sub)
-    text = "schedule the benches of pushbacks (pushback), or single blocks with an upper bound on the NPV of all such schedules (block)"
+    text = "schedule the benches of pushbacks (pushback), or single blocks (block), each with an upper bound on the NPV"
     sub.add_argument("--by", choices=("pushback", "block"), default="pushback", help=f"{text} (default: pushback)")
-    text = "write the certificate of the schedule, of which pitschedule proves value and bound if it is installed"
+    text = "write problem, schedule and prices of its limits into the folder certificate; pitschedule proves value and bound if it is installed"
     sub.add_argument("--certificate", action="store_true", help=text)
 
 
 def add_sensitivity(subs: Subparsers) -> None:
-    more = "Draw tornado and spider plots. A case that has an answer in the folder is not solved again."
-    does = "vary price, cost, recovery, slope angle and capacity, and compare the selected pit shell"
+    more = (
+        "Find the selected shell of each case. Draw tornado and spider plots, and the hill of value if the project has one. "
+        "Cases that the folder has already are not solved again."
+    )
+    does = "vary prices, costs, recoveries, slope angles and capacities"
     sub = subs.add("sensitivity", does, subcommands.sensitivity, more)
     add_project(sub)
     add_set(sub)
@@ -230,42 +228,46 @@ def add_sensitivity(subs: Subparsers) -> None:
     add_json(sub)
     add_figures(sub)
     add_solver(sub)
-    text = "solve the cases on local (processes of this machine, by Dask) or tcp://host:port (a Dask scheduler) (default: processes of this machine without Dask, one for each processor)"
+    text = "solve the cases on local (processes of this machine, by Dask) or tcp://host:port (a Dask scheduler) (default: one process for each processor, without Dask)"
     sub.add_argument("--on", type=scheduler_of, metavar="WHERE", help=text)
     add_workers(sub)
 
 
 def add_compare(subs: Subparsers) -> None:
-    more = "The first folder is the base. Each changed input is applied in turn, and the plan is made again for the bridge of NPV."
-    sub = subs.add("compare", "compare runs: inputs, results, periods, and a bridge of NPV", subcommands.compare, more)
-    text = "folders of pitplan shells or of pitplan schedule"
+    more = "The first folder is the base. For the bridge each changed input is applied in turn, and the plan is made again."
+    sub = subs.add("compare", "compare runs: inputs, results, periods, and an NPV bridge", subcommands.compare, more)
+    text = "output folders of shells, or of schedule; the first is the base"
     sub.add_argument("folders", type=Path, nargs="+", metavar="FOLDER", help=text)
     add_out(sub, "comparison next to the first folder")
     add_quiet(sub)
     add_json(sub)
     add_figures(sub)
-    sub.add_argument("--no-bridge", action="store_true", help="compare what is written, and run nothing")
+    text = "skip the independent recalculation of the steps of the bridge"
+    sub.add_argument("--no-verify", action="store_true", help=text)
+    text = "compare the tables only, and run nothing; inputs may have changed since"
+    sub.add_argument("--no-bridge", action="store_true", help=text)
 
 
 def add_scenarios(subs: Subparsers) -> None:
-    does = "solve realisations of the grades at several prices: inclusion probabilities, or schedules"
-    sub = subs.add("scenarios", does, subcommands.scenarios)
-    sub.add_argument("project", type=Path, metavar="PROJECT", help="project.toml, with [scenarios]")
+    more = "Write inclusion probabilities, or with --by block a schedule of each scenario and one common schedule."
+    does = "solve realisations of the grades at several price decks"
+    sub = subs.add("scenarios", does, subcommands.scenarios, more)
+    add_project(sub)
     add_set(sub)
     add_out(sub, "scenarios in the project's output folder, or block_scenarios")
     add_writing(sub)
     add_figures(sub)
     add_solver(sub)
-    text = "find the pits of each scenario (pit), or schedule its blocks and make one schedule for all (block) (default: pit)"
+    text = "solve the pits of each scenario (pit), or schedule its blocks and make one schedule for all (block) (default: pit)"
     sub.add_argument("--by", choices=("pit", "block"), default="pit", help=text)
-    text = "solve on local (processes of this machine, by Dask) or tcp://host:port (a Dask scheduler), or write lists of jobs for slurm or "
+    text = "solve on local (processes of this machine) or tcp://host:port (a Dask scheduler), or write lists of jobs for slurm or "
     sub.add_argument("--on", default="local", type=where_of, metavar="WHERE", help=f"{text}parallel (default: local)")
     add_workers(sub)
     add_gathering(sub)
 
 
 def add_gather(subs: Subparsers) -> None:
-    sub = subs.add("gather", "write tables and figures of scenarios that others have solved", subcommands.gather)
+    sub = subs.add("gather", "write tables and figures of scenarios that jobs have solved", subcommands.gather)
     add_folder(sub, "folder that pitplan scenarios wrote")
     add_writing(sub)
     add_figures(sub)
@@ -287,50 +289,53 @@ def add_report(subs: Subparsers) -> None:
     sub = subs.add("report", "write the report again, with the sensitivity that was run since", subcommands.report)
     add_folder(sub, PLAN_FOLDER)
     add_quiet(sub)
-    text = "folder of the sensitivity that the report shows (default: sensitivity in the project's output folder, if its inputs are the same)"
+    text = "show the sensitivity in this folder (default: sensitivity in the project's output folder, if its inputs are the same)"
     sub.add_argument("--sensitivity", type=Path, metavar="FOLDER", help=text)
 
 
 def add_view(subs: Subparsers) -> None:
-    sub = subs.add("view", "write a page that shows the shells in 3D (requires libjs-three)", subcommands.view)
+    more = "It shows shells, pushbacks and years, with sections, and the row of a block that you click. Requires libjs-three."
+    sub = subs.add("view", "write an interactive 3D page of a plan", subcommands.view, more)
     add_folder(sub, PLAN_FOLDER)
-    sub.add_argument("--out", type=Path, metavar="FILE", help="page to write (default: view.html in FOLDER)")
+    sub.add_argument(
+        "--out", type=Path, metavar="FILE", help="write the page to this file (default: view.html in FOLDER)"
+    )
     add_quiet(sub)
 
 
 def add_export(subs: Subparsers) -> None:
-    sub = subs.add("export", "write the shells for other programs", subcommands.export)
+    sub = subs.add("export", "write pits, pushbacks or years for other programs", subcommands.export)
     add_folder(sub, PLAN_FOLDER)
-    text = (
-        "file to write, or the folder for stl and obj of pushbacks or years (default: in FOLDER, named by the format)"
-    )
+    text = "write to this file, or for stl and obj of pushbacks or years into this folder (default: in FOLDER, named by the format)"
     sub.add_argument("--out", type=Path, metavar="PLACE", help=text)
     add_quiet(sub)
-    text = "format; table is the planner's own table with the revenue factor, pushback and year of each block"
-    sub.add_argument("--to", required=True, choices=FORMATS, help=text)
-    add_factor(sub)
-    text = "export the pit of one revenue factor, or all pushbacks (pushback) or years (default: revenue_factor)"
+    text = "your own table with the revenue factor, pushback and year of each block"
+    text = f"write this format: {FORMATS[0]} ({text}), {', '.join(FORMATS[1:-1])} or {FORMATS[-1]}"
+    sub.add_argument("--to", required=True, choices=FORMATS, metavar="FORMAT", help=text)
+    add_factor(sub, "export")
+    text = "export the pit of --revenue-factor (revenue_factor), or the pit at the end of each pushback or year (default: revenue_factor)"
     sub.add_argument("--of", choices=STAGES, default=STAGES[0], help=text)
-    text = "export the mined blocks (pit), or the open surface of the ground with the pit in it (ground) (default: pit)"
+    text = "with dxf, stl and obj: export the mined blocks (pit), or the open surface of the ground with the pit in it (ground) (default: pit)"
     sub.add_argument("--surface", choices=SURFACES, default=SURFACES[0], help=text)
-    sub.add_argument("--smooth", action="store_true", help="smooth the steps of blocks; requires --surface ground")
+    text = "smooth the steps of blocks by half a block at most; requires --surface ground"
+    sub.add_argument("--smooth", action="store_true", help=text)
 
 
 def add_audit(subs: Subparsers) -> None:
-    sub = subs.add("audit", "write a folder by which others can check one shell", subcommands.audit)
+    sub = subs.add("audit", "write a folder with which others can check one shell", subcommands.audit)
     add_folder(sub, PLAN_FOLDER)
-    text = "folder to write (default: audit-FACTOR in FOLDER)"
+    text = "write this folder (default: audit-FACTOR in FOLDER)"
     sub.add_argument("--out", type=Path, metavar="TARGET", help=text)
     add_quiet(sub)
     sub.add_argument(
-        *REVENUE_FACTOR, type=factor_of, required=True, metavar="FACTOR", help="revenue factor of the shell"
+        *REVENUE_FACTOR, type=factor_of, required=True, metavar="FACTOR", help="write the shell of this revenue factor"
     )
 
 
 def add_verify(subs: Subparsers) -> None:
-    more = "The folder is one that shells, pit, pushbacks, schedule, sensitivity, scenarios or gather has written."
+    more = "Print the differences found; exit with status 1 if there are any."
     sub = subs.add("verify", "recalculate the results of a folder independently", subcommands.verify, more)
-    add_folder(sub, "folder of the plan, the sensitivity or the scenarios")
+    add_folder(sub, "output folder of shells, pit, pushbacks, schedule, sensitivity, scenarios or gather")
 
 
 def add_convert(subs: Subparsers) -> None:

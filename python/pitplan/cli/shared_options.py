@@ -14,7 +14,7 @@ REVENUE_FACTOR = ("--revenue-factor", "--rf")
 
 
 def add_project(sub: ArgumentParser) -> None:
-    sub.add_argument("project", type=Path, metavar="PROJECT", help="project.toml")
+    sub.add_argument("project", type=Path, metavar="PROJECT", help="project file (project.toml)")
 
 
 def add_folder(sub: ArgumentParser, text: str) -> None:
@@ -22,60 +22,56 @@ def add_folder(sub: ArgumentParser, text: str) -> None:
 
 
 def add_out(sub: ArgumentParser, default: str) -> None:
-    sub.add_argument("--out", type=Path, metavar="FOLDER", help=f"output folder (default: {default})")
+    sub.add_argument("--out", type=Path, metavar="FOLDER", help=f"write into this folder (default: {default})")
 
 
 def add_quiet(sub: ArgumentParser) -> None:
-    sub.add_argument("--quiet", action="store_true", help="print no progress on standard error")
+    sub.add_argument("--quiet", action="store_true", help="print no progress to standard error")
 
 
 def add_writing(sub: ArgumentParser) -> None:
     add_quiet(sub)
-    sub.add_argument("--no-verify", action="store_true", help="skip the independent recalculation of the results")
+    text = "skip the independent recalculation of the results; the report says so"
+    sub.add_argument("--no-verify", action="store_true", help=text)
 
 
 def add_figures(sub: ArgumentParser) -> None:
     sub.add_argument(
-        "--no-figures", action="store_true", help="draw no figures, and remove those of an earlier run in the folder"
+        "--no-figures", action="store_true", help="draw no figures, and remove those of an earlier run from the folder"
     )
 
 
 def add_json(sub: ArgumentParser) -> None:
-    text = "print the table as JSON, with unrounded numbers, and the path of the report or table"
+    text = "print the main table as JSON, unrounded, with the path of the report or table"
     sub.add_argument("--json", action="store_true", help=text)
 
 
 def add_set(sub: ArgumentParser) -> None:
-    text = (
-        "set a key of the project, for example economics.mining_cost=2.6 or metals.copper.price=9000 (may be repeated)"
-    )
+    text = "set a key of the project for this run, such as economics.mining_cost=2.6 or metals.copper.price=9000 (may be repeated)"
     sub.add_argument("--set", action="append", default=[], metavar="KEY=VALUE", help=text)
 
 
 def add_solver(sub: ArgumentParser) -> None:
-    default = "the one that PITSHELL_LIBRARY or PITSHELL names, otherwise the library if it is installed"
-    text = f"solve by the library, on arrays, or by the program, on files, which are kept (default: {default})"
+    default = "the one that PITSHELL_LIBRARY or PITSHELL names, otherwise the library if it is installed, otherwise the program"
+    text = f"solve with the library, in memory, or with the program, on files that it keeps; both give the same results (default: {default})"
     sub.add_argument("--solver", choices=SOLVERS, help=text)
 
 
-def add_factor(sub: ArgumentParser) -> None:
-    text = f"revenue factor of the pit, such as 0.80 (default: {factor_text(BASE_PRICE)}, the base price)"
+def add_factor(sub: ArgumentParser, verb: str) -> None:
+    default = f"{factor_text(BASE_PRICE)}, the base price"
+    text = f"{verb} the pit of this revenue factor, from 0 to 100 with at most three decimals (default: {default})"
     sub.add_argument(*REVENUE_FACTOR, type=factor_of, default=BASE_PRICE, metavar="FACTOR", help=text)
 
 
 def add_workers(sub: ArgumentParser) -> None:
-    sub.add_argument(
-        "--workers",
-        type=positive,
-        metavar="NUMBER",
-        help="number of processes of local (default: one for each processor)",
-    )
+    text = "use this number of processes with --on local, 1 or more (default: one per processor)"
+    sub.add_argument("--workers", type=positive, metavar="NUMBER", help=text)
 
 
 def add_gathering(sub: ArgumentParser) -> None:
-    text = "revenue factor of the shell whose probabilities are drawn (default: the project's selected one, otherwise 1.00)"
+    text = "draw the probabilities of the shell of this revenue factor; not by block (default: the project's selected one, otherwise 1.00)"
     sub.add_argument(*REVENUE_FACTOR, type=factor_of, metavar="FACTOR", help=text)
-    sub.add_argument("--partial", action="store_true", help="gather even if scenarios have no result")
+    sub.add_argument("--partial", action="store_true", help="write the tables even if some scenarios have no result")
 
 
 def where_of(text: str) -> str:

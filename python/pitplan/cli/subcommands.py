@@ -178,11 +178,9 @@ def compare(options: Namespace) -> int:
     from pitplan.results import names
 
     from ..commands.compare import compare as write_comparison
-    from ..commands.writing import Writing
     from .printing import print_frame, print_json
 
-    writing = Writing(progress_of(options), figures=False if options.no_figures else None)
-    found = write_comparison(options.folders, options.out, not options.no_bridge, writing)
+    found = write_comparison(options.folders, options.out, not options.no_bridge, writing_of(options))
     if options.json:
         print_json(found.results, found.folder / names.COMPARED_RESULTS)
         return 0

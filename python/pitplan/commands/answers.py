@@ -14,7 +14,7 @@ import pandas as pd
 from pitplan.core import layout
 from pitplan.core.progress import Progress
 from pitplan.core.revenue_factors import factor_text
-from pitplan.pits import shell_tables
+from pitplan.pits import grade_tonnage, shell_tables
 from pitplan.pushbacks import nested
 from pitplan.pushbacks.nested import Pushbacks
 from pitplan.report import html
@@ -62,10 +62,11 @@ class Answered:
 
 @dataclass(frozen=True)
 class Tables:
-    """The tables of shells and of years, and those of a schedule if there is one."""
+    """The tables of shells, of years and of grade-tonnage curves, and those of a schedule if there is one."""
 
     shells: pd.DataFrame
     years: pd.DataFrame
+    grade_tonnage: pd.DataFrame
     schedule: Optional[ScheduleTables] = None
 
 
@@ -136,11 +137,12 @@ def check_fixed(mine: Mine, solution: Solution, factor: float, progress: Progres
 def tables_of(answered: Answered) -> list[str]:
     """The names of the tables that an answer has."""
     found = [names.TABLE, names.SHELLS, names.YEARS, *([names.PUSHBACKS] if answered.pushbacks else [])]
+    found.append(names.GRADE_TONNAGE)
     found += [names.SCHEDULE, names.SCHEDULE_RECORD, names.WORKBOOK] if answered.schedule else []
     found += [names.BLOCK_SCHEDULE, names.BOUND, names.WORKBOOK] if answered.blocks else []
     found += names.OF_CERTIFICATE if answered.is_certified else []
     if answered.schedule or answered.blocks:
-        found += [names.METHODS, names.INVENTORY, names.CASH_FLOW, names.VALUATION, names.GRADE_TONNAGE]
+        found += [names.METHODS, names.INVENTORY, names.CASH_FLOW, names.VALUATION]
     if answered.schedule:
         found += [names.MATERIAL_FLOWS, names.FEED, names.CUTOFFS, names.LIMITS]
         found += [names.BOUND] if answered.schedule.optimum else []
@@ -150,8 +152,8 @@ def tables_of(answered: Answered) -> list[str]:
 
 
 def write_tables(answered: Answered, stage: Path) -> Tables:
-    """Writes the program's own answer, if it solved, blocks.csv, shells.csv, years.csv, of pushbacks pushbacks.csv, and the tables of a
-    schedule; returns the tables of shells and of years, and those of a schedule."""
+    """Writes the program's own answer, if it solved, blocks.csv, shells.csv, years.csv, grade_tonnage.csv, of pushbacks pushbacks.csv, and the
+    tables of a schedule; returns the tables of shells, of years and of curves, and those of a schedule."""
     plan, solution, pushbacks = answered.plan, answered.solution, answered.pushbacks
     more = None if pushbacks is None else pushbacks.mining_cost_added
     table, years = shell_tables.shells(plan, solution, more), shell_tables.years(plan, solution, more)
@@ -178,4 +180,21 @@ def write_tables(answered: Answered, stage: Path) -> Tables:
         write_csv(shown(found if pushbacks is None else with_outline(found, plan.project)), stage / name, plan.project)
     if pushbacks is not None:
         shown(nested.table(pushbacks)).to_csv(stage / names.PUSHBACKS, index=False)
-    return Tables(table, years, of_schedule)
+    curves = curves_of(answered, table)
+    shown(curves).to_csv(stage / names.GRADE_TONNAGE, index=False)
+    return Tables(table, years, curves, of_schedule)
+
+
+def curves_of(answered: Answered, shells: pd.DataFrame) -> pd.DataFrame:
+    """Returns the grade-tonnage curves of the model and the pit, and of pushbacks if there are any: by block of what is mined, otherwise without
+    pushbacks of the selected shell."""
+    plan, pushbacks = answered.plan, answered.pushbacks
+    if answered.blocks is not None:
+        from pitplan.scheduling.blocks import inventory
+
+        return inventory.grade_tonnage_table(answered.blocks)
+    if pushbacks is not None:
+        return grade_tonnage.of_pushbacks(pushbacks.plan, pushbacks.pushback, len(pushbacks.factors))
+    entry = answered.solution.entry[: plan.grid.count]
+    selected = shell_tables.selected_factor(shells, plan.project.shells)
+    return grade_tonnage.of_pit(plan, (entry > 0) & (entry <= selected))

@@ -2,22 +2,27 @@
 
 from __future__ import annotations
 
-from collections.abc import Sequence
+import warnings
+from collections.abc import Callable, Sequence
 from dataclasses import dataclass, field
 from pathlib import Path
+from tempfile import TemporaryDirectory
 from typing import Any, Optional
 
 import pandas as pd
 
+from pitplan.config.project import Project
 from pitplan.core import layout
 from pitplan.core.atomic_files import hash_of, hashes, staged, write_json
-from pitplan.errors import PlanError
+from pitplan.errors import PlanError, PlanWarning
 from pitplan.results import names
 from pitplan.results.rounding import shown
 from pitplan.studies.comparison import tables
 from pitplan.studies.comparison.bridge import Step, bridge
-from pitplan.studies.comparison.runs import Run, read_runs
+from pitplan.studies.comparison.runs import SCHEDULE, SHELLS, Run, read_runs
 
+from .audited import Rule, demand
+from .verify import verify
 from .writing import Place, Writing
 
 
@@ -69,7 +74,7 @@ def compare(
     folder : str or Path, optional
         Where the files go. Default: comparison next to the first folder.
     bridges : bool
-        Make the plan again with each changed input in turn.
+        Make a run with each changed input in turn, and verify it as the commands do.
     writing : Writing
         How they are written.
 
@@ -80,7 +85,8 @@ def compare(
     Raises
     ------
     PlanError
-        If there are fewer than two folders, one has no run of the kind of the first, a file of a run has changed, or with bridges an input.
+        If there are fewer than two folders, one has no run of the kind of the first, a file of a run has changed, or with bridges an input; or if a
+        result of a step differs from its recalculation.
     """
     places = [Path(it) for it in folders]
     if not 2 <= len(places) <= 1 + names.MOST_COMPARED:
@@ -89,13 +95,50 @@ def compare(
     target = places[0].resolve().parent / "comparison" if folder is None else Path(folder)
     if target.resolve() in {run.folder.resolve() for run in runs}:
         raise PlanError(f"{target}: is one of the runs: give another folder with --out")
+    made_by = Runs(runs[0].kind, writing.verifies)
     found: dict[str, list[Step]] = {}
     if bridges:
-        found = {run.name: bridge(runs[0], run, writing.progress) for run in runs[1:]}
+        found = {run.name: bridge(runs[0], run, made_by.npv, writing.progress) for run in runs[1:]}
+        demand(made_by.rules)
     steps = tables.bridges(runs[0], found) if bridges else None
     made = Comparison(runs, tables.results(runs), tables.inputs(runs), tables.periods(runs), steps, target)
     write(made, writing)
     return made
+
+
+@dataclass
+class Runs:
+    """The runs of the steps of bridges: of the kind that is compared, in folders that do not last.
+
+    Attributes
+    ----------
+    kind : str
+    verifies : bool
+        Recalculate the results of each independently.
+    rules : list of Rule
+        Those of all runs so far.
+    """
+
+    kind: str
+    verifies: bool
+    rules: list[Rule] = field(default_factory=list)
+
+    def npv(self, project: Project) -> float:
+        """Returns the NPV of a run of a project. Raises PlanError if it has no plan."""
+        from .schedule import write_block_schedule, write_schedule
+        from .shells import write_shells
+
+        writers: dict[str, Callable[..., Any]] = {SHELLS: write_shells, SCHEDULE: write_schedule}
+        by = writers.get(self.kind, write_block_schedule)
+        with TemporaryDirectory(prefix="pitplan-bridge-") as place, warnings.catch_warnings():
+            # The runs that are compared have had these warnings.
+            warnings.simplefilter("ignore", PlanWarning)
+            path, folder = Path(place) / "project.toml", Path(place) / "run"
+            path.write_text(project.to_toml(path.parent), encoding="utf-8")
+            by(path, folder, Writing(verifies=False, figures=False))
+            if self.verifies:
+                self.rules += verify(folder)
+            return read_runs([folder])[0].npv
 
 
 def write(made: Comparison, writing: Writing) -> None:

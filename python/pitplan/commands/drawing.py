@@ -22,7 +22,15 @@ from pitplan.figures import (
 from pitplan.figures.pit_by_pit import write_pit_by_pit
 from pitplan.figures.style import also_as, files_of
 
-from .writing import BLOCK_PICTURES, GEOLOGY_PICTURES, PICTURES, PRICE_PICTURES, PUSHBACK_PICTURES, SCHEDULE_PICTURES
+from .writing import (
+    BLOCK_PICTURES,
+    CURVE_PICTURES,
+    GEOLOGY_PICTURES,
+    PICTURES,
+    PRICE_PICTURES,
+    PUSHBACK_PICTURES,
+    SCHEDULE_PICTURES,
+)
 
 if TYPE_CHECKING:
     from .answers import Answered, Tables
@@ -76,6 +84,8 @@ def of_shells(answered: Answered, tables: Tables, chosen: float) -> Iterator[Dra
     kinds = geology.kinds_of(plan)
     if kinds:
         yield GEOLOGY_PICTURES["geology"], partial(geology.write_sections, scene, kinds)
+    curves = partial(grade_tonnage.write, tables.grade_tonnage, project.metals[0])
+    yield CURVE_PICTURES["grade_tonnage"], curves
 
 
 def of_pushbacks(answered: Answered) -> Iterator[Drawing]:
@@ -99,8 +109,5 @@ def of_any_schedule(answered: Answered, tables: Tables) -> Iterator[Drawing]:
     """Yields the figures of a schedule by block, and those of both kinds of schedules."""
     if answered.blocks is not None:
         yield BLOCK_PICTURES["block_schedule"], partial(block_schedule.write, answered.blocks)
-    if tables.schedule is not None:
-        metal = answered.plan.project.metals[0]
-        yield BLOCK_PICTURES["grade_tonnage"], partial(grade_tonnage.write, tables.schedule.grade_tonnage, metal)
-        if tables.schedule.prices is not None:
-            yield PRICE_PICTURES["price_paths"], partial(price_paths.write, tables.schedule.prices)
+    if tables.schedule is not None and tables.schedule.prices is not None:
+        yield PRICE_PICTURES["price_paths"], partial(price_paths.write, tables.schedule.prices)

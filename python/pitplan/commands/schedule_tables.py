@@ -33,7 +33,7 @@ class ScheduleTables:
     ----------
     method : str
         The method that is shown.
-    cash_flow, valuation, grade_tonnage : DataFrame
+    cash_flow, valuation : DataFrame
     flows : dict of str to DataFrame
         Tables of material by the names of their files and sheets, the inventory among them.
     prices : PriceScenarios, optional
@@ -43,7 +43,6 @@ class ScheduleTables:
     method: str
     cash_flow: pd.DataFrame
     valuation: pd.DataFrame
-    grade_tonnage: pd.DataFrame
     flows: dict[str, pd.DataFrame] = field(default_factory=dict)
     prices: Optional[PriceScenarios] = None
 
@@ -59,7 +58,6 @@ class ScheduleTables:
             write_csv(shown(table), stage / path, project)
         for name, table in self.flows.items():
             named(shown(table), project).to_csv(stage / layout.TABLES / f"{name}.csv", index=False)
-        shown(self.grade_tonnage).to_csv(stage / names.GRADE_TONNAGE, index=False)
         for path, table in self.price_tables.items():
             write_csv(shown(table), stage / path, project)
 
@@ -85,10 +83,10 @@ def of_pushbacks(schedule: YearlySchedule) -> ScheduleTables:
     flows[INVENTORY] = inventory.inventory_table(schedule)
     flows |= {"stockpiles": tables.stockpile_table(schedule)} if schedule.is_stocked else {}
     flows |= {"dumps": tables.dump_table(schedule)} if schedule.model.dumps else {}
-    curves, project = inventory.grade_tonnage_table(schedule), schedule.pushbacks.plan.project
+    project = schedule.pushbacks.plan.project
     found, method = finances(schedule), schedule.shown
     prices = priced(operations(schedule)[method], next(it for it in found if it.statement.method == method))
-    return ScheduleTables(method, *money(project, found), curves, flows, prices)
+    return ScheduleTables(method, *money(project, found), flows, prices)
 
 
 def of_blocks(blocks: ScheduledBlocks) -> ScheduleTables:
@@ -96,10 +94,10 @@ def of_blocks(blocks: ScheduledBlocks) -> ScheduleTables:
     from pitplan.scheduling.blocks import inventory
     from pitplan.scheduling.cash_flow.of_blocks import BlockOperation, finances
 
-    curves, project = inventory.grade_tonnage_table(blocks), blocks.planned.plan.project
+    project = blocks.planned.plan.project
     flows = {INVENTORY: inventory.inventory_table(blocks)}
     found = finances(blocks)
-    return ScheduleTables(BLOCK, *money(project, found), curves, flows, priced(BlockOperation(blocks), found[0]))
+    return ScheduleTables(BLOCK, *money(project, found), flows, priced(BlockOperation(blocks), found[0]))
 
 
 def priced(operation: Operation, finance: Finance) -> Optional[PriceScenarios]:

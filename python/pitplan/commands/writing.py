@@ -42,12 +42,16 @@ PICTURES = figures("pit_by_pit", "years", "plans", "sections")
 # With rock types or resource classes.
 GEOLOGY_PICTURES = figures("geology")
 PUSHBACK_PICTURES = figures("pushback_plans", "pushback_sections")
-SCHEDULE_PICTURES = figures("schedule_gantt", "schedule_tonnes", "schedule_value", "grade_tonnage")
+CURVE_PICTURES = figures("grade_tonnage")
+SCHEDULE_PICTURES = figures("schedule_gantt", "schedule_tonnes", "schedule_value")
 # With [price_paths].
 PRICE_PICTURES = figures("price_paths")
-BLOCK_PICTURES = figures("block_schedule", "grade_tonnage")
+BLOCK_PICTURES = figures("block_schedule")
 FIGURES = tuple(
-    (PICTURES | GEOLOGY_PICTURES | PUSHBACK_PICTURES | SCHEDULE_PICTURES | BLOCK_PICTURES | PRICE_PICTURES).values()
+    (
+        (PICTURES | GEOLOGY_PICTURES | CURVE_PICTURES | PUSHBACK_PICTURES)
+        | (SCHEDULE_PICTURES | BLOCK_PICTURES | PRICE_PICTURES)
+    ).values()
 )
 # The files that every run writes or removes.
 ALWAYS = (*mine_files.IN_FOLDER, names.RECORD, names.TABLE, project_writer.AS_RUN)

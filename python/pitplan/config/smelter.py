@@ -16,14 +16,18 @@ CHARGES = ("treatment_charge", "refining_charge", "freight")
 OF_CONCENTRATE = ("treatment_charge", "freight", "minimum_deduction", "penalties")
 # The terms apply to the metal of all processes.
 ALL = "all"
+# Whether price participation also credits the seller below the base.
+BOTH, ABOVE = "both", "above"
 
 
 @dataclass(frozen=True)
 class Participation:
-    """The smelter keeps a share of the price above a base, both in the unit of the metal's price."""
+    """The smelter keeps a share of the price above a base, and credits that share below it unless `applies` is "above"; in the unit of the metal's
+    price."""
 
     base: Decimal
     share: Decimal
+    applies: str = BOTH
 
 
 @dataclass(frozen=True)
@@ -165,7 +169,7 @@ def read_participation(section: Section) -> Participation:
     share = section.number("share", least=0)
     if share >= 1:
         raise section.wrong("share", f"found {share}, expected a share below 1, such as 0.1 for 10 %")
-    found = Participation(section.number("base", least=0), share)
+    found = Participation(section.number("base", least=0), share, section.choice("applies", (BOTH, ABOVE), BOTH))
     section.finish()
     return found
 

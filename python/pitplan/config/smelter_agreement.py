@@ -1,4 +1,4 @@
-"""Checks of `[metals.smelter]` against the processes and the prices by year of a project."""
+"""Checks of `[metals.smelter]` against the processes of a project."""
 
 from __future__ import annotations
 
@@ -15,7 +15,7 @@ if TYPE_CHECKING:
 
 
 def demand_smelters(project: Project) -> None:
-    """Raises PlanError if it is not clear by which terms a process sells a metal, or if prices by year cannot be applied to them."""
+    """Raises PlanError if it is not clear by which terms a process sells a metal."""
     for metal in project.metals:
         for why in wrong_processes(metal, metal.smelter, project) if metal.smelter else ():
             raise PlanError(f"{project.path}: [metals.smelter] processes of {metal.name}: {why}")
@@ -45,8 +45,3 @@ def wrong_processes(metal: Metal, terms: Smelter, project: Project) -> Iterator[
         yield "names a process twice"
     if set(recovering) <= set(terms.processes):
         yield f'names all that recover {metal.name}, so nothing is sold at selling_cost: give "{ALL}", and remove selling_cost'
-    if metal.prices or any(metal.name in it.prices for it in project.shells.calendar.periods):
-        yield (
-            f"terms of some processes cannot be combined with prices of {metal.name} by year: give one price, or list the {metal.name} of each "
-            "product as a metal of its own, with the same column"
-        )

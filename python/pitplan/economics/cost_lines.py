@@ -14,7 +14,7 @@ from pitplan.config.project import Project
 from pitplan.core.decimals import Exact
 
 from .block_values import Values
-from .period_costs import PROCESSING_COST, SELLING_COST, of_project
+from .period_costs import PROCESSING_COST, SELLING_COST, SMELTED, of_project
 from .process_routing import Way
 from .smelter_terms import PENALTIES, multiplied, net
 from .weighing import HAULAGE, MILLIONTHS, Rows
@@ -59,17 +59,19 @@ def cost_lines(frame: pd.DataFrame, grid: Grid, project: Project, values: Values
     return CostLines(mining, processing, np.asarray(rounding), tuple(of_processes))
 
 
-def multiplied_costs(
+def multiplied_amounts(
     frame: pd.DataFrame, grid: Grid, project: Project, values: Values
 ) -> dict[str, NDArray[np.float64]]:
-    """Returns the costs of ore that factors of periods multiply, by their amounts, of each whole cell in each process, shape (processes, cells).
+    """Returns what ore adds, besides recovered metal, to the amounts that prices or factors of periods multiply: of each whole cell in each
+    process, shape (processes, cells).
 
-    They are the processing cost, and the selling cost or the charges of smelters with penalties but without price participation; each only if
-    some period multiplies it.
+    They are the processing cost, and the selling cost or the charges of smelters with penalties but without price participation, each only if
+    some period multiplies it; and with prices by year the metal that is sold by smelter terms of some processes.
     """
     asked = of_project(project).of_ore
+    smelted = {name: smelted_of(project, values, name) for name in asked if name.startswith(SMELTED)}
     if not {PROCESSING_COST, SELLING_COST} & set(asked):
-        return {}
+        return smelted
     rows = Rows(frame, grid, project, "table", Exact.of_floats(frame[project.table.tonnes].to_numpy()))
     found: dict[str, list[NDArray[np.float64]]] = {PROCESSING_COST: [], SELLING_COST: []}
     for alone, way in zip(project.by_process, values.by_process):
@@ -79,7 +81,16 @@ def multiplied_costs(
             sold += lines.get(f"{PENALTIES} {metal.name}", 0.0)
         found[PROCESSING_COST].append(lines[PROCESSING])
         found[SELLING_COST].append(sold)
-    return {name: np.stack(costs) for name, costs in found.items() if name in asked}
+    return smelted | {name: np.stack(costs) for name, costs in found.items() if name in asked}
+
+
+def smelted_of(project: Project, values: Values, name: str) -> NDArray[np.float64]:
+    """Returns the recovered metal of cells in the processes that sell it by smelter terms, 0 in the others, shape (processes, cells)."""
+    metal, found = name.removeprefix(SMELTED), []
+    for alone, way in zip(project.by_process, values.by_process):
+        is_sold = any(it.smelter for it in alone.metals if it.name == metal)
+        found.append(np.where(is_sold & (way.revenue > 0), way.metal[metal], 0.0))
+    return np.stack(found)
 
 
 def of_process(rows: Rows, values: Values, way: Way) -> Lines:

@@ -2,7 +2,7 @@
 
 from __future__ import annotations
 
-from dataclasses import dataclass, field
+from dataclasses import dataclass, field, replace
 from decimal import Decimal
 
 import numpy as np
@@ -16,6 +16,8 @@ from .smelter_terms import multiplied, net
 # The amounts of money that factors of periods multiply, and by which they are among the premiums.
 MINING_COST, PROCESSING_COST, SELLING_COST = "mining_cost", "processing_cost", "selling_cost"
 COSTS = (MINING_COST, PROCESSING_COST, SELLING_COST)
+# The beginning of the amount of a metal that is sold by smelter terms of some processes.
+SMELTED = "smelted_"
 
 
 @dataclass(frozen=True)
@@ -30,7 +32,8 @@ class YearlyMoney:
         Period, from 1, and the amount that is spent at its start if the mine still runs, in the currency.
     premiums : dict of str to tuple
         By amount of metal, what a unit of it earns beyond the base price, less royalty and price participation, in each year from 1; the last one
-        continues. By cost that a factor multiplies, what a unit of it saves: 1 less the factor of the year.
+        continues. With smelter terms of some processes that of `recovered_METAL` is at the selling cost, and `smelted_METAL` has what the terms add
+        to it. By cost that a factor multiplies, what a unit of it saves: 1 less the factor of the year.
     net_prices, charges : dict of str to tuple
         By amount of metal, what a unit of it earns in each process at the base price, less royalty and selling cost or smelter charges; and of these
         what a factor of selling costs multiplies.
@@ -94,13 +97,7 @@ PLAIN = YearlyMoney()
 
 def of_project(project: Project) -> YearlyMoney:
     money, calendar = project.economics, project.shells.calendar
-    premiums = {}
-    # Terms that differ by process are refused with prices by year, so each premium holds for all processes.
-    for metal in project.metals:
-        base = net_price(metal, money.royalty)
-        more = [net(metal, price, money.royalty) - base for price in yearly_prices(project, metal)]
-        if metal.prices or any(more):
-            premiums[f"recovered_{metal.name}"] = tuple(map(float, more))
+    premiums = {name: more for metal in project.metals for name, more in premiums_of(project, metal).items()}
     premiums |= savings(calendar)
     capex = calendar.capex or money.capex
     per_year = calendar.by_year(lambda it: it.fixed_cost_per_year, money.fixed_cost_per_year)
@@ -112,6 +109,28 @@ def of_project(project: Project) -> YearlyMoney:
         charges[f"recovered_{metal.name}"] = tuple(float(multiplied(it)) for it in sold)
     spent = tuple((year, float(amount)) for year, amount in capex)
     return YearlyMoney(tuple(fixed), spent, premiums, net_prices, charges)
+
+
+def premiums_of(project: Project, metal: Metal) -> dict[str, tuple[float, ...]]:
+    """Returns the premiums of the amounts of a metal; none if its price is the same in all years."""
+    royalty, prices = project.economics.royalty, yearly_prices(project, metal)
+
+    def more(sold: Metal) -> list[Decimal]:
+        return [net(sold, price, royalty) - net_price(sold, royalty) for price in prices]
+
+    if not metal.prices and all(price == metal.price for price in prices):
+        return {}
+    recovered = f"recovered_{metal.name}"
+    if metal.smelter is None or not metal.smelter.is_of_some:
+        return {recovered: tuple(map(float, more(metal)))}
+    plain = more(replace(metal, smelter=None))
+    added = (by_terms - at_cost for by_terms, at_cost in zip(more(metal), plain))
+    return {recovered: tuple(map(float, plain)), f"{SMELTED}{metal.name}": tuple(map(float, added))}
+
+
+def is_shown(name: str) -> bool:
+    """Whether tables of years have an amount; the others only serve to value it."""
+    return name not in COSTS and not name.startswith(SMELTED)
 
 
 def savings(calendar: Calendar) -> dict[str, tuple[float, ...]]:

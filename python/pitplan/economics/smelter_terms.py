@@ -9,7 +9,8 @@ from __future__ import annotations
 from decimal import ROUND_HALF_EVEN, Context, Decimal
 
 from pitplan.config.economics import GRADE_UNITS, PRICE_PLACES, Metal
-from pitplan.config.smelter import Penalty, Smelter
+from pitplan.config.smelter import ABOVE, BOTH, Participation, Penalty, Smelter
+from pitplan.errors import PlanError
 
 SELLING, TREATMENT, REFINING, PARTICIPATION, FREIGHT = "selling", "treatment", "refining", "participation", "freight"
 PENALTIES = "penalties"
@@ -59,16 +60,33 @@ def charges(metal: Metal, price: Decimal) -> dict[str, Decimal]:
     found = {TREATMENT: rounded(terms.treatment_charge * dry)} if terms.treatment_charge else {}
     found[REFINING] = rounded(share * metal.by_quantity(terms.refining_charge))
     if terms.price_participation:
-        above = max(Decimal(0), price - terms.price_participation.base)
+        above = shared(terms.price_participation, price)
         found[PARTICIPATION] = rounded(share * metal.by_quantity(above * terms.price_participation.share))
     if terms.freight:
         found[FREIGHT] = rounded(terms.freight / (1 - terms.moisture) * dry)
     return found
 
 
+def shared(rule: Participation, price: Decimal) -> Decimal:
+    """Returns the part of a price that the smelter shares: what is above the base, and below 0 what lacks to it if the rule applies to both."""
+    above = price - rule.base
+    return above if rule.applies == BOTH else max(Decimal(0), above)
+
+
 def charge(metal: Metal, price: Decimal) -> Decimal:
-    """Returns the sum of the charges."""
+    """Returns the sum of the charges; below 0 if price participation credits more than they are."""
     return sum(charges(metal, price).values(), Decimal(0))
+
+
+def charge_of_ore(metal: Metal) -> Decimal:
+    """Returns the charges at the base price, as a cost of ore. Raises PlanError if they are below 0."""
+    found = charge(metal, metal.price)
+    if found < 0 and metal.smelter and metal.smelter.price_participation:
+        raise PlanError(
+            f"[metals.smelter] price_participation of {metal.name}: at the price {metal.price} it credits more than all other charges, and leaves "
+            f'{found:.6g} per recovered {metal.quantity}: check base, {metal.smelter.price_participation.base}, and share, or set applies = "{ABOVE}"'
+        )
+    return found
 
 
 def multiplied(metal: Metal) -> Decimal:

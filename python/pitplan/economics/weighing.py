@@ -21,7 +21,7 @@ from . import recovery_curves
 from .haulage import Hauled, Roads
 from .process_routing import Way
 from .recovery_curves import Head
-from .smelter_terms import charge, paid, penalty_rates
+from .smelter_terms import charge_of_ore, paid, penalty_rates
 
 
 def reference_level(money: Economics, grid: Grid) -> int:
@@ -200,15 +200,15 @@ class Rows:
         Raises
         ------
         PlanError
-            If a rock type has no cost, an amount is 10^11 or more, or hauling ore is so much cheaper than waste that the processing cost falls below
-            0.
+            If a rock type has no cost, an amount is 10^11 or more, or hauling ore is so much cheaper than waste, or price participation credits so
+            much, that a cost falls below 0.
         """
         costs, metals = self.project.economics, self.project.metals
         metal = {m.name: self.recovered(m, feed) for m in metals}
         revenue = selling = self.every(Decimal(0))
         for m in metals:
             revenue = revenue.plus(metal[m.name].times(self.every(paid(m, m.price) * (1 - costs.royalty))))
-            selling = selling.plus(metal[m.name].times(self.every(charge(m, m.price))))
+            selling = selling.plus(metal[m.name].times(self.every(charge_of_ore(m))))
             selling = selling.plus(self.penalties(m, metal[m.name], feed))
         yields = np.array(revenue.whole > 0, dtype=bool)
         a_tonne = self.processing_rate(yields).plus(self.every(costs.royalty_per_tonne))

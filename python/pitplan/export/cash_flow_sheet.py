@@ -10,7 +10,10 @@ import pandas as pd
 
 from pitplan.config.economics import GRADE_UNITS, GRAMS, Metal
 from pitplan.config.project import Project
+from pitplan.config.smelter import BOTH
+from pitplan.economics.smelter_terms import concentrate, payable_share
 from pitplan.results.cash_flow_columns import CASH_FLOW
+from pitplan.scheduling import methods
 
 from .period_sheet import PLAIN, SAME, SUM, Line, PeriodSheet
 
@@ -52,7 +55,7 @@ class CashFlowSheet:
         """Returns the sheet."""
         method = self.table["method"].iloc[0]
         heads = (
-            f"{self.project.title}: cash flow of the schedule by {method}",
+            f"{self.project.title}: cash flow of the schedule, {methods.NAMES.get(method, 'by block')}",
             f"Costs, capex and tax are positive; money in {self.currency}. Totals, cash flows, unit costs, discount factors and NPVs are formulas.",
         )
         parts = (self.physicals(), self.revenue(), self.costs(), self.free(), self.unit_costs(), self.discounting())
@@ -122,9 +125,40 @@ class CashFlowSheet:
         yield from section("Revenue")
         yield from map(self.revenue_of, self.project.metals)
         yield self.sum("gross", "gross revenue", f"=SUM([revenue_{metals[0]}]:[revenue_{metals[-1]}])")
-        yield self.given("royalty")
-        yield from map(self.given, self.charges)
+        yield from self.royalty()
+        shared = {line.key: line for metal in self.project.metals for line in self.participation(metal)}
+        yield from (shared.get(column) or self.given(column) for column in self.charges)
         yield self.sum("net", "net revenue", f"=[gross]-SUM([royalty]:[{self.charges[-1]}])")
+
+    def royalty(self) -> Iterator[Line]:
+        """Yields the rates of the royalty, and the royalty as their product with revenue and mill feed."""
+        money, parts = self.project.economics, []
+        if money.royalty:
+            yield Line("royalty_rate", "royalty rate", "share of revenue", total=float(money.royalty), form=RATES)
+            parts.append("[royalty_rate!]*[gross]")
+        if money.royalty_per_tonne:
+            a_tonne = f"{self.currency}/t of feed"
+            yield Line(
+                "royalty_a_tonne", "royalty per tonne", a_tonne, total=float(money.royalty_per_tonne), form=PLAIN
+            )
+            parts.append("[royalty_a_tonne!]*[feed_tonnes]")
+        formula = f"={'+'.join(parts) or 0}"
+        yield Line("royalty", self.heading("royalty"), self.currency, formula=formula, total=SUM)
+
+    def participation(self, metal: Metal) -> Iterator[Line]:
+        """Yields the price participation of a smelter as a formula, if a line has the metal that it applies to."""
+        column, terms = f"participation_{metal.name}", metal.smelter
+        if terms is None or terms.price_participation is None:
+            return
+        rule, quantity = terms.price_participation, f"[payable_{metal.name}]"
+        if terms.is_of_some:
+            dry = concentrate(metal)
+            quantity = f"[concentrate_tonnes_{metal.name}]*{payable_share(metal) / dry}" if dry else ""
+        above = f"([price_{metal.name}]-{rule.base})"
+        above = above if rule.applies == BOTH else f"MAX(0,{above})"
+        if quantity:
+            formula = f"={rule.share}*{above}*{units_of(metal)}*{quantity}"
+            yield Line(column, self.heading(column), self.currency, formula=formula, total=SUM)
 
     def revenue_of(self, metal: Metal) -> Line:
         """Returns the revenue of a metal as the product of its quantity and its price."""

@@ -14,6 +14,7 @@ from pitplan.config.economics import GRADE_UNITS, Metal
 from pitplan.config.project import Project
 from pitplan.core.optional_packages import load
 from pitplan.plan import shown_name
+from pitplan.scheduling import methods
 
 from .period_sheet import put
 
@@ -112,7 +113,7 @@ class ReserveSheet:
 
     def rows(self) -> Iterator[Cells]:
         """Yields the cells of the sheet."""
-        yield [f"{self.project.title}: mill feed of the schedule by {self.method}"]
+        yield [f"{self.project.title}: mill feed of the schedule, {methods.NAMES.get(self.method, 'by block')}"]
         lay = f" {OPENING.capitalize()} lay on stockpiles at the start: pushback 0 of the sheet inventory."
         has_any = 0 in self.pushbacks
         said = "Sums over the sheet inventory. Ore excludes mill feed of inferred and unclassified material."

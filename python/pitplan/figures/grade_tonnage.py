@@ -15,7 +15,7 @@ from pitplan.config.economics import Metal
 from pitplan.pits.grade_tonnage import BREAK_EVEN, MARGINAL, MODEL, PIT
 
 from . import palette
-from .style import PLAIN, STYLE, WORST, finish, list_of
+from .style import PLAIN, SPECIFIED, STYLE, WORST, finish, list_of
 
 TITLES = {MODEL: "block model", PIT: "pit"}
 MARKS = {MARGINAL: ("marginal", ":"), BREAK_EVEN: ("break-even", "--")}
@@ -67,9 +67,13 @@ def plot_part(axis: Axes, table: pd.DataFrame, metal: Metal, colours: dict[str, 
 def mark(axis: Axes, table: pd.DataFrame) -> None:
     """Draws the least and the greatest cut-off of each kind over rock types, each in the process where it is least."""
     marks = table.loc[table["mark"] != "", ["mark", "cutoff_grade"]].drop_duplicates()
-    words = marks["mark"].str.split(" ", n=2, expand=True).reindex(columns=[0, 1, 2]).fillna("")
-    least = marks["cutoff_grade"].groupby([words[0], words[2]]).min()
+    marks[["kind", "process", "rock"]] = (
+        marks["mark"].str.split(" ", n=2, expand=True).reindex(columns=[0, 1, 2]).fillna("")
+    )
+    least = marks.sort_values("cutoff_grade").drop_duplicates(["kind", "rock"])
     for kind, (label, line) in MARKS.items():
-        grades = least[kind] if kind in least.index.get_level_values(0) else pd.Series(dtype=float)
-        for number, grade in enumerate(sorted({grades.min(), grades.max()}) if len(grades) else []):
-            axis.axvline(grade, color=WORST, linestyle=line, linewidth=1.0, label=label if number == 0 else None)
+        rows = least[least["kind"] == kind].iloc[[0, -1]] if (least["kind"] == kind).any() else least[:0]
+        for row, colour in zip(rows.drop_duplicates().itertuples(), (WORST, SPECIFIED)):
+            place = ", ".join(filter(None, (row.rock, row.process if marks["process"].nunique() > 1 else "")))
+            name = f"{label}: {place}" if place and marks["rock"].nunique() + marks["process"].nunique() > 2 else label
+            axis.axvline(row.cutoff_grade, color=colour, linestyle=line, linewidth=1.2, label=name)

@@ -30,7 +30,7 @@ ONE = "#a23b8f"
 
 
 def plot_metal(feed: pd.DataFrame, metal: Metal, calendar: Calendar, ax: Axes) -> Axes:
-    """Draws the recovered metal of each period in bars, a layer per process, and on a second axis the head grade of each process.
+    """Draws the recovered metal of each period in bars, a layer per process, and on a second axis the head grade of each process that recovers it.
 
     Parameters
     ----------
@@ -54,10 +54,12 @@ def plot_metal(feed: pd.DataFrame, metal: Metal, calendar: Calendar, ax: Axes) -
         high = shown[f"recovered_{metal.name}"].to_numpy() / size
         ax.bar(shown["year"], high, 0.8, bottom=below, color=colours[process], alpha=PALE, label=process, linewidth=0)
         below = below + high
+        if sums.any() and not high.any():
+            continue
         colour = ONE if len(processes) == 1 else colours[process]
         look: dict[str, Any] = {"marker": "o", "markersize": 3.5, "linewidth": 1.6, "path_effects": HALO}
         right.plot(shown["year"], shown[f"head_grade_{metal.name}"], color=colour, label="head grade", **look)
-    grades = feed[f"head_grade_{metal.name}"]
+    grades = pd.Series([grade for line in right.lines for grade in line.get_ydata()], dtype=float)
     right.set_ylim(0, 1.15 * grades.max() if grades.notna().any() and grades.max() > 0 else 1.0)
     right.set_ylabel(f"head grade (line), {metal.sign}")
     ax.set_ylim(0, 1.15 * float(below.max(initial=0.0)) or 1.0)

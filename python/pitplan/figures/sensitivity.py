@@ -18,6 +18,7 @@ from matplotlib.ticker import FuncFormatter
 from pitplan.core.magnitude import scaled
 from pitplan.figures.style import STYLE, finish
 from pitplan.results import names
+from pitplan.results.parameter_names import spoken
 
 LESS, MORE = "#c0504d", "#1f3f6e"
 COLOURS = ("#0072b2", "#d55e00", "#009e73", "#aa4499", "#b58900", "#555555", "#56b4e9", "#8b0000", "#6b8e23", "#000000")
@@ -40,11 +41,6 @@ def singles(table: pd.DataFrame) -> dict[str, pd.Series]:
         str(name): pd.concat([rows.set_index("change")["npv"], pd.Series({0.0: as_given})]).sort_index()
         for name, rows in alone.groupby("parameter", sort=False)
     }
-
-
-def spoken(name: str) -> str:
-    """Returns the name of a parameter in words."""
-    return name.replace("_", " ")
 
 
 def write_tornado(table: pd.DataFrame, currency: str, path: Path) -> None:

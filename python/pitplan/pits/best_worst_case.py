@@ -25,7 +25,7 @@ import pandas as pd
 from pitplan.config.economics import MOST_YEARS
 from pitplan.config.project import Project
 from pitplan.config.shells import ShellRules, SpecifiedCase
-from pitplan.economics.period_costs import COSTS, MINING_COST, PLAIN, YearlyMoney
+from pitplan.economics.period_costs import MINING_COST, PLAIN, YearlyMoney, is_shown
 from pitplan.errors import PlanError
 
 from .destinations import best_shares
@@ -228,7 +228,7 @@ class Terms:
     @property
     def shown(self) -> list[int]:
         """The numbers of the amounts that tables have, except the cash flow."""
-        return [k for k, name in enumerate(self.names[:CASH]) if name not in COSTS]
+        return [k for k, name in enumerate(self.names[:CASH]) if is_shown(name)]
 
     def earned(self, years: Years) -> Years:
         """Returns the years of a course with their period costs and discounted cash flow. A pit without material has no period costs."""

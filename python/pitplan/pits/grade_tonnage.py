@@ -61,6 +61,18 @@ def grade_tonnage(plan: Plan, parts: dict[str, Mask]) -> pd.DataFrame:
     return pd.DataFrame(rows)
 
 
+def of_pit(plan: Plan, pit: Mask) -> pd.DataFrame:
+    """Returns the curves of the model and of a pit, whose cells are given."""
+    return grade_tonnage(plan, {MODEL: np.ones(len(pit), dtype=bool), PIT: pit})
+
+
+def of_pushbacks(plan: Plan, pushback: NDArray[np.int64], count: int) -> pd.DataFrame:
+    """Returns the curves of the model, of the pit and of each of so many pushbacks, by the pushback of each cell from 1, 0 for none."""
+    parts = {MODEL: np.ones(len(pushback), dtype=bool), PIT: pushback > 0}
+    parts |= {f"pushback {number}": pushback == number for number in range(1, count + 1)}
+    return grade_tonnage(plan, parts)
+
+
 def classes_of(plan: Plan) -> dict[str, Mask]:
     """Returns by resource class whether each cell is of it."""
     column = plan.project.table.resource_class

@@ -160,7 +160,7 @@ def by_piece(plan: Plan, ore: OreCells, count: int) -> tuple[OreKinds, Floats]:
     amounts = [
         gains_of(plan, ore.cells) + dump_costs.of_cells(plan, ore.cells),
         *(np.stack([way.metal[name][ore.cells] for way in ways]) for name in plan.values.metal),
-        *(costs[:, ore.cells] for costs in plan.multiplied_costs.values()),
+        *(costs[:, ore.cells] for costs in plan.multiplied_amounts.values()),
     ]
     of_processes = np.stack([np.stack([summed(row) for row in rows], axis=-1) for rows in amounts], axis=1)
     return kinds, np.concatenate([summed(plan.values.feed[ore.cells]), of_processes.reshape(count, -1)], axis=1)
@@ -182,7 +182,7 @@ def kinds_of(plan: Plan, cells: NDArray[np.int64]) -> tuple[OreKinds, NDArray[np
         value[some] = np.searchsorted(edges_of(per_tonne[process, some], feed[some], BINS), per_tonne[process, some])
     keys, kind = np.unique(np.concatenate([pays, best, value[None]]).T.astype(np.int64), axis=0, return_inverse=True)
     masks = keys[:, :-1].astype(bool)
-    names = (*(f"recovered_{name}" for name in plan.values.metal), *plan.multiplied_costs)
+    names = (*(f"recovered_{name}" for name in plan.values.metal), *plan.multiplied_amounts)
     found = OreKinds(names, masks[:, : len(gain)], masks[:, len(gain) :], alike(gain))
     return found, kind.ravel().astype(np.int64)
 

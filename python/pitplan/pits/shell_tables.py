@@ -243,7 +243,7 @@ def costs_of_ore(plan: Plan, cells: Cells) -> dict[str, np.ndarray]:
     """The costs that factors of periods multiply, by their amounts, for each cell of ore in its best process."""
     return {
         name: np.where(cells.ore, np.choose(cells.best, list(costs)), 0.0)
-        for name, costs in plan.multiplied_costs.items()
+        for name, costs in plan.multiplied_amounts.items()
     }
 
 

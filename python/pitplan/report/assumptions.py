@@ -14,7 +14,7 @@ from pitplan.config.periods import MONTHS, Period
 from pitplan.config.project import Project
 from pitplan.config.shells import IN_WORDS
 from pitplan.config.slopes import DIP, Wall
-from pitplan.config.smelter import Smelter
+from pitplan.config.smelter import BOTH, Smelter
 from pitplan.config.stockpiles import STOCKPILE
 from pitplan.core.revenue_factors import factor_text
 
@@ -96,7 +96,7 @@ def of_processes(names: Sequence[str]) -> str:
 
 def smelter(metal: Metal, terms: Smelter, currency: str) -> Iterator[tuple[str, str]]:
     """Yields the smelter terms of a metal."""
-    less = f", less at least {number(terms.minimum_deduction)} {metal.sign}" if terms.minimum_deduction else ""
+    less = f", minimum deduction {number(terms.minimum_deduction)} {metal.sign}" if terms.minimum_deduction else ""
     some = of_processes(terms.processes) if isinstance(terms.processes, tuple) else ""
     yield f"payable {metal.name}", f"{percent(terms.payable)}{less}{some}"
     if terms.concentrate_grade is not None:
@@ -110,7 +110,8 @@ def smelter(metal: Metal, terms: Smelter, currency: str) -> Iterator[tuple[str, 
     }
     yield from ((name, f"{number(amount)} {unit}") for name, (amount, unit) in charges.items() if amount)
     if rule := terms.price_participation:
-        yield f"price participation of {metal.name}", f"{percent(rule.share)} above {number(rule.base)} {a_unit}"
+        where = "of the price above and below" if rule.applies == BOTH else "of the price above"
+        yield f"price participation of {metal.name}", f"{percent(rule.share)} {where} {number(rule.base)} {a_unit}"
     for penalty in terms.penalties:
         steps = ", ".join(f"{number(charge)} above {number(grade)}" for grade, charge in penalty.steps)
         per = f"{a_tonne} of dry concentrate for each {number(penalty.per)} of grade"

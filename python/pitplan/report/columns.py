@@ -18,6 +18,7 @@ from pitplan.core.magnitude import scaled
 from pitplan.core.revenue_factors import factor_text
 from pitplan.results import columns as schema
 from pitplan.results.column_types import GRADE, METAL, METRES, MONEY, SHARE, TEXT, TONNES, WHOLE_YEARS, Column, Table
+from pitplan.results.parameter_names import spoken
 
 TEMPLATES = Environment(
     loader=FileSystemLoader(Path(__file__).parents[1] / "templates"),
@@ -153,7 +154,7 @@ def of_cases(table: pd.DataFrame) -> pd.DataFrame:
 
 def cases_in_words(table: pd.DataFrame) -> list[str]:
     return [
-        ", ".join(f"{name.replace('_', ' ')} {100 * share:+g} %" for name, share in ((one, by), (other, also)) if name)
+        ", ".join(f"{spoken(name)} {100 * share:+g} %" for name, share in ((one, by), (other, also)) if name)
         or "base case"
         for one, by, other, also in zip(
             table["parameter"], table["change"], table["second_parameter"], table["second_change"]

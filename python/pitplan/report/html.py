@@ -17,7 +17,7 @@ from pitplan.config.project import Project
 from pitplan.config.sensitivity import SensitivityRules
 from pitplan.config.shells import IN_WORDS
 from pitplan.core.atomic_files import hash_of, read_json
-from pitplan.core.revenue_factors import BASE_PRICE, factor_text
+from pitplan.core.revenue_factors import BASE_PRICE
 from pitplan.errors import PlanError
 from pitplan.results import names
 from pitplan.results.conventions import OF_SHELLS
@@ -26,14 +26,15 @@ from pitplan.results.names import SENSITIVITY, SENSITIVITY_RECORD
 from pitplan.scheduling import methods
 from planaudit import NOT_VERIFIED
 
-from . import columns as report, statements, table_one
+from . import columns as report, key_results, statements, table_one
 from .assumptions import selected_shell, topics
 from .columns import TEMPLATES, Columns
+from .key_results import BY_BLOCK
+from .physicals import physicals
 from .risks import risks
 from .studies import of_hill, of_prices
-from .written import Figure, Written, picture, read_table
+from .written import Written, picture, read_table
 
-BY_BLOCK = "block"
 # The methods of schedules of pushbacks in words.
 METHODS = {name: methods.NAMES[name] for name in (methods.RULE, methods.LP, methods.MILP)}
 # The most columns that are legible on A4. A wider table is divided.
@@ -188,7 +189,7 @@ def of_answer(folder: Path, project: Project, record: dict[str, Any]) -> dict[st
         lambda factor: " ".join(["selected"] * (factor == chosen) + ["given"] * (factor == BASE_PRICE))
     )
     found: dict[str, Any] = {"shells": parts_of(shells, report.OF_SHELLS.of, project, marks)}
-    cases, figures = [*OF_SHELLS], of_shell(shells, chosen, project)
+    cases, figures = [*OF_SHELLS], key_results.of_shell(shells, chosen, project)
     if names.PUSHBACKS in record["files"]:
         found["pushbacks"] = parts_of(read_table(folder, names.PUSHBACKS), report.OF_PUSHBACKS.of, project)
     if names.METHODS in record["files"]:
@@ -201,15 +202,22 @@ def of_answer(folder: Path, project: Project, record: dict[str, Any]) -> dict[st
         )
         found["method"] = methods.NAMES.get(shown, shown)
         found["statements"] = statements.of_schedule(folder, project, record, shown)
-        # A schedule by block mines the pit at the base price, whichever shell is selected.
-        pit = BASE_PRICE if shown == BY_BLOCK else chosen
-        cases, figures = [shown], [*of_way(ways, shown, project), *grades(shells, pit, project)]
+        found["physicals"] = physicals_of(folder, project, shown) if found["statements"] else []
+        cases, figures = [shown], key_results.of_schedule(folder, project, shown)
     dug = years.frame[
         years.frame["case"].isin(cases)
         & ((years.frame["revenue_factor"] == chosen) | (years.frame["case"] == BY_BLOCK))
     ]
+    dug = dug.drop(columns="case") if dug["case"].nunique() == 1 else dug
     found["years"] = parts_of(Written(years.file, dug), report.OF_YEARS.of, project) if len(dug) else []
     return found | {"figures": figures}
+
+
+def physicals_of(folder: Path, project: Project, shown: str) -> list[dict[str, Any]]:
+    """Returns the tables of tonnes, grades and metal of a schedule by period."""
+    years = read_table(folder, names.YEARS)
+    mine = Written(years.file, years.frame[years.frame["case"] == shown])
+    return list(physicals(statements.only(read_table(folder, names.CASH_FLOW), shown), mine, project))
 
 
 def parts_of(
@@ -243,64 +251,6 @@ def part_of(table: Written, columns: Columns, marks: Optional[pd.Series]) -> dic
         cells = [{"text": text, "source": table.source(at, column[0])} for text, column in zip(texts, columns)]
         rows.append({"mark": "" if marks is None else marks[at], "cells": cells})
     return {"file": table.file, "headings": [heading for _, heading, _, _ in columns], "rows": rows}
-
-
-def of_shell(shells: Written, chosen: float, project: Project) -> list[Figure]:
-    """Returns the key results of a pit without a schedule."""
-    row = int(shells.frame.index[shells.frame["revenue_factor"] == chosen][0])
-    columns = {column[0]: column for column in report.OF_SHELLS.of(shells.frame.loc[[row]], project)}
-    names = {
-        "npv_best": "Net present value, best case",
-        "npv_worst": "Net present value, worst case",
-        "npv_specified": "Net present value, specified case",
-        "undiscounted_cash_flow": "Undiscounted cash flow",
-        "tonnes": "Total material",
-        "feed_tonnes": "Mill feed",
-        "strip_ratio": "Strip ratio, waste to in-situ ore",
-    }
-    found = [shells.figure(name, row, columns[column]) for column, name in names.items() if column in columns]
-    found += [*grades(shells, chosen, project), *recovered(shells, row, columns, project)]
-    return [*found, shells.figure("Life, best case", row, ("years", "life, years", 1.0, 1))]
-
-
-def grades(shells: Written, factor: float, project: Project) -> list[Figure]:
-    row = int(shells.frame.index[shells.frame["revenue_factor"] == factor][0])
-    return [
-        shells.figure(
-            f"{metal.name.capitalize()} head grade of the pit at revenue factor {factor_text(factor)}",
-            row,
-            (f"head_grade_{metal.name}", f"grade, {metal.sign}", 1.0, 3),
-        )
-        for metal in project.metals
-    ]
-
-
-def recovered(
-    table: Written, row: int, columns: dict[str, tuple[str, str, float, int]], project: Project
-) -> list[Figure]:
-    return [
-        table.figure(f"{metal.name.capitalize()} recovered", row, columns[f"recovered_{metal.name}"])
-        for metal in project.metals
-    ]
-
-
-def of_way(ways: Written, shown: str, project: Project) -> list[Figure]:
-    """Returns the key results of a schedule."""
-    row = int(ways.frame.index[ways.frame["method"] == shown][0])
-    only = ways.frame.loc[[row]]
-    columns = {
-        column[0]: column
-        for column in (report.OF_BLOCKS.of if shown == BY_BLOCK else report.OF_METHODS.of)(only, project)
-    }
-    bound = "Upper bound, any schedule by block" if shown == BY_BLOCK else "Upper bound, these pushbacks"
-    names = {"npv": "Net present value", "upper_bound": bound, "tonnes": "Total material", "feed_tonnes": "Mill feed"}
-    names |= {"unmined_tonnes": "Unmined material"} if "unmined_tonnes" in columns else {}
-    found = [ways.figure(name, row, columns[column]) for column, name in names.items()]
-    return [
-        *found,
-        *recovered(ways, row, columns, project),
-        ways.figure("Life", row, ("years", "life, years", 1.0, columns["years"][3])),
-    ]
 
 
 # Of the shells of a sensitivity.

@@ -8,6 +8,7 @@ from typing import Any
 from pitplan.config.project import Project
 from pitplan.core.magnitude import scaled
 from pitplan.results import names
+from pitplan.results.parameter_names import spoken
 
 from .written import picture, read_table
 
@@ -39,12 +40,12 @@ def of_hill(folder: Path, project: Project) -> dict[str, Any]:
         }
         for value, some in frame.sort_values("value").groupby("second_value")
     ]
-    headings = [other, *(f"{value:,.10g}" for value in sorted(frame["value"].unique()))]
+    headings = [spoken(other), *(f"{value:,.10g}" for value in sorted(frame["value"].unique()))]
     unit = f"{sign} {project.economics.currency}".strip()
     return {
         "picture": picture(figure) if figure.is_file() else "",
         "part": {"file": table.file, "headings": headings, "rows": rows},
-        "caption": f"Hill of value: NPV, {unit}, by {one} (columns) and {other} (rows)",
+        "caption": f"Hill of value: NPV, {unit}, by {spoken(one)} (columns) and {spoken(other)} (rows)",
     }
 
 

@@ -48,7 +48,7 @@ LINES = (
     Column(
         "participation_METAL",
         MONEY,
-        "the smelter's share of the price above its base",
+        "the smelter's share of the price above its base; below 0 what it credits below the base",
         "price participation METAL",
         WITH_SMELTER,
     ),

@@ -64,12 +64,12 @@ INVENTORY = Table(
 )
 GRADE_TONNAGE = Table(
     "grade_tonnage.csv",
-    "of a schedule: a row per part, resource class, metal and cut-off grade of that metal",
+    "of shells, pushbacks and schedules: a row per part, resource class, metal and cut-off grade of that metal",
     (
         Column(
             "part",
             TEXT,
-            "`model`: the blocks of `blocks.csv`; `pit`: all pushbacks, or by block what is mined; or a pushback",
+            "`model`: the blocks of `blocks.csv`; `pit`: the selected shell, all pushbacks, or by block what is mined; or a pushback",
             "part",
         ),
         Column("class", TEXT, "resource class; `all` without classes", "class"),

@@ -12,7 +12,7 @@ from pitplan.config.economics import GRADE_UNITS
 from pitplan.config.places import MILL, WASTE
 from pitplan.config.project import Project
 from pitplan.economics.smelter_terms import payable_share
-from pitplan.pits import grade_tonnage, shell_tables
+from pitplan.pits import shell_tables
 from pitplan.plan import shown_name
 
 from .pushback_schedule import YearlySchedule
@@ -103,11 +103,3 @@ def blocks_shares(schedule: YearlySchedule) -> dict[str, NDArray[np.float64]]:
         of_blocks = found[f"share_{name or MILL}"] = np.zeros(grid.count)
         of_blocks[material.cells] = shares[material.parcel]
     return {name: values.round(SHARE_PLACES) for name, values in found.items()}
-
-
-def grade_tonnage_table(schedule: YearlySchedule) -> pd.DataFrame:
-    """Returns grade-tonnage curves of the model, of the pit and of each pushback; see `pits.grade_tonnage`."""
-    pushback = schedule.pushbacks.pushback
-    parts = {grade_tonnage.MODEL: np.ones(len(pushback), dtype=bool), grade_tonnage.PIT: pushback > 0}
-    parts |= {f"pushback {number}": pushback == number for number in range(1, len(schedule.pushbacks.factors) + 1)}
-    return grade_tonnage.grade_tonnage(schedule.pushbacks.plan, parts)

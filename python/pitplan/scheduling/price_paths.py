@@ -21,6 +21,7 @@ from numpy.typing import NDArray
 from pitplan.config.economics import Metal
 from pitplan.config.price_paths import PricePath, PricePaths
 from pitplan.config.project import Project
+from pitplan.config.smelter import BOTH
 from pitplan.economics.smelter_terms import PARTICIPATION, charges, net
 
 from .cash_flow.finance import Finance
@@ -67,9 +68,9 @@ def net_at(metal: Metal, royalty: float, prices: Paths) -> Paths:
     at_zero, at_step = (float(net(plain, plain.price * 0 + price, plain.price * 0)) for price in (0, STEP))
     found = at_zero + (at_step - at_zero) / STEP * prices * (1 - royalty)
     if terms and terms.price_participation:
-        base = terms.price_participation.base
-        share = float(charges(metal, base + STEP)[PARTICIPATION]) / STEP
-        found = found - share * np.maximum(prices - float(base), 0.0)
+        rule = terms.price_participation
+        share, above = float(charges(metal, rule.base + STEP)[PARTICIPATION]) / STEP, prices - float(rule.base)
+        found = found - share * (above if rule.applies == BOTH else np.maximum(above, 0.0))
     return np.asarray(found)
 
 

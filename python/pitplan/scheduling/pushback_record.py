@@ -10,7 +10,7 @@ import scipy
 from pitplan.config.places import MILL
 
 from .flow.cutoffs import cutoffs
-from .methods import MILP, RULE
+from .methods import MILP, NAMES, RULE
 from .pushback_schedule import YearlySchedule
 
 
@@ -76,17 +76,20 @@ def notes(schedule: YearlySchedule) -> list[str]:
     elif schedule.milp_upper_bound is not None:
         found.append(f"upper bound of milp on schedules by these value bins: {schedule.milp_upper_bound:,.0f}")
     found += [schedule.certified.note] if schedule.certified else []
+    currency = schedule.pushbacks.plan.project.economics.currency
     for name, values in (cutoffs(schedule.flows[schedule.shown], schedule.names) or {}).items():
         told = ", ".join(f"{worth:.2f}" for worth in values)
         found.append(
-            f"{schedule.shown}: cut-off of {name or MILL} by {schedule.settings.calendar.word} (net value per tonne of feed): {told}"
+            f"{NAMES[schedule.shown]}: cut-off of {name or MILL} by {schedule.settings.calendar.word} (net value of a tonne of feed, {currency}): {told}"
         )
     if schedule.model.dumps and RULE not in schedule.flows and not schedule.model.asks_least:
         found.append("no schedule by rule: its waste finds no room in the dumps")
     for method in schedule.flows:
         rock = schedule.left(method)
         if not schedule.shares[method].any():
-            found.append(f"{method} mines nothing: at these prices and costs it finds no schedule with an NPV above 0")
+            found.append(
+                f"{NAMES[method]} mines nothing: at these prices and costs it finds no schedule with an NPV above 0"
+            )
         elif rock > 0.5:
-            found.append(f"{method}: {rock:,.0f} t of the pushbacks remain unmined")
+            found.append(f"{NAMES[method]}: {rock:,.0f} t of the pushbacks remain unmined")
     return found

@@ -223,7 +223,7 @@ def pattern_of(asked_wall: Wall, size: tuple[float, float, float], slopes: Slope
     cells = cone(wall.angles, size, levels, widened)
     angles = angles_of_cone(cells, size)
     said = (
-        " ".join(f"{angle:g} at {of_wall:g}" for of_wall, angle in asked_wall.angles) + of_dip
+        ", ".join(f"{angle:g} at {of_wall:g}" for of_wall, angle in asked_wall.angles) + of_dip
         if len(wall.angles) > 1
         else f"{wall.angles[0][1]:g}"
     )

@@ -143,10 +143,15 @@ class Penalty:
 
 @dataclass(frozen=True)
 class Participation:
-    """The share of the price above a base that the smelter keeps."""
+    """The share of the price above a base that the smelter keeps, and whether it credits the same share below it: both or above."""
 
     base: Decimal
     share: Decimal
+    applies: str
+
+    @property
+    def is_both_ways(self) -> bool:
+        return self.applies == "both"
 
 
 @dataclass(frozen=True)

@@ -278,10 +278,14 @@ def smelter_of(data: Data) -> Smelter:
         refining_charge=number(data.get("refining_charge", zero)),
         moisture=number(data.get("moisture", zero)),
         freight=number(data.get("freight", zero)),
-        price_participation=Participation(number(kept["base"]), number(kept["share"])) if kept else None,
+        price_participation=participation_of(kept) if kept else None,
         penalties=tuple(map(penalty_of, data.get("penalties", ()))),
         processes=tuple(named) if isinstance(named, list) else named,
     )
+
+
+def participation_of(data: Data) -> Participation:
+    return Participation(number(data["base"]), number(data["share"]), data.get("applies", "both"))
 
 
 def penalty_of(data: Data) -> Penalty:

@@ -5,11 +5,11 @@ from __future__ import annotations
 import numpy as np
 
 from planaudit.inputs.answer import Answer
-from planaudit.inputs.project import GRADE_UNITS, Metal
+from planaudit.inputs.project import GRADE_UNITS, Metal, Project
 from planaudit.money import smelter
 from planaudit.money.block_values import factors_of
 from planaudit.money.feed import by_code, recovered
-from planaudit.money.period_costs import PROCESSING, SELLING, differing
+from planaudit.money.period_costs import BY_TERMS, PROCESSING, SELLING, differing
 
 
 def charged(metal: Metal) -> float:
@@ -24,7 +24,8 @@ def charges(answer: Answer) -> dict[str, np.ndarray]:
 
 
 def of_blocks(answer: Answer) -> dict[str, np.ndarray]:
-    """Returns each cost that differs between periods of whole blocks in each process, shape (processes, rows); 0 without a revenue there."""
+    """Returns each cost that differs between periods of whole blocks in each process, shape (processes, rows), and the metal that each sells by
+    smelter terms of some processes, if its price differs; 0 without a revenue there."""
     names, found = differing(answer.project), {}
     if PROCESSING in names:
         adjusted = factors_of(answer, answer.project.economics.pcaf) * answer.feed
@@ -32,8 +33,19 @@ def of_blocks(answer: Answer) -> dict[str, np.ndarray]:
         found[PROCESSING] = np.stack([cost * adjusted for cost in costs])
     if SELLING in names:
         found[SELLING] = np.stack([selling(answer, number) for number in range(len(answer.project.by_process))])
+    for number, metal in enumerate(answer.project.metals):
+        if f"{BY_TERMS}{metal.name}" in names:
+            ways = answer.project.by_process
+            found[f"{BY_TERMS}{metal.name}"] = np.stack([by_terms(answer, way, number) for way in ways])
     takes = [answer.said[revenue].to_numpy() > 0 for revenue, _ in answer.amounts_of_ways]
-    return {name: costs * np.stack(takes) for name, costs in found.items()}
+    return {name: found[name] * np.stack(takes) for name in names}
+
+
+def by_terms(answer: Answer, way: Project, number: int) -> np.ndarray:
+    """Returns what a process recovers of a metal, by number, if it sells it to the smelter."""
+    metal = way.metals[number]
+    quantity = recovered(metal, answer.rows, way) * answer.undiluted * float(GRADE_UNITS[metal.unit])
+    return quantity * (metal.smelter is not None)
 
 
 def selling(answer: Answer, process: int) -> np.ndarray:

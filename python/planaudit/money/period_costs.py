@@ -2,6 +2,7 @@
 
 from __future__ import annotations
 
+from dataclasses import replace
 from decimal import Decimal
 
 import numpy as np
@@ -12,23 +13,41 @@ from planaudit.money.smelter import net
 HAIR = 1e-9
 # The costs of ore that periods multiply.
 PROCESSING, SELLING = "processing_cost", "selling_cost"
+# The beginning of the amount of a metal in the processes that its smelter terms name.
+BY_TERMS = "by_terms_"
 
 
 def premiums(project: Project, year: int) -> dict[str, float]:
     """Returns for each amount of metal the gain per unit in a year, from 1, over the base price, and for each cost of ore that differs between
-    periods what a unit of it saves."""
+    periods what a unit of it saves. What smelter terms of some processes gain besides is that of an amount of its own.
+    """
     found, royalty = {}, project.economics.royalty
     for metal in project.metals:
+        now = price_in(project, metal, year)
         if metal.prices or has_prices(project):
-            more = net(metal, price_in(project, metal, year), royalty) - net(metal, metal.price, royalty)
+            as_metal = replace(metal, smelter=None) if is_of_some(metal) else metal
+            more = net(as_metal, now, royalty) - net(as_metal, metal.price, royalty)
             found[f"recovered_{metal.name}"] = float(more)
-    return found | {cost: 1 - factor_in(project, cost, year) for cost in differing(project)}
+            if is_of_some(metal):
+                in_all = net(metal, now, royalty) - net(metal, metal.price, royalty)
+                found[f"{BY_TERMS}{metal.name}"] = float(in_all - more)
+    return found | {cost: 1 - factor_in(project, cost, year) for cost in dearer(project)}
 
 
-def differing(project: Project) -> list[str]:
+def is_of_some(metal: Metal) -> bool:
+    """Whether the smelter terms of a metal name processes."""
+    return metal.smelter is not None and isinstance(metal.smelter.processes, tuple)
+
+
+def dearer(project: Project) -> list[str]:
     """Returns the costs of ore that some period multiplies."""
     periods = project.shells.periods
     return [it for it in (PROCESSING, SELLING) if any(getattr(period, f"{it}_factor") != 1 for period in periods)]
+
+
+def differing(project: Project) -> list[str]:
+    """Returns the amounts of ore, besides recovered metal, by which years differ."""
+    return [name for name in premiums(project, 1) if not name.startswith("recovered_")]
 
 
 def factor_in(project: Project, cost: str, year: int) -> float:

@@ -63,8 +63,8 @@ def charged(metal: Metal, price: Decimal) -> dict[str, Decimal]:
         found["treatment_charge"] = to_twelve(dry * Fraction(terms.treatment_charge))
     found["refining_charge"] = to_twelve(share * Fraction(converted(metal, terms.refining_charge)))
     if terms.price_participation is not None:
-        base = terms.price_participation.base
-        more = terms.price_participation.share * (price - base) if price > base else Decimal(0)
+        rule = terms.price_participation
+        more = rule.share * (price - rule.base) if price > rule.base or rule.is_both_ways else Decimal(0)
         found[PARTICIPATION] = to_twelve(share * Fraction(converted(metal, more)))
     if terms.freight:
         wet = dry / (1 - Fraction(terms.moisture))

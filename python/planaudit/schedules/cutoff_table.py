@@ -16,7 +16,7 @@ from planaudit.inputs.project import GRADE_UNITS, ByDomain, Metal, Project
 from planaudit.inputs.tables import read_table
 from planaudit.money import ore_costs
 from planaudit.money.feed import by_grade
-from planaudit.money.period_costs import PROCESSING, SELLING, premiums
+from planaudit.money.period_costs import BY_TERMS, PROCESSING, SELLING, premiums
 from planaudit.money.smelter import net
 from planaudit.schedules.lots import MILL, BlockAmounts
 
@@ -103,7 +103,8 @@ def unlike(material: Material, row: dict[str, Any], cutoff: float) -> Iterator[s
         for name, premium in premiums(material.project, int(row["year"])).items()
     }
     for metal in material.metals:
-        more[metal.name] = more.get(metal.name, 0.0) + more.get(SELLING, 0.0) * ore_costs.charged(metal)
+        of_price = more.get(metal.name, 0.0) + more.get(f"{BY_TERMS}{metal.name}", 0.0)
+        more[metal.name] = of_price + more.get(SELLING, 0.0) * ore_costs.charged(metal)
     saved = more.get(PROCESSING, 0.0) * material.of(material.project.economics.processing_cost)
     costs = material.costs | {"cutoff_grade": material.costs["marginal_grade"] - saved + cutoff}
     for name, cost in costs.items():

@@ -1,4 +1,4 @@
-"""Verifies grade_tonnage.csv of a schedule: tonnes and metal above each cut-off, and what marked cut-offs earn."""
+"""Verifies grade_tonnage.csv: tonnes and metal above each cut-off, and what marked cut-offs earn."""
 
 from __future__ import annotations
 
@@ -15,8 +15,15 @@ from planaudit.rules import TOLD, Rule, rule
 from planaudit.schedules.cutoff_table import GRADE, MONEY, Material
 from planaudit.schedules.lots import MILL
 
+FILE_PATH = "tables/grade_tonnage.csv"
 FILE, TEXTS = "grade_tonnage.csv", ["part", "class", "metal", "mark"]
 AMOUNT = 0.6e-3
+
+
+def is_written(answer: Answer) -> bool:
+    """Whether the folder has the curves, which shells and pushbacks of earlier releases do not have. Those of schedules are verified with them."""
+    of_schedule = answer.is_by_block or answer.schedule is not None
+    return not of_schedule and (FILE_PATH in answer.record.get("files", {}) or (answer.folder / FILE_PATH).is_file())
 
 
 def verify(answer: Answer) -> Rule:
@@ -53,10 +60,14 @@ def unlike_curves(answer: Answer, said: pd.DataFrame) -> Iterator[str]:
 
 
 def parts_of(answer: Answer) -> dict[str, np.ndarray]:
-    """Returns by name the blocks of the model, of the pit, and of each pushback; by block the pit is what is mined."""
+    """Returns by name the blocks of the model, of the pit, and of each pushback. By block the pit is what is mined, and without pushbacks the
+    selected shell."""
     if answer.is_by_block:
         year = answer.said[YEAR].to_numpy()
         return {"model": year >= 0, "pit": year > 0}
+    if answer.pushbacks is None:
+        factor = answer.said["revenue_factor"].to_numpy()
+        return {"model": factor >= 0, "pit": (factor > 0) & (factor <= answer.record["shells"]["selected"])}
     pushback = answer.said[PUSHBACK].to_numpy()
     of_each = {f"pushback {number}": pushback == number for number in range(1, int(pushback.max()) + 1)}
     return {"model": pushback >= 0, "pit": pushback > 0} | of_each

@@ -13,7 +13,7 @@ import pandas as pd
 from planaudit.inputs.answer import Answer
 from planaudit.inputs.project import GRADE_UNITS, Stockpile
 from planaudit.inputs.tables import read_table
-from planaudit.money.period_costs import SELLING, premiums
+from planaudit.money.period_costs import BY_TERMS, SELLING, premiums
 from planaudit.rules import TOLD, Rule, rule
 from planaudit.schedules import cutoff_table, dumps, stockpiles
 from planaudit.schedules.lots import MILL, BlockAmounts
@@ -164,6 +164,8 @@ class MaterialFlow:
         if name.startswith("recovered_"):
             return self.recovered(name.removeprefix("recovered_"))
         found = self.by_process(name)
+        if name.startswith(BY_TERMS):
+            return found * self.recovery(name.removeprefix(BY_TERMS))
         for metal, charges in self.blocks.charges.items() if name == SELLING else ():
             lost = self.by_process(f"recovered_{metal}") - self.recovered(metal)
             found = found - lost * charges[np.maximum(self.process, 0)]

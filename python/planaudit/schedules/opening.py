@@ -15,7 +15,7 @@ from planaudit.inputs.matching import own_name
 from planaudit.inputs.project import GRADE_UNITS, Metal, Opening, Project, Stockpile
 from planaudit.money import ore_costs, smelter
 from planaudit.money.feed import by_code, recovered
-from planaudit.money.period_costs import PROCESSING, SELLING
+from planaudit.money.period_costs import BY_TERMS, PROCESSING, SELLING
 from planaudit.schedules.lots import BlockAmounts
 
 # Lots are of pushback and bin 0. The level of that of the first stockpile is FIRST, and falls.
@@ -131,6 +131,10 @@ class OpeningLots:
             return self.feed * taken
         if name.startswith("recovered_"):
             return self.recovered[name.removeprefix("recovered_")][process] * taken
+        if name.startswith(BY_TERMS):
+            sold = {it.name for it in self.project.by_process[process].metals if it.smelter}
+            metal = name.removeprefix(BY_TERMS)
+            return self.recovered[metal][process] * taken * (metal in sold)
         for it in self.blocks.sums:
             if name == f"sum_{it.name}" and it.of in ("feed", called):
                 return self.rows[it.column].to_numpy(dtype=float) * self.feed * taken

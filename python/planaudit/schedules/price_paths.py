@@ -14,7 +14,7 @@ from planaudit.inputs.project import Metal
 from planaudit.inputs.tables import read_table
 from planaudit.money.period_costs import price_in
 from planaudit.money.prices import converted
-from planaudit.money.smelter import all_charged, net, paid_share
+from planaudit.money.smelter import PARTICIPATION, charged, net, paid_share
 from planaudit.rules import TOLD, Rule, rule
 from planaudit.schedules.discounts import discount
 from planaudit.schedules.lots import MILL
@@ -104,11 +104,12 @@ def earned(metal: Metal, prices: np.ndarray, royalty: float) -> np.ndarray:
     unit = float(converted(metal, metal.price * 0 + 1))
     found = prices * unit * float(paid_share(metal)) * (1 - royalty)
     terms = metal.smelter
-    fixed = float(all_charged(metal, metal.price * 0))
+    fixed = float(sum(it for name, it in charged(metal, metal.price).items() if name != PARTICIPATION))
     if terms and terms.price_participation is not None:
         part = terms.price_participation
-        above = np.maximum(prices - float(part.base), 0.0) * float(part.share)
-        found = found - above * unit * float(paid_share(metal))
+        above = prices - float(part.base)
+        kept = np.where((above > 0) | part.is_both_ways, above * float(part.share), 0.0)
+        found = found - kept * unit * float(paid_share(metal))
     return np.asarray(found - fixed)
 
 

@@ -20,7 +20,7 @@ from scipy.sparse import coo_matrix
 from planaudit.inputs.answer import Answer
 from planaudit.inputs.project import Stockpile
 from planaudit.inputs.tables import TABLES, read_prices
-from planaudit.money.period_costs import SELLING, mining_factors, premiums
+from planaudit.money.period_costs import BY_TERMS, SELLING, mining_factors, premiums
 from planaudit.rules import Rule, rule
 from planaudit.schedules import dumps
 from planaudit.schedules.discounts import discount, present_costs
@@ -172,7 +172,7 @@ class Bound:
     ) -> np.ndarray:
         """What each block, or each of some lots, earns in a process in each year, directly or from a stockpile, less prices, shape (blocks, years)."""
         blocks, kept = lots or self.blocks, stockpile.recovery if stockpile else {}
-        shares = {f"recovered_{metal}": kept.get(metal, 1.0) for metal in self.blocks.net_prices}
+        shares = {f"{name}{metal}": share for metal, share in kept.items() for name in ("recovered_", BY_TERMS)}
         base = self.undiscounted(process, stockpile, lots)
         found = np.empty((len(blocks.feed), self.years))
         unsold = sum(

@@ -8,6 +8,7 @@ from conftest import PROJECT, rows
 from pitplan import Writing, verify, write_schedule
 from pitplan.commands.answers import Answered, write_tables
 from pitplan.core.layout import FOLDERS, SOLVER
+from pitplan.pits import shell_tables
 from pitplan.solver import mine_files
 
 # For runs whose folder the test verifies itself: the same rules need not run twice.
@@ -51,8 +52,9 @@ def looked_at(plan):
     for name in FOLDERS:
         (folder / name).mkdir(parents=True, exist_ok=True)
     record = plan.record(mine_files.write(plan, folder / SOLVER))
-    write_tables(Answered(plan, plan.shells().solution), folder)
-    record["shells"] = {"revenue_factors": list(plan.project.shells.revenue_factors)}
+    shells = write_tables(Answered(plan, plan.shells().solution), folder).shells
+    selected = shell_tables.selected_factor(shells, plan.project.shells)
+    record["shells"] = {"revenue_factors": list(plan.project.shells.revenue_factors), "selected": selected}
     record["project"] = os.path.relpath(plan.project.path, folder)
     (folder / "plan.json").write_text(json.dumps(record))
     return verify(folder)

@@ -12,6 +12,7 @@ from typing import Any
 import numpy as np
 from scipy.optimize import linprog
 
+from . import smelter
 from .mine import Mine, Place
 from .periods import factor_of, most_of, price_of, years_listed
 
@@ -22,10 +23,10 @@ Kind = tuple[tuple[int, ...], tuple[int, ...], int]
 BASE, BINS, MOST_WAITING = Fraction(1), 8, 3
 
 
-def premiums(mine: Mine, year: int) -> dict[str, Fraction]:
-    """What a unit of each metal gains in a year, from 1, above the base price, and what a unit of each cost of ore saves."""
+def premiums(mine: Mine, year: int, process: int = 0) -> dict[str, Fraction]:
+    """What a unit of each metal gains in a year, from 1, above the base price in a process, and what a unit of each cost of ore saves."""
     found = {}
-    for metal in mine.project["metals"]:
+    for metal in [smelter.sold_by(metal, mine.processes[process]) for metal in mine.project["metals"]]:
         found[metal["name"]] = mine.earned(metal, price_of(mine, metal, year)) - mine.earned(metal, metal["price"])
     return found | {cost: 1 - factor_of(mine, cost, year) for cost in ("processing_cost", "selling_cost")}
 
@@ -137,12 +138,14 @@ class Ore:
 
     def ship(self, year: int, amounts: Amounts, part: Fraction) -> Amounts:
         """What a year, from 1, feeds, recovers and gains at the base price, where its ore goes best at its own prices."""
-        more = premiums(self.mine, year)
+        more = [premiums(self.mine, year, k) for k in range(self.count)]
         kinds = [kind for kind in set(self.kinds.values()) if amounts.get(f"feed {kind}")]
         pairs = [(kind, k) for kind in kinds for k in kind[0]]
         gain = {
             pair: amounts[f"gain {pair[0]} {pair[1]}"]
-            + sum((price * amounts[f"{name} {pair[0]} {pair[1]}"] for name, price in more.items()), Fraction(0))
+            + sum(
+                (price * amounts[f"{name} {pair[0]} {pair[1]}"] for name, price in more[pair[1]].items()), Fraction(0)
+            )
             for pair in pairs
         }
         feed = {pair: amounts[f"feed {pair[0]}"] for pair in pairs}
@@ -154,9 +157,11 @@ class Ore:
                 f"process {k}": f"feed {kind}",
                 "gain": f"gain {kind} {k}",
             }
-            parts |= {f"recovered_{name}": f"{name} {kind} {k}" for name in more}
+            parts |= {f"recovered_{name}": f"{name} {kind} {k}" for name in more[k]}
             for name, of in parts.items():
                 found[name] = found.get(name, Fraction(0)) + amounts[of] * taken
+            premium = gain[kind, k] - amounts[f"gain {kind} {k}"]
+            found["premium"] = found.get("premium", Fraction(0)) + premium * taken
         return found
 
 

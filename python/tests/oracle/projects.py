@@ -163,7 +163,7 @@ def of_processes(rng: Random, before: str, text: str, several: int) -> str:
     if before == text:
         return text
     names = PROCESSES[0 if "percent" in text else 1 : several]
-    if len(names) < 2 or "\nprices" in text or rng.random() < 0.4:
+    if len(names) < 2 or rng.random() < 0.4:
         return text.replace("[metals.smelter]", '[metals.smelter]\nprocesses = "all"')
     some = rng.sample(names, rng.randint(1, len(names) - 1))
     costs = [line for line in before.splitlines() if line.startswith("selling_cost")] or ["selling_cost = 0.06"]
@@ -176,7 +176,10 @@ def smelter(rng: Random, text: str) -> str:
     price, grade = float(text.split("\nprice = ")[1].split("\n")[0]), "26.5" if "percent" in text else "41.7"
     terms = [f"concentrate_grade = {grade}", pick(rng, "", "payable = 0.965"), pick(rng, "", "minimum_deduction = 1.1")]
     terms += [pick(rng, "", "treatment_charge = 87.5"), pick(rng, "", f"refining_charge = {round(price * 0.02, 4)}")]
-    terms.append(pick(rng, "", f"price_participation = {{ base = {round(price * 0.9, 3)}, share = 0.07 }}"))
+    # Below the base only with a charge that exceeds the credit.
+    base = round(price * rng.choice([0.9, 1.05] if terms[-1] else [0.9]), 3)
+    applies = pick(rng, "", ', applies = "above"', ', applies = "both"')
+    terms.append(pick(rng, "", f"price_participation = {{ base = {base}, share = 0.07{applies} }}"))
     terms.append(pick(rng, "", "freight = 61.3", "freight = 61.3\nmoisture = 0.083"))
     kinds = (
         'column = "as_ppm"\nrecovery = 0.62\nsteps = [[900, 3], [2000, 5.5]]\nper = 100',
@@ -239,8 +242,7 @@ def periods(rng: Random, several: int, text: str) -> list[str]:
         lines.append(pick(rng, "", f"capacity = {{ leach = {most} }}" if several else f"processing_capacity = {most}"))
         lines.append(pick(rng, "", "mining_capacity = 5200" if "mining_capacity" in text else ""))
         prices = {"copper": 'price_per = "lb"' in text and 3.9 or 'price_per = "kg"' in text and 8.6 or 7300}
-        has_prices = "\nprices" in text or "\nprocesses = [" in text.partition('name = "gold"')[0]
-        lines.append("" if has_prices else pick(rng, "", f"prices = {{ copper = {prices['copper']} }}"))
+        lines.append("" if "\nprices" in text else pick(rng, "", f"prices = {{ copper = {prices['copper']} }}"))
         lines.append(pick(rng, "", "fixed_cost_per_year = 450"))
         lines.append(pick(rng, "", "mining_cost_factor = 1.25", "mining_cost_factor = 0.9"))
         lines.append(pick(rng, "", "", "processing_cost_factor = 1.2", "processing_cost_factor = 0.8"))

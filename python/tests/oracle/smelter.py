@@ -58,11 +58,12 @@ def charged(metal: Metal, price: Any, priced: Priced) -> Fraction:
 
 
 def participation(metal: Metal, price: Any, priced: Priced) -> Fraction:
-    """The smelter's share of a price above the base."""
+    """The smelter's share of a price above the base, which it credits below the base unless the terms say above."""
     rule = metal.get("smelter", {}).get("price_participation")
     if rule is None:
         return Fraction(0)
-    return rounded(paid_share(metal) * priced(metal, max(price - rule["base"], 0) * rule["share"]), PLACES)
+    above = price - rule["base"] if rule.get("applies") != "above" else max(price - rule["base"], 0)
+    return rounded(paid_share(metal) * priced(metal, above * rule["share"]), PLACES)
 
 
 def penalties(metal: Metal, quantity: Fraction, content: Callable[[str], Fraction]) -> Fraction:

@@ -148,6 +148,8 @@ def cash_of(mine: Mine, year: int, amounts: Amounts) -> Fraction:
     found = amounts.get(CASH, Fraction(0)) + (factor_of(mine, "mining_cost", year) - 1) * amounts.get(
         MINING, Fraction(0)
     )
+    if "premium" in amounts:
+        return found + amounts["premium"]
     for name, more in premiums(mine, year).items():
         found += amounts.get(f"recovered_{name}", 0) * more
     return found

@@ -168,7 +168,7 @@ def flows_of(plan: Plan) -> Flows:
     flows, rules = of_money(plan), plan.project.schedule
     if MINING_COST in of_project(plan.project).differing:
         flows[MINING_COST] = np.repeat(plan.values.mining[:, None] / MILLION, flows[CASH].shape[1], axis=1)
-    for name, costs in plan.multiplied_costs.items():
+    for name, costs in plan.multiplied_amounts.items():
         flows[name] = np.column_stack([np.zeros(plan.grid.count), *costs])
     return flows | {f"{SUM}{it.name}": sum_of(plan, it) for it in (rules.limits if rules else ())}
 

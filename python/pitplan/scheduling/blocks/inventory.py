@@ -67,5 +67,4 @@ def grade_tonnage_table(blocks: ScheduledBlocks) -> pd.DataFrame:
     planned, year = blocks.planned, blocks.found.schedule.year
     mined = np.zeros(planned.plan.grid.count, dtype=bool)
     mined[planned.cells[year < planned.problem.years]] = True
-    parts = {grade_tonnage.MODEL: np.ones(len(mined), dtype=bool), grade_tonnage.PIT: mined}
-    return grade_tonnage.grade_tonnage(planned.plan, parts)
+    return grade_tonnage.of_pit(planned.plan, mined)

@@ -14,7 +14,7 @@ from numpy.typing import NDArray
 from pitplan.config.schedule import ScheduleRules
 from pitplan.core.progress import Progress, silent
 from pitplan.core.revenue_factors import BASE_PRICE
-from pitplan.economics.period_costs import COSTS, of_project
+from pitplan.economics.period_costs import is_shown, of_project
 from pitplan.pits.best_worst_case import year_discounts
 from pitplan.plan import Plan
 from pitplan.pushbacks.bench_table import CASH, ORE, ROCK
@@ -83,7 +83,7 @@ class ScheduledBlocks:
         dug = np.arange(problem.blocks), slice(None), np.minimum(schedule.year, problem.years - 1)
         flows, count = self.planned.flows | {CASH: cash[dug]}, self.count
         table = pd.DataFrame({"case": BLOCK, "revenue_factor": BASE_PRICE, "year": np.arange(1, count + 1)})
-        for name, amounts in [(name, amounts) for name, amounts in flows.items() if name not in COSTS]:
+        for name, amounts in [(name, amounts) for name, amounts in flows.items() if is_shown(name)]:
             of_blocks = (amounts * schedule.share).sum(axis=1)
             table[name] = np.bincount(schedule.year, of_blocks, minlength=problem.years + 1)[:count]
         earned = table.pop(CASH)

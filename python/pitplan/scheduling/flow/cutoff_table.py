@@ -10,7 +10,7 @@ import pandas as pd
 
 from pitplan.config.places import MILL
 from pitplan.economics.cutoff_grades import RockCosts
-from pitplan.economics.period_costs import PROCESSING_COST, SELLING_COST
+from pitplan.economics.period_costs import PROCESSING_COST, SELLING_COST, SMELTED
 from pitplan.plan import shown_name
 
 from .cutoffs import cutoffs
@@ -67,12 +67,9 @@ def rows_of(
     """Yields the rows of a method and a year, numbered from 0."""
     (method, year), project = at, schedule.pushbacks.plan.project
     found, money = cutoffs(schedule.flows[method], schedule.names), schedule.problem.money
-    names = tuple(f"recovered_{metal.name}" for metal in project.metals)
-    premium, factor = money.premium(names, year + 1)[year], money.factors(PROCESSING_COST, year + 1)[year]
-    saved = 1 - money.factors(SELLING_COST, year + 1)[year]
+    factor = money.factors(PROCESSING_COST, year + 1)[year]
     for process, costs in rocks:
-        more = [price + saved * money.charges[name][process] for name, price in zip(names, premium.tolist())]
-        premiums = {metal.name: float(amount) for metal, amount in zip(project.metals, more)}
+        premiums = premiums_in(schedule, year, process)
         name, first = schedule.names[process], costs.metals[0]
         cutoff = np.nan if found is None else float(found[name][year])
         row = {"method": method, "year": year + 1, "process": name or MILL, "cutoff": cutoff, "metal": first.name}
@@ -82,3 +79,14 @@ def rows_of(
         row["marginal_grade"] = costs.head_grade(first, costs.processing)
         row["break_even_grade"] = costs.head_grade(first, costs.processing + costs.mining)
         yield row | {f"equivalent_{it.name}": costs.equivalent(it, premiums) for it in costs.metals}
+
+
+def premiums_in(schedule: YearlySchedule, year: int, process: int) -> dict[str, float]:
+    """Returns by metal what a unit that a process recovers earns in a year, numbered from 0, beyond the base price and cost."""
+    money, found = schedule.problem.money, {}
+    saved = float(1 - money.factors(SELLING_COST, year + 1)[year])
+    for metal in schedule.pushbacks.plan.project.by_process[process].metals:
+        names = (f"recovered_{metal.name}", f"{SMELTED}{metal.name}")
+        price, added = money.premium(names, year + 1)[year].tolist()
+        found[metal.name] = price + (added if metal.smelter else 0.0) + saved * money.charges[names[0]][process]
+    return found

@@ -9,7 +9,7 @@ import numpy as np
 from numpy.typing import NDArray
 
 from pitplan.config.stockpiles import Stockpile
-from pitplan.economics.period_costs import SELLING_COST, YearlyMoney
+from pitplan.economics.period_costs import SELLING_COST, SMELTED, YearlyMoney
 
 FEED = "feed_tonnes"
 
@@ -76,7 +76,8 @@ class Ore:
             if SELLING_COST in amounts:
                 unsold = (1 - share) * np.array(money.charges[name])[:, None] * self.of(name)
                 amounts[SELLING_COST] = amounts[SELLING_COST] - unsold
-            amounts[name] = share * self.of(name)
+            for amount in {name, f"{SMELTED}{metal}"} & set(amounts):
+                amounts[amount] = share * self.of(amount)
         return replace(self, gain=gain, amounts=amounts)
 
     def merged(self, parcel: NDArray[np.int64], bench: NDArray[np.int64], bins: NDArray[np.int64]) -> Ore:

@@ -151,7 +151,7 @@ def ore_of(
         amounts[f"{FEED}_{process.name}"] = alone(amounts[FEED], number)
     for name in values.metal:
         amounts[f"recovered_{name}"] = takes * np.stack([way.metal[name][cells] for way in ways])
-    amounts |= {name: costs[:, cells] for name, costs in plan.multiplied_costs.items()}
+    amounts |= {name: costs[:, cells] for name, costs in plan.multiplied_amounts.items()}
     by_set = {} if sets is None else sets.tonnes(cells, values.tonnes[cells])
     amounts |= {name: takes * tonnes for name, tonnes in by_set.items()}
     amounts |= sums_of(plan, rules, cells, takes) | grades_of(plan, cells, takes)

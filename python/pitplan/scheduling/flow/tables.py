@@ -15,7 +15,7 @@ from pitplan.config.dumps import Dump
 from pitplan.config.economics import GRADE_UNITS
 from pitplan.config.places import MILL, PIT, WASTE
 from pitplan.config.stockpiles import Stockpile
-from pitplan.economics.period_costs import SELLING_COST
+from pitplan.economics.period_costs import SELLING_COST, SMELTED
 from pitplan.pits import shell_tables
 from pitplan.plan import Plan, shown_name
 from pitplan.pushbacks.bench_table import benches_of_cells
@@ -135,7 +135,7 @@ class Lots:
             columns[f"contained_{metal.name}"] = grade * values.undiluted[cells]
         for number, way in enumerate(values.by_process):
             columns |= {f"recovered_{name} {number}": amounts[cells] for name, amounts in way.metal.items()}
-            columns |= {f"{name} {number}": costs[number, cells] for name, costs in plan.multiplied_costs.items()}
+            columns |= {f"{name} {number}": costs[number, cells] for name, costs in plan.multiplied_amounts.items()}
             columns[f"gain {number}"] = (way.revenue[cells] - way.cost[cells]) / 1e6
         keys = list(self.keys)
         return pd.concat([self.keys, pd.DataFrame(columns)], axis=1).groupby(keys, sort=True).sum().reset_index()
@@ -205,12 +205,12 @@ def written(flows: Flows, move: Move, lots: Lots, rows: NDArray[np.int64], at: N
     for name in ("feed_tonnes", *(f"contained_{metal.name}" for metal in plan.project.metals)):
         found[name] = sums[name] * moved
     fed = 0.0 if move.process is None else share
-    names = [*(f"recovered_{metal.name}" for metal in plan.project.metals), *plan.multiplied_costs]
+    names = [*(f"recovered_{metal.name}" for metal in plan.project.metals), *plan.multiplied_amounts]
     for name in names:
         found[name] = 0.0 if move.process is None else sums[f"{name} {move.process}"] * fed
     found["cash_flow"] = 0.0 if move.process is None else sums[f"gain {move.process}"] * fed
     found["cash_flow"] -= 0.0 if move.dump is None else found["total_tonnes"] * move.dump.cost
-    return handled(found, flows, move, names).drop(columns=list(plan.multiplied_costs))
+    return handled(found, flows, move, names).drop(columns=list(plan.multiplied_amounts))
 
 
 def handled(found: pd.DataFrame, flows: Flows, move: Move, names: list[str]) -> pd.DataFrame:
@@ -223,7 +223,8 @@ def handled(found: pd.DataFrame, flows: Flows, move: Move, names: list[str]) -> 
             found["cash_flow"] -= lost * money.net_prices[name][move.process or 0]
             if SELLING_COST in found:
                 found[SELLING_COST] -= lost * money.charges[name][move.process or 0]
-            found[name] *= share
+            for amount in {name, f"{SMELTED}{metal}"} & set(found):
+                found[amount] *= share
         cost = stockpile.stacking_cost if move.process is None else stockpile.reclaim_cost
         found["cash_flow"] -= found["feed_tonnes"] * cost
     premiums = money.premium(tuple(names), flows.years)[found["year"] - 1]

@@ -6,17 +6,12 @@ from collections.abc import Callable
 from dataclasses import dataclass
 from pathlib import Path
 
-from pitplan import plan as planning
 from pitplan.config.project import Project
 from pitplan.core.progress import Progress, silent
-from pitplan.errors import PlanError
-from pitplan.pits import shell_tables
-from pitplan.pushbacks import nested
-from pitplan.scheduling import pushback_schedule
-from pitplan.solver import problem
+from pitplan.errors import MissingPackage, PlanError
 
 from .inputs import Change, Data, changes, common_folder, data_of, project_of
-from .runs import SCHEDULE, SHELLS, Run
+from .runs import Run
 
 Npv = Callable[[Project], float]
 
@@ -40,8 +35,8 @@ class Step:
     change: float
 
 
-def bridge(base: Run, other: Run, progress: Progress = silent) -> list[Step]:
-    """Returns the steps from a run to another. The NPVs at both ends are those of the runs.
+def bridge(base: Run, other: Run, npv: Npv, progress: Progress = silent) -> list[Step]:
+    """Returns the steps from a run to another. The NPVs at both ends are those of the runs; `npv` makes the run of a step.
 
     The order is that of the sections of a project. Another order divides the difference in another way, since inputs act together.
 
@@ -55,10 +50,6 @@ def bridge(base: Run, other: Run, progress: Progress = silent) -> list[Step]:
     folder = common_folder([base, other])
     start, end = (data_of(run, base, folder) for run in (base, other))
     asked = [it for it in changes(start, end) if it.matters]
-
-    def npv(project: Project) -> float:
-        return npv_of(project, base.kind)
-
     return steps_of(base, other, asked, Trial(start, folder, other.project.path, npv, progress))
 
 
@@ -93,6 +84,8 @@ def steps_of(base: Run, other: Run, asked: list[Change], trial: Trial) -> list[S
             with trial.progress.step(f"{other.name}: {number} of {len(asked)} changed inputs, {change.key}"):
                 try:
                     then = trial.with_changes(pending)
+                except MissingPackage:
+                    raise
                 except PlanError:
                     continue
         else:
@@ -100,19 +93,3 @@ def steps_of(base: Run, other: Run, asked: list[Change], trial: Trial) -> list[S
         found.append(Step(tuple(it.key for it in pending), then, then - npv))
         npv, pending = then, []
     return found
-
-
-def npv_of(project: Project, kind: str) -> float:
-    """Returns the NPV of a project by which runs of a kind are compared. Raises PlanError if it has no plan."""
-    if kind == SHELLS:
-        plan = planning.prepared(project)
-        table = shell_tables.shells(plan, problem.solve(plan))
-        selected = shell_tables.selected_factor(table, project.shells)
-        return float(shell_tables.npv_of(table)[table["revenue_factor"] == selected].iloc[0])
-    if kind == SCHEDULE:
-        found = pushback_schedule.make(nested.divide(planning.prepared(nested.ending(project) or project)))
-        return float(found.value(found.shown))
-    # Its modules import the library.
-    from pitplan.scheduling.blocks import tables
-
-    return float(tables.make(planning.prepared(project)).table["npv"].iloc[0])

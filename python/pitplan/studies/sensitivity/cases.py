@@ -22,6 +22,7 @@ import numpy as np
 import pandas as pd
 
 from pitplan.blockmodel import reader
+from pitplan.blockmodel.reader import Table
 from pitplan.config.hill import Setting
 from pitplan.config.project import Project
 from pitplan.config.sensitivity import SensitivityRules
@@ -153,7 +154,7 @@ class Asked:
     solved."""
 
     project: Project
-    frame: pd.DataFrame
+    table: Table
     solver: Solver
     as_given: Found | None = None
 
@@ -204,12 +205,12 @@ def solve(project: Project, folder: Path, where: dask_pool.Where | None, progres
 
     found_by, given_project = solver.chosen(project.solver), project
     project = replace(project, solver=found_by.by)
-    frame = reader.read(project).frame
-    plan = prepared(project, frame, progress)
+    table = reader.read(project)
+    plan = prepared(project, table, progress)
     demand_whole(plan)
     solution = problem.solve(plan, progress=progress)
     factor = shell_tables.selected_factor(shell_tables.shells(plan, solution), project.shells)
-    asked = Asked(up_to(project, factor), frame, found_by)
+    asked = Asked(up_to(project, factor), table, found_by)
     rules = rules_of(project)
     begun = {
         "project": project.to_toml(),
@@ -267,7 +268,7 @@ def find(case: Case, asked: Asked) -> Found:
     """Returns the pit of a case, and the values of the base case's pit in it. Raises ProgramError if the solver here is another one."""
     solver.demand_same(asked.solver)
     plan, solution = with_fine_shells(
-        prepared(varied(with_settings(asked.project, case.settings), case.changes), asked.frame),
+        prepared(varied(with_settings(asked.project, case.settings), case.changes), asked.table),
         rules_of(asked.project),
     )
     row = of_last(shell_tables.shells(plan, solution))
