@@ -137,7 +137,7 @@ def test_a_filter_without_programmes_left_says_so():
     found = smallest(units, lambda some: set(some) if needed <= set(some) else None, most=3)
     assert needed <= set(found.units)
     assert not found.is_irreducible
-    assert smallest(units[:5], lambda some: None) is None
+    assert not smallest(units[:5], lambda some: None).is_irreducible
 
 
 def test_nothing_is_said_where_the_minimums_can_be_met():

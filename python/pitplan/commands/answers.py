@@ -152,10 +152,10 @@ def write_tables(answered: Answered, stage: Path) -> Tables:
         (stage / layout.SOLVER / mine_files.ANSWER).write_bytes(solution.answer)
     blocks = shell_tables.blocks(plan, solution) if pushbacks is None else nested.blocks(pushbacks)
     if answered.schedule is not None:
-        from pitplan.scheduling import inventory, pushback_schedule
+        from pitplan.scheduling import inventory, pushback_blocks, pushback_schedule
 
-        blocks["year"] = pushback_schedule.blocks_year(answered.schedule)[blocks["id"].to_numpy()]
-        blocks["bin"] = pushback_schedule.blocks_bin(answered.schedule)[blocks["id"].to_numpy()]
+        blocks["year"] = pushback_blocks.blocks_year(answered.schedule)[blocks["id"].to_numpy()]
+        blocks["bin"] = pushback_blocks.blocks_bin(answered.schedule)[blocks["id"].to_numpy()]
         for name, shares in inventory.blocks_shares(answered.schedule).items():
             blocks[name] = shares[blocks["id"].to_numpy()]
         years = pd.concat([years, pushback_schedule.years(answered.schedule)], ignore_index=True)

@@ -30,6 +30,7 @@ from .flow.dumping import SET
 from .flow.flows import Flows
 from .flow.limit_names import Prices
 from .flow.model import FlowModel
+from .flow.near import years_near
 from .flow.opening import Lots
 from .flow.parcels import Material
 from .flow.programme import FlowOptimum, FlowProgramme
@@ -38,9 +39,11 @@ from .methods import LP, MILP, RULE
 
 # The linear programme may take this part of the rule's years more.
 MORE_YEARS = 0.2
-# While the bound is above the optimum of parcels by more than this share, parcels are made finer, so often at most. A linear programme with more
-# unknowns than MANY takes minutes: there a greater share is enough.
-FINE, FINE_OF_MANY, MANY, REFINEMENTS = 0.002, 0.003, 200_000, 3
+# While the bound is above the optimum of parcels by more than this share, parcels are made finer, so often at most. Of large programmes a greater
+# share is enough.
+FINE, FINE_OF_LARGE, REFINEMENTS = 0.002, 0.006, 3
+# Value bins of each process, and parts by limited grades, of the first of these programmes.
+FEW_BINS, FEW_PARTS = 4, 2
 
 
 @dataclass(frozen=True)
@@ -246,19 +249,28 @@ def better(schedule: YearlySchedule, rules: ScheduleRules, progress: Progress) -
 
 
 def relaxations(schedule: YearlySchedule, rules: ScheduleRules, progress: Progress) -> Iterator[YearlySchedule]:
-    """Yields the schedule with the optimum of the linear programme and the upper bound, then with those of finer parcels while it pays."""
+    """Yields the schedule with the optimum of the linear programme and the upper bound, then with those of finer parcels while it pays.
+
+    A large programme begins with few parcels. Those of blocks that choose alike follow, each in the years near those in which the programme before
+    mines its bench. The bound holds whatever the parcels and these years are.
+    """
+    is_large = FlowProgramme(schedule.model).is_large
+    if is_large:
+        few = parcels.by_value(schedule.material, schedule.names, FEW_BINS, FEW_PARTS)
+        schedule = with_material(schedule, few, rules)
     schedule = relaxed(schedule, progress)
     yield schedule
     for _ in range(REFINEMENTS):
         assert schedule.optimum is not None and schedule.upper_bound is not None
-        enough = FINE if len(FlowProgramme(schedule.model).gain) <= MANY else FINE_OF_MANY
+        enough = FINE_OF_LARGE if is_large else FINE
         if schedule.upper_bound - schedule.optimum.value <= enough * abs(schedule.upper_bound):
             break
         divided = in_finer_bins(schedule, rules)
         # With other parcels the rule may take years that the programme and its bound do not have.
         if any(flows.years > divided.model.years for flows in divided.flows.values()):
             break
-        finer = relaxed(divided, progress)
+        near = years_near(schedule.optimum.cumulative, schedule.settings.calendar) if is_large else None
+        finer = relaxed(divided, progress, near)
         assert finer.optimum is not None
         if finer.optimum.value <= schedule.optimum.value:
             yield replace(schedule, upper_bound=finer.upper_bound, prices=finer.prices)
@@ -267,15 +279,18 @@ def relaxations(schedule: YearlySchedule, rules: ScheduleRules, progress: Progre
         yield schedule
 
 
-def relaxed(schedule: YearlySchedule, progress: Progress) -> YearlySchedule:
-    """Returns the schedule with the optimum of the linear programme and the upper bound, unless it has a lower one. Raises PlanError, with the
-    minimums that lack, if no schedule meets them."""
-    model, programme = schedule.model, FlowProgramme(schedule.model)
-    size = f"{model.years} {schedule.settings.calendar.word}s and {len(model.ore):,} parcels, {len(programme.gain):,} variables"
+def relaxed(schedule: YearlySchedule, progress: Progress, near: Optional[np.ndarray] = None) -> YearlySchedule:
+    """Returns the schedule with the optimum of the linear programme, near some years if they are given, and the upper bound, unless it has a lower
+    one. Raises PlanError, with the minimums that lack, if no schedule meets them."""
+    model, programme = schedule.model, FlowProgramme(schedule.model, near=near)
+    count = int(np.count_nonzero(programme.upper))
+    size = f"{model.years} {schedule.settings.calendar.word}s and {len(model.ore):,} parcels, {count:,} variables"
     with progress.step(f"solving the linear programme of {size}"):
         try:
             optimum = programme.solved()
         except PlanError as error:
+            if near is not None:
+                return relaxed(schedule, progress)
             # Rows of whole benches have no names, so that limits alone are asked first.
             asked = (Conflict(replace(programme, paced=False)), Conflict(programme)) if model.asks_least else ()
             lacking = next(filter(None, (it.message() for it in asked)), "")
@@ -289,7 +304,11 @@ def in_finer_bins(schedule: YearlySchedule, rules: ScheduleRules) -> YearlySched
     """Returns the schedule with parcels of blocks that choose alike at the prices of the linear programme, and the rule's flows of these."""
     assert schedule.optimum is not None
     relaxation = bound.Lagrangian(replace(schedule.model, ore=schedule.material.blocks), schedule.optimum.prices)
-    material = parcels.by_choice(schedule.material, relaxation.choices[1])
+    return with_material(schedule, parcels.by_choice(schedule.material, relaxation.choices[1]), rules)
+
+
+def with_material(schedule: YearlySchedule, material: Material, rules: ScheduleRules) -> YearlySchedule:
+    """Returns the schedule with other parcels, and the rule's flows of these."""
     model = replace(schedule.model, ore=material.parcels)
     most = periods_of(schedule.pushbacks.plan.project, rules)
     flows = kept(scheduler.by_rule(model, pace_of(schedule), most)[0]) if schedule.flows else {}
@@ -378,22 +397,3 @@ def methods(schedule: YearlySchedule) -> pd.DataFrame:
             }
         )
     return pd.DataFrame(rows)
-
-
-def blocks_year(schedule: YearlySchedule) -> np.ndarray:
-    """Returns for each cell the year by whose end its bench of its pushback is mined, by the method that is shown; 0 if it never is."""
-    shares, grid = schedule.shares[schedule.shown], schedule.pushbacks.plan.grid
-    # Before the first year nothing is mined.
-    through = (np.pad(shares, ((0, 0), (1, 0))).cumsum(axis=1) > 1 - 1e-6).argmax(axis=1)
-    year_of = np.zeros((len(schedule.pushbacks.factors) + 1, grid.shape[0]), dtype=np.int16)
-    year_of[schedule.benches.pushback, schedule.benches.level] = through
-    return year_of[schedule.pushbacks.pushback, np.arange(grid.count) // grid.per_level]
-
-
-def blocks_bin(schedule: YearlySchedule) -> np.ndarray:
-    """Returns for each cell the value bin of its ore, from 1; 0 if it is none, with dumps 0 or a number below it for the set that accepts it."""
-    found, sets = np.zeros(schedule.pushbacks.plan.grid.count, dtype=np.int16), schedule.material.sets
-    if sets is not None:
-        found[:] = -np.maximum(sets.of_cell, 0)
-    found[schedule.material.cells] = schedule.material.blocks.bin
-    return found

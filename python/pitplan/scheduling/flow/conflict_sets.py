@@ -58,7 +58,7 @@ def unit_of(name: str, side: str, year: int) -> Unit:
 
 def smallest(
     units: Iterable[Unit], conflicting: Callable[[tuple[Unit, ...]], Optional[set[Unit]]], most: int = MOST_PROGRAMMES
-) -> Optional[ConflictSet]:
+) -> ConflictSet:
     """Returns a set of limits that conflict with each other; irreducible if the programmes suffice.
 
     Parameters
@@ -69,17 +69,8 @@ def smallest(
         Returns which of some limits have dual values in their elastic programme; None if they do not conflict.
     most : int
         How many programmes may be solved.
-
-    Returns
-    -------
-    ConflictSet, optional
-        None if the limits do not conflict.
     """
-    found, solved = tuple(sorted(units)), 1
-    used = conflicting(found)
-    if used is None:
-        return None
-    found = tuple(it for it in found if it in used) or found
+    found, solved, is_shown = tuple(sorted(units)), 0, False
     size = max(1, len(found) // 2)
     while True:
         # The last years are left out first, so that the first years in which limits conflict remain.
@@ -92,11 +83,11 @@ def smallest(
             used = conflicting(rest) if rest else None
             end = max(0, end - size)
             if used is not None:
-                before = found[:end]
+                before, is_shown = found[:end], True
                 found = tuple(it for it in rest if it in used) or rest
                 end = sum(it in found for it in before)
         if size == 1:
-            return ConflictSet(found, is_irreducible=True)
+            return ConflictSet(found, is_shown or conflicting(found) is not None)
         size = max(1, min(size, len(found)) // 2)
 
 

@@ -22,8 +22,9 @@ from pitplan.scheduling.highs import Optimum, Programme
 from pitplan.scheduling.highs_process import solve
 
 from .conflict_sets import ALL, ConflictSet, Unit, of_mining, smallest, unit_of, with_units
+from .limit import Limit
 from .limit_names import ADVANCE, MAX, MIN, STOCK
-from .programme import FlowProgramme, Limit
+from .programme import FlowProgramme
 
 # A share of a limit, or of the greatest dual value, that may be the solver's tolerance alone.
 SLIGHT = 1e-6
@@ -129,7 +130,7 @@ class Conflict:
             return tried.units
 
         found = smallest(self.units, conflicting)
-        return (self, ConflictSet(tuple(sorted(self.units)), False)) if found is None else (last, found)
+        return last, found
 
     def message(self) -> str:
         """Says which limits are missed by how much at least, and the smallest conflict that is found; "" if no limit is missed."""
