@@ -283,7 +283,7 @@ def relaxed(schedule: YearlySchedule, progress: Progress, near: Optional[np.ndar
     """Returns the schedule with the optimum of the linear programme, near some years if they are given, and the upper bound, unless it has a lower
     one. Raises PlanError, with the minimums that lack, if no schedule meets them."""
     model, programme = schedule.model, FlowProgramme(schedule.model, near=near)
-    count = int(np.count_nonzero(programme.upper))
+    count = len(programme.gain) if near is None else int(np.count_nonzero(programme.upper))
     size = f"{model.years} {schedule.settings.calendar.word}s and {len(model.ore):,} parcels, {count:,} variables"
     with progress.step(f"solving the linear programme of {size}"):
         try:
