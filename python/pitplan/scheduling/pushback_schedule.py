@@ -16,7 +16,6 @@ from pitplan.config.schedule import ScheduleRules
 from pitplan.config.shells import ShellRules
 from pitplan.core.progress import Progress, silent
 from pitplan.economics import period_costs
-from pitplan.economics.period_costs import MINING_COST
 from pitplan.errors import PlanError
 from pitplan.pits.best_worst_case import year_discounts
 from pitplan.pushbacks import bench_table
@@ -26,7 +25,6 @@ from pitplan.pushbacks.nested import Pushbacks
 from .bench_sequencing import Problem, running
 from .flow import bound, integer, opening, parcels, scheduler, tables
 from .flow.conflicts import Conflict
-from .flow.dumping import SET
 from .flow.flows import Flows
 from .flow.limit_names import Prices
 from .flow.model import FlowModel
@@ -34,7 +32,7 @@ from .flow.near import years_near
 from .flow.opening import Lots
 from .flow.parcels import Material
 from .flow.programme import FlowOptimum, FlowProgramme
-from .limits import SUM, all_limits_of, periods_of
+from .limits import all_limits_of, periods_of
 from .methods import LP, MILP, RULE
 
 # The linear programme may take this part of the rule's years more.
@@ -160,7 +158,7 @@ class YearlySchedule:
     def amounts(self, method: str) -> dict[str, np.ndarray]:
         """Returns what flows of each bench in each year by the names of tables, each of shape (benches, years)."""
         flows = self.flows[method].of_benches
-        return {name: flows[:, :, number] for number, name in enumerate(self.benches.names) if is_shown(name)}
+        return {name: flows[:, :, number] for number, name in enumerate(self.benches.names) if tables.is_shown(name)}
 
     def from_opening(self, method: str) -> dict[str, np.ndarray]:
         """Returns what flows in each year of what lay on stockpiles at the start, by the names of tables, each of shape (years,)."""
@@ -169,11 +167,6 @@ class YearlySchedule:
     def left(self, method: str) -> float:
         """Returns the tonnes of the pushbacks that a method leaves unmined."""
         return float(self.benches.of(ROCK) @ (1 - self.shares[method].sum(axis=1)))
-
-
-def is_shown(name: str) -> bool:
-    """Returns whether an amount of benches is a column of tables."""
-    return name != MINING_COST and not name.startswith((SUM, SET))
 
 
 def rules_of(project: Project) -> ScheduleRules:
@@ -235,6 +228,11 @@ def better(schedule: YearlySchedule, rules: ScheduleRules, progress: Progress) -
             found = {}
     schedule = replace(schedule, flows=schedule.flows | found)
     if schedule.flows:
+        yield schedule
+    if LP in schedule.flows:
+        with progress.step("improving the depths of pushbacks"):
+            found = {LP: scheduler.deepened(schedule.flows[LP])}
+        schedule = replace(schedule, flows=schedule.flows | found)
         yield schedule
     if rules.milp is not None:
         with progress.step(f"solving the integer programme, up to {rules.milp.seconds:,.0f} s"):
@@ -338,7 +336,7 @@ def table(schedule: YearlySchedule) -> pd.DataFrame:
 
 def rows_of_opening(schedule: YearlySchedule, method: str) -> pd.DataFrame:
     """Returns the rows of a method for what lay on stockpiles at the start."""
-    amounts = {name: values for name, values in schedule.from_opening(method).items() if is_shown(name)}
+    amounts = {name: values for name, values in schedule.from_opening(method).items() if tables.is_shown(name)}
     year = np.flatnonzero(amounts[ORE])
     head = {"method": np.full(len(year), method, dtype=object), "year": year + 1, "pushback": 0}
     flows = {name: values[year] for name, values in amounts.items()}

@@ -164,7 +164,7 @@ def from_optimum(model: FlowModel, optimum: FlowOptimum, rule: Optional[Flows] =
     if not made:
         kept = "keeps the limits of the dumps" if model.waste.is_limited else "meets the minimums"
         raise NoSchedule(f"no schedule that was tried {kept}: widen them, or set [schedule] milp")
-    return ended(without_loss(deepened(max(made, key=lambda it: it.value))))
+    return ended(without_loss(max(made, key=lambda it: it.value)))
 
 
 def made_of_orders(model: FlowModel, optimum: FlowOptimum) -> list[Flows]:
@@ -185,9 +185,10 @@ def made_of_orders(model: FlowModel, optimum: FlowOptimum) -> list[Flows]:
 
 def deepened(flows: Flows) -> Flows:
     """Returns the schedule with better depths of pushbacks by year, if they are found."""
-    dug = depths.improved(flows.model, flows.dug, flows.value)
-    found = None if dug is None else feasible(flows.model, dug)
-    return flows if found is None else max(found, flows, key=lambda it: it.value)
+    model = flows.model
+    dug = depths.improved(model, padded(flows.dug, model.years), flows.value)
+    found = None if dug is None else feasible(model, dug)
+    return flows if found is None else max(ended(without_loss(found)), flows, key=lambda it: it.value)
 
 
 def orders_of(model: FlowModel, optimum: FlowOptimum, compared: int) -> list[Ordered]:
