@@ -228,8 +228,3 @@ def test_a_minimum_of_a_stockpile_needs_years(tmp_path):
     with pytest.raises(PlanError, match=r"\[\[periods\]\] 1 stockpiles: stockpile: \[schedule\] years is missing"):
         words = PILE.replace("years = 6\n", "") + "[[periods]]\nstockpiles = { stockpile = { min = 1 } }\n"
         written_to(tmp_path, words)
-
-
-def test_by_block_head_grades_of_periods_are_refused(tmp_path):
-    with pytest.raises(PlanError, match=r"\[\[periods\]\] 1 feed: found limits of a period, expected none by block"):
-        pitplan.write_block_schedule(written_to(tmp_path, GRADES))
