@@ -352,6 +352,7 @@ class FlowProgramme:
         by_end_of_years, direct, stocked, _, reclaimed, opened, dumped = (
             part.reshape(-1, self.years) for part in np.split(unknowns[: ends[-1]], ends[:-1])
         )
+        stocked = self.placed(stocked, reclaimed)
         running = unknowns[ends[-1] :] if len(unknowns) > ends[-1] else np.ones(self.years)
         cumulative = np.maximum.accumulate(np.clip(by_end_of_years, 0.0, 1.0), axis=1)
         fed = (self.gain[ends[0] :] * unknowns[ends[0] : ends[-1]]).reshape(-1, self.years).sum(axis=0)
@@ -361,6 +362,22 @@ class FlowProgramme:
         cash = (mined + fed - self.costs * running) / self.model.discounts
         tonnes = dumped * self.of_pairs[:, None]
         return FlowOptimum(cumulative, direct, stocked, reclaimed, opened, running, value, cash, prices, tonnes)
+
+    def placed(self, stocked: NDArray[np.float64], reclaimed: NDArray[np.float64]) -> NDArray[np.float64]:
+        """Returns the shares that go to stockpiles without those that are never reclaimed, which would lie there although the programme does not count
+        them. The rest is waste, unless a dump would have to take it, or some of it must lie there."""
+        model = self.model
+        if model.waste.sets or any(least.any() for least, _ in model.rooms):
+            return stocked
+        place = np.full((len(model.stockpiles), len(model.ore)), -1)
+        place[model.stocked.index] = np.arange(len(stocked))
+        leaves = np.zeros_like(stocked)
+        np.add.at(leaves, place[model.reclaimed.index[0], model.reclaimed.parcel], reclaimed)
+        found, due = np.zeros_like(stocked), np.zeros(len(stocked))
+        for year in range(self.years - 1, -1, -1):
+            found[:, year] = np.minimum(stocked[:, year], due)
+            due += leaves[:, year] - found[:, year]
+        return found
 
     def prices(self, of_rows: NDArray[np.float64]) -> Prices:
         """Returns the prices of the limits, from the dual value of each row."""
