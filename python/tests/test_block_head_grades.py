@@ -84,6 +84,56 @@ def test_both_notations_of_one_mine_have_the_same_value_and_bound(plan_folder):
     assert shares(folder) == [0, 1, 1]
 
 
+# At most 110 ppm in the first year, and 200 from the second on.
+OF_PERIODS = (
+    "[schedule]\nyears = 3\n[[periods]]\nfeed = { as_ppm = { max = 110 } }\n"
+    "[[periods]]\nfeed = { as_ppm = { max = 200 } }\n"
+)
+
+
+def test_a_maximum_by_period_by_hand(plan_folder):
+    """The first ore has 200 ppm and waits for year 2: 2000 / 1.1 + 2600 / 1.21 is more than 3933 / 1.1 with 7/9 of it in year 1. The bound mines 7/9 of
+    its pillar in year 1, and the rest in year 2."""
+    row, folder = scheduled(plan_folder, OF_PERIODS, WIDE, pillars(**DIRTY))
+    assert row["npv"] == pytest.approx(2000 / 1.1 + 2600 / 1.21)
+    assert row["upper_bound"] == pytest.approx((7 / 9 * 2600 + 2000) / 1.1 + 2 / 9 * 2600 / 1.21)
+    assert years_of(folder)["head_grade_as_ppm"].tolist() == [75, 200]
+    assert json.loads((folder / "block_schedule.json").read_text())["feed"] == {
+        "grade_as_ppm_max@110": 110,
+        "grade_as_ppm_max@200": 200,
+    }
+    prices = pd.read_csv(folder / "tables/bound.csv").query("limit == 'grade_as_ppm_max@110'")
+    assert prices["side"].tolist() == ["max"] * 3 and prices["price"].tolist()[1:] == [0, 0]
+
+
+def test_periods_alike_are_one_limit(plan_folder):
+    """Two periods with the limit of all years have its value and bound."""
+    words = "[schedule]\nyears = 3\n" + 2 * "[[periods]]\nfeed = { as_ppm = { max = 110 } }\n"
+    plain, _ = scheduled(plan_folder, FEED, table=pillars(**DIRTY))
+    row, _ = scheduled(plan_folder, words, table=pillars(**DIRTY))
+    assert row["npv"] == plain["npv"] and row["upper_bound"] == plain["upper_bound"]
+
+
+def test_a_share_by_period(plan_folder):
+    """The third pillar is of rock S, which may be a third of the feed in year 2 alone: in year 1 there is none. It waits, and so does one of the others,
+    which goes with it, or it is left."""
+    table = pillars().assign(rock=lambda it: ["S" if name.startswith("b2") else "R" for name in it["name"]])
+    words = "[schedule]\nyears = 2\n[[periods]]\nfeed = { rock_type = { S = { max = 0 } } }\n[[periods]]\nfeed = { rock_type = { S = { max = 1 } } }\n"
+    row, folder = scheduled(plan_folder, words, WIDE, table)
+    assert row["npv"] == pytest.approx((2600 + 1400) / 1.1 + 600 / 1.21)
+    assert years_of(folder)["head_grade_rock_type_S"].tolist() == [0, 1]
+
+
+def test_another_limit_of_a_period_is_found(plan_folder):
+    """A folder whose project has 70 ppm in year 1, where its schedule has 75."""
+    _, folder = scheduled(plan_folder, OF_PERIODS, WIDE, pillars(**DIRTY))
+    path = folder / "project-as-run.toml"
+    text = path.read_text()
+    assert text.count("max = 110") == 1
+    path.write_text(text.replace("max = 110", "max = 70"))
+    assert {"block limits", "upper bound"} <= wrong(folder)
+
+
 @pytest.fixture(scope="module")
 def written(tmp_path_factory):
     place = tmp_path_factory.mktemp("mixed")

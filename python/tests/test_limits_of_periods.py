@@ -146,9 +146,8 @@ def test_the_capacity_of_a_stockpile_by_period(tmp_path):
     words = "[[periods]]\nstockpiles = { stockpile = { max = 12 } }\n[[periods]]\nstockpiles = { stockpile = { max = 30 } }\n[[periods]]\n"
     found, piles, limits = piled(tmp_path / "some", words)
     assert limits["maximum"].tolist() == [12, 30, 50, 50, 50][: len(limits)]
-    assert (piles["closing_tonnes"] <= limits["maximum"] + 0.001).all() and piles["closing_tonnes"][0] == pytest.approx(
-        12
-    )
+    assert (piles["closing_tonnes"] <= limits["maximum"] + 0.001).all()
+    assert piles["closing_tonnes"][1] == pytest.approx(30)
     assert found["upper_bound"] < free["upper_bound"] and found["npv"] < free["npv"]
 
 
@@ -229,8 +228,3 @@ def test_a_minimum_of_a_stockpile_needs_years(tmp_path):
     with pytest.raises(PlanError, match=r"\[\[periods\]\] 1 stockpiles: stockpile: \[schedule\] years is missing"):
         words = PILE.replace("years = 6\n", "") + "[[periods]]\nstockpiles = { stockpile = { min = 1 } }\n"
         written_to(tmp_path, words)
-
-
-def test_by_block_head_grades_of_periods_are_refused(tmp_path):
-    with pytest.raises(PlanError, match=r"\[\[periods\]\] 1 feed: found limits of a period, expected none by block"):
-        pitplan.write_block_schedule(written_to(tmp_path, GRADES))

@@ -152,6 +152,17 @@ def test_the_bound_and_what_is_made_of_it(pits, limits, several, lag, piles):
     assert -slack <= flows.value <= optimum.value + slack
 
 
+def test_ore_that_is_never_reclaimed_does_not_fill_a_stockpile():
+    """20 t of waste over 50 t that gain 12 and 50 t that gain nothing, and a stockpile for 15 t. A programme may place more there than it counts, since that
+    costs nothing."""
+    mine = mine_of([(0, [(20, [], 0)]), (0, [(20, [(50, 12), (50, 0)], 0)])], 0)
+    limits = Limits({"feed_tonnes": 40.0, "total_tonnes": 70.0}, (1.0,), 0.7)
+    model = model_of(mine, [(1.0, 25.0), (1.0, 25.0)], limits, 4, [(0.0, 0.0, 15.0, 1.0, 12.0)])
+    flows = scheduler.from_optimum(model, FlowProgramme(model).solved())
+    demand_kept(flows)
+    assert flows.lying(0).max() <= 15 + 1e-6
+
+
 def demand_kept(flows):
     """No limit is exceeded, and no more of a parcel flows than is mined and stocked."""
     model, dug = flows.model, flows.dug[flows.model.ore.bench]

@@ -19,7 +19,7 @@ from pitplan.cli import main
 from pitplan.export import xlsx
 from pitplan.results.folder import read_record
 from pitplan.scheduling import pushback_schedule
-from pitplan.scheduling.flow import programme
+from pitplan.scheduling.flow import depths, programme
 from pitplan.scheduling.flow.flows import none_of
 
 # What each pillar is worth: 40 a per cent and tonne, less 10 for processing and 4 for mining.
@@ -412,6 +412,18 @@ def test_an_interruption_keeps_what_is_found_so_far(plan_folder, capsys, monkeyp
     assert list(told["methods"]) == ["rule"] and told["upper_bound"] is None and told["interrupted"]
     assert "interrupted before all methods had finished" in capsys.readouterr().err
     assert wrong(folder) == set() and (folder / "report.html").exists()
+
+
+def test_an_interruption_while_depths_are_improved_keeps_the_schedule(plan_folder, capsys, monkeypatch):
+    def interrupted(model, dug, value):
+        raise KeyboardInterrupt
+
+    monkeypatch.setattr(depths, "improved", interrupted)
+    assert main(["schedule", str(path := plan_folder(pillars(), PUSHBACKS))]) == 130
+    told = json.loads((path.parent / "plan/schedule/schedule.json").read_text())
+    assert list(told["methods"]) == ["rule", "lp"] and told["interrupted"]
+    assert told["methods"]["lp"]["npv"] >= told["methods"]["rule"]["npv"]
+    assert "interrupted before all methods had finished" in capsys.readouterr().err
 
 
 def test_parcels_with_which_the_rule_takes_more_years_than_there_are_end_the_refinement(plan_folder, monkeypatch):

@@ -34,7 +34,17 @@ class Programme:
 
     def save(self, folder: Path) -> None:
         np.savez(folder / PROGRAMME, gain=self.gain, most=self.most, upper=self.upper, whole=self.whole)
-        save_npz(folder / MATRIX, self.matrix)
+        # Uncompressed, since it is read once.
+        save_npz(folder / MATRIX, self.matrix, compressed=False)
+
+    def reduced(self) -> tuple[Programme, np.ndarray, np.ndarray]:
+        """The programme without unknowns that must be 0 and rows that then hold, and masks of the unknowns and rows that are left."""
+        # HiGHS takes no programme without unknowns.
+        unknowns = (self.upper > 0) | ~(self.upper > 0).any()
+        matrix = self.matrix.tocsc()[:, unknowns].tocsr()
+        rows = (np.diff(matrix.indptr) > 0) | (self.most < 0)
+        kept = Programme(self.gain[unknowns], matrix[rows], self.most[rows], self.upper[unknowns], self.whole[unknowns])
+        return kept, unknowns, rows
 
     @staticmethod
     def load(folder: Path) -> Programme:

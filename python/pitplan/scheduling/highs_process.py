@@ -3,12 +3,15 @@
 from __future__ import annotations
 
 import json
+import os
 import shutil
 import subprocess
 import sys
 import tempfile
+from collections.abc import Callable, Iterable
+from concurrent.futures import ThreadPoolExecutor
 from pathlib import Path
-from typing import Any, Optional
+from typing import Any, Optional, TypeVar
 
 import numpy as np
 
@@ -22,6 +25,10 @@ from .highs import Optimum, Programme
 FEW = 2_000
 # The same for an integer programme. Zero, since HiGHS may go on with any for long; the tests, whose programmes are small, set it higher.
 FEW_WHOLE = 0
+# So many programmes are solved at the same time at most, each of which takes memory.
+MOST_AT_A_TIME = 2
+Case = TypeVar("Case")
+Found = TypeVar("Found")
 
 
 def solve(programme: Programme, effort: Effort = Effort(), patience: Optional[float] = None) -> Optimum:
@@ -42,6 +49,17 @@ def solve(programme: Programme, effort: Effort = Effort(), patience: Optional[fl
         with np.load(folder / highs.OPTIMUM) as found:
             unknowns, prices = found["unknowns"], found["prices"]
             return Optimum(unknowns if len(unknowns) else None, float(found["bound"]), prices if len(prices) else None)
+
+
+def at_a_time(solve_case: Callable[[Case], Found], cases: Iterable[Case]) -> list[Found]:
+    """What a function finds in each case, as many at a time as there are processors, up to MOST_AT_A_TIME, since programmes are solved in processes of
+    their own. If the run is interrupted, no further case begins."""
+    with ThreadPoolExecutor(min(MOST_AT_A_TIME, os.cpu_count() or 1)) as pool:
+        try:
+            return [it.result() for it in [pool.submit(solve_case, case) for case in cases]]
+        except BaseException:
+            pool.shutdown(wait=False, cancel_futures=True)
+            raise
 
 
 def here(programme: Programme, effort: Effort = Effort()) -> Optimum:

@@ -1,4 +1,4 @@
-"""Years and value bins of the blocks of a schedule of pushbacks."""
+"""The columns that a schedule of pushbacks adds to the table of blocks."""
 
 from __future__ import annotations
 

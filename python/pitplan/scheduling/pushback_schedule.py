@@ -16,7 +16,6 @@ from pitplan.config.schedule import ScheduleRules
 from pitplan.config.shells import ShellRules
 from pitplan.core.progress import Progress, silent
 from pitplan.economics import period_costs
-from pitplan.economics.period_costs import MINING_COST
 from pitplan.errors import PlanError
 from pitplan.pits.best_worst_case import year_discounts
 from pitplan.pushbacks import bench_table
@@ -27,21 +26,23 @@ from .bench_sequencing import Problem, running
 from .certificate import Certified
 from .flow import bound, integer, opening, parcels, scheduler, tables
 from .flow.conflicts import Conflict
-from .flow.dumping import SET
 from .flow.flows import Flows
 from .flow.limit_names import Prices
 from .flow.model import FlowModel
+from .flow.near import years_near
 from .flow.opening import Lots
 from .flow.parcels import Material
 from .flow.programme import FlowOptimum, FlowProgramme
-from .limits import SUM, all_limits_of, periods_of
+from .limits import all_limits_of, periods_of
 from .methods import LP, MILP, RULE
 
 # The linear programme may take this part of the rule's years more.
 MORE_YEARS = 0.2
-# While the bound is above the optimum of parcels by more than this share, parcels are made finer, so often at most. A linear programme with more
-# unknowns than MANY takes minutes: there a greater share is enough.
-FINE, FINE_OF_MANY, MANY, REFINEMENTS = 0.002, 0.003, 200_000, 3
+# While the bound is above the optimum of parcels by more than this share, parcels are made finer, so often at most. Of large programmes a greater
+# share is enough.
+FINE, FINE_OF_LARGE, REFINEMENTS = 0.002, 0.006, 3
+# Value bins of each process, and parts by limited grades, of the first of these programmes.
+FEW_BINS, FEW_PARTS = 4, 2
 
 
 @dataclass(frozen=True)
@@ -161,7 +162,7 @@ class YearlySchedule:
     def amounts(self, method: str) -> dict[str, np.ndarray]:
         """Returns what flows of each bench in each year by the names of tables, each of shape (benches, years)."""
         flows = self.flows[method].of_benches
-        return {name: flows[:, :, number] for number, name in enumerate(self.benches.names) if is_shown(name)}
+        return {name: flows[:, :, number] for number, name in enumerate(self.benches.names) if tables.is_shown(name)}
 
     def from_opening(self, method: str) -> dict[str, np.ndarray]:
         """Returns what flows in each year of what lay on stockpiles at the start, by the names of tables, each of shape (years,)."""
@@ -170,11 +171,6 @@ class YearlySchedule:
     def left(self, method: str) -> float:
         """Returns the tonnes of the pushbacks that a method leaves unmined."""
         return float(self.benches.of(ROCK) @ (1 - self.shares[method].sum(axis=1)))
-
-
-def is_shown(name: str) -> bool:
-    """Returns whether an amount of benches is a column of tables."""
-    return name != MINING_COST and not name.startswith((SUM, SET))
 
 
 def rules_of(project: Project) -> ScheduleRules:
@@ -237,6 +233,11 @@ def better(schedule: YearlySchedule, rules: ScheduleRules, progress: Progress) -
     schedule = replace(schedule, flows=schedule.flows | found)
     if schedule.flows:
         yield schedule
+    if LP in schedule.flows:
+        with progress.step("improving the depths of pushbacks"):
+            found = {LP: scheduler.deepened(schedule.flows[LP])}
+        schedule = replace(schedule, flows=schedule.flows | found)
+        yield schedule
     if rules.milp is not None:
         with progress.step(f"solving the integer programme, up to {rules.milp.seconds:,.0f} s"):
             best, most = integer.best_schedule(model, rules.milp)
@@ -250,19 +251,28 @@ def better(schedule: YearlySchedule, rules: ScheduleRules, progress: Progress) -
 
 
 def relaxations(schedule: YearlySchedule, rules: ScheduleRules, progress: Progress) -> Iterator[YearlySchedule]:
-    """Yields the schedule with the optimum of the linear programme and the upper bound, then with those of finer parcels while it pays."""
+    """Yields the schedule with the optimum of the linear programme and the upper bound, then with those of finer parcels while it pays.
+
+    A large programme begins with few parcels. Those of blocks that choose alike follow, each in the years near those in which the programme before
+    mines its bench. The bound holds whatever the parcels and these years are.
+    """
+    is_large = FlowProgramme(schedule.model).is_large
+    if is_large:
+        few = parcels.by_value(schedule.material, schedule.names, FEW_BINS, FEW_PARTS)
+        schedule = with_material(schedule, few, rules)
     schedule = relaxed(schedule, progress)
     yield schedule
     for _ in range(REFINEMENTS):
         assert schedule.optimum is not None and schedule.upper_bound is not None
-        enough = FINE if len(FlowProgramme(schedule.model).gain) <= MANY else FINE_OF_MANY
+        enough = FINE_OF_LARGE if is_large else FINE
         if schedule.upper_bound - schedule.optimum.value <= enough * abs(schedule.upper_bound):
             break
         divided = in_finer_bins(schedule, rules)
         # With other parcels the rule may take years that the programme and its bound do not have.
         if any(flows.years > divided.model.years for flows in divided.flows.values()):
             break
-        finer = relaxed(divided, progress)
+        near = years_near(schedule.optimum.cumulative, schedule.settings.calendar) if is_large else None
+        finer = relaxed(divided, progress, near)
         assert finer.optimum is not None
         if finer.optimum.value <= schedule.optimum.value:
             yield replace(schedule, upper_bound=finer.upper_bound, prices=finer.prices)
@@ -271,15 +281,18 @@ def relaxations(schedule: YearlySchedule, rules: ScheduleRules, progress: Progre
         yield schedule
 
 
-def relaxed(schedule: YearlySchedule, progress: Progress) -> YearlySchedule:
-    """Returns the schedule with the optimum of the linear programme and the upper bound, unless it has a lower one. Raises PlanError, with the
-    minimums that lack, if no schedule meets them."""
-    model, programme = schedule.model, FlowProgramme(schedule.model)
-    size = f"{model.years} {schedule.settings.calendar.word}s and {len(model.ore):,} parcels, {len(programme.gain):,} variables"
+def relaxed(schedule: YearlySchedule, progress: Progress, near: Optional[np.ndarray] = None) -> YearlySchedule:
+    """Returns the schedule with the optimum of the linear programme, near some years if they are given, and the upper bound, unless it has a lower
+    one. Raises PlanError, with the minimums that lack, if no schedule meets them."""
+    model, programme = schedule.model, FlowProgramme(schedule.model, near=near)
+    count = len(programme.gain) if near is None else int(np.count_nonzero(programme.upper))
+    size = f"{model.years} {schedule.settings.calendar.word}s and {len(model.ore):,} parcels, {count:,} variables"
     with progress.step(f"solving the linear programme of {size}"):
         try:
             optimum = programme.solved()
         except PlanError as error:
+            if near is not None:
+                return relaxed(schedule, progress)
             # Rows of whole benches have no names, so that limits alone are asked first.
             asked = (Conflict(replace(programme, paced=False)), Conflict(programme)) if model.asks_least else ()
             lacking = next(filter(None, (it.message() for it in asked)), "")
@@ -293,7 +306,11 @@ def in_finer_bins(schedule: YearlySchedule, rules: ScheduleRules) -> YearlySched
     """Returns the schedule with parcels of blocks that choose alike at the prices of the linear programme, and the rule's flows of these."""
     assert schedule.optimum is not None
     relaxation = bound.Lagrangian(replace(schedule.model, ore=schedule.material.blocks), schedule.optimum.prices)
-    material = parcels.by_choice(schedule.material, relaxation.choices[1])
+    return with_material(schedule, parcels.by_choice(schedule.material, relaxation.choices[1]), rules)
+
+
+def with_material(schedule: YearlySchedule, material: Material, rules: ScheduleRules) -> YearlySchedule:
+    """Returns the schedule with other parcels, and the rule's flows of these."""
     model = replace(schedule.model, ore=material.parcels)
     most = periods_of(schedule.pushbacks.plan.project, rules)
     flows = kept(scheduler.by_rule(model, pace_of(schedule), most)[0]) if schedule.flows else {}
@@ -323,7 +340,7 @@ def table(schedule: YearlySchedule) -> pd.DataFrame:
 
 def rows_of_opening(schedule: YearlySchedule, method: str) -> pd.DataFrame:
     """Returns the rows of a method for what lay on stockpiles at the start."""
-    amounts = {name: values for name, values in schedule.from_opening(method).items() if is_shown(name)}
+    amounts = {name: values for name, values in schedule.from_opening(method).items() if tables.is_shown(name)}
     year = np.flatnonzero(amounts[ORE])
     head = {"method": np.full(len(year), method, dtype=object), "year": year + 1, "pushback": 0}
     flows = {name: values[year] for name, values in amounts.items()}

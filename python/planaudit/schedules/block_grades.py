@@ -11,7 +11,7 @@ import numpy as np
 from planaudit.inputs.answer import Answer
 from planaudit.inputs.project import FeedGrade
 from planaudit.inputs.tables import YEAR
-from planaudit.schedules.grade_limits import codes_of, grade_name
+from planaudit.schedules.grade_limits import GradeLimit, codes_of, grade_limits, grade_name, most_of
 from planaudit.schedules.limits import Shares, shares_of
 
 CASE = "block"
@@ -26,6 +26,8 @@ class Graded:
     Attributes
     ----------
     limit : FeedGrade
+    sides : tuple of GradeLimit
+        Its limits, one for each value that some period has.
     content, feed : array, shape (rows,)
         What each block adds to them in the process, by its share.
     pays : bool array, shape (rows,)
@@ -33,6 +35,7 @@ class Graded:
     """
 
     limit: FeedGrade
+    sides: tuple[GradeLimit, ...]
     content: np.ndarray
     feed: np.ndarray
     pays: np.ndarray
@@ -43,32 +46,36 @@ class Graded:
 
     def excess(self) -> Iterator[tuple[str, np.ndarray]]:
         """Yields each limit and the content of blocks above the maximum or below the minimum; without revenue never below 0."""
-        for side, grade, sign in (("max", self.limit.max, 1.0), ("min", self.limit.min, -1.0)):
-            if grade is not None:
-                found = sign * (self.content - grade * self.feed)
-                name = grade_name(self.limit, side)
-                yield name, np.where(self.pays, found, np.maximum(found, 0.0))
+        for side in self.sides:
+            found = side.sign * (self.content - side.grade * self.feed)
+            yield side.name, np.where(self.pays, found, np.maximum(found, 0.0))
 
 
 def graded(answer: Answer, shares: Shares) -> Iterator[Graded]:
     """Yields the limited head grades of blocks that go to processes in these shares."""
-    revenues = [revenue for revenue, _ in answer.amounts_of_ways]
+    revenues, limits = [revenue for revenue, _ in answer.amounts_of_ways], grade_limits(answer.project)
     for limit in answer.project.feed_grades:
+        sides = tuple(it for it in limits if it.shown in (grade_name(limit, "max"), grade_name(limit, "min")))
         number = next(number for number, (name, _) in enumerate(shares) if name == limit.process)
         share = shares[number][1]
         if limit.code is None:
             content = np.asarray(answer.rows[limit.column].to_numpy(), dtype=float) * answer.undiluted
         else:
             content = np.where(codes_of(answer.rows, answer.project, limit.column) == limit.code, answer.feed, 0.0)
-        yield Graded(limit, share * content, share * answer.feed, (answer.said[revenues[number]] > 0).to_numpy())
+        yield Graded(limit, sides, share * content, share * answer.feed, (answer.said[revenues[number]] > 0).to_numpy())
 
 
 def limits_of(answer: Answer) -> dict[str, float]:
     """Returns the limited head grades by name."""
-    found: dict[str, float] = {}
-    for limit in answer.project.feed_grades:
-        sides = (("max", limit.max), ("min", limit.min))
-        found |= {grade_name(limit, side): it for side, it in sides if it is not None}
+    return {it.name: it.grade for it in grade_limits(answer.project)}
+
+
+def most_of_years(answer: Answer, years: int) -> dict[tuple[str, int], float]:
+    """Returns the most of the content above each maximum, or below each minimum, by name and year from 1: 0, and infinite in other periods."""
+    found = dict[tuple[str, int], float]()
+    for limit in grade_limits(answer.project):
+        of_years = most_of(answer.project, limit, years)
+        found |= {(limit.name, year): float(most) for year, most in enumerate(of_years, 1)}
     return found
 
 
@@ -82,9 +89,10 @@ def differences(answer: Answer, told: dict[str, Any]) -> list[str]:
     year, said = answer.said[YEAR].to_numpy(), answer.years[answer.years["case"] == CASE].set_index("year")
     for it in graded(answer, shares_of(answer)):
         content, feed = (np.bincount(year, amounts, minlength=told["years"] + 1) for amounts in (it.content, it.feed))
-        least, most = it.limit.min or 0.0, np.inf if it.limit.max is None else it.limit.max
+        of_years = [answer.project.grades_by_period(it.limit, side, told["years"]) for side in ("min", "max")]
         for number in np.flatnonzero(feed[1:] > 0) + 1:
-            grade = content[number] / feed[number]
+            grade, (low, high) = content[number] / feed[number], (side[number - 1] for side in of_years)
+            least, most = low or 0.0, np.inf if high is None else high
             if not least * (1 - LOOSE) <= grade <= most * (1 + LOOSE):
                 found.append(f"year {number}: head grade {it.called} {grade:.10g}, limits {least:.10g} and {most:.10g}")
             written = float(said[f"head_grade_{it.called}"].get(number, np.nan))

@@ -88,7 +88,8 @@ class Bound:
             found |= {(name, MAX, year): most * at(ramp, year) for year in self.every_year}
         for name, _, by_year in minima_of(self.answer):
             found |= {(name, MIN, year): at(by_year, year) for year in self.every_year}
-        found |= {(name, MAX, year): 0.0 for name in block_grades.limits_of(self.answer) for year in self.every_year}
+        of_grades = block_grades.most_of_years(self.answer, self.years)
+        found |= {(name, MAX, year): most for (name, year), most in of_grades.items()}
         if self.must.any():
             found[MUST_MINE, MIN, 0] = float(np.count_nonzero(self.must))
         return found

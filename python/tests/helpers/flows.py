@@ -192,7 +192,8 @@ class Statement:
     def lay(self, pile: int, process: int = 0) -> float:
         """The tonnes that lie on a stockpile at the start, if the process takes them."""
         opening = self.model.stockpiles[pile].opening
-        return opening.tonnes if opening and (pile == 0 or process == 0) else 0.0
+        lies = opening is not None and self.model.lots is not None
+        return opening.tonnes if lies and (pile == 0 or process == 0) else 0.0
 
     def add(self, most: float, terms: dict[int, float]) -> None:
         row = np.zeros(self.size)

@@ -1,4 +1,5 @@
-"""Limits on head grades in schedules by block: the content of a process's feed less the grade times its tonnes is at most 0 in each year.
+"""Limits on head grades in schedules by block: the content of a process's feed less the grade times its tonnes is at most 0 in each year in
+which the limit applies.
 
 A block that recovers no metal in a process never lowers or raises the head grade there for the sake of a limit: it counts only if that
 makes the limit tighter.
@@ -13,7 +14,7 @@ from numpy.typing import NDArray
 
 from pitplan.plan import Plan
 from pitplan.scheduling.flow.parcels import content_of
-from pitplan.scheduling.grade_limits import GRADE, grade_limits
+from pitplan.scheduling.grade_limits import GRADE, GradeLimit, grade_limits
 
 from .problem import Limit
 from .schedule import BlockSchedule
@@ -29,8 +30,8 @@ class HeadGrade:
         Its column in years.csv, such as head_grade_mill_as_ppm.
     destination : int
         The number of the process among the destinations, of which waste is 0.
-    limits : dict
-        The limits by name, such as grade_mill_as_ppm_max, with 1 for a maximum and -1 for a minimum, and the grade.
+    limits : dict of str to GradeLimit
+        The limits by name, such as grade_mill_as_ppm_max; one for each value that some period has.
     content, feed : array, shape (cells,)
         What each cell adds to the content and to the tonnes of the feed.
     pays : bool array, shape (cells,)
@@ -39,24 +40,25 @@ class HeadGrade:
 
     name: str
     destination: int
-    limits: dict[str, tuple[float, float]]
+    limits: dict[str, GradeLimit]
     content: NDArray[np.float64]
     feed: NDArray[np.float64]
     pays: NDArray[np.bool_]
 
     def excess(self, name: str) -> NDArray[np.float64]:
         """Returns what each cell in the process adds to the content above a maximum, or below a minimum."""
-        sign, grade = self.limits[name]
-        found = sign * (self.content - grade * self.feed)
+        limit = self.limits[name]
+        found = limit.sign * (self.content - limit.grade * self.feed)
         return np.where(self.pays, found, np.maximum(found, 0.0))
 
     def limits_of(self, cells: NDArray[np.int64], destinations: int, years: int) -> list[Limit]:
         """Returns the limits of cells that are scheduled."""
         found = []
-        for name in self.limits:
+        for name, limit in self.limits.items():
             amounts = np.zeros((len(cells), destinations))
             amounts[:, self.destination] = self.excess(name)[cells]
-            found.append(Limit(name, amounts, np.zeros(years), signed=True))
+            most = np.where(limit.in_years(years), 0.0, np.inf)
+            found.append(Limit(name, amounts, most, signed=True))
         return found
 
     def of_years(self, cells: NDArray[np.int64], schedule: BlockSchedule, years: int) -> NDArray[np.float64]:
@@ -70,7 +72,7 @@ class HeadGrade:
 
 
 def head_grades(plan: Plan) -> list[HeadGrade]:
-    """Returns the head grades that `[processes.feed]` and `[schedule.feed]` limit. Those of periods are refused before."""
+    """Returns the head grades that `[processes.feed]`, `[schedule.feed]` and `feed` of periods limit."""
     values, cells, found = plan.values, np.arange(plan.grid.count), []
     names = [process.name for process in plan.project.processes] or [""]
     limits = grade_limits(plan.project)
@@ -78,7 +80,7 @@ def head_grades(plan: Plan) -> list[HeadGrade]:
         number = names.index(grade.process)
         prefix = GRADE + "_".join(grade.words)
         mine = [it for it in limits if it.shown in (f"{prefix}_max", f"{prefix}_min")]
-        sides = {it.name: (it.sign, it.grade) for it in mine}
+        sides = {it.name: it for it in mine}
         pays = values.by_process[number].revenue > 0
         content = content_of(plan, mine[0], cells)
         found.append(HeadGrade(f"head_{prefix}", 1 + number, sides, content, values.feed, pays))

@@ -17,12 +17,6 @@ def demand_of_blocks(project: Project) -> None:
     if project.dumps:
         why = "found dumps, expected none by block: their capacities in all years have no price in its upper bound"
         raise PlanError(f"{project.path}: [[dumps]]: {why}: remove them, or schedule pushbacks")
-    for number, period in enumerate(project.shells.calendar.periods, 1):
-        if period.feed:
-            why = "found limits of a period, expected none by block: head grades hold in all periods"
-            raise PlanError(
-                f"{project.path}: [[periods]] {number} feed: {why}: set [processes.feed] or [schedule.feed], or schedule pushbacks"
-            )
 
 
 def of_pushbacks(project: Project) -> list[str]:

@@ -125,7 +125,7 @@ class ScheduledBlocks:
         if not prices.size:
             return pd.DataFrame(columns=["limit", "side", "year", "price"])
         rows = [
-            (limit.name, "max" if np.isfinite(limit.most).all() else "min", year, price)
+            (limit.name, "max" if limit.signed or np.isfinite(limit.most).all() else "min", year, price)
             for limit, by_year in zip(problem.limits, prices)
             for year, price in enumerate(by_year, 1)
         ]
@@ -134,8 +134,8 @@ class ScheduledBlocks:
 
     @property
     def feed_limits(self) -> dict[str, float]:
-        """The limited head grades by name, such as grade_mill_as_ppm_max."""
-        return {name: grade for it in self.planned.grades for name, (_, grade) in it.limits.items()}
+        """The limited head grades by name, such as grade_mill_as_ppm_max, or grade_mill_as_ppm_max@120 if periods differ."""
+        return {name: limit.grade for it in self.planned.grades for name, limit in it.limits.items()}
 
     @property
     def record(self) -> dict[str, Any]:

@@ -1,13 +1,15 @@
-"""Which limits conflict if no schedule meets the minimums: by an elastic programme and its dual values.
+"""Which limits conflict if no schedule meets the minimums: by elastic programmes and their dual values.
 
 Each minimum, and each maximum of a stockpile, may be missed at the cost of the share that is missed. The dual values of the optimum prove that
-so much is missed: the limits that have one conflict with each other, whatever the other limits are (Farkas' lemma).
+so much is missed: the limits that have one conflict with each other, whatever the other limits are (Farkas' lemma). A deletion filter leaves out
+those of them that the conflict does not need.
 """
 
 from __future__ import annotations
 
-from dataclasses import dataclass
+from dataclasses import dataclass, replace
 from functools import cached_property
+from typing import Optional
 
 import numpy as np
 from numpy.typing import NDArray
@@ -15,11 +17,14 @@ from scipy.sparse import csr_matrix, hstack
 
 from pitplan.config.schedule import Effort
 from pitplan.scheduling.bench_sequencing import HAIR
+from pitplan.scheduling.grade_limits import GRADE
 from pitplan.scheduling.highs import Optimum, Programme
 from pitplan.scheduling.highs_process import solve
 
+from .conflict_sets import ALL, ConflictSet, Unit, of_mining, smallest, unit_of, with_units
+from .limit import Limit
 from .limit_names import ADVANCE, MAX, MIN, STOCK
-from .programme import FlowProgramme, Limit
+from .programme import FlowProgramme
 
 # A share of a limit, or of the greatest dual value, that may be the solver's tolerance alone.
 SLIGHT = 1e-6
@@ -43,7 +48,8 @@ class Conflict:
 
     @cached_property
     def programme(self) -> Programme:
-        given, at = self.flow.programme, np.concatenate([self.rows_of(number) for number in self.elastic])
+        given = self.flow.programme
+        at = np.concatenate([np.zeros(0, dtype=np.int64), *(self.rows_of(number) for number in self.elastic)])
         missed = csr_matrix((-np.ones(len(at)), (at, np.arange(len(at)))), shape=(given.matrix.shape[0], len(at)))
         return Programme(
             np.concatenate([np.zeros(len(given.gain)), -np.ones(len(at))]),
@@ -100,8 +106,34 @@ class Conflict:
                 found.setdefault((name, MAX), np.zeros(flow.years, dtype=bool))[: year + 1] = True
         return found
 
+    @property
+    def units(self) -> set[Unit]:
+        """The limits that conflict in this programme, by year; with rows of whole benches, which have no names, also those of mining."""
+        found = {
+            unit_of(name, side, int(year))
+            for (name, side), years in self.priced.items()
+            for year in np.flatnonzero(years)
+        }
+        return found | (set(of_mining(self.flow.model)) if self.flow.paced else set())
+
+    @cached_property
+    def smallest(self) -> tuple[Conflict, ConflictSet]:
+        """The elastic programme of the smallest conflict that is found, and its limits."""
+        last = self
+
+        def conflicting(units: tuple[Unit, ...]) -> Optional[set[Unit]]:
+            nonlocal last
+            tried = replace(self, flow=replace(self.flow, model=with_units(self.flow.model, units)))
+            if not tried.missed:
+                return None
+            last = tried
+            return tried.units
+
+        found = smallest(self.units, conflicting)
+        return last, found
+
     def message(self) -> str:
-        """Says which limits are missed by how much at least, and which others they conflict with; "" if none is missed."""
+        """Says which limits are missed by how much at least, and the smallest conflict that is found; "" if no limit is missed."""
         missed = self.missed
         if not missed:
             return ""
@@ -111,14 +143,41 @@ class Conflict:
             for limit, by in missed
             for year in np.flatnonzero(by)
         ]
-        taken = {(limit.name, limit.side) for limit, _ in missed}
-        others = [
-            f"the {SIDES[side]} of {name} in {in_words(years, word)}"
-            for (name, side), years in self.priced.items()
-            if (name, side) not in taken
-        ]
-        conflict = f"; this conflicts with {', '.join(others)}" if others else ""
-        return f"infeasible: no schedule of these pushbacks keeps all limits; at least it misses {'; '.join(parts)}{conflict}"
+        return f"infeasible: no schedule of these pushbacks keeps all limits; at least it misses {'; '.join(parts)}; {self.conflict()}"
+
+    def conflict(self) -> str:
+        """Names the limits of the smallest conflict that is found, with their years and amounts."""
+        last, found = self.smallest
+        years = last.years_of(found)
+        named = ", ".join(self.named(name, side, years[name, side]) for name, side in sorted(years))
+        sure = "and without any one of them the others do not" if found.is_irreducible else "perhaps not all of them"
+        return f"these limits conflict, {sure}: {named}"
+
+    def years_of(self, conflict: ConflictSet) -> dict[tuple[str, str], NDArray[np.bool_]]:
+        """Returns the years of the limits of a conflict, by name and side; where one holds in all years, those that have dual values."""
+        found, units = dict[tuple[str, str], NDArray[np.bool_]](), set(conflict.units)
+        for (name, side), years in self.priced.items():
+            kept = [bool(of) and unit_of(name, side, year) in units for year, of in enumerate(years)]
+            if any(kept):
+                found[name, side] = np.array(kept)
+        have = {
+            unit_of(name, side, int(year)) for (name, side), years in found.items() for year in np.flatnonzero(years)
+        }
+        # Limits of mining that hold by rows of whole benches alone have no dual value of their own.
+        for unit in units - have:
+            of_unit = found.setdefault((unit.name, unit.side), np.zeros(self.flow.years, dtype=bool))
+            of_unit[slice(None) if unit.year == ALL else unit.year] = True
+        return found
+
+    def named(self, name: str, side: str, years: NDArray[np.bool_]) -> str:
+        """Returns a limit in words, with years and amounts."""
+        found = [self.given(it)[years] for it in self.flow.limits if (it.name, it.side) == (name, side)]
+        rate = self.flow.model.problem.limits.vertical_advance_rate
+        amounts = [f"{amount:,.6g}" for amount in dict.fromkeys(np.concatenate(found).tolist() if found else [rate])]
+        # Limits on head grades are those of contents above or below them, of which there is to be none.
+        how_much = "" if name.startswith(GRADE) else f" ({', '.join(amounts)})"
+        when = in_words(years, self.flow.model.problem.limits.calendar.word)
+        return f"the {SIDES[side]} of {name.rstrip('_')} in {when}{how_much}"
 
     def given(self, limit: Limit) -> NDArray[np.float64]:
         """Returns a limit as the project gives it; of a stockpile with what lies there at the start."""

@@ -9,11 +9,9 @@ from __future__ import annotations
 from typing import Optional
 
 import numpy as np
-from numpy.typing import NDArray
 from scipy.sparse import csr_matrix, hstack, vstack
 
 from pitplan.config.schedule import Effort
-from pitplan.scheduling.bench_sequencing import HAIR
 from pitplan.scheduling.highs import Programme
 from pitplan.scheduling.highs_process import solve
 
@@ -22,9 +20,10 @@ from .flows import Flows
 from .model import FlowModel
 from .programme import FlowProgramme
 from .rows import started_rows
+from .whole_benches import keeps, whole_shares
 
-# What the solver's tolerance may add to a share, and by how much a limit may be missed.
-SLIGHT, TOLERATED = 1e-6, 1e-8
+# What the solver's tolerance may add to a share.
+SLIGHT = 1e-6
 # HiGHS may run past its time limit. Its process is ended after TIMES the limit plus LATE seconds, without a result.
 TIMES, LATE = 2.0, 30.0
 
@@ -62,27 +61,8 @@ def best_schedule(model: FlowModel, effort: Effort) -> tuple[Optional[Flows], fl
         return None, most
     if most < 0 and not model.asks_least:
         most = 0.0
-    dug = whole_shares(found.unknowns[: flow.sizes[0]].reshape(-1, model.years))
+    dug = whole_shares(found.unknowns[: flow.sizes[0]].reshape(-1, model.years), SLIGHT)
     flows = scheduler.feasible(model, dug) if keeps(model, dug) else None
     if flows is None:
         return None, most
     return scheduler.ended(scheduler.without_loss(flows)), most
-
-
-def keeps(model: FlowModel, dug: NDArray[np.float64]) -> bool:
-    """Returns whether each bench is started when all that it waits for is mined, and no year exceeds a limit of mining, within a tolerance."""
-    benches, limits, years = model.benches, model.of_mining, dug.shape[1]
-    done = dug.cumsum(axis=1)
-    for bench, others in enumerate(benches.waits):
-        if (done[others][:, dug[bench] > 0] < 1 - HAIR).any():
-            return False
-    sunk = np.stack([dug[benches.pushback == pushback].sum(axis=0) for pushback in np.unique(benches.pushback)])
-    is_within = (limits.amounts(benches).T @ dug).T <= limits.of_years(years) * (1 + TOLERATED)
-    return bool(is_within.all() and (sunk <= limits.sinking(years) + TOLERATED).all())
-
-
-def whole_shares(cumulative: NDArray[np.float64]) -> NDArray[np.float64]:
-    """Returns the shares of benches by year without the solver's tolerance."""
-    rounded = np.where(cumulative > 1 - SLIGHT, 1.0, np.where(cumulative < SLIGHT, 0.0, cumulative))
-    shares = np.diff(np.maximum.accumulate(rounded, axis=1), axis=1, prepend=0.0)
-    return np.where(shares > HAIR, shares, 0.0)

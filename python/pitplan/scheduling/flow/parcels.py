@@ -65,15 +65,22 @@ def of_pushbacks(pushbacks: Pushbacks, rules: ScheduleRules) -> Material:
     sets = dump_sets.of_cells(plan, np.flatnonzero((pushbacks.pushback > 0) & (plan.values.tonnes > 0)))
     cells = ore_cells(pushbacks, rules)
     blocks = ore_of(plan, rules, cells, bench_table.benches_of_cells(pushbacks, assigned, cells), sets)
-    per_tonne, names = per_tonne_of(blocks, blocks.gain), names_of(plan)
-    best, count = per_tonne.argmax(axis=0), rules.bins or BINS
+    benches = mined_alone(pushbacks, assigned, rules, sets)
+    material = Material(benches, cells, np.zeros(len(cells), dtype=np.int64), blocks, blocks, {}, sets)
+    return by_value(material, names_of(plan), rules.bins or BINS, GRADE_PARTS)
+
+
+def by_value(material: Material, names: list[str], bins: int, parts: int) -> Material:
+    """Returns the same material in parcels by value bins of each process, of nearly even tonnage, and by parts of limited grades."""
+    blocks = material.blocks
+    per_tonne = per_tonne_of(blocks, blocks.gain)
+    best = per_tonne.argmax(axis=0)
     edges = {
-        name: edges_of(per_tonne[process, best == process], blocks.feed[best == process], count)
+        name: edges_of(per_tonne[process, best == process], blocks.feed[best == process], bins)
         for process, name in enumerate(names)
     }
-    kind = kinds_of(blocks, per_tonne, list(edges.values()), grade_parts(blocks))
-    benches = mined_alone(pushbacks, assigned, rules, sets)
-    return in_parcels(Material(benches, cells, kind, blocks, blocks, edges, sets), kind)
+    kind = kinds_of(blocks, per_tonne, list(edges.values()), grade_parts(blocks, parts))
+    return in_parcels(replace(material, edges=edges), kind)
 
 
 def by_choice(material: Material, choices: NDArray[np.int64]) -> Material:
@@ -239,14 +246,14 @@ def takers_of(blocks: Ore) -> NDArray[np.int64]:
     return number
 
 
-def grade_parts(blocks: Ore) -> NDArray[np.int64]:
-    """Returns the part of each block by its limited grades."""
+def grade_parts(blocks: Ore, parts: int) -> NDArray[np.int64]:
+    """Returns the part of each block by its limited grades, each of which divides ore into so many of even feed."""
     part = np.zeros(len(blocks), dtype=np.int64)
     # Limits of other periods differ by a constant.
     once = {name.partition(AT)[0]: name for name in blocks.amounts if name.startswith(GRADE)}
     for name in once.values():
         grade = blocks.amounts[name].sum(axis=0) / np.where(blocks.feed > 0, blocks.feed, 1.0)
-        edges = edges_of(grade, blocks.feed, GRADE_PARTS)
+        edges = edges_of(grade, blocks.feed, parts)
         part = part * (len(edges) + 1) + np.searchsorted(edges, grade)
     return part
 

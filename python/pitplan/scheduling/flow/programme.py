@@ -22,57 +22,15 @@ from pitplan.config.schedule import Effort
 from pitplan.scheduling.highs import Programme
 from pitplan.scheduling.highs_process import solve
 
+from .limit import Limit
 from .limit_names import ADVANCE, DUMP, DUMPED, MAX, MIN, RUNNING, STOCK, Prices
 from .model import FlowModel
 from .rows import by_end, furthest, order_rows, pace_rows
 
+# Programmes with more unknowns than these take minutes.
+MANY = 60_000
 # The limits that do not show whether the mine runs in a year.
 OF_PLACES = (STOCK, DUMP, DUMPED)
-
-
-@dataclass(frozen=True)
-class Limit:
-    """A limit by year: `used @ unknowns` is at most `most` for a maximum, at least for a minimum.
-
-    Attributes
-    ----------
-    name, side : str
-        The limited amount, and MAX or MIN.
-    used : csr matrix, shape (years, unknowns)
-    amount : array, shape (years,)
-        Infinite where there is no limit.
-    """
-
-    name: str
-    side: str
-    used: csr_matrix
-    amount: NDArray[np.float64]
-
-    @property
-    def sign(self) -> float:
-        return -1.0 if self.side == MIN else 1.0
-
-    @property
-    def scale(self) -> float:
-        """A unit in which the limit is near 1."""
-        greatest = float(np.abs(self.amount[self.holds]).max(initial=0.0))
-        return greatest or float(np.abs(self.used.data).max(initial=0.0)) or 1.0
-
-    @property
-    def holds(self) -> NDArray[np.bool_]:
-        """Whether there is a limit in each year."""
-        return np.isfinite(self.amount)
-
-    @property
-    def finite(self) -> NDArray[np.float64]:
-        """The amount, 0 where there is no limit."""
-        return np.where(self.holds, self.amount, 0.0)
-
-    @property
-    def rows(self) -> tuple[csr_matrix, NDArray[np.float64]]:
-        """The rows of the programme, at most; of years without a limit 0 is at most 0."""
-        unit = self.sign / self.scale
-        return diags(self.holds * unit) @ self.used, self.finite * unit
 
 
 @dataclass(frozen=True)
@@ -112,11 +70,15 @@ class FlowOptimum:
 @dataclass(frozen=True)
 class FlowProgramme:
     """The programme of a model; with `dug`, shape (benches, years), of what is mined already, so that only its flows are chosen. Without `paced` it
-    has no rows that only schedules of whole benches must keep."""
+    has no rows that only schedules of whole benches must keep. With `near`, shape (benches, years), ore goes to processes and stockpiles only in the
+    years in which its bench is expected to be mined. With `between`, two arrays of this shape, at least and at most these shares are mined by the end
+    of each year."""
 
     model: FlowModel
     dug: Optional[NDArray[np.float64]] = None
     paced: bool = True
+    near: Optional[NDArray[np.bool_]] = None
+    between: Optional[tuple[NDArray[np.float64], NDArray[np.float64]]] = None
 
     @property
     def years(self) -> int:
@@ -129,6 +91,10 @@ class FlowProgramme:
         counts = [0 if self.dug is not None else len(model.benches), len(model.direct)]
         counts += [stocked, stocked, len(model.reclaimed), len(model.opened), len(model.waste.pairs[0])]
         return [count * self.years for count in counts]
+
+    @property
+    def is_large(self) -> bool:
+        return sum(self.sizes) > MANY
 
     def row(self, *parts: Optional[csr_matrix]) -> csr_matrix:
         """Returns rows of all unknowns from rows of those of mining, direct feed, to, in and from the stockpiles, and from what lies there at the
@@ -294,23 +260,46 @@ class FlowProgramme:
         parts += [self.parcel_rows(), *self.stock_rows(), *self.opening_rows(), *self.waste_rows()]
         parts += [it.rows for it in self.limits]
         matrix, most = vstack([rows for rows, _ in parts], format="csr"), np.concatenate([right for _, right in parts])
-        size = sum(self.sizes)
-        upper = np.ones(size)
-        if self.dug is None:
-            upper[: self.sizes[0]] = self.reachable.ravel()
-        programme = Programme(self.gain / self.unit, matrix, most, upper, np.zeros(size, dtype=bool))
+        programme = Programme(self.gain / self.unit, matrix, most, self.upper, np.zeros(sum(self.sizes), dtype=bool))
         return self.with_running_years(programme) if self.costs[1:].any() else programme
+
+    @property
+    def upper(self) -> NDArray[np.float64]:
+        """The greatest value of each unknown: of benches what can be reached, and 0 of what cannot flow since its bench is not mined by then."""
+        model, (mined, *_, opened, wasted) = self.model, self.sizes
+        near = self.near if self.dug is None else self.dug > 0
+        if self.between is not None:
+            least, most = self.between
+            near = most > np.pad(least[:, :-1], ((0, 0), (1, 0)))
+        if near is None:
+            return np.concatenate([self.reachable.ravel(), np.ones(sum(self.sizes) - mined)])
+        of_ore = near[model.ore.bench]
+        # From the year on in which the first of it may be placed; it is reclaimed later.
+        placed = np.maximum.accumulate(of_ore, axis=1)
+        later = np.pad(placed[:, :-1], ((0, 0), (1, 0)))
+        parts = [of_ore[model.direct.parcel], of_ore[model.stocked.parcel], placed[model.stocked.parcel]]
+        flows = [part.ravel().astype(float) for part in (*parts, later[model.reclaimed.parcel])]
+        reach = self.reachable.ravel() if self.dug is None else np.zeros(0)
+        return np.concatenate([reach, *flows, np.ones(opened + wasted)])
 
     def order_rows(self) -> tuple[csr_matrix, NDArray[np.float64]]:
         matrix, most = order_rows(self.model.benches, self.years)
         paced = pace_rows(self.model.benches, self.model.of_mining, self.years) if self.paced else matrix[:0]
-        rows = vstack([matrix, paced], format="csr")
-        return self.row(rows, None, None, None, None), np.append(most, np.zeros(paced.shape[0]))
+        parts, sides = [matrix, paced], [most, np.zeros(paced.shape[0])]
+        if self.between is not None:
+            least = np.flatnonzero(self.between[0].ravel())
+            parts.append(-eye(self.sizes[0], format="csr")[least])
+            sides.append(-self.between[0].ravel()[least])
+        return self.row(vstack(parts, format="csr"), None, None, None, None), np.concatenate(sides)
 
     @cached_property
     def reachable(self) -> NDArray[np.float64]:
         """The greatest share of each bench that can be mined by the end of each year, shape (benches, years)."""
-        return furthest(self.model.benches, self.model.of_mining, self.years)
+        return (
+            self.between[1]
+            if self.between is not None
+            else furthest(self.model.benches, self.model.of_mining, self.years)
+        )
 
     @property
     def bounding(self) -> list[Limit]:
@@ -340,10 +329,13 @@ class FlowProgramme:
 
     def solved(self) -> FlowOptimum:
         """Solves the programme. Raises PlanError if there is no solution, KeyboardInterrupt if the run is interrupted."""
-        found = solve(self.programme, Effort())
+        programme, unknowns, rows = self.programme.reduced()
+        found = solve(programme, Effort())
         assert found.unknowns is not None and found.prices is not None
         value = found.bound * self.unit - self.costs[0]
-        return self.optimum(found.unknowns, value, self.prices(found.prices))
+        whole, prices = np.zeros(len(unknowns)), np.zeros(len(rows))
+        whole[unknowns], prices[rows] = found.unknowns, found.prices
+        return self.optimum(whole, value, self.prices(prices))
 
     @property
     def first_limit(self) -> int:
@@ -354,12 +346,13 @@ class FlowProgramme:
 
     def optimum(self, unknowns: NDArray[np.float64], value: float, prices: Prices) -> FlowOptimum:
         """Returns the optimum by its parts; nothing is mined if that is worth more."""
-        if value < 0 and self.dug is None and not self.model.asks_least:
+        if value < 0 and self.dug is None and self.between is None and not self.model.asks_least:
             unknowns, value = np.zeros_like(unknowns), 0.0
         ends = np.cumsum(self.sizes)
         by_end_of_years, direct, stocked, _, reclaimed, opened, dumped = (
             part.reshape(-1, self.years) for part in np.split(unknowns[: ends[-1]], ends[:-1])
         )
+        stocked = self.placed(stocked, reclaimed)
         running = unknowns[ends[-1] :] if len(unknowns) > ends[-1] else np.ones(self.years)
         cumulative = np.maximum.accumulate(np.clip(by_end_of_years, 0.0, 1.0), axis=1)
         fed = (self.gain[ends[0] :] * unknowns[ends[0] : ends[-1]]).reshape(-1, self.years).sum(axis=0)
@@ -369,6 +362,22 @@ class FlowProgramme:
         cash = (mined + fed - self.costs * running) / self.model.discounts
         tonnes = dumped * self.of_pairs[:, None]
         return FlowOptimum(cumulative, direct, stocked, reclaimed, opened, running, value, cash, prices, tonnes)
+
+    def placed(self, stocked: NDArray[np.float64], reclaimed: NDArray[np.float64]) -> NDArray[np.float64]:
+        """Returns the shares that go to stockpiles without those that are never reclaimed, which would lie there although the programme does not count
+        them. The rest is waste, unless a dump would have to take it, or some of it must lie there."""
+        model = self.model
+        if model.waste.sets or any(least.any() for least, _ in model.rooms):
+            return stocked
+        place = np.full((len(model.stockpiles), len(model.ore)), -1)
+        place[model.stocked.index] = np.arange(len(stocked))
+        leaves = np.zeros_like(stocked)
+        np.add.at(leaves, place[model.reclaimed.index[0], model.reclaimed.parcel], reclaimed)
+        found, due = np.zeros_like(stocked), np.zeros(len(stocked))
+        for year in range(self.years - 1, -1, -1):
+            found[:, year] = np.minimum(stocked[:, year], due)
+            due += leaves[:, year] - found[:, year]
+        return found
 
     def prices(self, of_rows: NDArray[np.float64]) -> Prices:
         """Returns the prices of the limits, from the dual value of each row."""

@@ -14,22 +14,23 @@ from pitplan.config.dumps import Dump
 from pitplan.errors import PlanError
 from pitplan.pushbacks.bench_table import ORE, PushbackBenches
 from pitplan.scheduling.bench_sequencing import Problem, Sequence, by_lead, dig, leads
+from pitplan.scheduling.highs_process import at_a_time
 
-from . import orders
+from . import depths, orders
 from .dumping import FAR
 from .flows import Flows, best, richest_first
 from .model import FlowModel
 from .orders import Ordered
 from .pacing import Pacing
-from .programme import FlowOptimum
+from .programme import FlowOptimum, FlowProgramme
 from .rows import paying
 
 # Of more processes than these the mine is paced by each one alone or by all.
 MOST_PACING = 3
-# The flows are optimised for this number of the best orders; with minimums, which any order may miss, for more.
-TRIED, TRIED_WITH_MINIMUMS = 4, 40
-# Orders are compared with about MOST_KINDS kinds of ore at most, and the best COMPARED of them again with all bins.
-MOST_KINDS, COMPARED = 48, 8
+# The flows are optimised for this number of the best orders; of large programmes for fewer, and with minimums, which any order may miss, for more.
+TRIED, TRIED_OF_LARGE, TRIED_WITH_MINIMUMS = 4, 2, 40
+# Orders are compared with about MOST_KINDS kinds of ore at most, and COMPARED times as many of the best as are tried again with all bins.
+MOST_KINDS, COMPARED = 48, 2
 # By so much of it a minimum may be missed; so much of the waste may find no room; and by so much of it a limit of a dump may be exceeded.
 TOLERATED, LACKING, ROOM = 1e-8, 1e-7, 1e-6
 # How often an order is mined more slowly because its waste finds no room.
@@ -157,22 +158,42 @@ def from_optimum(model: FlowModel, optimum: FlowOptimum, rule: Optional[Flows] =
     NoSchedule
         If none of them meets the minimums.
     """
-    tries = TRIED_WITH_MINIMUMS if model.asks_least else TRIED
     given = None if rule is None else feasible(model, padded(rule.dug, model.years))
     made = [] if given is None else [given]
-    for found in orders_of(model, optimum)[:tries]:
-        flows = (fitting(model, dug, dig_at) for dug, dig_at in mined(model, found.order, optimum))
-        made += [it for it in flows if it is not None]
-        if model.asks_least and len(made) >= TRIED:
-            break
+    made += made_of_orders(model, optimum)
     if not made:
         kept = "keeps the limits of the dumps" if model.waste.is_limited else "meets the minimums"
         raise NoSchedule(f"no schedule that was tried {kept}: widen them, or set [schedule] milp")
     return ended(without_loss(max(made, key=lambda it: it.value)))
 
 
-def orders_of(model: FlowModel, optimum: FlowOptimum) -> list[Ordered]:
-    """Returns orders of benches, the best first: by leads, and as the optimum of the linear programme is expected to mine them."""
+def made_of_orders(model: FlowModel, optimum: FlowOptimum) -> list[Flows]:
+    """Returns the schedules of the best orders. Their programmes run at the same time, unless any order may miss minimums."""
+    tries = TRIED_OF_LARGE if FlowProgramme(model).is_large else TRIED
+    found = orders_of(model, optimum, COMPARED * tries)
+    if not model.asks_least:
+        cases = (case for it in found[:tries] for case in mined(model, it.order, optimum))
+        return [it for it in at_a_time(lambda case: fitting(model, *case), cases) if it is not None]
+    made: list[Flows] = []
+    for it in found[:TRIED_WITH_MINIMUMS]:
+        flows = (fitting(model, dug, dig_at) for dug, dig_at in mined(model, it.order, optimum))
+        made += [it for it in flows if it is not None]
+        if len(made) >= TRIED:
+            break
+    return made
+
+
+def deepened(flows: Flows) -> Flows:
+    """Returns the schedule with better depths of pushbacks by year, if they are found."""
+    model = flows.model
+    dug = depths.improved(model, padded(flows.dug, model.years), flows.value)
+    found = None if dug is None else feasible(model, dug)
+    return flows if found is None else max(ended(without_loss(found)), flows, key=lambda it: it.value)
+
+
+def orders_of(model: FlowModel, optimum: FlowOptimum, compared: int) -> list[Ordered]:
+    """Returns orders of benches, the best first: by leads, and as the optimum of the linear programme is expected to mine them. So many of the best
+    are compared again with all bins."""
     exact, pacing = Pacing(model, optimum.prices), Pacing(model, optimum.prices, MOST_KINDS)
     found = orders.by_one_lead(pacing)
     found.append(orders.improved(pacing, found[0]))
@@ -184,8 +205,8 @@ def orders_of(model: FlowModel, optimum: FlowOptimum) -> list[Ordered]:
     found.sort(key=lambda it: it.course.value, reverse=True)
     if pacing.kinds == exact.kinds:
         return found
-    again = [replace(it, course=exact.coarse(it.order)) for it in found[:COMPARED]]
-    return sorted(again, key=lambda it: it.course.value, reverse=True) + found[COMPARED:]
+    again = [replace(it, course=exact.coarse(it.order)) for it in found[:compared]]
+    return sorted(again, key=lambda it: it.course.value, reverse=True) + found[compared:]
 
 
 def mined(

@@ -15,12 +15,14 @@ from pitplan.config.dumps import Dump
 from pitplan.config.economics import GRADE_UNITS
 from pitplan.config.places import MILL, PIT, WASTE
 from pitplan.config.stockpiles import Stockpile
-from pitplan.economics.period_costs import SELLING_COST, SMELTED
+from pitplan.economics.period_costs import MINING_COST, SELLING_COST, SMELTED
 from pitplan.pits import shell_tables
 from pitplan.plan import Plan, shown_name
 from pitplan.pushbacks.bench_table import benches_of_cells
+from pitplan.scheduling.limits import SUM
 
 from .cutoffs import cutoffs
+from .dumping import SET
 from .flows import Flows
 from .opening_table import balance_at_start, of_opening
 from .parcels import column_of
@@ -335,3 +337,8 @@ def bound_table(schedule: YearlySchedule) -> pd.DataFrame:
         for year, price in enumerate(prices, 1)
     ]
     return pd.DataFrame(rows, columns=["limit", "side", "year", "price"])
+
+
+def is_shown(name: str) -> bool:
+    """Returns whether an amount of benches is a column of tables."""
+    return name != MINING_COST and not name.startswith((SUM, SET))
