@@ -21,7 +21,7 @@ complete -c pitplan -n __fish_use_subcommand -a export -d 'Write pits, pushbacks
 complete -c pitplan -n __fish_use_subcommand -a audit -d 'Write a folder with which others can check one shell'
 complete -c pitplan -n __fish_use_subcommand -a verify -d 'Recalculate the results of a folder independently'
 complete -c pitplan -n __fish_use_subcommand -a convert -d 'Convert published files of MineLib to those of pitshell'
-complete -c pitplan -n __fish_use_subcommand -a serve -d 'Show the projects and results of a folder in the browser, and run commands there'
+complete -c pitplan -n __fish_use_subcommand -a serve -d 'Show and run the projects of a folder in the browser'
 complete -c pitplan -n '__fish_seen_subcommand_from init' -F
 complete -c pitplan -n '__fish_seen_subcommand_from init' -l out -r -F -d 'write the project to this file (default: project.toml next to the table)'
 complete -c pitplan -n '__fish_seen_subcommand_from init' -l figures -d 'draw histograms of grades and density, a plan and a section, next to the project'

@@ -119,7 +119,7 @@ def parser() -> Parser:
 
 def add_serve(subs: Subparsers) -> None:
     more = "Only this machine reaches it, by the address with the token that is printed. Jobs go on after Ctrl-C."
-    does = "show the projects and results of a folder in the browser, and run commands there"
+    does = "show and run the projects of a folder in the browser"
     sub = subs.add("serve", does, subcommands.serve, more)
     sub.add_argument("folder", nargs="?", type=Path, default=Path("."), help="folder with projects (default: this one)")
     sub.add_argument("--port", type=port_of, default=0, metavar="N", help="port, 0 to 65535 (default: 0, any free one)")

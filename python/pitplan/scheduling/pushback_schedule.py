@@ -38,8 +38,7 @@ from .methods import LP, MILP, RULE
 
 # The linear programme may take this part of the rule's years more.
 MORE_YEARS = 0.2
-# While the bound is above the optimum of parcels by more than this share, parcels are made finer, so often at most. Of large programmes a greater
-# share is enough.
+# Parcels are made finer while the bound is above their optimum by more than this share, of large programmes a greater one; so often at most.
 FINE, FINE_OF_LARGE, REFINEMENTS = 0.002, 0.006, 3
 # Value bins of each process, and parts by limited grades, of the first of these programmes.
 FEW_BINS, FEW_PARTS = 4, 2
