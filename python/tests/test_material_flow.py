@@ -280,6 +280,19 @@ def with_rooms(model, rooms):
     return replace(model, problem=replace(model.problem, limits=replace(limits_of(model), stock_by_year=rooms)))
 
 
+def test_the_bound_of_a_stockpile_that_must_hold_a_tonne_by_hand():
+    """12 t lie there and gain 4 each in the first year. From the second on a tonne must lie there: a tenth of the bench, which costs 1, has one
+    of ore that gains nothing."""
+    bench = [(0, [(20, [(10, 0)], 1)])]
+    rules = Limits({"feed_tonnes": 40.0, "total_tonnes": 70.0}, vertical_advance_rate=0.7)
+    wide = model_of(mine_of(bench, 0), [(1.0, 25.0), (1.0, 25.0)], rules, 4, [(0.0, 0.0, None, 1.0, 12.0)])
+    narrow = with_rooms(wide, {it.name: ((0.0, 13.0), (1.0, 14.0)) for it in wide.stockpiles})
+    optimum = FlowProgramme(narrow).solved()
+    value = 48 / 1.1 - 0.1 / 1.21
+    assert optimum.value == pytest.approx(value) == linear_optimum(narrow)
+    assert upper_bound(narrow, narrow.ore, optimum.prices) == pytest.approx(value)
+
+
 @examples(8)
 @given(mines, limits, st.sampled_from([None, 0.5]))
 def test_a_process_twice_with_half_its_capacity_is_the_process(pits, limits, cost):

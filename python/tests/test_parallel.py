@@ -263,8 +263,10 @@ def test_the_audit_runs_without_pitplan(plan_folder, capsys):
     folder = project.folder
     pitplan.write_shells(project, folder)
     assert main([str(folder)]) == 0
-    *found, inputs = capsys.readouterr().out.splitlines()
-    assert found == recorded(folder) and inputs.startswith("inputs: ")
+    found = capsys.readouterr().out.splitlines()
+    assert [it for it in found if not it.startswith("inputs: ")] == recorded(folder) and len(found) > len(
+        recorded(folder)
+    )
     table = folder / "tables/shells.csv"
     text = table.read_text()
     table.write_text(text.replace("200", "300", 1))

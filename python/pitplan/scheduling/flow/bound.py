@@ -77,15 +77,20 @@ class Lagrangian:
     def waiting(self, number: int) -> NDArray[np.float64]:
         """What each unit earns that goes to a stockpile in each year, until the best later year or to the end, shape (units, years)."""
         model, ore = self.model, self.model.reclaims[number]
-        stockpile, nothing = model.stockpiles[number], np.zeros(model.years)
+        stockpile = model.stockpiles[number]
         gains = ore.gains(model.problem.money, model.years) * model.discounts
         later = self.priced(ore.amounts, gains).max(axis=0, initial=-np.inf)
-        # A tonne pays the price of the stockpile's capacity in each year at whose end it lies there.
-        lies = ore.feed[:, None] * self.prices.get((f"{STOCK}{stockpile.name}", MAX), nothing)
+        # A tonne pays rent in each year at whose end it lies there.
+        lies = ore.feed[:, None] * self.rent(stockpile.name)
         found = -lies
         for year in range(model.years - 2, -1, -1):
             found[:, year] += np.maximum(later[:, year + 1], found[:, year + 1])
         return found - stockpile.stacking_cost * ore.feed[:, None] * model.discounts
+
+    def rent(self, stockpile: str) -> NDArray[np.float64]:
+        """Returns the price of a tonne that lies on a stockpile at the end of each year: that of its capacity, less that of its minimum."""
+        nothing, name = np.zeros(self.model.years), f"{STOCK}{stockpile}"
+        return self.prices.get((name, MAX), nothing) - self.prices.get((name, MIN), nothing)
 
     @cached_property
     def earned(self) -> NDArray[np.float64]:
@@ -135,10 +140,10 @@ class Lagrangian:
     @property
     def of_opening(self) -> float:
         """What the lots that lie on stockpiles at the start earn at most. A lot that is reclaimed frees the capacity of its stockpile from then on."""
-        model, lots, nothing = self.model, self.model.opening, np.zeros(self.model.years)
+        model, lots = self.model, self.model.opening
         earned = self.priced(lots.ore.amounts, model.opening_gains * model.discounts)
         for number, it in enumerate(model.stockpiles):
-            rent = self.prices.get((f"{STOCK}{it.name}", MAX), nothing)[::-1].cumsum()[::-1]
+            rent = self.rent(it.name)[::-1].cumsum()[::-1]
             earned = earned + lots.on(number)[:, None] * rent
         return float(np.maximum(earned.max(axis=(0, 2), initial=0.0), 0.0).sum())
 

@@ -189,7 +189,7 @@ class FlowModel:
         if ore is None and self.waste.sets:
             rock, saved = self.waste.ore.sum(axis=0), self.waste.saved
             pays |= (units.of(FEED) > 0) & (np.isinf(saved) | (earned + rock * (0.0 if np.isinf(saved) else saved) > 0))
-        return pays | (units.gain != 0) if self.asks_ore else pays
+        return pays | (units.of(FEED) > 0) if self.asks_ore else pays
 
     @property
     def asks_ore(self) -> bool:
