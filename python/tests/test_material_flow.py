@@ -220,7 +220,9 @@ def test_parcels_of_blocks_that_choose_alike_lose_nothing(pits, limits, several,
 
 
 def without_last_process(ore, limited):
-    amounts = {name: values[:-1] for name, values in ore.amounts.items() if name in limited}
+    # Metal has no limit here, and stockpiles may lose a part of it.
+    kept = {*limited, "recovered_copper"}
+    amounts = {name: values[:-1] for name, values in ore.amounts.items() if name in kept}
     return Ore(ore.bench, ore.bin, ore.gain[:-1], amounts, ore.accepted)
 
 
