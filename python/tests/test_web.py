@@ -207,6 +207,11 @@ def test_results_have_their_tables_with_units_and_pages_in_a_sandbox(root, clien
     assert "attachment" in client.get("/file?name=hill/plan/tables/shells.csv").headers["content-disposition"]
 
 
+def test_results_that_were_not_verified_say_so(root, client):
+    pitplan.write_shells(root / "hill" / "project.toml", writing=pitplan.Writing(verifies=False))
+    assert "Not verified." in client.get("/result?name=hill/plan").text
+
+
 def test_numbers_have_groups_of_digits():
     assert [grouped(it) for it in ("65590338.164", "-1234", "0.5", "lp", "nan", "")] == [
         "65,590,338.164",

@@ -8,7 +8,7 @@ from collections.abc import Callable
 from dataclasses import dataclass
 from decimal import Decimal, InvalidOperation
 from pathlib import Path
-from typing import Any
+from typing import Any, Optional
 
 from pitplan.config import project_writer
 from pitplan.config.project import load
@@ -87,14 +87,14 @@ class Page:
     Attributes
     ----------
     notes : list of str
-    verified : int
-        How many rules of the verification hold.
+    verified : int, optional
+        How many rules of the verification hold; None of results that have no rules of their own, such as a comparison.
     figures, tables, pages, files : list of str
         Names from the folder that is served: pictures; tables; report and 3D view; all files.
     """
 
     notes: list[str]
-    verified: int
+    verified: Optional[int]
     figures: list[str]
     tables: list[str]
     pages: list[str]
@@ -118,7 +118,7 @@ def page_of(folder: Path, workspace: Workspace) -> Page:
     notes = [str(note) for note in record.get("notes", [])]
     return Page(
         notes,
-        len(record.get("verified", [])),
+        len(record["verified"]) if "verified" in record else None,
         figures,
         [name for _, name in tables],
         pages,
