@@ -23,7 +23,7 @@ from crates import TOP
 
 BUILD = TOP / "build"
 DIST = BUILD / "dist"
-MADE = ("pitshell", "pitshell.version", "libpitshell.so", "libpitshell.a")
+MADE = ("pitshell", "pitschedule", "pitshell.version", "libpitshell.so", "libpitshell.a")
 LEAST_C_LIBRARY = 17
 CONTROL = """Package: pitshell
 Version: {version}
@@ -63,7 +63,7 @@ def run(*words: object, folder: pathlib.Path = TOP) -> str:
 
 def c_library() -> str:
     """The least version of the C library that has all that program and library ask of it, from 2.17 on."""
-    said = "".join(run("objdump", "-T", BUILD / name) for name in ("pitshell", "libpitshell.so"))
+    said = "".join(run("objdump", "-T", BUILD / name) for name in ("pitshell", "pitschedule", "libpitshell.so"))
     needed = [int(minor) for minor in re.findall(r"GLIBC_2[.](\d+)", said)]
     return f"2.{max([LEAST_C_LIBRARY, *needed])}"
 
@@ -138,7 +138,7 @@ def main() -> int:
     shutil.rmtree(DIST, ignore_errors=True)
     DIST.mkdir(parents=True)
     machine = f"manylinux_{c_library().replace('.', '_')}_{platform.machine()}"
-    program = {"pitshell/libpitshell.so": BUILD / "libpitshell.so", "pitshell/pitshell": BUILD / "pitshell"}
+    program = {f"pitshell/{name}": BUILD / name for name in ("libpitshell.so", "pitshell", "pitschedule")}
     checkers = {f"pitplan/checkers/{name}": TOP / "tools" / name for name in ("check_certificate.py", "replay_journal.py")}
     made = [debian_package(), archive(), wheel("pitshell", program, f"py3-none-{machine}"), wheel("pitplan", checkers, "py3-none-any")]
     for file in made:

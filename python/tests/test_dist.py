@@ -56,6 +56,13 @@ def test_wheels_serve_in_an_environment_of_their_own(dist, tmp_path):
     assert run("pitshell", "--version", commands=commands) == f"pitshell {VERSION}\n"
     plan_and_check(tmp_path, commands)
     assert (tmp_path / "out" / "figures" / "plans.png").is_file()
+    found = "from pitplan.core import paths; print(paths.schedule_program(), (paths.PACKAGE / 'templates/web/base.html').is_file())"
+    program, has_pages = run(commands / "python", "-P", "-c", found, commands=commands).split()
+    assert (
+        "venv" in program
+        and run(program, "--version", commands=commands).startswith("pitschedule ")
+        and has_pages == "True"
+    )
 
 
 def test_the_debian_package_serves_where_it_is_unpacked(dist, tmp_path):
@@ -67,7 +74,9 @@ def test_the_debian_package_serves_where_it_is_unpacked(dist, tmp_path):
     held = {line.split()[-1] for line in run("dpkg", "--contents", package, commands=tmp_path).splitlines()}
     wanted = {
         "bin/pitshell",
+        "bin/pitschedule",
         "bin/pitplan",
+        "lib/pitshell/python/pitplan/templates/web/base.html",
         "lib/libpitshell.so",
         "include/pitshell.h",
         "share/man/man1/pitshell.1.gz",

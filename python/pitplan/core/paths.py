@@ -36,9 +36,13 @@ def program() -> Path:
 
 
 def schedule_program() -> Optional[Path]:
-    """The program pitschedule: that of the variable PITSCHEDULE; else the one in this repository's build/, in the folder bin in which both were
-    installed, or on the path; None if there is none."""
-    beside = [PACKAGES.parent / "build" / "pitschedule", PACKAGES.parents[2] / "bin" / "pitschedule"]
+    """Returns the program pitschedule: that of the variable PITSCHEDULE, otherwise the one of the wheel `pitshell`, of this repository's build/, of
+    the folder bin in which both were installed, or on the path; None if there is none."""
+    beside = [
+        PACKAGES / "pitshell" / "pitschedule",
+        PACKAGES.parent / "build" / "pitschedule",
+        PACKAGES.parents[2] / "bin" / "pitschedule",
+    ]
     found = os.environ.get("PITSCHEDULE") or next((str(place) for place in beside if place.is_file()), None)
     found = found or shutil.which("pitschedule")
     return Path(found) if found else None
