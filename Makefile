@@ -59,8 +59,8 @@ install:
 	install -D -m 644 LICENSE $(DOC)/LICENSE
 	for file in $(DOCUMENTS); do install -D -m 644 $$file $(DOC)/$$file || exit; done
 	test ! -e $(PROGRAM).version || install -D -m 644 $(PROGRAM).version $(DOC)/version
-	install -D -m 644 -t $(DESTDIR)$(PREFIX)/share/man/man1 man/pitshell.1 man/pitplan.1
-	for name in pitshell pitplan; do \
+	install -D -m 644 -t $(DESTDIR)$(PREFIX)/share/man/man1 man/pitshell.1 man/pitschedule.1 man/pitplan.1
+	for name in pitshell pitschedule pitplan; do \
 	  install -D -m 644 completions/$$name.bash $(DESTDIR)$(PREFIX)/share/bash-completion/completions/$$name || exit; \
 	  install -D -m 644 completions/_$$name $(DESTDIR)$(PREFIX)/share/zsh/site-functions/_$$name || exit; \
 	  install -D -m 644 completions/$$name.fish $(DESTDIR)$(PREFIX)/share/fish/vendor_completions.d/$$name.fish || exit; \

@@ -32,12 +32,13 @@ def test_what_repeats_the_help_is_made_from_it() -> None:
 
 
 @pytest.mark.skipif(not shutil.which("man"), reason="this system has no man")
-def test_the_manual_is_shown_without_a_warning() -> None:
-    ran = subprocess.run(["man", "--warnings", "-l", MANUAL], capture_output=True, text=True, timeout=60)
+@pytest.mark.parametrize("name", ["pitshell", "pitschedule"])
+def test_the_manual_is_shown_without_a_warning(name: str) -> None:
+    ran = subprocess.run(["man", "--warnings", "-l", MANUAL.with_name(f"{name}.1")], capture_output=True, text=True, timeout=60)
     if "has been minimized" in ran.stdout:
         pytest.skip("this system's man shows nothing")
     assert (ran.returncode, ran.stderr) == (0, "")
-    assert "PITSHELL(1)" in ran.stdout
+    assert f"{name.upper()}(1)" in ran.stdout
 
 
 def completed(*words: str) -> set[str]:
@@ -65,8 +66,9 @@ def test_fish_completes_each_subcommand(mine: Mine) -> None:
 
 
 @pytest.mark.skipif(not shutil.which("zsh"), reason="zsh is not installed")
-def test_zsh_reads_its_completion() -> None:
-    subprocess.run(["zsh", "-n", COMPLETIONS / "_pitshell"], check=True, timeout=60)
+@pytest.mark.parametrize("name", ["pitshell", "pitschedule"])
+def test_zsh_reads_its_completion(name: str) -> None:
+    subprocess.run(["zsh", "-n", COMPLETIONS / f"_{name}"], check=True, timeout=60)
 
 
 def test_install_puts_all_in_place(tmp_path: pathlib.Path) -> None:
@@ -77,9 +79,10 @@ def test_install_puts_all_in_place(tmp_path: pathlib.Path) -> None:
         "bin/pitplan": TOP / "tools" / "pitplan",
         "share/doc/pitshell/LICENSE": TOP / "LICENSE",
         "share/man/man1/pitshell.1": MANUAL,
+        "share/man/man1/pitschedule.1": TOP / "man" / "pitschedule.1",
         "share/man/man1/pitplan.1": TOP / "man" / "pitplan.1",
     }
-    for name in ("pitshell", "pitplan"):
+    for name in ("pitshell", "pitschedule", "pitplan"):
         places[f"share/bash-completion/completions/{name}"] = COMPLETIONS / f"{name}.bash"
         places[f"share/zsh/site-functions/_{name}"] = COMPLETIONS / f"_{name}"
         places[f"share/fish/vendor_completions.d/{name}.fish"] = COMPLETIONS / f"{name}.fish"

@@ -1,10 +1,12 @@
 #!/usr/bin/env python3
-"""Makes what repeats the help of `pitshell`: man page, completions, the table of options in docs/FORMATS.md and the stored words of tests.
+"""Makes what repeats the help of `pitshell` and `pitschedule`: man pages, completions; of pitshell also the table of options in docs/FORMATS.md
+and the stored words of tests.
 
     tools/make_docs.py            writes them
     tools/make_docs.py --check    only compares; status 1 if a file differs
 
-The help comes from the program that PITSHELL names, otherwise from build/pitshell. Text around it is in man/pitshell.1.in, where a line
+The help comes from the programs that PITSHELL and PITSCHEDULE name, otherwise from those in build/. Text around it is in man/NAME.1.in, where a
+line
 
     @name                     is the sentence under NAME
     @synopsis                 each subcommand with its options
@@ -22,11 +24,12 @@ import sys
 from typing import NamedTuple
 
 TOP = pathlib.Path(__file__).resolve().parent.parent
-PROGRAM = pathlib.Path(os.environ.get("PITSHELL", TOP / "build" / "pitshell"))
+NAMES = ("pitshell", "pitschedule")
+PROGRAMS = {name: pathlib.Path(os.environ.get(name.upper(), TOP / "build" / name)) for name in NAMES}
 OPTION = re.compile(r"^ +(?:-h, )?--(\w+)(?: <(\w+)>)? +(\S.*?)(?: \[default: (\w+)\])?$", re.MULTILINE)
 CHOICE = re.compile(r"^((?:\w+, )*\w+) or (\w+):")
 BEGIN, END = "<!-- options, by tools/make_docs.py -->\n", "<!-- end of options -->\n"
-MADE = "Completion of pitshell, by tools/make_docs.py"
+MADE = "Completion of {}, by tools/make_docs.py"
 
 
 class Option(NamedTuple):
@@ -57,32 +60,34 @@ class Command(NamedTuple):
 
 
 class Help(NamedTuple):
-    """What the help of the program says."""
+    """What the help of a program says."""
 
+    program: str
     about: str
     version: str
     commands: list[Command]
     statuses: list[tuple[str, str]]
 
 
-def said(*words: str) -> str:
-    """What the program prints to standard output."""
-    return subprocess.run([PROGRAM, *words], capture_output=True, text=True, check=True, timeout=60).stdout
+def said(program: str, *words: str) -> str:
+    """What a program prints to standard output."""
+    return subprocess.run([PROGRAMS[program], *words], capture_output=True, text=True, check=True, timeout=60).stdout
 
 
-def command_of(name: str) -> Command:
-    text = said(name, "--help")
+def command_of(program: str, name: str) -> Command:
+    text = said(program, name, "--help")
     usage = re.search(r"^Usage: (.*)$", text, re.MULTILINE)[1]
     found = [Option(*words, f"--{words[0]} <" in usage) for words in OPTION.findall(text)]
     return Command(name, text.partition("\n")[0], found)
 
 
-def read_help() -> Help:
-    text = said("--help")
+def read_help(program: str) -> Help:
+    text = said(program, "--help")
     listed = text.partition("Commands:\n")[2].partition("\n\n")[0]
     names = [name for name in re.findall(r"^  (\w+) ", listed, re.MULTILINE) if name != "help"]
     statuses = re.findall(r"^  (\d)  (.+)$", text, re.MULTILINE)
-    return Help(text.partition("\n")[0], said("--version").split()[1], [command_of(name) for name in names], statuses)
+    version = said(program, "--version").split()[1]
+    return Help(program, text.partition("\n")[0], version, [command_of(program, name) for name in names], statuses)
 
 
 def grouped(known: Help) -> list[tuple[Option, list[str]]]:
@@ -104,10 +109,10 @@ def roff(text: str) -> str:
 def synopsis(known: Help) -> list[str]:
     lines = []
     for command in known.commands:
-        lines.append(f'.SY "pitshell {command.name}"')
+        lines.append(f'.SY "{known.program} {command.name}"')
         for option in command.own():
             lines.append(f'.BI \\-\\-{option.name} " {option.value}"' if option.required else f".OP \\-\\-{option.name} {option.value}")
-    return [*lines, '.SY "pitshell help"', ".RI [ COMMAND ]", ".YS"]
+    return [*lines, f'.SY "{known.program} help"', ".RI [ COMMAND ]", ".YS"]
 
 
 def option_lines(known: Help, more: dict[str, list[str]]) -> list[str]:
@@ -118,12 +123,14 @@ def option_lines(known: Help, more: dict[str, list[str]]) -> list[str]:
     lines = []
     for name, variants in named.items():
         lines += [".TP", f'.BI \\-\\-{name} " {variants[0][0].value}"']
+        # An option may be required by one subcommand alone.
+        variants = variants[:1] if len({(option.words, option.default) for option, _ in variants}) == 1 else variants
         for option, having in variants:
             lines += ["With", f".BR {having[0]} :"] if len(variants) > 1 else []
             lines += [f"{roff(option.words)}.", *([f"The default is {option.default}."] if option.default else [])]
             lines += more.pop(f"{name} {having[0]}" if len(variants) > 1 else name, [])
     if more:
-        sys.exit(f"man/pitshell.1.in: the help has no option for @more {', @more '.join(more)}")
+        sys.exit(f"man/{known.program}.1.in: the help has no option for @more {', @more '.join(more)}")
     return lines
 
 
@@ -141,7 +148,7 @@ def manual(known: Help, template: str) -> str:
         elif below is not None:
             below.append(line)
         elif word == "@name":
-            lines.append(f"pitshell \\- {roff(known.about[:1].lower() + known.about[1:])}")
+            lines.append(f"{known.program} \\- {roff(known.about[:1].lower() + known.about[1:])}")
         elif word == "@synopsis":
             lines += synopsis(known)
         elif word == "@about":
@@ -169,8 +176,8 @@ def bash(known: Help) -> str:
     cases = "".join(
         f'    {command.name}) options="{" ".join(f"--{option.name}" for option in command.options)}" ;;\n' for command in known.commands
     )
-    return f"""# {MADE}, for bash.
-_pitshell() {{
+    return f"""# {MADE.format(known.program)}, for bash.
+_{known.program}() {{
     local word=${{COMP_WORDS[COMP_CWORD]}} before=${{COMP_WORDS[COMP_CWORD - 1]}} options=""
     COMPREPLY=()
     if [ "$COMP_CWORD" -eq 1 ]; then
@@ -190,7 +197,7 @@ _pitshell() {{
     esac
     mapfile -t COMPREPLY < <(compgen -W "$options" -- "$word")
 }}
-complete -F _pitshell pitshell
+complete -F _{known.program} {known.program}
 """
 
 
@@ -212,10 +219,10 @@ def zsh(known: Help) -> str:
         f"    {command.name})\n        _arguments \\\n" + " \\\n".join(map(zsh_option, command.options)) + "\n        ;;"
         for command in known.commands
     )
-    return f"""#compdef pitshell
-# {MADE}, for zsh.
+    return f"""#compdef {known.program}
+# {MADE.format(known.program)}, for zsh.
 
-_pitshell() {{
+_{known.program}() {{
     if (( CURRENT == 2 )); then
         local -a commands
         commands=(
@@ -235,21 +242,22 @@ _pitshell() {{
     esac
 }}
 
-_pitshell "$@"
+_{known.program} "$@"
 """
 
 
 def fish(known: Help) -> str:
-    lines = [f"# {MADE}, for fish.", "complete -c pitshell -f"]
+    complete = f"complete -c {known.program}"
+    lines = [f"# {MADE.format(known.program)}, for fish.", f"{complete} -f"]
     quote = str.maketrans({"\\": "\\\\", "'": "\\'"})
     for name, about in [*((command.name, command.about) for command in known.commands), ("help", "Print help")]:
-        lines.append(f"complete -c pitshell -n __fish_use_subcommand -a {name} -d '{about.translate(quote)}'")
-    lines.append("complete -c pitshell -n __fish_use_subcommand -s V -l version -d 'Print version'")
-    lines.append("complete -c pitshell -s h -l help -d 'Print help'")
+        lines.append(f"{complete} -n __fish_use_subcommand -a {name} -d '{about.translate(quote)}'")
+    lines.append(f"{complete} -n __fish_use_subcommand -s V -l version -d 'Print version'")
+    lines.append(f"{complete} -s h -l help -d 'Print help'")
     for option, having in grouped(known):
         kind = f"-xa '{' '.join(option.choices())}'" if option.choices() else "-rF" if option.value == "FILE" else "-x"
         of = f"-n '__fish_seen_subcommand_from {' '.join(having)}'"
-        lines.append(f"complete -c pitshell {of} -l {option.name} {kind} -d '{option.words.translate(quote)}'")
+        lines.append(f"{complete} {of} -l {option.name} {kind} -d '{option.words.translate(quote)}'")
     return "\n".join(lines) + "\n"
 
 
@@ -276,32 +284,40 @@ def stored_words(text: str) -> str:
     """What the program says to each command line of the stored words."""
     told = []
     for line in re.findall(r"^\$ pitshell(.*)$", text, re.MULTILINE):
-        ran = subprocess.run([PROGRAM, *line.split()], capture_output=True, text=True, timeout=60)
+        ran = subprocess.run([PROGRAMS["pitshell"], *line.split()], capture_output=True, text=True, timeout=60)
         told.append(f"$ pitshell{line}\nstatus {ran.returncode}\n{ran.stdout}{ran.stderr}")
     return "".join(told)
 
 
-def made() -> dict[pathlib.Path, str]:
-    """Each file with the text that it must have."""
-    known = read_help()
-    formats, stored = TOP / "docs" / "FORMATS.md", TOP / "tests" / "stored_words.txt"
+def of_program(known: Help) -> dict[pathlib.Path, str]:
+    """The man page and the completions of a program, each with the text that it must have."""
+    template = TOP / "man" / f"{known.program}.1.in"
     return {
-        TOP / "man" / "pitshell.1": manual(known, (TOP / "man" / "pitshell.1.in").read_text(encoding="utf-8")),
-        TOP / "completions" / "pitshell.bash": bash(known),
-        TOP / "completions" / "_pitshell": zsh(known),
-        TOP / "completions" / "pitshell.fish": fish(known),
-        formats: page(known, formats.read_text(encoding="utf-8")),
-        stored: stored_words(stored.read_text(encoding="utf-8")),
+        TOP / "man" / f"{known.program}.1": manual(known, template.read_text(encoding="utf-8")),
+        TOP / "completions" / f"{known.program}.bash": bash(known),
+        TOP / "completions" / f"_{known.program}": zsh(known),
+        TOP / "completions" / f"{known.program}.fish": fish(known),
     }
 
 
+def made() -> dict[pathlib.Path, str]:
+    """Each file with the text that it must have."""
+    helps = {name: read_help(name) for name in NAMES}
+    formats, stored = TOP / "docs" / "FORMATS.md", TOP / "tests" / "stored_words.txt"
+    found = {formats: page(helps["pitshell"], formats.read_text(encoding="utf-8")), stored: stored_words(stored.read_text(encoding="utf-8"))}
+    for known in helps.values():
+        found |= of_program(known)
+    return found
+
+
 def main() -> int:
-    if not PROGRAM.is_file():
-        sys.exit(f"{PROGRAM} is missing: run `make`, or name a program by PITSHELL")
-    differing = [(file, text) for file, text in made().items() if file.read_text(encoding="utf-8") != text]
+    for name, program in PROGRAMS.items():
+        if not program.is_file():
+            sys.exit(f"{program} is missing: run `make`, or name a program by {name.upper()}")
+    differing = [(file, text) for file, text in made().items() if not file.is_file() or file.read_text(encoding="utf-8") != text]
     for file, text in differing:
         if "--check" in sys.argv[1:]:
-            print(f"{file.relative_to(TOP)}: says other than the help of pitshell: run `make docs`")
+            print(f"{file.relative_to(TOP)}: says other than the help of the program: run `make docs`")
         else:
             file.write_text(text, encoding="utf-8")
     return 1 if differing and "--check" in sys.argv[1:] else 0

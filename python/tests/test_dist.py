@@ -80,6 +80,7 @@ def test_the_debian_package_serves_where_it_is_unpacked(dist, tmp_path):
         "lib/libpitshell.so",
         "include/pitshell.h",
         "share/man/man1/pitshell.1.gz",
+        "share/man/man1/pitschedule.1.gz",
         "share/man/man1/pitplan.1.gz",
     }
     wanted |= {
