@@ -16,17 +16,18 @@ from starlette.requests import Request
 from starlette.responses import FileResponse, HTMLResponse, RedirectResponse, Response, StreamingResponse
 from starlette.routing import Route
 
-from pitplan.core import paths
+from pitplan.core import layout, paths
 from pitplan.errors import PlanError
 
 from . import results_page, run_form
-from .jobs import Job, Jobs, steps_of
+from .jobs import DONE, IMPORT, Job, Jobs, steps_of
 from .run_form import COMMANDS, OPTIONS, WrongForm
 from .security import SANDBOX
 from .workspace import RECORDS, NotThere, Workspace
 
 TEMPLATES = paths.PACKAGE / "templates" / "web"
-STATIC = {"app.css": "text/css; charset=utf-8", "app.js": "text/javascript; charset=utf-8"}
+SCRIPT = "text/javascript; charset=utf-8"
+STATIC = {"app.css": "text/css; charset=utf-8", "app.js": SCRIPT, "import.js": SCRIPT}
 # What a browser shows of the files of results; all others are downloaded.
 SHOWN = {
     ".png": "image/png",
@@ -182,7 +183,7 @@ class Pages:
     async def file(self, request: Request) -> Response:
         """A file of an output folder: figures and pages are shown, all others are downloaded."""
         path = self.workspace.place(request.query_params.get("name", ""))
-        if not path.is_file() or not self.is_result(path):
+        if not path.is_file() or not (self.is_result(path) or self.is_of_model(path)):
             raise NotThere(f"{path.name}: is no file of an output folder")
         kind = SHOWN.get(path.suffix)
         if kind is None:
@@ -194,6 +195,10 @@ class Pages:
         """Returns whether a file belongs to an output folder."""
         above = [it for it in path.parents if it.is_relative_to(self.workspace.root)]
         return any((it / record).is_file() for it in above for record in RECORDS)
+
+    def is_of_model(self, path: Path) -> bool:
+        """Returns whether a file is the figure of the block model of a project."""
+        return any(layout.figure_of_model(it) == path for it in path.parent.glob("*.toml"))
 
     async def static(self, request: Request) -> Response:
         """The style and the script of all pages."""
@@ -210,7 +215,9 @@ class Pages:
     async def job(self, request: Request) -> Response:
         """A job with its progress, which the page keeps up to date."""
         job = self.jobs.read(number_of(request.query_params.get("number", "")))
-        return self.page("job.html", title=f"Job {job.number}", job=job, state=self.state_of(job))
+        is_import = job.words[0] == IMPORT
+        title = f"Import of {job.folder}" if is_import else f"Job {job.number}"
+        return self.page("job.html", title=title, job=job, state=self.state_of(job), is_import=is_import)
 
     async def events(self, request: Request) -> Response:
         """The progress of a job as server-sent events, until it has ended."""
@@ -241,11 +248,14 @@ class Pages:
             "started": job.started,
             "seconds": job.seconds,
             "usual": self.jobs.usual_seconds(job),
-            "folder": job.folder if job.folder and self.has_result(job.folder) else "",
+            "folder": job.folder if self.has_next(job) else "",
         }
 
-    def has_result(self, folder: str) -> bool:
-        return any((self.workspace.root / folder / record).is_file() for record in RECORDS)
+    def has_next(self, job: Job) -> bool:
+        """Returns whether a page shows what a job has written."""
+        if job.words[0] == IMPORT:
+            return job.status == DONE
+        return bool(job.folder) and any((self.workspace.root / job.folder / record).is_file() for record in RECORDS)
 
     async def cancel(self, request: Request) -> Response:
         """Ends a job."""

@@ -116,14 +116,22 @@ function show(state) {
   const hasEnded = !["waiting", "running"].includes(state.status);
   document.getElementById("cancel").hidden = hasEnded;
   document.getElementById("next").hidden = !(hasEnded && state.folder);
+  const failed = document.getElementById("failed");
+  if (failed) {
+    failed.hidden = !hasEnded || state.folder !== "";
+  }
   return hasEnded;
 }
 
 if (job && job.dataset.ended === "no") {
   const events = new EventSource("/job/events?number=" + job.dataset.number);
   events.onmessage = (event) => {
-    if (show(JSON.parse(event.data))) {
+    const state = JSON.parse(event.data), next = document.getElementById("next");
+    if (show(state)) {
       events.close();
+      if (next.dataset.follow && state.folder) {
+        location.assign(next.querySelector("a").href);
+      }
     }
   };
 }
