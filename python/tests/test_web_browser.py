@@ -290,6 +290,74 @@ def test_a_file_is_dropped(driver, server, root):
     assert (root / "dropped" / "dropped.csv").read_text() == text and (root / "dropped" / "project.toml").is_file()
 
 
+def type_over(driver, old, new):
+    """Changes the text of the project."""
+    text = driver.find_element(ID, "text").get_attribute("value")
+    assert text.count(old) == 1
+    script = """
+        const field = document.getElementById("text");
+        field.value = arguments[0];
+        field.dispatchEvent(new Event("input"));
+    """
+    driver.execute_script(script, text.replace(old, new))
+
+
+def words_of(driver, name):
+    """The words of an element; empty while another page is loaded."""
+    return driver.execute_script(
+        "return (document.getElementById(arguments[0]) || {textContent: ''}).textContent", name
+    )
+
+
+def selected(driver):
+    """The words of the text that are selected."""
+    return driver.execute_script(
+        "const it = document.activeElement; return (it.value || '').slice(it.selectionStart, it.selectionEnd)"
+    )
+
+
+def test_a_project_is_edited_checked_and_saved(driver, server, root):
+    path = root / "project.toml"
+    path.write_text(PUSHBACKS.replace("[economics]", "[economics]  # mine"))
+    before = path.read_text()
+    enter(driver, server)
+    complaints(driver)
+    click(driver, "Test hill")
+    click(driver, "Edit the project")
+    type_over(driver, "mining_cost = ", "mining_cost = -")
+    assert driver.find_element(ID, "unsaved").text == "not saved yet"
+    driver.find_element(ID, "check").click()
+    wait(driver, lambda it: words_of(it, "wrong"))
+    wrong = words_of(driver, "wrong")
+    number = 1 + next(n for n, it in enumerate(before.splitlines()) if it.startswith("mining_cost"))
+    assert wrong.startswith(f"Line {number}: project.toml: [economics] mining_cost: ")
+    wait(driver, lambda it: selected(it).startswith("mining_cost = -"))
+    driver.find_element(ID, "save").click()
+    wait(driver, lambda it: it.current_url.endswith("/project/save#editor") and words_of(it, "wrong") == wrong)
+    assert path.read_text() == before
+    type_over(driver, "mining_cost = -", "mining_cost = 1")
+    driver.find_element(ID, "check").click()
+    wait(driver, lambda it: words_of(it, "said") == "No errors. The text is not saved yet.")
+    # The keys that save in any editor.
+    driver.find_element(ID, "text").send_keys("\ue009" + "s")
+    wait(driver, lambda it: words_of(it, "said") == "Saved.")
+    assert path.read_text() == before.replace("mining_cost = ", "mining_cost = 1")
+    # The texts that are refused come with the status 422, which the browser reports.
+    assert all("status of 422" in it for it in complaints(driver))
+
+
+def test_a_project_that_has_changed_meanwhile_is_kept(driver, server, root):
+    enter(driver, server)
+    click(driver, "Test hill")
+    theirs = PUSHBACKS + "# theirs\n"
+    (root / "project.toml").write_text(theirs)
+    type_over(driver, "mining_cost = ", "mining_cost = 1")
+    driver.find_element(ID, "save").click()
+    wait(driver, lambda it: "has changed since this page was opened" in words_of(it, "wrong"))
+    assert "mining_cost = 1" in driver.find_element(ID, "text").get_attribute("value")
+    assert (root / "project.toml").read_text() == theirs
+
+
 def test_a_wrong_form_says_what_to_do(driver, server):
     enter(driver, server)
     click(driver, "Test hill")

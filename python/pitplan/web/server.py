@@ -19,6 +19,7 @@ from minelib.ending import tell
 from pitplan.core.optional_packages import load
 from pitplan.errors import PlanError
 
+from .edit_pages import EditPages
 from .import_pages import ImportPages
 from .jobs import Jobs
 from .pages import Pages
@@ -68,7 +69,7 @@ def make_app(root: Path, access: Access, version: str = "") -> Starlette:
     async def enter(request):  # type: ignore[no-untyped-def]
         return access.enter(request)
 
-    routes = [Route(ENTER, enter), *pages.routes, *ImportPages(pages).routes]
+    routes = [Route(ENTER, enter), *pages.routes, *ImportPages(pages).routes, *EditPages(pages).routes]
     return Starlette(routes=routes, middleware=[Middleware(Guard, access=access)], lifespan=lifespan)
 
 
