@@ -50,7 +50,7 @@ _pitplan() {
         ;;
     esac
     case $command in
-    init) options="--out --figures -h --help" valued="--out" ;;
+    init) options="--out --figures --json -h --help" valued="--out" ;;
     check) options="--set --quiet -h --help" valued="--set" ;;
     completion) options="-h --help" valued="" ;;
     prepare) options="--set --out --quiet -h --help" valued="--set --out" ;;

@@ -25,6 +25,7 @@ complete -c pitplan -n __fish_use_subcommand -a serve -d 'Show and run the proje
 complete -c pitplan -n '__fish_seen_subcommand_from init' -F
 complete -c pitplan -n '__fish_seen_subcommand_from init' -l out -r -F -d 'write the project to this file (default: project.toml next to the table)'
 complete -c pitplan -n '__fish_seen_subcommand_from init' -l figures -d 'draw histograms of grades and density, a plan and a section, next to the project'
+complete -c pitplan -n '__fish_seen_subcommand_from init' -l json -d 'print the columns, notes and warnings as JSON, with the paths of the project and the figure'
 complete -c pitplan -n '__fish_seen_subcommand_from init' -s h -l help -d 'show this help message and exit'
 complete -c pitplan -n '__fish_seen_subcommand_from check' -fa '(__fish_complete_suffix .toml)'
 complete -c pitplan -n '__fish_seen_subcommand_from check' -l set -r -f -d 'set a key of the project for this run, such as economics.mining_cost=2.6 or metals.copper.price=9000 (may be repeated)'

@@ -12,8 +12,8 @@ from pathlib import Path
 
 import httpx
 import pytest
+from helpers.browser_application import OWN, PORT, client_of, ended, entered
 from helpers.pushbacks import UPRIGHT, pillars
-from starlette.testclient import TestClient
 
 import pitplan
 from pitplan import PlanError
@@ -23,12 +23,10 @@ from pitplan.web.jobs import CANCELLED, DONE, FAILED, LOST, RUNNING, WAITING, Jo
 from pitplan.web.results_page import grouped, read_table
 from pitplan.web.run_form import WrongForm
 from pitplan.web.security import Access
-from pitplan.web.server import listening, make_app
+from pitplan.web.server import listening
 from pitplan.web.workspace import NotThere, Workspace
 
-PORT = 8123
 POPEN = subprocess.Popen
-OWN = {"origin": f"http://127.0.0.1:{PORT}"}
 
 
 @pytest.fixture
@@ -49,18 +47,10 @@ def access():
     return Access(PORT)
 
 
-def client_of(root, access):
-    found = TestClient(make_app(root, access), base_url=f"http://127.0.0.1:{PORT}")
-    found.follow_redirects = False
-    return found
-
-
 @pytest.fixture
 def client(root, access):
     """A browser that has entered."""
-    found = client_of(root, access)
-    assert found.get(f"/enter?token={access.token}").status_code == 303
-    return found
+    return entered(root, access)
 
 
 def run(client, **form):
@@ -68,18 +58,6 @@ def run(client, **form):
     answer = client.post("/run", data={"project": "hill/project.toml", **form}, headers=OWN)
     assert answer.status_code == 303, answer.text
     return int(answer.headers["location"].rpartition("=")[2])
-
-
-def ended(root, number, seconds=60):
-    """Waits until a job has ended; gives it."""
-    found, until = Jobs(root), time.monotonic() + seconds
-    while time.monotonic() < until:
-        found.pump()
-        job = found.read(number)
-        if job.has_ended:
-            return job
-        time.sleep(0.05)
-    raise AssertionError(f"{job} goes on: {found.log(number)}")
 
 
 # ---- who may use it

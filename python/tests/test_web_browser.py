@@ -217,6 +217,147 @@ def test_a_server_that_is_killed_finds_its_jobs_again(driver, large):
         second.kill()
 
 
+@pytest.fixture
+def model(tmp_path):
+    """A block model as a package exports it."""
+    table = rows(8, 8, 4, cu=lambda i, j, k: 2.0 if k == 1 and i == 4 else 0.0).rename(columns={"cu": "CU_PCT"})
+    table.to_csv(tmp_path / "North Hill.csv", index=False)
+    return tmp_path / "North Hill.csv"
+
+
+def send(driver, model, folder=None):
+    """Chooses a file, names the mine if a name is given, and imports it."""
+    driver.find_element(ID, "file").send_keys(str(model))
+    if folder is not None:
+        driver.find_element(ID, "folder").clear()
+        driver.find_element(ID, "folder").send_keys(folder)
+    driver.find_element(ID, "send").click()
+
+
+def test_from_a_block_model_to_pit_shells_by_clicks(driver, server, root, model):
+    enter(driver, server)
+    complaints(driver)
+    click(driver, "Import")
+    send(driver, model)
+    # The page of the job leads to that of the block model by itself.
+    wait(driver, lambda it: "/imported" in it.current_url)
+    cells = [it.text for it in driver.find_elements(CSS, "#columns tbody tr")]
+    assert any(it.startswith("CU_PCT grade of copper %") for it in cells) and len(cells) == 8
+    figure = driver.find_element(CSS, "figure img")
+    wait(driver, lambda it: it.execute_script("return arguments[0].naturalWidth", figure) > 100)
+    click(driver, "Open the project")
+    assert driver.find_element(TAG, "h1").text == "North Hill"
+    start(driver, "shells")
+    wait(driver, lambda it: status_of(it) == "done")
+    assert complaints(driver) == []
+    assert (root / "North Hill" / "North Hill.csv").read_bytes() == model.read_bytes()
+    assert json.loads((root / "North Hill/plan/plan.json").read_text())["verified"]
+
+
+def test_an_import_that_is_refused_or_fails_says_what_to_do(driver, server, root, model):
+    enter(driver, server)
+    click(driver, "Import")
+    send(driver, model, "../elsewhere")
+    wait(driver, lambda it: "without / and" in it.find_element(ID, "problem").text)
+    model.write_text("a,b\n1,2\n")
+    driver.refresh()
+    send(driver, model, "hill")
+    wait(driver, lambda it: status_of(it) == "failed")
+    assert "found no column for x and y and z" in driver.find_element(ID, "log").text
+    assert driver.find_element(ID, "failed").is_displayed()
+    driver.find_element(ID, "failed").find_element(TAG, "a").click()
+    wait(driver, lambda it: it.current_url.endswith("/import"))
+    send(driver, model, "hill")
+    wait(driver, lambda it: "hill: has a file North Hill.csv already" in it.find_element(ID, "problem").text)
+    # The form can be sent again.
+    assert driver.find_element(ID, "send").is_enabled()
+
+
+def test_a_file_is_dropped(driver, server, root):
+    enter(driver, server)
+    click(driver, "Import")
+    text = rows(4, 4, 2, cu=lambda i, j, k: k).to_csv(index=False)
+    script = """
+        const data = new DataTransfer();
+        data.items.add(new File([arguments[0]], "dropped.csv"));
+        document.getElementById("drop").dispatchEvent(new DragEvent("drop", { dataTransfer: data, cancelable: true }));
+    """
+    driver.execute_script(script, text)
+    assert driver.find_element(ID, "drop").text == "Dropped: dropped.csv"
+    assert driver.find_element(ID, "folder").get_attribute("value") == "dropped"
+    driver.find_element(ID, "send").click()
+    wait(driver, lambda it: "/imported" in it.current_url)
+    assert (root / "dropped" / "dropped.csv").read_text() == text and (root / "dropped" / "project.toml").is_file()
+
+
+def type_over(driver, old, new):
+    """Changes the text of the project."""
+    text = driver.find_element(ID, "text").get_attribute("value")
+    assert text.count(old) == 1
+    script = """
+        const field = document.getElementById("text");
+        field.value = arguments[0];
+        field.dispatchEvent(new Event("input"));
+    """
+    driver.execute_script(script, text.replace(old, new))
+
+
+def words_of(driver, name):
+    """The words of an element; empty while another page is loaded."""
+    return driver.execute_script(
+        "return (document.getElementById(arguments[0]) || {textContent: ''}).textContent", name
+    )
+
+
+def selected(driver):
+    """The words of the text that are selected."""
+    return driver.execute_script(
+        "const it = document.activeElement; return (it.value || '').slice(it.selectionStart, it.selectionEnd)"
+    )
+
+
+def test_a_project_is_edited_checked_and_saved(driver, server, root):
+    path = root / "project.toml"
+    path.write_text(PUSHBACKS.replace("[economics]", "[economics]  # mine"))
+    before = path.read_text()
+    enter(driver, server)
+    complaints(driver)
+    click(driver, "Test hill")
+    click(driver, "Edit the project")
+    type_over(driver, "mining_cost = ", "mining_cost = -")
+    assert driver.find_element(ID, "unsaved").text == "not saved yet"
+    driver.find_element(ID, "check").click()
+    wait(driver, lambda it: words_of(it, "wrong"))
+    wrong = words_of(driver, "wrong")
+    number = 1 + next(n for n, it in enumerate(before.splitlines()) if it.startswith("mining_cost"))
+    assert wrong.startswith(f"Line {number}: project.toml: [economics] mining_cost: ")
+    wait(driver, lambda it: selected(it).startswith("mining_cost = -"))
+    driver.find_element(ID, "save").click()
+    wait(driver, lambda it: it.current_url.endswith("/project/save#editor") and words_of(it, "wrong") == wrong)
+    assert path.read_text() == before
+    type_over(driver, "mining_cost = -", "mining_cost = 1")
+    driver.find_element(ID, "check").click()
+    wait(driver, lambda it: words_of(it, "said") == "No errors. The text is not saved yet.")
+    # The keys that save in any editor.
+    driver.find_element(ID, "text").send_keys("\ue009" + "s")
+    wait(driver, lambda it: words_of(it, "said") == "Saved.")
+    assert path.read_text() == before.replace("mining_cost = ", "mining_cost = 1")
+    # The texts that are refused come with the status 422, which the browser reports.
+    assert all("status of 422" in it for it in complaints(driver))
+
+
+def test_a_project_that_has_changed_meanwhile_is_kept(driver, server, root):
+    enter(driver, server)
+    click(driver, "Test hill")
+    theirs = PUSHBACKS + "# theirs\n"
+    (root / "project.toml").write_text(theirs)
+    type_over(driver, "mining_cost = ", "mining_cost = 1")
+    driver.find_element(ID, "save").click()
+    wait(driver, lambda it: "has changed since this page was opened" in words_of(it, "wrong"))
+    assert "mining_cost = 1" in driver.find_element(ID, "text").get_attribute("value")
+    assert (root / "project.toml").read_text() == theirs
+
+
 def test_a_wrong_form_says_what_to_do(driver, server):
     enter(driver, server)
     click(driver, "Test hill")

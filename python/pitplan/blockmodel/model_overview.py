@@ -2,7 +2,9 @@
 
 from __future__ import annotations
 
-from typing import Optional
+from dataclasses import dataclass
+from pathlib import Path
+from typing import Any, Optional
 
 import numpy as np
 
@@ -41,8 +43,58 @@ MOST_CODES, MOST_LETTERS = 4, 12
 MOST_FILLED = 1.001
 
 
-def overview(model: Model) -> list[str]:
-    """Returns the lines; print_notes puts the warnings last."""
+@dataclass(frozen=True)
+class Overview:
+    """What a block model was recognised as.
+
+    Attributes
+    ----------
+    notes : list of str
+    columns : list of tuple of str
+        The fields of each column, in the order of HEADINGS.
+    warnings : list of str
+        Each begins with WARNING.
+    """
+
+    notes: list[str]
+    columns: list[tuple[str, ...]]
+    warnings: list[str]
+
+    @property
+    def lines(self) -> list[str]:
+        return [*self.notes, *aligned(self.columns), *self.warnings]
+
+
+@dataclass(frozen=True)
+class Written:
+    """A project that was written for a block model, with its figure if one was drawn."""
+
+    overview: Overview
+    project: Path
+    figure: Optional[Path] = None
+
+    @property
+    def lines(self) -> list[str]:
+        """What `pitplan init` prints."""
+        drawn = [f"drew {self.figure}"] if self.figure else []
+        wrote = f"wrote {self.project}: check each line with a #, first of all prices, costs and slope angles"
+        return [*self.overview.lines, *drawn, wrote]
+
+    @property
+    def as_json(self) -> dict[str, Any]:
+        """What `pitplan init --json` prints."""
+        said = self.overview
+        return {
+            "path": str(self.project),
+            "figure": str(self.figure) if self.figure else None,
+            "notes": said.notes,
+            "columns": [dict(zip(HEADINGS, fields)) for fields in said.columns],
+            "warnings": [warning.removeprefix(WARNING) for warning in said.warnings],
+        }
+
+
+def overview(model: Model) -> Overview:
+    """Returns the notes, the columns and the warnings of a block model."""
     tonnes = tonnes_of(model)
     said = [f"{model.file}: {len(model.frame):,} blocks, {tonnes.sum():,.0f} tonnes", *axes_of(model)]
     grades = [grade_of(model, metal.column, tonnes) for metal in model.columns.metals]
@@ -51,9 +103,10 @@ def overview(model: Model) -> list[str]:
     said += [line for line in [model.form.layout.said if model.form.layout else ""] if line]
     said += format_notes(model)
     said += volume_lines(model)
-    said += column_lines(model)
-    doubts = [doubt for grade in grades for doubt in grade.doubts]
-    return [*said, *doubts, *warnings_of(model, tonnes)]
+    said += [doubt for grade in grades for doubt in grade.doubts] + warnings_of(model, tonnes)
+    warnings = [line for line in said if line.startswith(WARNING)]
+    columns = [row_of(model, str(name)) for name in model.frame.columns]
+    return Overview([line for line in said if line not in warnings], columns, warnings)
 
 
 def axes_of(model: Model) -> list[str]:
@@ -110,9 +163,9 @@ def volume_lines(model: Model) -> list[str]:
     return [f"{WARNING}{said}: they overlap, check the cell sizes" if filled > MOST_FILLED * box else said]
 
 
-def column_lines(model: Model) -> list[str]:
+def aligned(columns: list[tuple[str, ...]]) -> list[str]:
     """Returns the table of columns, aligned, with a line of headings."""
-    rows = [HEADINGS, *(row_of(model, str(name)) for name in model.frame.columns)]
+    rows = [HEADINGS, *columns]
     wide = [max(len(row[k]) for row in rows) for k in range(len(HEADINGS))]
     left = (0, 1, 2, 7)
     return [

@@ -12,11 +12,12 @@ import numpy as np
 
 from pitplan.config.table_rules import MISSING, ZERO
 from pitplan.core.atomic_files import staged_file
+from pitplan.core.layout import figure_of_model
 from pitplan.errors import PlanError
 
 from .column_guesses import PRECIOUS, MetalGuess
 from .guessed_model import Model, has_several_sizes, read, share_of, size_of, tonnes_of
-from .model_overview import overview
+from .model_overview import Written, overview
 from .plausibility import USUAL_PRICES
 from .reader import filled_numbers
 
@@ -30,10 +31,18 @@ CLASSES = {"1": "measured", "2": "indicated", "3": "inferred"}
 UNITS = {"density": ", in t/m3", "volume": ", in m3"}
 
 
-def write(file: Path, out: Path, draw: Optional[Callable[[Model, Path], None]] = None) -> list[str]:
+Draw = Callable[[Model, Path], None]
+
+
+def write(file: Path, out: Path, draw: Optional[Draw] = None) -> list[str]:
+    """Writes a project as `write_project` does, and returns the lines that `pitplan init` prints."""
+    return write_project(file, out, draw).lines
+
+
+def write_project(file: Path, out: Path, draw: Optional[Draw] = None) -> Written:
     """Writes a project for a table, and a figure of the block model if `draw` is given, which writes it to a path.
 
-    Returns the overview of the block model, and warnings about what is doubtful in it. Raises PlanError if the table cannot be read, if no
+    Returns the overview of the block model, with warnings about what is doubtful in it. Raises PlanError if the table cannot be read, if no
     columns of centroids, tonnes or grades are found, and if `out` exists.
     """
     if out.exists():
@@ -41,15 +50,15 @@ def write(file: Path, out: Path, draw: Optional[Callable[[Model, Path], None]] =
     model = read(file)
     demand_enough(model)
     demand_numbers(model, [guess.column for guess in model.columns.centres.values()])
-    told = overview(model)
+    found = overview(model)
     with staged_file(out) as place:
         place.write_text(text_of(model, out), encoding="utf-8")
-    if draw:
-        figure = out.with_name(f"{out.stem}-block-model.png")
-        with staged_file(figure) as place:
-            draw(model, place)
-        told.append(f"drew {figure}")
-    return [*told, f"wrote {out}: check each line with a #, first of all prices, costs and slope angles"]
+    if draw is None:
+        return Written(found, out)
+    figure = figure_of_model(out)
+    with staged_file(figure) as place:
+        draw(model, place)
+    return Written(found, out, figure)
 
 
 def demand_enough(model: Model) -> None:

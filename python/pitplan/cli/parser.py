@@ -135,6 +135,8 @@ def add_init(subs: Subparsers) -> None:
     sub.add_argument("--out", type=Path, metavar="FILE", help=text)
     text = "draw histograms of grades and density, a plan and a section, next to the project"
     sub.add_argument("--figures", action="store_true", help=text)
+    text = "print the columns, notes and warnings as JSON, with the paths of the project and the figure"
+    sub.add_argument("--json", action="store_true", help=text)
 
 
 def add_check(subs: Subparsers) -> None:

@@ -51,13 +51,16 @@ def draw_block_model(model: Model, path: Path) -> None:
 
 
 def init(options: Namespace) -> int:
+    import json
+
     from pitplan.blockmodel import wizard
 
     from .printing import print_notes
 
     project_file = options.out or options.table.parent / "project.toml"
-    print_notes(wizard.write(options.table, project_file, draw_block_model if options.figures else None))
-    print(project_file)
+    written = wizard.write_project(options.table, project_file, draw_block_model if options.figures else None)
+    print_notes(written.lines)
+    print(json.dumps(written.as_json, indent=2, ensure_ascii=False) if options.json else project_file)
     return 0
 
 

@@ -2,6 +2,8 @@
 
 from __future__ import annotations
 
+from pathlib import Path
+
 # Tables of results, figures, and the files that the solver reads and writes.
 TABLES, FIGURES, SOLVER = FOLDERS = ("tables", "figures", "solver")
 # What the proved program pitschedule checks of a schedule: texts by its options, and the `id` of each of their blocks.
@@ -13,3 +15,8 @@ CERTIFIED = {
 CERTIFIED_BLOCKS = f"{CERTIFICATE}/schedule.blocks"
 # The block model and the project of a run, if they were made in Python.
 INPUTS = "inputs"
+
+
+def figure_of_model(project: Path) -> Path:
+    """Returns the path of the figure of a project's block model."""
+    return project.with_name(f"{project.stem}-block-model.png")

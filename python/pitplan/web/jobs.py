@@ -24,6 +24,8 @@ FOLDER = ".pitplan-serve/jobs"
 JOB, STATE, LOG, ANSWER, CANCEL, CLAIM = "job.json", "state.json", "log", "answer", "cancel", "claimed"
 WAITING, RUNNING, DONE, FAILED, CANCELLED, LOST = "waiting", "running", "done", "failed", "cancelled", "lost"
 ENDED = (DONE, FAILED, CANCELLED, LOST)
+# The command that imports a block model.
+IMPORT = "init"
 # A line of the log that names a step, and the seconds that it took if it has ended.
 STEP = re.compile(r"^(?P<what>.+?) \.\.(?:.*?)(?: (?P<seconds>\d+\.\d) s)?$")
 
@@ -96,7 +98,7 @@ class Jobs:
         self.runners: list[subprocess.Popen[bytes]] = []
 
     def ask(self, words: tuple[str, ...], project: str, folder: str) -> Job:
-        """Adds a job to the queue and returns it."""
+        """Adds a job to the queue and returns it; one that imports begins without waiting."""
         self.folder.mkdir(parents=True, exist_ok=True)
         number = 1 + max((job.number for job in self.all()), default=0)
         while True:
@@ -107,6 +109,9 @@ class Jobs:
                 number += 1
         job = Job(number, words, project, folder, now())
         write_json(self.of(number) / JOB, asdict(job))
+        if words[0] == IMPORT:
+            # No import waits for the run of another mine.
+            self.start(job)
         self.pump()
         return self.read(number)
 

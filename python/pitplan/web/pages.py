@@ -16,17 +16,19 @@ from starlette.requests import Request
 from starlette.responses import FileResponse, HTMLResponse, RedirectResponse, Response, StreamingResponse
 from starlette.routing import Route
 
-from pitplan.core import paths
+from pitplan.core import layout, paths
 from pitplan.errors import PlanError
 
-from . import results_page, run_form
-from .jobs import Job, Jobs, steps_of
+from . import project_text, results_page, run_form
+from .jobs import DONE, IMPORT, Job, Jobs, steps_of
+from .project_text import Editor
 from .run_form import COMMANDS, OPTIONS, WrongForm
 from .security import SANDBOX
 from .workspace import RECORDS, NotThere, Workspace
 
 TEMPLATES = paths.PACKAGE / "templates" / "web"
-STATIC = {"app.css": "text/css; charset=utf-8", "app.js": "text/javascript; charset=utf-8"}
+SCRIPT = "text/javascript; charset=utf-8"
+STATIC = {"app.css": "text/css; charset=utf-8", "app.js": SCRIPT, "import.js": SCRIPT}
 # What a browser shows of the files of results; all others are downloaded.
 SHOWN = {
     ".png": "image/png",
@@ -103,8 +105,9 @@ class Pages:
     def page(self, template: str, status: int = 200, **parts: Any) -> Response:
         return HTMLResponse(self.templates.get_template(template).render(**parts), status_code=status)
 
-    def error(self, status: int, why: str) -> Response:
-        return self.page("error.html", status, title="Not possible", why=why)
+    def error(self, status: int, why: str, text: str = "") -> Response:
+        """Returns a page that says why something is not possible, with a text that would be lost."""
+        return self.page("error.html", status, title="Not possible", why=why, text=text)
 
     # ---- projects and results
 
@@ -117,12 +120,22 @@ class Pages:
         )
 
     async def project(self, request: Request) -> Response:
-        """A project, and the form that runs it."""
+        """A project, the forms that run it, and its text."""
         name = request.query_params.get("name", "")
+        said = "Saved." if "saved" in request.query_params else ""
+        return self.project_page(name, project_text.opened(self.project_path(name), name, said))
+
+    def project_path(self, name: str) -> Path:
+        """Returns the path of a project. Raises NotThere if there is none."""
         path = self.workspace.place(name)
-        found = self.workspace.project_in(path) if path.suffix == ".toml" else []
-        if not found:
+        if path.suffix != ".toml" or not self.workspace.project_in(path):
             raise NotThere(f"{name}: is no project: it has no section [table]")
+        return path
+
+    def project_page(self, name: str, editor: Editor, status: int = 200) -> Response:
+        """Returns the page of a project with a text in its editor."""
+        path = self.workspace.place(name)
+        found = self.workspace.project_in(path)
         folders = {
             command.name: run_form.default_folder(path, command, self.workspace) for command in COMMANDS.values()
         }
@@ -130,9 +143,11 @@ class Pages:
         jobs = [job for job in self.jobs.all() if job.project == name][:10]
         return self.page(
             "project.html",
-            title=found[0].title,
+            status,
+            title=found[0].title if found[0].is_readable else name,
             project=found[0],
-            text=path.read_text(encoding="utf-8", errors="replace"),
+            editor=editor,
+            figure=self.figure_of(path),
             commands=list(COMMANDS.values()),
             options=OPTIONS,
             chosen=run_form.CHOSEN,
@@ -182,7 +197,7 @@ class Pages:
     async def file(self, request: Request) -> Response:
         """A file of an output folder: figures and pages are shown, all others are downloaded."""
         path = self.workspace.place(request.query_params.get("name", ""))
-        if not path.is_file() or not self.is_result(path):
+        if not path.is_file() or not (self.is_result(path) or self.is_of_model(path)):
             raise NotThere(f"{path.name}: is no file of an output folder")
         kind = SHOWN.get(path.suffix)
         if kind is None:
@@ -194,6 +209,15 @@ class Pages:
         """Returns whether a file belongs to an output folder."""
         above = [it for it in path.parents if it.is_relative_to(self.workspace.root)]
         return any((it / record).is_file() for it in above for record in RECORDS)
+
+    def figure_of(self, project: Path) -> str:
+        """Returns the name of the figure of a project's block model; empty without one."""
+        path = layout.figure_of_model(project)
+        return self.workspace.name(path) if path.is_file() else ""
+
+    def is_of_model(self, path: Path) -> bool:
+        """Returns whether a file is the figure of the block model of a project."""
+        return any(layout.figure_of_model(it) == path for it in path.parent.glob("*.toml"))
 
     async def static(self, request: Request) -> Response:
         """The style and the script of all pages."""
@@ -210,7 +234,9 @@ class Pages:
     async def job(self, request: Request) -> Response:
         """A job with its progress, which the page keeps up to date."""
         job = self.jobs.read(number_of(request.query_params.get("number", "")))
-        return self.page("job.html", title=f"Job {job.number}", job=job, state=self.state_of(job))
+        is_import = job.words[0] == IMPORT
+        title = f"Import of {job.folder}" if is_import else f"Job {job.number}"
+        return self.page("job.html", title=title, job=job, state=self.state_of(job), is_import=is_import)
 
     async def events(self, request: Request) -> Response:
         """The progress of a job as server-sent events, until it has ended."""
@@ -241,11 +267,14 @@ class Pages:
             "started": job.started,
             "seconds": job.seconds,
             "usual": self.jobs.usual_seconds(job),
-            "folder": job.folder if job.folder and self.has_result(job.folder) else "",
+            "folder": job.folder if self.has_next(job) else "",
         }
 
-    def has_result(self, folder: str) -> bool:
-        return any((self.workspace.root / folder / record).is_file() for record in RECORDS)
+    def has_next(self, job: Job) -> bool:
+        """Returns whether a page shows what a job has written."""
+        if job.words[0] == IMPORT:
+            return job.status == DONE
+        return bool(job.folder) and any((self.workspace.root / job.folder / record).is_file() for record in RECORDS)
 
     async def cancel(self, request: Request) -> Response:
         """Ends a job."""
@@ -254,13 +283,13 @@ class Pages:
         return RedirectResponse(f"/job?number={number}", status_code=303)
 
 
-async def form_of(request: Request) -> dict[str, str]:
+async def form_of(request: Request, most: int = MOST_BYTES) -> dict[str, str]:
     """Returns the fields of a form. Raises WrongForm if it is too long or no text."""
     body = b""
     async for part in request.stream():
         body += part
-        if len(body) > MOST_BYTES:
-            raise WrongForm(f"The form is longer than {MOST_BYTES:,} bytes")
+        if len(body) > most:
+            raise WrongForm(f"The form is longer than {most:,} bytes")
     try:
         return dict(parse_qsl(body.decode("utf-8"), keep_blank_values=True, strict_parsing=bool(body)))
     except ValueError as error:

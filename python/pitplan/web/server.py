@@ -20,6 +20,8 @@ from pitplan.core.optional_packages import load
 from pitplan.errors import PlanError
 
 from .compare_pages import ComparePages
+from .edit_pages import EditPages
+from .import_pages import ImportPages
 from .jobs import Jobs
 from .pages import Pages
 from .security import ENTER, Access, Guard
@@ -68,7 +70,8 @@ def make_app(root: Path, access: Access, version: str = "") -> Starlette:
     async def enter(request):  # type: ignore[no-untyped-def]
         return access.enter(request)
 
-    routes = [Route(ENTER, enter), *pages.routes, *ComparePages(pages).routes]
+    more = (ImportPages(pages), EditPages(pages), ComparePages(pages))
+    routes = [Route(ENTER, enter), *pages.routes, *(route for part in more for route in part.routes)]
     return Starlette(routes=routes, middleware=[Middleware(Guard, access=access)], lifespan=lifespan)
 
 

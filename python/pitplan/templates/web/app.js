@@ -116,14 +116,61 @@ function show(state) {
   const hasEnded = !["waiting", "running"].includes(state.status);
   document.getElementById("cancel").hidden = hasEnded;
   document.getElementById("next").hidden = !(hasEnded && state.folder);
+  const failed = document.getElementById("failed");
+  if (failed) {
+    failed.hidden = !hasEnded || state.folder !== "";
+  }
   return hasEnded;
 }
 
 if (job && job.dataset.ended === "no") {
   const events = new EventSource("/job/events?number=" + job.dataset.number);
   events.onmessage = (event) => {
-    if (show(JSON.parse(event.data))) {
+    const state = JSON.parse(event.data), next = document.getElementById("next");
+    if (show(state)) {
       events.close();
+      if (next.dataset.follow && state.folder) {
+        location.assign(next.querySelector("a").href);
+      }
     }
   };
+}
+
+// ---- the text of a project: the line that is wrong, changes that are not saved, Ctrl+S
+
+const editor = document.querySelector("textarea.project");
+
+function showLine(line) {
+  const lines = editor.value.split("\n");
+  const start = lines.slice(0, line - 1).reduce((sum, it) => sum + it.length + 1, 0);
+  const height = parseFloat(getComputedStyle(editor).lineHeight);
+  editor.focus({ preventScroll: true });
+  editor.setSelectionRange(start, start + (lines[line - 1] || "").length);
+  editor.scrollTop = Math.max(0, line - 6) * height;
+}
+
+if (editor && !editor.readOnly) {
+  let isSent = false;
+  const isUnsaved = () => editor.dataset.unsaved === "yes" || editor.value !== editor.defaultValue;
+  const mark = () => {
+    document.getElementById("unsaved").textContent = isUnsaved() ? "not saved yet" : "";
+  };
+  editor.form.addEventListener("submit", () => { isSent = true; });
+  editor.addEventListener("input", mark);
+  editor.addEventListener("keydown", (event) => {
+    if ((event.ctrlKey || event.metaKey) && event.key === "s") {
+      event.preventDefault();
+      editor.form.requestSubmit(document.getElementById("save"));
+    }
+  });
+  window.addEventListener("beforeunload", (event) => {
+    if (!isSent && isUnsaved()) {
+      event.preventDefault();
+    }
+  });
+  mark();
+  if (editor.dataset.line && location.hash === "#editor") {
+    // After the browser has gone to the editor, which takes the focus away.
+    window.addEventListener("load", () => setTimeout(() => showLine(Number(editor.dataset.line)), 0));
+  }
 }

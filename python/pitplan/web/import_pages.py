@@ -1,0 +1,135 @@
+"""The pages that import a block model: the form, the file that it sends, and what the file was recognised as."""
+
+from __future__ import annotations
+
+import json
+from dataclasses import dataclass
+from typing import Any
+
+from starlette.requests import ClientDisconnect, Request
+from starlette.responses import JSONResponse, PlainTextResponse, Response
+from starlette.routing import Route
+
+from pitplan.errors import PlanError
+
+from . import uploads
+from .jobs import DONE, IMPORT, Job
+from .pages import Answer, Pages, number_of
+from .run_form import WrongForm, plain
+from .workspace import NotThere
+
+
+@dataclass(frozen=True)
+class Recognised:
+    """What `pitplan init` found in a block model.
+
+    Attributes
+    ----------
+    notes, warnings : list of str
+    columns : list of dict
+        Column, role, unit, nulls, least, mean, greatest and why, as texts.
+    figure : str
+        The path of the figure from the folder that is served; empty without one.
+    """
+
+    notes: list[str]
+    warnings: list[str]
+    columns: list[dict[str, str]]
+    figure: str
+
+
+class ImportPages:
+    """The pages of an import.
+
+    Parameters
+    ----------
+    pages : Pages
+        All other pages of the folder.
+    """
+
+    def __init__(self, pages: Pages) -> None:
+        self.pages, self.workspace, self.jobs = pages, pages.workspace, pages.jobs
+
+    @property
+    def routes(self) -> list[Route]:
+        """The addresses."""
+        return [
+            Route("/import", self.pages.answering(self.form)),
+            Route("/import/check", in_words(self.check)),
+            Route("/import/file", in_words(self.file), methods=["PUT"]),
+            Route("/imported", self.pages.answering(self.imported)),
+        ]
+
+    async def form(self, request: Request) -> Response:
+        """The form that sends a file."""
+        return self.pages.page(
+            "import.html",
+            title="Import a block model",
+            root=self.workspace.root,
+            endings=uploads.ENDINGS,
+            most=uploads.MOST_BYTES >> 30,
+        )
+
+    async def check(self, request: Request) -> Response:
+        """Checks names and size before a file is sent."""
+        uploads.demand_size(size_of(request.query_params.get("size", "")))
+        self.upload_of(request)
+        return Response(status_code=204)
+
+    async def file(self, request: Request) -> Response:
+        """Takes a file, and starts the job that recognises it."""
+        upload = self.upload_of(request)
+        uploads.demand_size(size_of(request.headers.get("content-length", "0")))
+        try:
+            await uploads.receive(request.stream(), self.workspace, upload)
+        except ClientDisconnect as error:
+            raise WrongForm(f"Block model: {upload.file}: was cut off: import it again") from error
+        table, project = (self.workspace.name(path) for path in (upload.path, upload.project))
+        words = (IMPORT, plain(table), f"--out={project}", "--figures", "--json")
+        job = self.jobs.ask(words, project, upload.folder)
+        return JSONResponse({"next": f"/job?number={job.number}"}, status_code=201)
+
+    def upload_of(self, request: Request) -> uploads.Upload:
+        given = request.query_params
+        return uploads.upload_of(self.workspace, given.get("folder", ""), given.get("file", ""))
+
+    async def imported(self, request: Request) -> Response:
+        """The block model of an import that has succeeded."""
+        job = self.jobs.read(number_of(request.query_params.get("number", "")))
+        return self.pages.page(
+            "imported.html",
+            title=f"Block model of {job.folder}",
+            job=job,
+            found=self.recognised(job),
+        )
+
+    def recognised(self, job: Job) -> Recognised:
+        """Returns what the job of an import has found. Raises NotThere if it is none, or has not succeeded."""
+        if job.words[0] != IMPORT or job.status != DONE:
+            raise NotThere(f"job {job.number}: is no import that has succeeded")
+        try:
+            said: dict[str, Any] = json.loads(self.jobs.answer(job.number))
+            return Recognised(said["notes"], said["warnings"], said["columns"], said["figure"] or "")
+        except (ValueError, KeyError, TypeError) as error:
+            raise NotThere(f"job {job.number}: its answer cannot be read: open its project") from error
+
+
+def size_of(text: str) -> int:
+    """Returns a number of bytes. Raises WrongForm if it is none."""
+    if not (text.isascii() and text.isdigit() and len(text) < 20):
+        raise WrongForm(f"Block model: found a size of {text[:20]!r}, expected a number of bytes")
+    return int(text)
+
+
+def in_words(answer: Answer) -> Answer:
+    """Returns the answer with words in place of an error of the planner's, which a script shows."""
+
+    async def answered(request: Request) -> Response:
+        try:
+            return await answer(request)
+        except WrongForm as error:
+            return PlainTextResponse(str(error), status_code=422)
+        except PlanError as error:
+            return PlainTextResponse(str(error), status_code=400)
+
+    return answered

@@ -1,0 +1,111 @@
+"""The text of a project as the browser edits it: opened, checked and saved."""
+
+from __future__ import annotations
+
+from dataclasses import dataclass
+from pathlib import Path
+from typing import Optional
+
+from pitplan.config import toml_text
+from pitplan.config.project import of_data
+from pitplan.core.atomic_files import hash_of, staged_file
+from pitplan.errors import PlanError
+
+from .toml_lines import line_of_error
+
+# The most letters of a project that is edited here.
+MOST_LETTERS = 300_000
+
+
+class Changed(PlanError):
+    """A file is no longer what the page showed."""
+
+
+@dataclass(frozen=True)
+class Editor:
+    """What the editor of a page shows.
+
+    Attributes
+    ----------
+    text : str
+    seen : str
+        The hash of the file that the page showed first.
+    wrong : str
+        Why the text is no project; empty if it is one.
+    line : int, optional
+        The line that is wrong, if it is known.
+    said : str
+        What was done.
+    is_unsaved : bool
+        Whether the file has another text.
+    may_change : bool
+        Whether the text can be edited here.
+    """
+
+    text: str
+    seen: str
+    wrong: str = ""
+    line: Optional[int] = None
+    said: str = ""
+    is_unsaved: bool = False
+    may_change: bool = True
+
+
+def opened(path: Path, name: str, said: str = "") -> Editor:
+    """Returns the editor of a file, with what is wrong in it. Its name is that from the folder that is served."""
+    data = path.read_bytes()
+    seen = hash_of(path)
+    try:
+        text = data.decode("utf-8-sig").replace("\r\n", "\n")
+    except UnicodeDecodeError:
+        wrong = f"{name}: is not UTF-8: save it as UTF-8 with another editor"
+        return Editor(data.decode("utf-8", errors="replace"), seen, wrong, may_change=False)
+    return judged(Editor(text, seen, said=said), path, name)
+
+
+def judged(editor: Editor, path: Path, name: str) -> Editor:
+    """Returns the editor with what is wrong in its text, in the words of the command line."""
+    try:
+        demand_project(editor.text, path, name)
+    except PlanError as error:
+        # The command line names files from the folder in which it runs.
+        why = str(error).replace(f"{path.parent}/", name[: name.rfind("/") + 1])
+        return Editor(editor.text, editor.seen, why, line_of_error(editor.text, why), is_unsaved=editor.is_unsaved)
+    return editor
+
+
+def demand_project(text: str, path: Path, name: str) -> None:
+    """Raises PlanError if a text is no project."""
+    if len(text) > MOST_LETTERS:
+        raise PlanError(f"{name}: found {len(text):,} letters, expected at most {MOST_LETTERS:,}: use another editor")
+    of_data(toml_text.parsed(text, name), path, name)
+
+
+def sent(text: str) -> str:
+    """Returns a text as it was typed: browsers send each end of a line as two letters."""
+    return text.replace("\r\n", "\n")
+
+
+def save(path: Path, name: str, editor: Editor) -> None:
+    """Writes the text of an editor, whole or not at all, with the ends of lines that the file has.
+
+    Raises
+    ------
+    Changed
+        If the file is not the one that the page showed.
+    PlanError
+        If it cannot be written.
+    """
+    try:
+        data = path.read_bytes()
+    except OSError as error:
+        raise PlanError(f"{name}: cannot be read: {error.strerror}") from error
+    if hash_of(path) != editor.seen:
+        raise Changed(
+            f"{name}: has changed since this page was opened: copy your text, open the project again, and enter your changes there"
+        )
+    text = editor.text.replace("\n", "\r\n") if b"\r\n" in data else editor.text
+    mode = path.stat().st_mode & 0o777
+    with staged_file(path) as place:
+        place.write_bytes(text.encode("utf-8"))
+        place.chmod(mode)
