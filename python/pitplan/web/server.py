@@ -70,8 +70,8 @@ def make_app(root: Path, access: Access, version: str = "") -> Starlette:
     async def enter(request):  # type: ignore[no-untyped-def]
         return access.enter(request)
 
-    more = (ImportPages(pages), EditPages(pages), ComparePages(pages))
-    routes = [Route(ENTER, enter), *pages.routes, *(route for part in more for route in part.routes)]
+    more = [*ImportPages(pages).routes, *EditPages(pages).routes, *ComparePages(pages).routes]
+    routes = [Route(ENTER, enter), *pages.routes, *more]
     return Starlette(routes=routes, middleware=[Middleware(Guard, access=access)], lifespan=lifespan)
 
 
