@@ -24,6 +24,8 @@ PLACES = 6
 # All material of a table without classes.
 ALL = "all"
 MARGINAL, BREAK_EVEN = "marginal", "break_even"
+# The name of the sum of tonnes, which no metal has.
+TONNES = ""
 Mask = NDArray[np.bool_]
 
 
@@ -96,16 +98,27 @@ def rows_of(
     grades = {metal.name: grades_of(plan, metal)[cells] for metal in plan.project.metals}
     if not len(cells):
         return
+    units = {metal.name: float(GRADE_UNITS[metal.unit]) for metal in plan.project.metals}
     for name, some in cutoffs.items():
-        for cutoff in some:
-            above = grades[name] >= cutoff.grade
-            whole = tonnes[above].sum()
+        sums = above(tonnes, grades, name, np.array([it.grade for it in some]))
+        for number, cutoff in enumerate(some):
             row = {"part": at[0], "class": at[1], "metal": name, "cutoff_grade": cutoff.grade, "mark": cutoff.mark}
-            contents = {it.name: tonnes[above] @ grades[it.name][above] for it in plan.project.metals}
+            whole, contents = sums[TONNES][number], {it: sums[it][number] for it in grades}
             found = {f"grade_{it}": content / whole if whole else np.nan for it, content in contents.items()}
-            units = {metal.name: float(GRADE_UNITS[metal.unit]) for metal in plan.project.metals}
             metals = {f"in_situ_{it}": content * units[it] for it, content in contents.items()}
             yield {**row, "tonnes": whole, **found, **metals}
+
+
+def above(
+    tonnes: NDArray[np.float64], grades: dict[str, NDArray[np.float64]], metal: str, cutoffs: NDArray[np.float64]
+) -> dict[str, NDArray[np.float64]]:
+    """Returns by name the tonnes of cells, and their tonnes times each grade, at or above each cut-off of a metal."""
+    order = np.argsort(grades[metal], kind="stable")
+    first = np.searchsorted(grades[metal][order], cutoffs)
+    amounts = {TONNES: tonnes} | {name: tonnes * grade for name, grade in grades.items()}
+    # The sums from each cell to the richest one.
+    sums = {name: np.append(amount[order][::-1].cumsum()[::-1], 0.0) for name, amount in amounts.items()}
+    return {name: found[first] for name, found in sums.items()}
 
 
 def cutoffs_of(plan: Plan, metal: Metal) -> list[Cutoff]:

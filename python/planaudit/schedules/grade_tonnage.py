@@ -18,6 +18,8 @@ from planaudit.schedules.lots import MILL
 FILE_PATH = "tables/grade_tonnage.csv"
 FILE, TEXTS = "grade_tonnage.csv", ["part", "class", "metal", "mark"]
 AMOUNT = 0.6e-3
+# The name of the sum of tonnes, which no metal has.
+TONNES = ""
 
 
 def is_written(answer: Answer) -> bool:
@@ -47,16 +49,26 @@ def unlike_curves(answer: Answer, said: pd.DataFrame) -> Iterator[str]:
         yield f"{FILE}: parts, classes and metals are not those of the blocks"
         return
     for (part, name, of_metal), rows in groups.items():
-        mask = masks[part, name]
-        tonnes, grade = answer.tonnes[mask], answer.rows[metals[of_metal].column].to_numpy(dtype=float)[mask]
         if rows["cutoff_grade"].min() != 0 or not rows["cutoff_grade"].is_monotonic_increasing:
             yield f"{FILE}: {part}, {name}, {of_metal}: cut-off grades do not rise from 0"
-        for row in rows.to_dict("records"):
-            above = grade >= row["cutoff_grade"]
+            continue
+        due = above(answer, masks[part, name], metals[of_metal], rows["cutoff_grade"].to_numpy())
+        for number, row in enumerate(rows.to_dict("records")):
             yield from (
                 f"{FILE}: {part}, {name}, {of_metal} above {row['cutoff_grade']:.10g}: {text}"
-                for text in unlike(row, answer, (mask, above), tonnes[above])
+                for text in unlike(row, answer, {key: float(values[number]) for key, values in due.items()})
             )
+
+
+def above(answer: Answer, mask: np.ndarray, metal: Metal, cutoffs: np.ndarray) -> dict[str, np.ndarray]:
+    """Returns by name the tonnes of the blocks of a mask, and their tonnes times the grade of each metal, at or above rising cut-offs of one."""
+    tonnes = answer.tonnes[mask]
+    grades = {it.name: answer.rows[it.column].to_numpy(dtype=float)[mask] for it in answer.project.metals}
+    # How many of the cut-offs each block reaches.
+    reached = np.searchsorted(cutoffs, grades[metal.name], side="right")
+    amounts = {TONNES: tonnes} | {name: tonnes * grade for name, grade in grades.items()}
+    sums = {name: np.bincount(reached, amount, len(cutoffs) + 1) for name, amount in amounts.items()}
+    return {name: found[::-1].cumsum()[::-1][1:] for name, found in sums.items()}
 
 
 def parts_of(answer: Answer) -> dict[str, np.ndarray]:
@@ -73,15 +85,12 @@ def parts_of(answer: Answer) -> dict[str, np.ndarray]:
     return {"model": pushback >= 0, "pit": pushback > 0} | of_each
 
 
-def unlike(
-    row: dict[str, float], answer: Answer, where: tuple[np.ndarray, np.ndarray], tonnes: np.ndarray
-) -> Iterator[str]:
-    """Yields amounts of a row that are not those of its blocks: of the mask in `where`, those above the cut-off, with their tonnes."""
-    mask, above = where
-    whole = float(tonnes.sum())
+def unlike(row: dict[str, float], answer: Answer, sums: dict[str, float]) -> Iterator[str]:
+    """Yields amounts of a row that are not those of its blocks, whose sums are given."""
+    whole = sums[TONNES]
     due = {"tonnes": (whole, AMOUNT)}
     for metal in answer.project.metals:
-        content = float(tonnes @ answer.rows[metal.column].to_numpy(dtype=float)[mask][above])
+        content = sums[metal.name]
         due[f"in_situ_{metal.name}"] = content * float(GRADE_UNITS[metal.unit]), AMOUNT
         due[f"grade_{metal.name}"] = (content / whole if whole else np.nan), GRADE
     for name, (expected, slack) in due.items():
