@@ -285,6 +285,9 @@ def test_a_file_is_dropped(driver, server, root):
     driver.execute_script(script, text)
     assert driver.find_element(ID, "drop").text == "Dropped: dropped.csv"
     assert driver.find_element(ID, "folder").get_attribute("value") == "dropped"
+    # Elsewhere on the page it does not take the page's place.
+    elsewhere = "return document.body.dispatchEvent(new DragEvent('drop', { bubbles: true, cancelable: true }))"
+    assert driver.execute_script(elsewhere) is False
     driver.find_element(ID, "send").click()
     wait(driver, lambda it: "/imported" in it.current_url)
     assert (root / "dropped" / "dropped.csv").read_text() == text and (root / "dropped" / "project.toml").is_file()
