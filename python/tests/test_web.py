@@ -5,6 +5,7 @@ import json
 import os
 import re
 import signal
+import socket
 import subprocess
 import sys
 import time
@@ -453,11 +454,15 @@ def test_two_hundred_requests_at_a_time_while_a_job_runs(root, served):
 
 def test_a_port_that_is_taken_is_refused_with_a_remedy():
     with listening(0) as bound:
-        bound.listen()
         port = bound.getsockname()[1]
         assert bound.getsockname()[0] == "127.0.0.1"
         with pytest.raises(PlanError, match=f"--port {port}: cannot listen there .*: give another port, or 0"):
             listening(port)
+
+
+def test_a_connection_waits_for_the_server_after_the_address_is_printed():
+    with listening(0) as bound, socket.create_connection(bound.getsockname(), timeout=5) as found:
+        assert found.getpeername() == bound.getsockname()
 
 
 def test_a_folder_that_there_is_not(capsys, tmp_path):

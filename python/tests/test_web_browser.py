@@ -285,6 +285,9 @@ def test_a_file_is_dropped(driver, server, root):
     driver.execute_script(script, text)
     assert driver.find_element(ID, "drop").text == "Dropped: dropped.csv"
     assert driver.find_element(ID, "folder").get_attribute("value") == "dropped"
+    # Elsewhere on the page it does not take the page's place.
+    elsewhere = "return document.body.dispatchEvent(new DragEvent('drop', { bubbles: true, cancelable: true }))"
+    assert driver.execute_script(elsewhere) is False
     driver.find_element(ID, "send").click()
     wait(driver, lambda it: "/imported" in it.current_url)
     assert (root / "dropped" / "dropped.csv").read_text() == text and (root / "dropped" / "project.toml").is_file()
@@ -358,9 +361,29 @@ def test_a_project_that_has_changed_meanwhile_is_kept(driver, server, root):
     assert (root / "project.toml").read_text() == theirs
 
 
+def test_numbers_are_changed_by_their_form(driver, server, root):
+    before = (root / "project.toml").read_text()
+    enter(driver, server)
+    click(driver, "Test hill")
+    for number, name in (("x", "wrong-value"), ("3.25", "said-value")):
+        field = driver.find_element(ID, "value:economics.mining_cost")
+        assert driver.find_element(CSS, "label[for='value:economics.mining_cost']").text == "Mining cost"
+        field.clear()
+        field.send_keys(number)
+        driver.find_element(ID, "save-values").click()
+        wait(driver, lambda it: words_of(it, name))
+    assert words_of(driver, "said-value") == "Saved."
+    after = (root / "project.toml").read_text()
+    changes = [(old, new) for old, new in zip(before.splitlines(), after.splitlines(), strict=True) if old != new]
+    assert len(changes) == 1 and changes[0][1].startswith("mining_cost = 3.25")
+    start(driver, "check")
+    wait(driver, lambda it: status_of(it) == "done")
+
+
 def test_a_wrong_form_says_what_to_do(driver, server):
     enter(driver, server)
     click(driver, "Test hill")
     driver.find_element(ID, "shells-folder").send_keys("../elsewhere")
-    driver.find_element(CSS, "details[open] button").click()
+    driver.find_element(CSS, "details:has(#shells-folder) button").click()
+    wait(driver, lambda it: it.find_elements(CSS, "[role=alert]"))
     assert "expected a folder below the one that is served" in driver.find_element(CSS, "[role=alert]").text

@@ -68,7 +68,7 @@ def test_a_text_is_saved_with_its_comments(path, client):
     text = COMMENTED.replace(PRICE, "price = 9123.5   # mine")
     assert text != COMMENTED and shown(client.get("/project", params={"name": NAME}).text) == COMMENTED
     answer = send(client, "save", text)
-    assert answer.status_code == 303 and answer.headers["location"] == f"/project?name={NAME}&saved=yes#editor"
+    assert answer.status_code == 303 and answer.headers["location"] == f"/project?name={NAME}&saved=text#editor"
     assert path.read_bytes() == text.encode()
     page = client.get(answer.headers["location"]).text
     assert "Saved." in page and shown(page) == text and 'data-unsaved="no"' in page

@@ -12,9 +12,10 @@ from starlette.routing import Route
 
 from pitplan.errors import PlanError
 
-from . import project_text
+from . import project_text, values_form
 from .pages import Pages, form_of
 from .project_text import Changed, Editor
+from .values_form import Values
 from .workspace import NotThere
 
 # A letter of the text has up to twelve in the form.
@@ -39,6 +40,7 @@ class EditPages:
         return [
             Route("/project/check", self.pages.answering(self.check), methods=["POST"]),
             Route("/project/save", self.pages.answering(self.save), methods=["POST"]),
+            Route("/project/values", self.pages.answering(self.values), methods=["POST"]),
         ]
 
     async def check(self, request: Request) -> Response:
@@ -66,7 +68,33 @@ class EditPages:
         except PlanError as error:
             status = 409 if isinstance(error, Changed) else 422
             return self.pages.project_page(name, replace(editor, wrong=str(error)), status)
-        return RedirectResponse(f"/project?name={quote(name)}&saved=yes#editor", status_code=303)
+        return RedirectResponse(f"/project?name={quote(name)}&saved=text#editor", status_code=303)
+
+    async def values(self, request: Request) -> Response:
+        """Saves the text of the file with the numbers of the form; if they are refused it shows them again."""
+        form = await form_of(request)
+        name = form.get("project", "")
+        path = self.pages.project_path(name)
+        editor = project_text.opened(path, name)
+        if editor.wrong:
+            return self.pages.project_page(name, editor, 422)
+        before = project_text.fields_in(path, name)
+        after = values_form.typed(before, form)
+        try:
+            text = values_form.changed(editor.text, before, after)
+            project_text.save(path, name, self.demanded(Editor(text, form.get("seen", "")), path, name))
+        except PlanError as error:
+            values = Values(after, wrong=str(error))
+            status = 409 if isinstance(error, Changed) else 422
+            return self.pages.project_page(name, replace(editor, seen=form.get("seen", "")), status, values)
+        return RedirectResponse(f"/project?name={quote(name)}&saved=values#values", status_code=303)
+
+    def demanded(self, editor: Editor, path: Path, name: str) -> Editor:
+        """Returns an editor whose text is a project. Raises PlanError if it is none."""
+        found = project_text.judged(editor, path, name)
+        if found.wrong:
+            raise PlanError(found.wrong)
+        return found
 
     async def editor_of(self, request: Request) -> tuple[str, Editor]:
         """Returns the name of the project of a form, and its text."""

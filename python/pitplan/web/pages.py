@@ -24,6 +24,7 @@ from .jobs import DONE, IMPORT, Job, Jobs, steps_of
 from .project_text import Editor
 from .run_form import COMMANDS, OPTIONS, WrongForm
 from .security import SANDBOX
+from .values_form import Values
 from .workspace import RECORDS, NotThere, Workspace
 
 TEMPLATES = paths.PACKAGE / "templates" / "web"
@@ -122,8 +123,10 @@ class Pages:
     async def project(self, request: Request) -> Response:
         """A project, the forms that run it, and its text."""
         name = request.query_params.get("name", "")
-        said = "Saved." if "saved" in request.query_params else ""
-        return self.project_page(name, project_text.opened(self.project_path(name), name, said))
+        path, saved = self.project_path(name), request.query_params.get("saved")
+        editor = project_text.opened(path, name, "Saved." if saved == "text" else "")
+        values = Values(project_text.fields_in(path, name), said="Saved." if saved == "values" else "")
+        return self.project_page(name, editor, values=values)
 
     def project_path(self, name: str) -> Path:
         """Returns the path of a project. Raises NotThere if there is none."""
@@ -132,8 +135,8 @@ class Pages:
             raise NotThere(f"{name}: is no project: it has no section [table]")
         return path
 
-    def project_page(self, name: str, editor: Editor, status: int = 200) -> Response:
-        """Returns the page of a project with a text in its editor."""
+    def project_page(self, name: str, editor: Editor, status: int = 200, values: Optional[Values] = None) -> Response:
+        """Returns the page of a project with a text in its editor, and with the numbers of the file or others in the form."""
         path = self.workspace.place(name)
         found = self.workspace.project_in(path)
         folders = {
@@ -147,6 +150,7 @@ class Pages:
             title=found[0].title if found[0].is_readable else name,
             project=found[0],
             editor=editor,
+            values=values or Values(project_text.fields_in(path, name)),
             figure=self.figure_of(path),
             commands=list(COMMANDS.values()),
             options=OPTIONS,

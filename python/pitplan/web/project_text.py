@@ -7,11 +7,12 @@ from pathlib import Path
 from typing import Optional
 
 from pitplan.config import toml_text
-from pitplan.config.project import of_data
+from pitplan.config.project import Project, of_data
 from pitplan.core.atomic_files import hash_of, staged_file
 from pitplan.errors import PlanError
 
 from .toml_lines import line_of_error
+from .values_form import Field, fields_of
 
 # The most letters of a project that is edited here.
 MOST_LETTERS = 300_000
@@ -74,11 +75,17 @@ def judged(editor: Editor, path: Path, name: str) -> Editor:
     return editor
 
 
-def demand_project(text: str, path: Path, name: str) -> None:
-    """Raises PlanError if a text is no project."""
+def demand_project(text: str, path: Path, name: str) -> Project:
+    """Returns the project of a text. Raises PlanError if it is none."""
     if len(text) > MOST_LETTERS:
         raise PlanError(f"{name}: found {len(text):,} letters, expected at most {MOST_LETTERS:,}: use another editor")
-    of_data(toml_text.parsed(text, name), path, name)
+    return of_data(toml_text.parsed(text, name), path, name)
+
+
+def fields_in(path: Path, name: str) -> list[Field]:
+    """Returns the numbers of a project's file that a form changes; none if it has an error."""
+    editor = opened(path, name)
+    return [] if editor.wrong else fields_of(editor.text, demand_project(editor.text, path, name))
 
 
 def sent(text: str) -> str:

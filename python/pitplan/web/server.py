@@ -89,6 +89,8 @@ def listening(port: int) -> socket.socket:
     found.setsockopt(socket.SOL_SOCKET, socket.SO_REUSEADDR, 1)
     try:
         found.bind((HOST, port))
+        # From now on connections wait until the server takes them; the address is printed before it does.
+        found.listen(socket.SOMAXCONN)
     except OSError as error:
         found.close()
         raise PlanError(

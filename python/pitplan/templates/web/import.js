@@ -4,15 +4,16 @@
 
 const of = (id) => document.getElementById(id);
 const MEGABYTE = 1e6;
-let dropped = null, sending = null;
+let dropped = null, sending = null, suggested = "";
 
 function chosen() {
   return dropped || of("file").files[0] || null;
 }
 
 function suggest(file) {
-  if (of("folder").value === "") {
-    of("folder").value = file.name.replace(/(\.csv\.gz|\.[a-z]+)$/i, "").replace(/^\.+/, "");
+  if (of("folder").value === suggested) {
+    suggested = file.name.replace(/(\.csv\.gz|\.[a-z]+)$/i, "").replace(/^\.+/, "");
+    of("folder").value = suggested;
   }
 }
 
@@ -67,6 +68,11 @@ for (const name of ["dragover", "dragenter"]) {
     event.preventDefault();
     of("drop").classList.add("over");
   });
+}
+
+// A file that is dropped elsewhere on the page would take its place.
+for (const name of ["dragover", "drop"]) {
+  window.addEventListener(name, (event) => event.preventDefault());
 }
 
 of("drop").addEventListener("dragleave", () => of("drop").classList.remove("over"));

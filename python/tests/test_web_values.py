@@ -1,0 +1,215 @@
+"""Prices, costs and capacities of a project that a form of the browser changes: only these numbers change in the text."""
+
+import html
+import re
+from decimal import Decimal
+
+import pytest
+import tomllib
+from conftest import ROOT
+from helpers.browser_application import OWN, PORT, entered
+from helpers.pushbacks import pillars
+
+from pitplan.config.project import load
+from pitplan.web import values_form
+from pitplan.web.run_form import WrongForm
+from pitplan.web.security import Access
+from pitplan.web.values_form import changed, fields_of, typed
+
+NAME = "hill/project.toml"
+TEXT = """# A mine
+title = "Hill"
+[table]
+file = "blocks.csv"
+id = "name"
+rock_type = "rock"
+
+[economics]           # all of them
+currency = "AUD"
+mining_cost = 2.5     # per tonne mined
+processing_cost = { R = 10 } # by rock
+royalty=0.02# share
+
+[[metals]]
+name = "copper"
+column = "cu"
+unit = "percent"
+price = 9_000.50      # per tonne
+recovery = 0.9
+[[metals]]
+name = "gold"
+column = "tonnes"
+unit = "gram_per_tonne"
+price_per = "oz"
+price = +2000
+recovery = [[0, 0.5], [2, 0.9]]
+
+[slopes]
+[[slopes.domains]]
+angle = 45
+
+[shells]
+revenue_factors = [1.0]
+discount_rate = 8e-2
+processing_capacity = 100
+"""
+# The name, label, unit and value of each field, by hand.
+FIELDS = [
+    ("metals 1.price", "Price of copper", "AUD/t", "9000.50"),
+    ("metals 2.price", "Price of gold", "AUD/oz", "2000"),
+    ("metals 1.recovery", "Recovery of copper", "share, 0 to 1", "0.9"),
+    ("economics.mining_cost", "Mining cost", "AUD/t mined", "2.5"),
+    ("economics.royalty", "Royalty", "share of gross revenue", "0.02"),
+    ("shells.discount_rate", "Discount rate", "share per year", "8e-2"),
+    ("shells.processing_capacity", "Processing capacity", "t of mill feed/year", "100"),
+    ("slopes.domains 1.angle", "Slope angle", "degrees, overall", "45"),
+]
+
+
+@pytest.fixture
+def path(tmp_path):
+    folder = tmp_path.resolve() / "mines" / "hill"
+    folder.mkdir(parents=True)
+    pillars().to_csv(folder / "blocks.csv", index=False)
+    (folder / "project.toml").write_text(TEXT)
+    return folder / "project.toml"
+
+
+@pytest.fixture
+def client(path):
+    return entered(path.parent.parent, Access(PORT))
+
+
+def page_of(client, name=NAME):
+    return client.get("/project", params={"name": name}).text
+
+
+def form_in(page):
+    """The fields of the form on a page, as a browser sends them."""
+    form = page.partition('action="/project/values#values"')[2].partition("</form>")[0]
+    found = re.findall(r'<input[^>]* name="([^"]+)" value="([^"]*)"', form)
+    return {html.unescape(name): html.unescape(value) for name, value in found}
+
+
+def send(client, page=None, **numbers):
+    """Sends the form with other numbers, by the end of their names."""
+    form = form_in(page or page_of(client))
+    for name, value in numbers.items():
+        form[next(it for it in form if it.endswith(f".{name}"))] = value
+    return client.post("/project/values", data=form, headers=OWN)
+
+
+def wrong(page):
+    return html.unescape(re.search(r'<p id="wrong-value"[^>]*>(.*?)</p>', page, re.DOTALL)[1])
+
+
+def test_the_form_has_the_numbers_with_labels_and_units(path, client):
+    found = [(it.entry.name, it.label, it.unit, it.value) for it in fields_of(TEXT, load(path))]
+    assert found == FIELDS
+    page, form = page_of(client), form_in(page_of(client))
+    assert form == {"project": NAME, "seen": form["seen"], **{f"value:{it[0]}": it[3] for it in FIELDS}}
+    for name, label, unit, _ in FIELDS:
+        known = f"value:{name}".replace(" ", "-")
+        assert f'<label for="{known}">{label}</label>' in page and f'id="{known}-unit">{unit}' in page
+    # Long numbers are shown with groups of digits too.
+    assert "AUD/t: 9,000.50</span>" in page and "AUD/t mined</span>" in page
+
+
+def test_only_the_numbers_that_were_changed_change_in_the_text(path, client):
+    answer = send(client, mining_cost="12.75", royalty="0.5", processing_capacity="250")
+    assert answer.status_code == 303 and answer.headers["location"].endswith("&saved=values#values")
+    # By hand: the comment keeps its column.
+    assert path.read_text() == TEXT.replace("mining_cost = 2.5     #", "mining_cost = 12.75   #").replace(
+        "royalty=0.02#", "royalty=0.5 #"
+    ).replace("processing_capacity = 100", "processing_capacity = 250")
+    assert "Saved." in client.get(answer.headers["location"]).text
+
+
+def test_a_form_without_changes_changes_no_letter(path, client):
+    assert send(client).status_code == 303 and path.read_text() == TEXT
+
+
+@pytest.mark.parametrize(
+    "number", ["", "x", "9,000", "1_000", "0x10", ".5", "5.", "01", "+1", "nan", "1\n[x]", "1" * 41, "1 # 2", '"1"']
+)
+def test_what_is_no_number_is_refused_with_its_field_and_shown_again(path, client, number):
+    answer = send(client, mining_cost=number, royalty="0.03")
+    assert answer.status_code == 422 and path.read_text() == TEXT
+    assert wrong(answer.text).startswith("Mining cost: found ") and "expected a number such as 2.5" in wrong(
+        answer.text
+    )
+    assert form_in(answer.text)["value:economics.royalty"] == "0.03"
+
+
+def test_a_number_that_no_project_has_is_refused_in_the_words_of_the_command_line(path, client):
+    answer = send(client, mining_cost="-1")
+    assert answer.status_code == 422 and path.read_text() == TEXT
+    assert wrong(answer.text).startswith(f"{NAME}: [economics] mining_cost: ")
+    assert form_in(answer.text)["value:economics.mining_cost"] == "-1"
+    assert send(client, answer.text, mining_cost="3").status_code == 303 and "mining_cost = 3 " in path.read_text()
+
+
+def test_a_file_that_has_changed_is_kept(path, client):
+    page = page_of(client)
+    theirs = TEXT.replace("0.9", "0.8")
+    path.write_text(theirs)
+    answer = send(client, page, mining_cost="3")
+    assert answer.status_code == 409 and path.read_text() == theirs
+    assert "has changed since this page was opened" in wrong(answer.text)
+    # The page that answers does not let it pass either.
+    assert send(client, answer.text, mining_cost="3").status_code == 409 and path.read_text() == theirs
+
+
+def test_other_fields_of_a_form_change_nothing(path, client):
+    form = form_in(page_of(client)) | {"value:table.file": "1", "value:economics.currency": "2", "text": "x"}
+    assert client.post("/project/values", data=form, headers=OWN).status_code == 303 and path.read_text() == TEXT
+
+
+def test_another_site_changes_nothing(path, client):
+    form = form_in(page_of(client)) | {"value:economics.mining_cost": "3"}
+    assert client.post("/project/values", data=form).status_code == 403 and path.read_text() == TEXT
+
+
+def test_a_project_with_an_error_has_no_form(path, client):
+    before = form_in(page_of(client))
+    broken = TEXT.replace("[economics]", "[economics")
+    path.write_text(broken)
+    assert 'action="/project/values' not in page_of(client)
+    answer = client.post("/project/values", data=before, headers=OWN)
+    assert answer.status_code == 422 and "The project has an error" in answer.text and path.read_text() == broken
+
+
+def leaves(data, name=""):
+    """All values of a project by their places."""
+    if isinstance(data, dict):
+        for key, value in data.items():
+            yield from leaves(value, f"{name}/{key}")
+    elif isinstance(data, list):
+        for number, value in enumerate(data):
+            yield from leaves(value, f"{name}/{number}")
+    else:
+        yield name, data
+
+
+@pytest.mark.parametrize("file", sorted(str(it.relative_to(ROOT)) for it in ROOT.glob("examples/*/project*.toml")))
+def test_each_number_of_the_examples_changes_alone(file):
+    text, project = (ROOT / file).read_text(), load(ROOT / file)
+    fields, before = fields_of(text, project), dict(leaves(tomllib.loads(text, parse_float=Decimal)))
+    assert len(fields) >= 3
+    for field in fields:
+        after = changed(text, fields, typed(fields, {field.name: "7.125"}))
+        found = dict(leaves(tomllib.loads(after, parse_float=Decimal)))
+        differing = {name: value for name, value in found.items() if before[name] != value}
+        assert list(differing.values()) == [Decimal("7.125")] and found.keys() == before.keys()
+        (place,) = differing
+        assert place.rpartition("/")[2] == field.entry.name.rpartition(".")[2] and before[place] == Decimal(field.value)
+        lines = list(zip(text.splitlines(), after.splitlines(), strict=True))
+        assert [number for number, (old, new) in enumerate(lines, 1) if old != new] == [field.entry.line]
+
+
+def test_a_number_is_refused_with_its_label():
+    entry = values_form.Entry("economics.mining_cost", 1, 14, 15)
+    field = values_form.Field(entry, "Mining cost", "USD/t", "2")
+    with pytest.raises(WrongForm, match="Mining cost: found '2,5', expected a number such as 2: write decimals with"):
+        changed("mining_cost = 2", [field], typed([field], {field.name: " 2,5 "}))
+    assert changed("mining_cost = 2", [field], typed([field], {field.name: " 2.5 "})) == "mining_cost = 2.5"
