@@ -19,7 +19,7 @@ from helpers.pushbacks import UPRIGHT, pillars
 import pitplan
 from pitplan import PlanError
 from pitplan.core import paths
-from pitplan.web import jobs as jobs_of, run_form
+from pitplan.web import jobs as jobs_of, run_form, uploads
 from pitplan.web.jobs import CANCELLED, DONE, FAILED, LOST, RUNNING, WAITING, Jobs, Step, steps_of
 from pitplan.web.results_page import grouped, read_table
 from pitplan.web.run_form import WrongForm
@@ -450,6 +450,28 @@ def test_two_hundred_requests_at_a_time_while_a_job_runs(root, served):
     assert ended(root, 1).status == DONE
     process.send_signal(signal.SIGINT)
     assert process.wait(20) in (0, 130)
+
+
+def test_a_block_model_that_is_cut_off_leaves_nothing(root, served):
+    """The browser goes away in the middle of a file."""
+    _, address, token = served
+    host = address.removeprefix("http://")
+    heads = [f"Host: {host}", f"Origin: {address}", f"Cookie: pitplan-serve-{host.rpartition(':')[2]}={token}"]
+    request = ["PUT /import/file?folder=new&file=b.csv HTTP/1.1", *heads, "Content-Length: 9000000", "", ""]
+    waiting = root / uploads.UNFINISHED
+    with socket.create_connection(tuple(host.split(":")), timeout=20) as browser:
+        browser.sendall("\r\n".join(request).encode() + b"x" * 3_000_000)
+        until_true(lambda: any(it.stat().st_size for it in waiting.glob("*/part")))
+        assert not (root / "new").exists()
+    until_true(lambda: not list(waiting.iterdir()))
+    assert not (root / "new").exists() and Jobs(root).all() == []
+
+
+def until_true(condition, seconds=20):
+    end = time.monotonic() + seconds
+    while not condition():
+        assert time.monotonic() < end
+        time.sleep(0.02)
 
 
 def test_a_port_that_is_taken_is_refused_with_a_remedy():

@@ -264,7 +264,7 @@ def test_an_import_that_is_refused_or_fails_says_what_to_do(driver, server, root
     send(driver, model, "hill")
     wait(driver, lambda it: status_of(it) == "failed")
     assert "found no column for x and y and z" in driver.find_element(ID, "log").text
-    assert driver.find_element(ID, "failed").is_displayed()
+    assert driver.find_element(ID, "failed").is_displayed() and not driver.find_element(ID, "busy").is_displayed()
     driver.find_element(ID, "failed").find_element(TAG, "a").click()
     wait(driver, lambda it: it.current_url.endswith("/import"))
     send(driver, model, "hill")

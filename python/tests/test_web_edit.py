@@ -250,6 +250,7 @@ TRICKY = """
 "a b".'c.d' = 1          # [x]
 list = [                 # a comment with ] and "
   "[not]", 'x = 1',      # y = 2
+  ["no header"],         # nor this ]
   [1, 2],
 ]
 long = \"\"\"
@@ -278,19 +279,19 @@ def test_headers_and_keys_of_lists_have_numbers():
     assert names == {
         "a b.c.d": 2,
         "list": 3,
-        "long": 7,
-        "one.two": 12,
-        "one.two.x": 13,
-        "rows 1": 14,
-        "rows 1.x": 15,
-        "rows 1.inner": 16,
-        "rows 1.inner.x": 17,
-        "rows 1.list 1": 18,
-        "rows 1.list 2": 19,
-        "rows 1.list 2.x": 20,
-        "rows 2": 21,
-        "rows 2.list 1": 22,
-        "rows 2.list 1.x": 23,
+        "long": 8,
+        "one.two": 13,
+        "one.two.x": 14,
+        "rows 1": 15,
+        "rows 1.x": 16,
+        "rows 1.inner": 17,
+        "rows 1.inner.x": 18,
+        "rows 1.list 1": 19,
+        "rows 1.list 2": 20,
+        "rows 1.list 2.x": 21,
+        "rows 2": 22,
+        "rows 2.list 1": 23,
+        "rows 2.list 1.x": 24,
     }
     values = {it.name: TRICKY[it.start : it.end] for it in toml_lines.entries(TRICKY) if it.end}
     assert values["one.two.x"] == '{ y = "#", z = [1] }' and values["rows 2.list 1.x"] == "'''\n4'''"
@@ -300,11 +301,11 @@ def test_headers_and_keys_of_lists_have_numbers():
 @pytest.mark.parametrize(
     ("name", "number"),
     [
-        ("rows 1.inner.x", 17),
-        ("rows 1.inner.none", 16),
-        ("rows 1.none", 14),
-        ("rows", 14),
-        ("one.two.x.y", 13),
+        ("rows 1.inner.x", 18),
+        ("rows 1.inner.none", 17),
+        ("rows 1.none", 15),
+        ("rows", 15),
+        ("one.two.x.y", 14),
         ("none.x", None),
     ],
 )

@@ -245,19 +245,20 @@ def test_parts_are_put_together_in_their_order(root):
     assert (root / "hill" / "blocks.csv").read_bytes() == b"".join(parts)
 
 
-def test_a_file_that_comes_meanwhile_is_kept(root):
-    """Another upload takes the name after the first has been let in."""
+@pytest.mark.parametrize("taken", ["blocks.csv", "project.toml"])
+def test_a_file_that_comes_meanwhile_is_kept(root, taken):
+    """Another upload takes the name of the mine after the first has been let in."""
 
     async def slow():
         yield b"mine"
         (root / "hill").mkdir()
-        (root / "hill" / "blocks.csv").write_text("theirs")
+        (root / "hill" / taken).write_text("theirs")
 
     space = Workspace(root)
     upload = uploads.upload_of(space, "hill", "blocks.csv")
-    with pytest.raises(WrongForm, match="hill: has a file blocks.csv already"):
+    with pytest.raises(WrongForm, match=f"hill: has a file {taken} already"):
         asyncio.run(uploads.receive(slow(), space, upload))
-    assert (root / "hill" / "blocks.csv").read_text() == "theirs"
+    assert [(it.name, it.read_text()) for it in (root / "hill").iterdir()] == [(taken, "theirs")]
 
 
 def test_what_a_killed_server_left_is_removed(root):

@@ -125,6 +125,19 @@ def test_only_the_numbers_that_were_changed_change_in_the_text(path, client):
     assert "Saved." in client.get(answer.headers["location"]).text
 
 
+def test_numbers_of_other_lengths_go_to_their_places(path, client):
+    numbers = {"price": "1", "recovery": "0.123456789", "discount_rate": "0.1234567", "angle": "44.25"}
+    assert send(client, **numbers, processing_capacity="123456789").status_code == 303
+    before, after = (dict(leaves(tomllib.loads(it, parse_float=Decimal))) for it in (TEXT, path.read_text()))
+    assert {name: str(value) for name, value in after.items() if before[name] != value} == {
+        "/metals/0/price": "1",
+        "/metals/0/recovery": "0.123456789",
+        "/shells/discount_rate": "0.1234567",
+        "/shells/processing_capacity": "123456789",
+        "/slopes/domains/0/angle": "44.25",
+    }
+
+
 def test_a_form_without_changes_changes_no_letter(path, client):
     assert send(client).status_code == 303 and path.read_text() == TEXT
 

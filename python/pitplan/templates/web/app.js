@@ -119,6 +119,7 @@ function show(state) {
   const failed = document.getElementById("failed");
   if (failed) {
     failed.hidden = !hasEnded || state.folder !== "";
+    document.getElementById("busy").hidden = hasEnded;
   }
   return hasEnded;
 }
