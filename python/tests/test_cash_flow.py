@@ -3,6 +3,7 @@
 import json
 import re
 import shutil
+from dataclasses import replace
 from decimal import Decimal
 
 import numpy as np
@@ -15,6 +16,8 @@ import pitplan
 from pitplan import PlanError, load, verify
 from pitplan.export import xlsx
 from pitplan.scheduling.cash_flow.finance import by_production, straight_line
+from planaudit.inputs import answer as answers
+from planaudit.schedules import cash_flow, material_flow
 
 # The optimal schedule, worked out by hand. Year 1 mines 200 t at 2 USD, of which half is ore; the lower bench costs 0.5 more;
 # from the exit at the first pillar's top the road is 100 m to the upper and 200 m to the lower bench, plus 10 m for each pillar.
@@ -217,9 +220,29 @@ def test_keys_that_are_wrong_are_named(tmp_path, keys, said):
         load(path)
 
 
-@pytest.mark.parametrize("name", [*YEARS, "discounted_cash_flow", "discounted_free_cash_flow"])
-def test_a_changed_line_is_found(worked, tmp_path, name):
+@pytest.fixture(scope="module")
+def flow(worked):
+    """The flows of the schedule as planaudit reads them. A test changes tables of a copy, so that only the rule reads them again."""
+    return material_flow.read(answers.read(worked))[0]
+
+
+def differences_of(flow, folder):
+    """The differences that the rule of the cash flow finds in the tables of a folder."""
+    methods = list(json.loads((folder / "schedule.json").read_text())["methods"])
+    return cash_flow.verify(replace(flow, answer=replace(flow.answer, folder=folder)), methods).differences
+
+
+def test_the_rule_holds_and_the_folder_runs_it(worked, flow, tmp_path):
+    assert not differences_of(flow, worked)
     folder = shutil.copytree(worked.parent.parent, tmp_path / "mine") / "plan" / "schedule"
+    path = folder / "tables/cash_flow.csv"
+    pd.read_csv(path).assign(tax=0.0).to_csv(path, index=False)
+    assert wrong(folder) == {"cash flow"}
+
+
+@pytest.mark.parametrize("name", [*YEARS, "discounted_cash_flow", "discounted_free_cash_flow"])
+def test_a_changed_line_is_found(worked, flow, tmp_path, name):
+    folder = shutil.copytree(worked, tmp_path / "schedule")
     path = folder / "tables/cash_flow.csv"
     found = pd.read_csv(path)
     row = found.index[(found["method"] == "milp") & (found["year"] == 2)]
@@ -227,17 +250,17 @@ def test_a_changed_line_is_found(worked, tmp_path, name):
     # 2.27 t of copper with three decimals tell the C1 cost to a dollar.
     found.loc[row, name] += 5 if name == "c1_cost" else 0.05
     found.to_csv(path, index=False)
-    assert "cash flow" in wrong(folder)
+    assert differences_of(flow, folder)
 
 
 @pytest.mark.parametrize("name", ["discount_rate", "npv", "npv_after_tax", "irr", "irr_after_tax", "payback"])
-def test_a_changed_value_is_found(worked, tmp_path, name):
-    folder = shutil.copytree(worked.parent.parent, tmp_path / "mine") / "plan" / "schedule"
+def test_a_changed_value_is_found(worked, flow, tmp_path, name):
+    folder = shutil.copytree(worked, tmp_path / "schedule")
     path = folder / "tables/valuation.csv"
     found = pd.read_csv(path)
     found.loc[1, name] += 0.01
     found.to_csv(path, index=False)
-    assert "cash flow" in wrong(folder)
+    assert differences_of(flow, folder)
 
 
 @pytest.fixture(scope="module")
