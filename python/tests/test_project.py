@@ -24,7 +24,11 @@ def test_a_byte_order_mark_is_passed_over_and_another_encoding_is_refused(plan_f
 @pytest.mark.parametrize(
     "old, new, words",
     [
-        ("mining_cost = 2", "minning_cost = 2", "[economics] mining_cost: is missing"),
+        (
+            "mining_cost = 2",
+            "minning_cost = 2",
+            "[economics] mining_cost: is missing: did you misspell it as minning_cost?",
+        ),
         (
             "mining_cost = 2",
             "mining_cost = 2\nminning_cost = 2",
@@ -178,7 +182,7 @@ def test_a_byte_order_mark_is_passed_over_and_another_encoding_is_refused(plan_f
         ("[[slopes.domains]]", "[slopes.domains]", "[slopes] domains: write at least one [[slopes.domains]]"),
         ('rock_type = "rock"\n', "", "[table] rock_type: is missing, and prices or recoveries are given by rock type"),
         ("[slopes]\n", "", "[metals 1] precedence_benches: unknown key"),
-        ("[shells]\n", "[shell]\n", "shells: is missing"),
+        ("[shells]\n", "[shell]\n", "shells: is missing: did you misspell it as shell?"),
         ('title = "Test hill"', "title = 3", "title: must be a text in quotes"),
     ],
 )

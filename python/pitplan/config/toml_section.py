@@ -16,6 +16,8 @@ Number = Union[int, Decimal]
 GREATEST = 10**18
 # Farther than any place on the ground, in metres along an axis of any system of coordinates.
 FARTHEST = 10**9
+# The least ratio of difflib between a missing key and an unknown one that may be meant by it.
+MISTYPED = 0.75
 # Letters of a value that an error shows.
 MOST_SHOWN = 80
 
@@ -51,7 +53,8 @@ class Section:
 
     def get(self, key: str) -> Any:
         if not self.has(key):
-            raise self.wrong(key, "is missing")
+            near = difflib.get_close_matches(key, [it for it in self.data if it not in self.asked], 1, MISTYPED)
+            raise self.wrong(key, "is missing" + (f": did you misspell it as {near[0]}?" if near else ""))
         return self.data[key]
 
     def finish(self) -> None:
