@@ -246,7 +246,7 @@ def test_a_form_becomes_the_words_of_a_command(root, form, words):
     [
         ({"command": "rm"}, "Command: found 'rm', expected one of check"),
         ({"command": "shells", "folder": "../out"}, "Output folder: ../out: expected a folder below"),
-        ({"command": "shells", "folder": "/tmp/out"}, "Output folder: /tmp/out: expected a folder below"),
+        ({"command": "shells", "folder": "/elsewhere"}, "Output folder: /elsewhere: expected a folder below"),
         ({"command": "shells", "folder": "."}, "expected a folder below"),
         ({"command": "shells", "folder": ".hidden"}, "does not begin with a dot"),
         ({"command": "shells", "folder": "hill/project.toml"}, "is a file"),

@@ -2,6 +2,7 @@
 
 from __future__ import annotations
 
+from collections.abc import Callable
 from dataclasses import replace
 from pathlib import Path
 from urllib.parse import quote
@@ -45,30 +46,33 @@ class EditPages:
 
     async def check(self, request: Request) -> Response:
         """Checks the text, and shows it again."""
-        name, editor = await self.editor_of(request)
-        path = self.place(name, editor)
-        if isinstance(path, Response):
-            return path
-        found = project_text.judged(editor, path, name)
-        if found.wrong:
-            return self.pages.project_page(name, found, 422)
-        return self.pages.project_page(name, replace(found, said="No errors. The text is not saved yet."))
+
+        def shown(name: str, path: Path, editor: Editor) -> Response:
+            return self.pages.project_page(name, replace(editor, said="No errors. The text is not saved yet."))
+
+        return await self.answered(request, shown)
 
     async def save(self, request: Request) -> Response:
         """Saves the text if it is a project; otherwise shows it again."""
+
+        def saved(name: str, path: Path, editor: Editor) -> Response:
+            try:
+                project_text.save(path, name, editor)
+            except PlanError as error:
+                status = 409 if isinstance(error, Changed) else 422
+                return self.pages.project_page(name, replace(editor, wrong=str(error)), status)
+            return RedirectResponse(f"/project?name={quote(name)}&saved=text#editor", status_code=303)
+
+        return await self.answered(request, saved)
+
+    async def answered(self, request: Request, act: Callable[[str, Path, Editor], Response]) -> Response:
+        """Returns the answer of `act` to a text that is a project; otherwise the page with the text and its error."""
         name, editor = await self.editor_of(request)
         path = self.place(name, editor)
         if isinstance(path, Response):
             return path
         found = project_text.judged(editor, path, name)
-        if found.wrong:
-            return self.pages.project_page(name, found, 422)
-        try:
-            project_text.save(path, name, editor)
-        except PlanError as error:
-            status = 409 if isinstance(error, Changed) else 422
-            return self.pages.project_page(name, replace(editor, wrong=str(error)), status)
-        return RedirectResponse(f"/project?name={quote(name)}&saved=text#editor", status_code=303)
+        return self.pages.project_page(name, found, 422) if found.wrong else act(name, path, found)
 
     async def values(self, request: Request) -> Response:
         """Saves the text of the file with the numbers of the form; if they are refused it shows them again."""
@@ -90,7 +94,7 @@ class EditPages:
         return RedirectResponse(f"/project?name={quote(name)}&saved=values#values", status_code=303)
 
     def demanded(self, editor: Editor, path: Path, name: str) -> Editor:
-        """Returns an editor whose text is a project. Raises PlanError if it is none."""
+        """Returns an editor whose text is a project. Raises PlanError otherwise."""
         found = project_text.judged(editor, path, name)
         if found.wrong:
             raise PlanError(found.wrong)

@@ -104,9 +104,9 @@ class ImportPages:
         )
 
     def recognised(self, job: Job) -> Recognised:
-        """Returns what the job of an import has found. Raises NotThere if it is none, or has not succeeded."""
+        """Returns what the job of an import has found. Raises NotThere if it is no import, or has not succeeded."""
         if job.words[0] != IMPORT or job.status != DONE:
-            raise NotThere(f"job {job.number}: is no import that has succeeded")
+            raise NotThere(f"job {job.number}: is not a successful import")
         try:
             said: dict[str, Any] = json.loads(self.jobs.answer(job.number))
             return Recognised(said["notes"], said["warnings"], said["columns"], said["figure"] or "")
@@ -115,7 +115,7 @@ class ImportPages:
 
 
 def size_of(text: str) -> int:
-    """Returns a number of bytes. Raises WrongForm if it is none."""
+    """Returns a number of bytes. Raises WrongForm if the text is no number."""
     if not (text.isascii() and text.isdigit() and len(text) < 20):
         raise WrongForm(f"Block model: found a size of {text[:20]!r}, expected a number of bytes")
     return int(text)

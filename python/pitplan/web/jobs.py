@@ -128,13 +128,13 @@ class Jobs:
         return found
 
     def read(self, number: int) -> Job:
-        """Returns a job with its state. Raises NotThere if there is none."""
+        """Returns a job with its state. Raises NotThere if it does not exist."""
         try:
             said: dict[str, Any] = json.loads((self.of(number) / JOB).read_text(encoding="utf-8"))
             said["words"] = tuple(said["words"])
             job = Job(**said)
         except (OSError, ValueError, TypeError, KeyError) as error:
-            raise NotThere(f"job {number}: there is none") from error
+            raise NotThere(f"job {number}: does not exist: open a job from the list of jobs") from error
         state = self.state(number)
         if state is None:
             return replace(job, status=CANCELLED) if (self.of(number) / CANCEL).exists() else job
@@ -182,7 +182,7 @@ class Jobs:
         self.runners.append(runner)
 
     def cancel(self, number: int) -> None:
-        """Ends a job: takes it from the queue, or interrupts its command. Raises NotThere if there is none."""
+        """Ends a job: takes it from the queue, or interrupts its command. Raises NotThere if it does not exist."""
         job = self.read(number)
         if job.has_ended:
             return
@@ -230,7 +230,7 @@ def now() -> str:
 
 
 def begun_at(process: int) -> str:
-    """Returns when a process began, in ticks since the machine's start; empty if there is none."""
+    """Returns when a process began, in ticks since the machine's start; empty if it has ended."""
     try:
         said = Path(f"/proc/{process}/stat").read_text(encoding="utf-8", errors="replace")
     except OSError:

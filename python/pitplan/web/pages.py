@@ -129,7 +129,7 @@ class Pages:
         return self.project_page(name, editor, values=values)
 
     def project_path(self, name: str) -> Path:
-        """Returns the path of a project. Raises NotThere if there is none."""
+        """Returns the path of a project. Raises NotThere if it does not exist."""
         path = self.workspace.place(name)
         if path.suffix != ".toml" or not self.workspace.project_in(path):
             raise NotThere(f"{name}: is no project: it has no section [table]")
@@ -301,9 +301,9 @@ async def form_of(request: Request, most: int = MOST_BYTES) -> dict[str, str]:
 
 
 def number_of(text: str) -> int:
-    """Returns the number of a job. Raises NotThere if it is none."""
+    """Returns the number of a job. Raises NotThere if the text is no number."""
     if not (text.isascii() and text.isdigit() and len(text) < 10):
-        raise NotThere(f"job {text}: there is none")
+        raise NotThere(f"job {text}: found no number, expected the number of a job: open it from the list of jobs")
     return int(text)
 
 

@@ -76,7 +76,7 @@ def judged(editor: Editor, path: Path, name: str) -> Editor:
 
 
 def demand_project(text: str, path: Path, name: str) -> Project:
-    """Returns the project of a text. Raises PlanError if it is none."""
+    """Returns the project of a text. Raises PlanError if the text is not a project."""
     if len(text) > MOST_LETTERS:
         raise PlanError(f"{name}: found {len(text):,} letters, expected at most {MOST_LETTERS:,}: use another editor")
     return of_data(toml_text.parsed(text, name), path, name)

@@ -64,7 +64,7 @@ def head_of(path: Path) -> Callable[[str], str]:
 
 
 def read_table(path: Path) -> Table:
-    """Reads a table that pitplan has written. Raises PlanError if it is none."""
+    """Reads a table that pitplan has written. Raises PlanError if the file is not one."""
     try:
         with open(path, encoding="utf-8", newline="") as file:
             reader = csv.reader(file)
@@ -127,7 +127,7 @@ def page_of(folder: Path, workspace: Workspace) -> Page:
 
 
 def record_of(folder: Path) -> dict[str, Any]:
-    """Reads the record of an output folder. Raises PlanError if there is none."""
+    """Reads the record of an output folder. Raises PlanError if the folder has no record."""
     for name in RECORDS:
         try:
             return dict(json.loads((folder / name).read_text(encoding="utf-8")))

@@ -51,7 +51,7 @@ class Access:
 
     @property
     def hosts(self) -> frozenset[str]:
-        """What the header Host may be: a name that an attacker points to this machine is none."""
+        """The accepted values of the header Host; they exclude a name that an attacker points to this machine."""
         return frozenset(f"{name}:{self.port}" for name in ("127.0.0.1", "localhost"))
 
     @property

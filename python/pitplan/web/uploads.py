@@ -59,7 +59,7 @@ def upload_of(workspace: Workspace, folder: str, file: str) -> Upload:
     Raises
     ------
     WrongForm
-        If a name is wrong or taken, or the format is none of ENDINGS, with the field and the remedy.
+        If a name is wrong or taken, or the format is not in ENDINGS, with the field and the remedy.
     """
     folder, file = folder.strip(), with_small_ending(file.strip())
     demand_name("Name of the mine", folder, "north-hill")

@@ -95,7 +95,7 @@ class Workspace:
         Raises
         ------
         NotThere
-            If there is none, if it is hidden, or if it leads out of the folder by `..` or a symbolic link.
+            If it does not exist, if it is hidden, or if it leads out of the folder by `..` or a symbolic link.
         """
         refused = NotThere(f"{name}: no such file below the folder that is served")
         if "\0" in name or any(part.startswith(".") for part in Path(name).parts):

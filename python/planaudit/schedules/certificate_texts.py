@@ -1,4 +1,4 @@
-"""The texts of the folder certificate, of which pitschedule proves what follows from them."""
+"""The texts of the folder certificate, from which pitschedule proves a value and a bound."""
 
 from __future__ import annotations
 

@@ -41,7 +41,7 @@ def parser() -> argparse.ArgumentParser:
         "--certificate",
         type=Path,
         metavar="FOLDER",
-        help="write problem, schedule and multipliers into the folder certificate of this one, of which pitschedule proves value and bound",
+        help="write problem, schedule and multipliers into FOLDER/certificate; pitschedule checks them and bounds the NPV of any schedule",
     )
     top.add_argument(
         "--behind-block", choices=SECONDS, help="what stands behind the block where a .pcpsp tells what it takes"
