@@ -36,8 +36,11 @@ def program() -> Path:
 
 
 def schedule_program() -> Optional[Path]:
-    """Returns the program pitschedule: that of the variable PITSCHEDULE, otherwise the one of the wheel `pitshell`, of this repository's build/, of
-    the folder bin in which both were installed, or on the path; None if there is none."""
+    """Returns the program pitschedule, or None if it is not installed.
+
+    The variable PITSCHEDULE names it; otherwise it is that of the wheel `pitshell`, of this repository's build/, of the folder bin in which both
+    were installed, or on the path.
+    """
     beside = [
         PACKAGES / "pitshell" / "pitschedule",
         PACKAGES.parent / "build" / "pitschedule",

@@ -12,7 +12,7 @@ from pitplan.errors import PlanError
 from pitplan.plan import Plan
 
 # The kinds of rock that an error names.
-TOLD = 5
+MOST_NAMED = 5
 
 
 def of_cells(plan: Plan, cells: NDArray[np.int64]) -> NDArray[np.float64]:
@@ -51,11 +51,11 @@ def demand_accepted(plan: Plan, cells: NDArray[np.int64]) -> None:
     codes = [plan.table[name].astype(str).to_numpy()[row[cells]] for name in columns.values()]
     sums = (tonnes.groupby(codes).sum() if codes else tonnes.groupby(np.zeros(len(cells))).sum()).sort_values()[::-1]
     parts = []
-    for key, amount in sums.iloc[:TOLD].items():
+    for key, amount in sums.iloc[:MOST_NAMED].items():
         named = zip(columns, key if isinstance(key, tuple) else (key,)) if columns else ()
         of = ", ".join(f"{kind} {code}" for kind, code in named)
         parts.append(f"{amount:,.10g} t{f' of {of}' if of else ''}")
-    more = f" and {len(sums) - TOLD} more" if len(sums) > TOLD else ""
+    more = f" and {len(sums) - MOST_NAMED} more" if len(sums) > MOST_NAMED else ""
     names = ", ".join(it.name for it in project.dumps)
     raise PlanError(
         f"{project.path}: [[dumps]] accepts: none of {names} accepts {'; '.join(parts)}{more} of the pit, the first "

@@ -25,7 +25,7 @@ from .highs import Optimum, Programme
 FEW = 2_000
 # The same for an integer programme. Zero, since HiGHS may go on with any for long; the tests, whose programmes are small, set it higher.
 FEW_WHOLE = 0
-# So many programmes are solved at the same time at most, each of which takes memory.
+# The most programmes that are solved at the same time, since each takes memory.
 MOST_AT_A_TIME = 2
 Case = TypeVar("Case")
 Found = TypeVar("Found")

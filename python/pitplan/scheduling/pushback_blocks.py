@@ -18,7 +18,7 @@ def blocks_year(schedule: YearlySchedule) -> np.ndarray:
 
 
 def blocks_bin(schedule: YearlySchedule) -> np.ndarray:
-    """Returns for each cell the value bin of its ore, from 1; 0 if it is none, with dumps 0 or a number below it for the set that accepts it."""
+    """Returns the value bin of each cell's ore, from 1; 0 for waste, and with dumps minus the number of the set that accepts it."""
     found, sets = np.zeros(schedule.pushbacks.plan.grid.count, dtype=np.int16), schedule.material.sets
     if sets is not None:
         found[:] = -np.maximum(sets.of_cell, 0)

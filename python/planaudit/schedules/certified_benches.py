@@ -55,7 +55,7 @@ class CertifiedBenches:
 
     @cached_property
     def ore(self) -> np.ndarray:
-        """The number of each block of ore among those of the pushbacks; -1 if it is none."""
+        """The number of each block of ore among those of the pushbacks; -1 if it is not in one."""
         ids = self.bound.answer.said["id"].to_numpy()[self.bound.blocks.inside]
         number = {int(it): place for place, it in enumerate(ids)}
         return np.array([number.get(int(self.names[place].split()[1]), -1) for place in self.ore_places], dtype=int)

@@ -174,7 +174,7 @@ class Conflict:
         found = [self.given(it)[years] for it in self.flow.limits if (it.name, it.side) == (name, side)]
         rate = self.flow.model.problem.limits.vertical_advance_rate
         amounts = [f"{amount:,.6g}" for amount in dict.fromkeys(np.concatenate(found).tolist() if found else [rate])]
-        # Limits on head grades are those of contents above or below them, of which there is to be none.
+        # A limit on a head grade is kept as an excess of metal, whose limit is zero: the amount says nothing.
         how_much = "" if name.startswith(GRADE) else f" ({', '.join(amounts)})"
         when = in_words(years, self.flow.model.problem.limits.calendar.word)
         return f"the {SIDES[side]} of {name.rstrip('_')} in {when}{how_much}"

@@ -67,7 +67,7 @@ def around(
     done : array, shape (benches, years)
         The share of each bench that is mined by the end of each year.
     deeper : bool
-        Whether of a pushback of which no bench is in work the next one may be begun, or the last one left unfinished.
+        Whether a pushback without a bench in progress may begin its next one, or leave its last one unfinished.
     """
     through, begun = done >= 1 - HAIR, done > HAIR
     least, most = through.astype(float), begun.astype(float)

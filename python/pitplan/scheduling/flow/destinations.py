@@ -58,7 +58,7 @@ class Destination:
         return np.where(self.takes(model), ore.of(name)[self.process], 0.0)
 
     def named(self, processes: list[str], stockpiles: list[str]) -> tuple[str, str, int]:
-        """Returns how the record calls it: the stockpile and the process, empty if there is none, and the years until the process takes the ore."""
+        """Returns the names in the record: stockpile and process, empty if absent, and the years until the process takes the ore."""
         process = "" if self.process is None else processes[self.process]
         return "" if self.stockpile is None else stockpiles[self.stockpile], process, self.lag
 

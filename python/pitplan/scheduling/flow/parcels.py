@@ -247,7 +247,7 @@ def takers_of(blocks: Ore) -> NDArray[np.int64]:
 
 
 def grade_parts(blocks: Ore, parts: int) -> NDArray[np.int64]:
-    """Returns the part of each block by its limited grades, each of which divides ore into so many of even feed."""
+    """Returns the part of each block by its limited grades; each grade divides the ore into `parts` of equal feed."""
     part = np.zeros(len(blocks), dtype=np.int64)
     # Limits of other periods differ by a constant.
     once = {name.partition(AT)[0]: name for name in blocks.amounts if name.startswith(GRADE)}

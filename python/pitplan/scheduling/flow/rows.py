@@ -58,8 +58,9 @@ def pace_rows(benches: PushbackBenches, limits: Limits, years: int) -> csr_matri
 
 
 def kept_behind(amounts: NDArray[np.float64], most: NDArray[np.float64]) -> dict[tuple[int, int], NDArray[np.int64]]:
-    """Returns, by two years, for each bench of a pushback the lowest one above it that is mined as far by the first as it is by the second; -1 if
-    there is none, or if that follows from years between them.
+    """Returns, by two years, for each bench the lowest bench above it in its pushback that is mined as far by the first year as it is by the second.
+
+    It is -1 if no bench qualifies, or if the relation follows from years between them.
 
     Parameters
     ----------

@@ -26,7 +26,7 @@ def keeps(model: FlowModel, dug: NDArray[np.float64]) -> bool:
 
 
 def whole_shares(cumulative: NDArray[np.float64], slight: float) -> NDArray[np.float64]:
-    """Returns the shares of benches by year, from those by the end of each year, of which so much may be the solver's tolerance alone."""
+    """Returns the shares of benches by year from those by the end of each year; differences up to `slight` are the solver's tolerance."""
     rounded = np.where(cumulative > 1 - slight, 1.0, np.where(cumulative < slight, 0.0, cumulative))
     shares = np.diff(np.maximum.accumulate(rounded, axis=1), axis=1, prepend=0.0)
     return np.where(shares > HAIR, shares, 0.0)
