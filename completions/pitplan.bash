@@ -24,7 +24,7 @@ _pitplan() {
     "init --out" | "view --out" | "export --out")
         _pitplan_paths file && return
         ;;
-    "check --set" | "prepare --set" | "shells --set" | "pit --set" | "pit --revenue-factor" | "pit --rf" | "pushbacks --set" | "schedule --set" | "sensitivity --set" | "sensitivity --on" | "sensitivity --workers" | "scenarios --set" | "scenarios --on" | "scenarios --workers" | "scenarios --revenue-factor" | "scenarios --rf" | "gather --revenue-factor" | "gather --rf" | "export --revenue-factor" | "export --rf" | "audit --revenue-factor" | "audit --rf" | "serve --port")
+    "init --role" | "check --set" | "prepare --set" | "shells --set" | "pit --set" | "pit --revenue-factor" | "pit --rf" | "pushbacks --set" | "schedule --set" | "sensitivity --set" | "sensitivity --on" | "sensitivity --workers" | "scenarios --set" | "scenarios --on" | "scenarios --workers" | "scenarios --revenue-factor" | "scenarios --rf" | "gather --revenue-factor" | "gather --rf" | "export --revenue-factor" | "export --rf" | "audit --revenue-factor" | "audit --rf" | "serve --port")
         return
         ;;
     "prepare --out" | "shells --out" | "pit --out" | "pushbacks --out" | "schedule --out" | "sensitivity --out" | "compare --out" | "scenarios --out" | "report --sensitivity" | "audit --out" | "convert --out")
@@ -50,7 +50,7 @@ _pitplan() {
         ;;
     esac
     case $command in
-    init) options="--out --figures --json -h --help" valued="--out" ;;
+    init) options="--out --role --replace --figures --json -h --help" valued="--out --role" ;;
     check) options="--set --quiet -h --help" valued="--set" ;;
     completion) options="-h --help" valued="" ;;
     prepare) options="--set --out --quiet -h --help" valued="--set --out" ;;

@@ -24,6 +24,8 @@ complete -c pitplan -n __fish_use_subcommand -a convert -d 'Convert published fi
 complete -c pitplan -n __fish_use_subcommand -a serve -d 'Show and run the projects of a folder in the browser'
 complete -c pitplan -n '__fish_seen_subcommand_from init' -F
 complete -c pitplan -n '__fish_seen_subcommand_from init' -l out -r -F -d 'write the project to this file (default: project.toml next to the table)'
+complete -c pitplan -n '__fish_seen_subcommand_from init' -l role -r -f -d 'give a column a role in place of the guess (repeatable): unused, tonnes, domain, copper:percent ..'
+complete -c pitplan -n '__fish_seen_subcommand_from init' -l replace -d 'replace the project if it exists'
 complete -c pitplan -n '__fish_seen_subcommand_from init' -l figures -d 'draw histograms of grades and density, a plan and a section, next to the project'
 complete -c pitplan -n '__fish_seen_subcommand_from init' -l json -d 'print the columns, notes and warnings as JSON, with the paths of the project and the figure'
 complete -c pitplan -n '__fish_seen_subcommand_from init' -s h -l help -d 'show this help message and exit'

@@ -133,6 +133,9 @@ def add_init(subs: Subparsers) -> None:
     sub.add_argument("table", type=Path, metavar="TABLE", help=text)
     text = "write the project to this file (default: project.toml next to the table)"
     sub.add_argument("--out", type=Path, metavar="FILE", help=text)
+    text = "give a column a role in place of the guess (repeatable): unused, tonnes, domain, copper:percent .."
+    sub.add_argument("--role", action="append", default=[], metavar="COLUMN=ROLE", help=text)
+    sub.add_argument("--replace", action="store_true", help="replace the project if it exists")
     text = "draw histograms of grades and density, a plan and a section, next to the project"
     sub.add_argument("--figures", action="store_true", help=text)
     text = "print the columns, notes and warnings as JSON, with the paths of the project and the figure"

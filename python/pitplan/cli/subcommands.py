@@ -54,11 +54,13 @@ def init(options: Namespace) -> int:
     import json
 
     from pitplan.blockmodel import wizard
+    from pitplan.blockmodel.column_roles import roles_of_words
 
     from .printing import print_notes
 
     project_file = options.out or options.table.parent / "project.toml"
-    written = wizard.write_project(options.table, project_file, draw_block_model if options.figures else None)
+    choices = wizard.Choices(roles_of_words(options.role), options.replace)
+    written = wizard.write_project(options.table, project_file, draw_block_model if options.figures else None, choices)
     print_notes(written.lines)
     print(json.dumps(written.as_json, indent=2, ensure_ascii=False) if options.json else project_file)
     return 0

@@ -29,7 +29,7 @@ from .workspace import RECORDS, NotThere, Workspace
 
 TEMPLATES = paths.PACKAGE / "templates" / "web"
 SCRIPT = "text/javascript; charset=utf-8"
-STATIC = {"app.css": "text/css; charset=utf-8", "app.js": SCRIPT, "import.js": SCRIPT}
+STATIC = {"app.css": "text/css; charset=utf-8", "app.js": SCRIPT, "import.js": SCRIPT, "roles.js": SCRIPT}
 # What a browser shows of the files of results; all others are downloaded.
 SHOWN = {
     ".png": "image/png",
