@@ -21,6 +21,7 @@ from pitplan.errors import PlanError
 
 from .compare_pages import ComparePages
 from .edit_pages import EditPages
+from .grid_pages import GridPages
 from .import_pages import ImportPages
 from .jobs import Jobs
 from .pages import Pages
@@ -70,8 +71,8 @@ def make_app(root: Path, access: Access, version: str = "") -> Starlette:
     async def enter(request):  # type: ignore[no-untyped-def]
         return access.enter(request)
 
-    more = [*ImportPages(pages).routes, *EditPages(pages).routes, *ComparePages(pages).routes]
-    routes = [Route(ENTER, enter), *pages.routes, *more]
+    setup = [*ImportPages(pages).routes, *EditPages(pages).routes, *GridPages(pages).routes]
+    routes = [Route(ENTER, enter), *pages.routes, *setup, *ComparePages(pages).routes]
     return Starlette(routes=routes, middleware=[Middleware(Guard, access=access)], lifespan=lifespan)
 
 
