@@ -17,9 +17,10 @@ from starlette.responses import FileResponse, HTMLResponse, RedirectResponse, Re
 from starlette.routing import Route
 
 from pitplan.core import layout, paths
+from pitplan.core.atomic_files import hash_of
 from pitplan.errors import PlanError
 
-from . import project_text, results_page, run_form
+from . import output_words, project_text, results_page, run_form
 from .grids import Grid
 from .jobs import DONE, IMPORT, Job, Jobs, steps_of
 from .project_text import Editor
@@ -31,7 +32,7 @@ from .workspace import RECORDS, NotThere, Workspace
 TEMPLATES = paths.PACKAGE / "templates" / "web"
 SCRIPT = "text/javascript; charset=utf-8"
 STATIC = {"app.css": "text/css; charset=utf-8"} | {
-    name: SCRIPT for name in ("app.js", "import.js", "roles.js", "grid.js")
+    name: SCRIPT for name in ("app.js", "import.js", "roles.js", "grid.js", "blocks.js", "chart.js")
 }
 # What a browser shows of the files of results; all others are downloaded.
 SHOWN = {
@@ -192,6 +193,8 @@ class Pages:
             title=f"{found.kind}: {found.name}",
             result=found,
             page=results_page.page_of(folder, self.workspace),
+            seen=hash_of(self.workspace.place(found.project)) if found.project else "",
+            formats=output_words.WORDS,
         )
 
     async def table(self, request: Request) -> Response:

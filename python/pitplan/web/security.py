@@ -18,7 +18,7 @@ ENTER = "/enter"
 SAFE = ("GET", "HEAD")
 # No script or style of a page is its own text, so text of a project can never become one.
 POLICY = (
-    "default-src 'none'; script-src 'self'; style-src 'self'; img-src 'self' data:; connect-src 'self'; "
+    "default-src 'none'; script-src 'self'; style-src 'self'; img-src 'self' data:; connect-src 'self'; frame-src 'self'; "
     "form-action 'self'; frame-ancestors 'none'; base-uri 'none'"
 )
 # Reports and 3D views hold their scripts and figures. A page in a sandbox has no cookie and reaches no address.

@@ -19,11 +19,13 @@ from minelib.ending import tell
 from pitplan.core.optional_packages import load
 from pitplan.errors import PlanError
 
+from .block_pages import BlockPages
 from .compare_pages import ComparePages
 from .edit_pages import EditPages
 from .grid_pages import GridPages
 from .import_pages import ImportPages
 from .jobs import Jobs
+from .output_pages import OutputPages
 from .pages import Pages
 from .security import ENTER, Access, Guard
 from .workspace import Workspace
@@ -72,7 +74,8 @@ def make_app(root: Path, access: Access, version: str = "") -> Starlette:
         return access.enter(request)
 
     setup = [*ImportPages(pages).routes, *EditPages(pages).routes, *GridPages(pages).routes]
-    routes = [Route(ENTER, enter), *pages.routes, *setup, *ComparePages(pages).routes]
+    results = [*BlockPages(pages).routes, *OutputPages(pages).routes, *ComparePages(pages).routes]
+    routes = [Route(ENTER, enter), *pages.routes, *setup, *results]
     return Starlette(routes=routes, middleware=[Middleware(Guard, access=access)], lifespan=lifespan)
 
 

@@ -55,8 +55,8 @@ OPTIONAL = (
     *("schedule.years", "schedule.bench_lag", "schedule.vertical_advance_rate", "schedule.bins"),
     *("cash_flow.closure_cost", "cash_flow.tax_rate"),
 )
-# The sections whose keys the form of pushbacks and schedule has.
-OF_SCHEDULE = ("pushbacks", "schedule", "cash_flow")
+# How the keys begin that the form of pushbacks and schedule has.
+OF_SCHEDULE = ("shells.selected", "pushbacks.", "schedule.", "cash_flow.")
 
 
 @dataclass(frozen=True)
