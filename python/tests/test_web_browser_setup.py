@@ -118,3 +118,36 @@ def test_a_role_of_a_column_is_changed_and_the_project_follows(driver, server, t
     click(driver, "Open the project")
     start(driver, "check")
     wait(driver, lambda it: status_of(it) == "done")
+
+
+def test_an_area_is_drawn_on_the_plan(driver, server):
+    before = (server.root / "project.toml").read_text()
+    enter(driver, server)
+    complaints(driver)
+    driver.get(f"{server.address}/blocks?name=project.toml")
+    wait(driver, lambda it: it.execute_script("return document.body.dataset.milliseconds"))
+    driver.find_element(ID, "area-name").send_keys("west")
+    driver.find_element(ID, "draw").click()
+    # The corners of the block in the west, by clicks near its corners.
+    script = """
+        const view = app.views[0], area = view.canvas.getBoundingClientRect();
+        for (const [x, y] of [[0.1, 0.1], [0.9, 0.1], [0.9, 0.9], [0.1, 0.9]]) {
+          const at = { clientX: area.left + view.left + x * view.step * view.scale, clientY: area.top + view.top + y * view.rise * view.scale };
+          view.canvas.dispatchEvent(new MouseEvent("click", { ...at, bubbles: true }));
+        }
+    """
+    driver.execute_script(script)
+    assert driver.find_element(ID, "drawing").text == "4 corners"
+    driver.find_element(ID, "save-area").click()
+    wait(
+        driver,
+        lambda it: (server.root / "west.csv").is_file() and "constraints" in (server.root / "project.toml").read_text(),
+    )
+    lines = (server.root / "west.csv").read_text().splitlines()
+    assert lines[0] == "x,y" and len(lines) == 5 and lines[1] == "1.000,9.000"
+    wait(
+        driver,
+        lambda it: it.execute_script("return typeof app === 'object' && app && app.model.info.areas.length") == 1,
+    )
+    assert complaints(driver) == []
+    (server.root / "project.toml").write_text(before)

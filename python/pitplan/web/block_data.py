@@ -4,6 +4,8 @@ from __future__ import annotations
 
 import threading
 from collections import OrderedDict
+from collections.abc import Iterator
+from contextlib import suppress
 from dataclasses import dataclass, field
 from pathlib import Path
 from typing import Any
@@ -23,6 +25,7 @@ from pitplan.figures import palette
 from pitplan.results.folder import read_folder
 from pitplan.results.names import RECORD
 from pitplan.results.sheet_heads import unit_in
+from pitplan.survey import readers
 
 # Whole numbers from 1 that have a colour each, 0 being none; the colour map of each.
 STAGES = {"pushback": "viridis_r", "year": "plasma_r", "period": "plasma_r"}
@@ -142,9 +145,23 @@ class Blocks:
             "gradient": [hex_of(it) for it in shades],
             "factors": self.factors,
             "selected": self.selected,
+            "frame": [self.grid.frame.x, self.grid.frame.y, self.grid.frame.azimuth],
+            "areas": list(self.areas()),
             "domain": self.project.table.domain or "",
             "domains": [{"codes": it.domains or (), "angles": it.bearings} for it in self.project.slopes.domains],
         }
+
+    def areas(self) -> Iterator[dict[str, Any]]:
+        """Yields the areas of the project with the corners of their rings along the axes of the grid; one that cannot be read has none."""
+        rules = self.project.constraints
+        for area in rules.areas if rules else ():
+            rings: list[Any] = []
+            with suppress(PlanError):
+                polygons = readers.areas(area.polygon).polygons
+                rings = [
+                    np.stack(self.grid.frame.along(*ring.T[:2]), axis=1).tolist() for it in polygons for ring in it
+                ]
+            yield {"name": area.polygon.path.stem, "exclude": area.exclude, "rings": rings}
 
     def row(self, cell: int) -> dict[str, str]:
         """Returns the fields of the block in a cell as texts; none without one."""

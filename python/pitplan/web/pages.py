@@ -32,7 +32,7 @@ from .workspace import RECORDS, NotThere, Workspace
 TEMPLATES = paths.PACKAGE / "templates" / "web"
 SCRIPT = "text/javascript; charset=utf-8"
 STATIC = {"app.css": "text/css; charset=utf-8"} | {
-    name: SCRIPT for name in ("app.js", "import.js", "roles.js", "grid.js", "blocks.js", "chart.js")
+    name: SCRIPT for name in ("app.js", "import.js", "roles.js", "grid.js", "blocks.js", "areas.js", "chart.js")
 }
 # What a browser shows of the files of results; all others are downloaded.
 SHOWN = {

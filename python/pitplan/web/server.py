@@ -19,6 +19,7 @@ from minelib.ending import tell
 from pitplan.core.optional_packages import load
 from pitplan.errors import PlanError
 
+from .area_pages import AreaPages
 from .block_pages import BlockPages
 from .compare_pages import ComparePages
 from .edit_pages import EditPages
@@ -74,7 +75,9 @@ def make_app(root: Path, access: Access, version: str = "") -> Starlette:
         return access.enter(request)
 
     setup = [*ImportPages(pages).routes, *EditPages(pages).routes, *GridPages(pages).routes]
-    results = [*BlockPages(pages).routes, *OutputPages(pages).routes, *ComparePages(pages).routes]
+    blocks = BlockPages(pages)
+    setup += AreaPages(pages, blocks.store).routes
+    results = [*blocks.routes, *OutputPages(pages).routes, *ComparePages(pages).routes]
     routes = [Route(ENTER, enter), *pages.routes, *setup, *results]
     return Starlette(routes=routes, middleware=[Middleware(Guard, access=access)], lifespan=lifespan)
 
