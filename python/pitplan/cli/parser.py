@@ -118,12 +118,20 @@ def parser() -> Parser:
 
 
 def add_serve(subs: Subparsers) -> None:
-    more = "Only this machine reaches it, by the address with the token that is printed. Jobs go on after Ctrl-C."
+    more = "Only this machine reaches it, by the address with the token that is printed, unless you name it for a team. Jobs go on after Ctrl-C."
     does = "show and run the projects of a folder in the browser"
     sub = subs.add("serve", does, subcommands.serve, more)
     sub.add_argument("folder", nargs="?", type=Path, default=Path("."), help="folder with projects (default: this one)")
     sub.add_argument("--port", type=port_of, default=0, metavar="N", help="port, 0 to 65535 (default: 0, any free one)")
     sub.add_argument("--no-browser", action="store_true", help="print the address only")
+    text = "let a team reach this machine by this name or address, over TLS; requires a password file, a certificate and its key"
+    sub.add_argument("--host", metavar="NAME", help=text)
+    text = "file with the hash of the team's password"
+    sub.add_argument("--password-file", type=Path, metavar="FILE", help=text)
+    sub.add_argument("--certificate", type=Path, metavar="FILE", help="TLS certificate of the host (PEM)")
+    sub.add_argument("--key", type=Path, metavar="FILE", help="key of the certificate (PEM)")
+    text = "ask for a password, write its hash to this file, and exit"
+    sub.add_argument("--new-password", type=Path, metavar="FILE", help=text)
 
 
 def add_init(subs: Subparsers) -> None:
