@@ -21,10 +21,10 @@ _pitplan() {
         return
     fi
     case "$command $before" in
-    "init --out" | "view --out" | "export --out")
+    "init --out" | "view --out" | "export --out" | "serve --password-file" | "serve --certificate" | "serve --key" | "serve --new-password")
         _pitplan_paths file && return
         ;;
-    "check --set" | "prepare --set" | "shells --set" | "pit --set" | "pit --revenue-factor" | "pit --rf" | "pushbacks --set" | "schedule --set" | "sensitivity --set" | "sensitivity --on" | "sensitivity --workers" | "scenarios --set" | "scenarios --on" | "scenarios --workers" | "scenarios --revenue-factor" | "scenarios --rf" | "gather --revenue-factor" | "gather --rf" | "export --revenue-factor" | "export --rf" | "audit --revenue-factor" | "audit --rf" | "serve --port")
+    "init --role" | "check --set" | "prepare --set" | "shells --set" | "pit --set" | "pit --revenue-factor" | "pit --rf" | "pushbacks --set" | "schedule --set" | "sensitivity --set" | "sensitivity --on" | "sensitivity --workers" | "scenarios --set" | "scenarios --on" | "scenarios --workers" | "scenarios --revenue-factor" | "scenarios --rf" | "gather --revenue-factor" | "gather --rf" | "export --revenue-factor" | "export --rf" | "audit --revenue-factor" | "audit --rf" | "serve --port" | "serve --host")
         return
         ;;
     "prepare --out" | "shells --out" | "pit --out" | "pushbacks --out" | "schedule --out" | "sensitivity --out" | "compare --out" | "scenarios --out" | "report --sensitivity" | "audit --out" | "convert --out")
@@ -50,7 +50,7 @@ _pitplan() {
         ;;
     esac
     case $command in
-    init) options="--out --figures --json -h --help" valued="--out" ;;
+    init) options="--out --role --replace --figures --json -h --help" valued="--out --role" ;;
     check) options="--set --quiet -h --help" valued="--set" ;;
     completion) options="-h --help" valued="" ;;
     prepare) options="--set --out --quiet -h --help" valued="--set --out" ;;
@@ -69,7 +69,7 @@ _pitplan() {
     audit) options="--out --quiet --revenue-factor --rf -h --help" valued="--out --revenue-factor --rf" ;;
     verify) options="-h --help" valued="" ;;
     convert) options="-h --help --out" valued="--out" ;;
-    serve) options="--port --no-browser -h --help" valued="--port" ;;
+    serve) options="--port --no-browser --host --password-file --certificate --key --new-password -h --help" valued="--port --host --password-file --certificate --key --new-password" ;;
     esac
     # Arguments before this one: words that are neither options nor their values, which bash divides at = and :.
     for ((k = 2; k < COMP_CWORD; k++)); do

@@ -24,6 +24,8 @@ complete -c pitplan -n __fish_use_subcommand -a convert -d 'Convert published fi
 complete -c pitplan -n __fish_use_subcommand -a serve -d 'Show and run the projects of a folder in the browser'
 complete -c pitplan -n '__fish_seen_subcommand_from init' -F
 complete -c pitplan -n '__fish_seen_subcommand_from init' -l out -r -F -d 'write the project to this file (default: project.toml next to the table)'
+complete -c pitplan -n '__fish_seen_subcommand_from init' -l role -r -f -d 'give a column a role in place of the guess (repeatable): unused, tonnes, domain, copper:percent ..'
+complete -c pitplan -n '__fish_seen_subcommand_from init' -l replace -d 'replace the project if it exists'
 complete -c pitplan -n '__fish_seen_subcommand_from init' -l figures -d 'draw histograms of grades and density, a plan and a section, next to the project'
 complete -c pitplan -n '__fish_seen_subcommand_from init' -l json -d 'print the columns, notes and warnings as JSON, with the paths of the project and the figure'
 complete -c pitplan -n '__fish_seen_subcommand_from init' -s h -l help -d 'show this help message and exit'
@@ -149,4 +151,9 @@ complete -c pitplan -n '__fish_seen_subcommand_from convert' -l out -r -fa '(__f
 complete -c pitplan -n '__fish_seen_subcommand_from serve' -fa '(__fish_complete_directories)'
 complete -c pitplan -n '__fish_seen_subcommand_from serve' -l port -r -f -d 'port, 0 to 65535 (default: 0, any free one)'
 complete -c pitplan -n '__fish_seen_subcommand_from serve' -l no-browser -d 'print the address only'
+complete -c pitplan -n '__fish_seen_subcommand_from serve' -l host -r -f -d 'let a team reach this machine by this name or address, over TLS; requires a password file, a certificate and its key'
+complete -c pitplan -n '__fish_seen_subcommand_from serve' -l password-file -r -F -d 'file with the hash of the team\'s password'
+complete -c pitplan -n '__fish_seen_subcommand_from serve' -l certificate -r -F -d 'TLS certificate of the host (PEM)'
+complete -c pitplan -n '__fish_seen_subcommand_from serve' -l key -r -F -d 'key of the certificate (PEM)'
+complete -c pitplan -n '__fish_seen_subcommand_from serve' -l new-password -r -F -d 'ask for a password, write its hash to this file, and exit'
 complete -c pitplan -n '__fish_seen_subcommand_from serve' -s h -l help -d 'show this help message and exit'

@@ -25,6 +25,7 @@ python3-distributed   tests    the same
 python3-starlette     tests    pitplan serve
 python3-uvicorn       tests    the same
 python3-httpx         tests    the tests that ask its server
+openssl               tests    the test of pitplan serve --host
 parallel              tests    the test of pitplan scenarios --on parallel
 fish                  tests    the test of pitplan's completions
 zsh                   tests    the same

@@ -72,7 +72,7 @@ def test_the_page_is_shown_without_warnings():
         env={"MANWIDTH": "100", "PATH": "/usr/bin:/bin"},
     )
     assert shown.returncode == 0 and shown.stderr == ""
-    assert "pitplan init [--out FILE] [--figures] [--json] TABLE" in shown.stdout
+    assert "pitplan init [--out FILE] [--role COLUMN=ROLE] [--replace] [--figures]" in shown.stdout
     assert re.search(r"pitplan audit [^A-Z]*\[--out TARGET\] \[--quiet\] --revenue-factor FACTOR FOLDER", shown.stdout)
 
 

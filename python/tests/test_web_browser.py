@@ -1,64 +1,36 @@
 """The browser application in Chromium: from a project to its results by clicks, and jobs that outlive page and server."""
 
 import json
-import os
-import shutil
-import signal
-import subprocess
-import sys
-import time
 
 import pytest
-from browser import CHROMIUM, needs_chromium
 from conftest import PROJECT, rows
+from helpers.browser_clicks import (
+    CSS,
+    ENTER,
+    ID,
+    LINK,
+    NEEDED,
+    TAG,
+    Server,
+    chromium,
+    click,
+    complaints,
+    enter,
+    start,
+    status_of,
+    steps_of,
+    wait,
+    words_of,
+)
 from helpers.pushbacks import PUSHBACKS, pillars
 
-from pitplan.core import paths
-
-DRIVER = shutil.which("chromedriver")
-pytestmark = [needs_chromium, pytest.mark.skipif(DRIVER is None, reason="needs the Debian package chromium-driver")]
-# How elements are found, and the key that clicks.
-ID, CSS, LINK, TAG, ENTER = "id", "css selector", "link text", "tag name", "\ue007"
-
-
-class Server:
-    """A server of a folder, in a process of its own."""
-
-    def __init__(self, root, port=0):
-        words = [sys.executable, "-P", "-m", "pitplan", "serve", str(root), "--no-browser", "--port", str(port)]
-        environment = {**os.environ, "PYTHONPATH": str(paths.PACKAGES)}
-        self.process = subprocess.Popen(words, stderr=subprocess.PIPE, text=True, env=environment)
-        self.process.stderr.readline()
-        self.opening = self.process.stderr.readline().strip()
-        self.address = self.opening.partition("/enter")[0]
-
-    @property
-    def port(self):
-        return int(self.address.rpartition(":")[2])
-
-    def kill(self):
-        self.process.send_signal(signal.SIGKILL)
-        self.process.communicate()
+pytestmark = NEEDED
 
 
 @pytest.fixture(scope="module")
 def driver():
-    """A browser for all tests of this module."""
-    webdriver = pytest.importorskip("selenium.webdriver", reason="needs the Debian package python3-selenium")
-    service = pytest.importorskip("selenium.webdriver.chrome.service")
-    options = webdriver.ChromeOptions()
-    options.binary_location = CHROMIUM
-    for word in (
-        "--headless=new",
-        "--no-sandbox",
-        "--window-size=1366,768",
-        "--disable-gpu",
-        "--disable-dev-shm-usage",
-    ):
-        options.add_argument(word)
-    found = webdriver.Chrome(service=service.Service(DRIVER), options=options)
-    yield found
-    found.quit()
+    with chromium() as found:
+        yield found
 
 
 @pytest.fixture
@@ -75,55 +47,6 @@ def server(root):
     found = Server(root)
     yield found
     found.kill()
-
-
-def enter(driver, server):
-    """Opens the application by its address; the server may need a moment to answer."""
-    for _ in range(100):
-        try:
-            driver.get(server.opening)
-        except Exception:  # The browser has no name for a refused connection.
-            time.sleep(0.1)
-            continue
-        if "Projects" in driver.title:
-            return
-        time.sleep(0.1)
-    raise AssertionError(driver.page_source)
-
-
-def wait(driver, condition, seconds=60):
-    end = time.monotonic() + seconds
-    while not condition(driver):
-        assert time.monotonic() < end, driver.page_source
-        time.sleep(0.1)
-
-
-def click(driver, words):
-    driver.find_element(LINK, words).click()
-
-
-def status_of(driver):
-    """The status on the page; empty while another page is loaded."""
-    return driver.execute_script("return (document.getElementById('status') || {textContent: ''}).textContent")
-
-
-def steps_of(driver):
-    """The steps on the page, read at one time, since the page renews them."""
-    return driver.execute_script("return Array.from(document.querySelectorAll('#steps li'), it => it.textContent)")
-
-
-def start(driver, command):
-    """Runs a command of the project by clicks."""
-    form = next(it for it in driver.find_elements(CSS, "details.run") if it.text.startswith(command))
-    if form.get_attribute("open") is None:
-        form.find_element(TAG, "summary").click()
-    form.find_element(CSS, "button").click()
-    wait(driver, lambda it: "/job?number=" in it.current_url)
-
-
-def complaints(driver):
-    """What the browser has to complain of, such as a script that the policy refuses."""
-    return [it["message"] for it in driver.get_log("browser") if it["level"] in ("SEVERE", "WARNING")]
 
 
 def test_from_a_project_to_a_schedule_by_clicks(driver, server, root):
@@ -241,8 +164,8 @@ def test_from_a_block_model_to_pit_shells_by_clicks(driver, server, root, model)
     send(driver, model)
     # The page of the job leads to that of the block model by itself.
     wait(driver, lambda it: "/imported" in it.current_url)
-    cells = [it.text for it in driver.find_elements(CSS, "#columns tbody tr")]
-    assert any(it.startswith("CU_PCT grade of copper %") for it in cells) and len(cells) == 8
+    role = driver.find_element(CSS, "select[name='role:CU_PCT']")
+    assert role.get_attribute("value") == "copper:percent" and len(driver.find_elements(CSS, "#columns tbody tr")) == 8
     figure = driver.find_element(CSS, "figure img")
     wait(driver, lambda it: it.execute_script("return arguments[0].naturalWidth", figure) > 100)
     click(driver, "Open the project")
@@ -267,6 +190,10 @@ def test_an_import_that_is_refused_or_fails_says_what_to_do(driver, server, root
     assert driver.find_element(ID, "failed").is_displayed() and not driver.find_element(ID, "busy").is_displayed()
     driver.find_element(ID, "failed").find_element(TAG, "a").click()
     wait(driver, lambda it: it.current_url.endswith("/import"))
+    # Its file and folder are removed, so the name is free.
+    assert not (root / "hill").exists()
+    (root / "hill").mkdir()
+    (root / "hill" / model.name).write_text("")
     send(driver, model, "hill")
     wait(driver, lambda it: "hill: has a file North Hill.csv already" in it.find_element(ID, "problem").text)
     # The form can be sent again.
@@ -303,13 +230,6 @@ def type_over(driver, old, new):
         field.dispatchEvent(new Event("input"));
     """
     driver.execute_script(script, text.replace(old, new))
-
-
-def words_of(driver, name):
-    """The words of an element; empty while another page is loaded."""
-    return driver.execute_script(
-        "return (document.getElementById(arguments[0]) || {textContent: ''}).textContent", name
-    )
 
 
 def selected(driver):

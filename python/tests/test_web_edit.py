@@ -161,10 +161,11 @@ def line(words):
 
 WRONG = [
     (PRICE, 'price = "x"', line(PRICE), "[metals 1] price: 'x' is not a number"),
-    (PRICE, "prize = 3", line("[[metals]]"), "[metals 1] price: is missing"),
-    ("mining_cost = ", "minning_cost = ", line("[economics]"), "[economics] mining_cost: is missing"),
+    (PRICE, "prize = 3", line(PRICE), "[metals 1] price: is missing"),
+    ("mining_cost = ", "minning_cost = ", line("mining_cost"), "[economics] mining_cost: is missing"),
     ("[economics]", "[economics", line("[economics]"), "at line"),
-    ("[shells]", "[shelves]", None, "shells: is missing"),
+    ("[shells]", "[shelves]", line("[shells]"), "shells: is missing: did you misspell it as shelves?"),
+    ("[slopes]", "[inclines]", line("[slopes]"), "inclines: unknown key: remove it"),
     ("title = ", "tile = ", line("title"), "tile: unknown key: did you mean title?"),
 ]
 
@@ -311,6 +312,46 @@ def test_headers_and_keys_of_lists_have_numbers():
 )
 def test_the_line_of_a_key_is_that_of_the_nearest_that_there_is(name, number):
     assert toml_lines.line_of(TRICKY, name) == number
+
+
+MINE = """[[processes]]
+name = "mill"
+recovery = { copper = 0.5 }
+[[processes]]
+name = "leach"
+[[periods]]
+years = 1
+[[periods]]
+prices = { tin = 1 }
+[schedule.feed]
+as_ppm = { max = 1 }
+[[schedule.limits]]
+name = "arsenic"
+of = "x"
+[[metals]]
+[[metals]]
+[[dumps]]
+name = "north"
+"""
+
+
+@pytest.mark.parametrize(
+    ("why", "number"),
+    [
+        ("p.toml: [[processes]] leach recovery: found tin, expected one of the [[metals]]: copper", 4),
+        ("p.toml: [[processes]] mill recovery: found tin, expected one of the [[metals]]: copper", 3),
+        ("p.toml: [[periods]] 2 prices: found tin, expected one of copper", 9),
+        ("p.toml: [[periods]] 2 minimum: [schedule] years is missing: the minimum applies", 8),
+        ("p.toml: [[dumps]] north: is the name of another source", 17),
+        ("p.toml: [schedule.limits] arsenic: of: found x, expected one of total, feed", 12),
+        ("p.toml: feed as_ppm: limits the share of OX, and [table] rock_type names no column", 10),
+        ("p.toml: two [[metals]] have one name", 15),
+        ("p.toml: [schedule.feed] is of one process: set [processes.feed] below each", 10),
+        ("p.toml: [sensitivity] varies haulage, and there is no section [haulage]", None),
+    ],
+)
+def test_errors_across_sections_have_a_line(why, number):
+    assert toml_lines.line_of_error(MINE, why) == number
 
 
 @pytest.mark.parametrize("text", ["", "[", "x", "x =", "x = [", 'x = """', "=", "[[a]", 'x = "', "\0"])

@@ -3,6 +3,7 @@
 import asyncio
 import gzip
 import json
+import re
 
 import pytest
 from conftest import rows
@@ -74,11 +75,12 @@ def test_a_block_model_becomes_a_project_and_its_page_says_what_was_recognised(r
     printed = capsys.readouterr().err
     text = client.get("/imported?number=1").text
     assert "CU_PCT: 1 of 256 blocks are null (-99" in printed and "CU_PCT: 1 of 256 blocks are null (-99" in text
-    for cell in ("<td>CU_PCT</td><td>grade of copper</td><td>%</td>", '<td class="number">1 (-99)</td>'):
-        assert cell in text
+    row = re.search(r"<tr><th scope=\"row\">CU_PCT</th>.*?</tr>", text)[0]
+    assert '<option value="copper:percent" selected>grade of copper, %</option>' in row
+    assert '<td data-field="unit">%</td><td class="number" data-field="nulls">1 (-99)</td>' in row
     line = next(it for it in printed.splitlines() if it.startswith("x "))
     assert line.split()[:6] == ["x", "centroid", "x", "m", "5", "40"]
-    assert '<td class="number" data-raw="5">5</td><td class="number" data-raw="40">40</td>' in text
+    assert 'data-field="least" data-raw="5">5</td>' in text and 'data-field="mean" data-raw="40">40</td>' in text
     assert pitplan.load(root / "hill" / "project.toml").metals[0].column == "CU_PCT"
 
 

@@ -86,7 +86,7 @@ def page_of(client, name=NAME):
 
 def form_in(page):
     """The fields of the form on a page, as a browser sends them."""
-    form = page.partition('action="/project/values#values"')[2].partition("</form>")[0]
+    form = page.partition('action="/project/values#')[2].partition("</form>")[0]
     found = re.findall(r'<input[^>]* name="([^"]+)" value="([^"]*)"', form)
     return {html.unescape(name): html.unescape(value) for name, value in found}
 
@@ -104,10 +104,14 @@ def wrong(page):
 
 
 def test_the_form_has_the_numbers_with_labels_and_units(path, client):
-    found = [(it.entry.name, it.label, it.unit, it.value) for it in fields_of(TEXT, load(path))]
+    fields = fields_of(TEXT, load(path))
+    found = [(it.entry.name, it.label, it.unit, it.value) for it in fields if it.entry.end]
     assert found == FIELDS
     page, form = page_of(client), form_in(page_of(client))
-    assert form == {"project": NAME, "seen": form["seen"], **{f"value:{it[0]}": it[3] for it in FIELDS}}
+    left_out = {it.name: "" for it in fields if not it.entry.end and not it.is_of_schedule}
+    assert "value:shells.mining_capacity" in left_out and len(left_out) == 4
+    written = {f"value:{it[0]}": it[3] for it in FIELDS}
+    assert form == {"project": NAME, "seen": form["seen"], "form": "values", **written, **left_out}
     for name, label, unit, _ in FIELDS:
         known = f"value:{name}".replace(" ", "-")
         assert f'<label for="{known}">{label}</label>' in page and f'id="{known}-unit">{unit}' in page
@@ -209,7 +213,7 @@ def test_each_number_of_the_examples_changes_alone(file):
     text, project = (ROOT / file).read_text(), load(ROOT / file)
     fields, before = fields_of(text, project), dict(leaves(tomllib.loads(text, parse_float=Decimal)))
     assert len(fields) >= 3
-    for field in fields:
+    for field in [it for it in fields if it.entry.end]:
         after = changed(text, fields, typed(fields, {field.name: "7.125"}))
         found = dict(leaves(tomllib.loads(after, parse_float=Decimal)))
         differing = {name: value for name, value in found.items() if before[name] != value}
@@ -218,6 +222,33 @@ def test_each_number_of_the_examples_changes_alone(file):
         assert place.rpartition("/")[2] == field.entry.name.rpartition(".")[2] and before[place] == Decimal(field.value)
         lines = list(zip(text.splitlines(), after.splitlines(), strict=True))
         assert [number for number, (old, new) in enumerate(lines, 1) if old != new] == [field.entry.line]
+
+
+@pytest.mark.parametrize("file", sorted(str(it.relative_to(ROOT)) for it in ROOT.glob("examples/*/project*.toml")))
+def test_a_key_that_is_left_out_is_added_and_removed_again(file):
+    text, project = (ROOT / file).read_text(), load(ROOT / file)
+    fields, before = fields_of(text, project), dict(leaves(tomllib.loads(text, parse_float=Decimal)))
+    for field in [it for it in fields if not it.entry.end]:
+        added = changed(text, fields, typed(fields, {field.name: "0.125"}))
+        found = dict(leaves(tomllib.loads(added, parse_float=Decimal)))
+        name = "/" + field.entry.name.replace(".", "/")
+        assert found == before | {name: Decimal("0.125")}
+        (entry,) = [it for it in values_form.entries(added) if it.name == field.entry.name]
+        again = [values_form.Field(entry, "", "", "0.125")]
+        assert tomllib.loads(changed(added, again, typed(again, {field.name: ""})), parse_float=Decimal).items() >= (
+            tomllib.loads(text, parse_float=Decimal).items()
+        )
+
+
+def test_the_form_of_the_schedule_adds_its_sections(path, client):
+    page = page_of(client).partition('<details class="run" id="schedule"')[2]
+    form = form_in(page)
+    assert form["value:pushbacks.count"] == "" and "value:economics.royalty" not in form
+    numbers = {"value:pushbacks.count": "2", "value:schedule.bench_lag": "1"}
+    answer = client.post("/project/values", data=form | numbers, headers=OWN)
+    assert answer.headers["location"].endswith("&saved=schedule#schedule")
+    assert path.read_text() == TEXT + "\n[pushbacks]\ncount = 2\n\n[schedule]\nbench_lag = 1\n"
+    assert '<details class="run" id="schedule" open>' in client.get(answer.headers["location"]).text
 
 
 def test_a_number_is_refused_with_its_label():

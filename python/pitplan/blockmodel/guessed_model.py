@@ -3,7 +3,8 @@
 from __future__ import annotations
 
 import codecs
-from dataclasses import dataclass
+from collections.abc import Mapping
+from dataclasses import dataclass, field
 from pathlib import Path
 from typing import Optional
 
@@ -17,9 +18,10 @@ from pitplan.core.text_format import UNREADABLE, TableFormat, demand_text, opene
 from pitplan.errors import PlanError
 
 from .column_guesses import Columns, Guess, columns_of, hints_of
+from .column_roles import Role, with_roles
 from .model_files import is_model
 from .null_guesses import NullGuess, without_nulls
-from .reader import read_whole
+from .reader import filled_numbers, read_whole
 from .rotated_grid import Places, azimuth_of, of_centres
 
 SEEN = 1 << 20
@@ -75,24 +77,71 @@ class Model:
         return [metal.column for metal in self.columns.metals]
 
 
-def read(file: Path) -> Model:
-    """Reads a table. Raises PlanError if it is no text or no table."""
+@dataclass(frozen=True)
+class Rows:
+    """A table as it was read, and the same without nulls, which is kept by the columns that have none.
+
+    Attributes
+    ----------
+    file : Path
+    form : TableFormat
+    frame : DataFrame
+        Numbers as numbers, everything else as text.
+    cleaned : dict
+        By the columns that have no nulls the table without nulls, and what was guessed of these.
+    """
+
+    file: Path
+    form: TableFormat
+    frame: pd.DataFrame
+    cleaned: dict[frozenset[str], tuple[pd.DataFrame, dict[str, NullGuess]]] = field(default_factory=dict)
+
+    def without_nulls_but(self, fixed: frozenset[str]) -> tuple[pd.DataFrame, dict[str, NullGuess]]:
+        """Returns the table without nulls in all columns except some, and what was guessed of the nulls."""
+        if fixed not in self.cleaned:
+            layout = self.form.layout
+            assert layout is not None
+            clean, nulls = without_nulls(self.frame, [name for name in self.frame if name not in fixed], layout)
+            self.cleaned[fixed] = numbers_where_all_are(clean), nulls
+        return self.cleaned[fixed]
+
+
+def read(file: Path, roles: Optional[Mapping[str, Role]] = None) -> Model:
+    """Reads a table. Raises PlanError if it is no text or no table, or if a column cannot have the role that is given."""
+    return model_of(rows_of(file), roles)
+
+
+def rows_of(file: Path) -> Rows:
+    """Reads the rows of a table. Raises PlanError if it is no text or no table."""
     if is_parquet(file):
         demand_text(file, "pitplan init")
     if not is_model(file):
         demand_no_binary(file)
     frame, form = read_whole(file)
-    rough = columns_of(numbers_where_all_are(frame))
-    fixed = {guess.column for group in (rough.centres, rough.sizes) for guess in group.values()}
-    layout = form.layout
-    assert layout is not None
-    clean, nulls = without_nulls(numbers_where_all_are(frame), [name for name in frame if name not in fixed], layout)
-    clean = numbers_where_all_are(clean)
-    columns = columns_of(clean, hints_of(list(clean.columns), layout.below()))
+    return Rows(file, form, numbers_where_all_are(frame))
+
+
+def model_of(rows: Rows, roles: Optional[Mapping[str, Role]] = None) -> Model:
+    """Returns the guessed columns of a table, some with the roles that are given. Raises PlanError if a column cannot have its role."""
+    roles = roles or {}
+    rough = with_roles(columns_of(rows.frame), roles, rows.frame)
+    fixed = frozenset(guess.column for group in (rough.centres, rough.sizes) for guess in group.values())
+    clean, nulls = rows.without_nulls_but(fixed)
+    assert rows.form.layout is not None
+    hints = hints_of(list(clean.columns), rows.form.layout.below())
+    columns = with_roles(columns_of(clean, hints), roles, clean)
+    demand_roles(rows, clean, roles)
     nulls = {name: guess for name, guess in nulls.items() if name not in identities(columns)}
     needed = [columns.named[key].column for key in NEEDED if key in columns.named]
     kept = clean[needed].notna().all(axis=1) if needed else pd.Series(True, index=clean.index)
-    return Model(file, form, clean[kept].reset_index(drop=True), columns, nulls, len(frame))
+    return Model(rows.file, rows.form, clean[kept].reset_index(drop=True), columns, nulls, len(rows.frame))
+
+
+def demand_roles(rows: Rows, frame: pd.DataFrame, roles: Mapping[str, Role]) -> None:
+    """Raises PlanError, with the row, if a column has text and its role needs numbers."""
+    source = Source.of(str(rows.file), (rows.form.header_row, rows.form.first_row))
+    for name in [name for name, role in roles.items() if role.needs_numbers and holds_texts(frame[name])]:
+        filled_numbers(frame[name], source, name, may_fill=False)
 
 
 def identities(columns: Columns) -> set[str]:

@@ -9,10 +9,12 @@ from typing import Any, Optional
 import numpy as np
 
 from pitplan.config.economics import GRADE_SIGNS
+from pitplan.core.atomic_files import hash_of
 from pitplan.core.numeric_fields import is_numeric
 from pitplan.core.table_layout import NAMES
 from pitplan.errors import WARNING
 
+from .column_roles import SIZES, UNUSED, Role
 from .guessed_model import (
     NEEDED,
     Model,
@@ -54,11 +56,19 @@ class Overview:
         The fields of each column, in the order of HEADINGS.
     warnings : list of str
         Each begins with WARNING.
+    roles : list of str
+        The role of each column, as `--role` has it.
     """
 
     notes: list[str]
     columns: list[tuple[str, ...]]
     warnings: list[str]
+    roles: list[str]
+
+    @property
+    def records(self) -> list[dict[str, str]]:
+        """The fields of each column by their headings, and as `set` its role as `--role` has it."""
+        return [dict(zip(HEADINGS, fields)) | {"set": role} for fields, role in zip(self.columns, self.roles)]
 
     @property
     def lines(self) -> list[str]:
@@ -86,9 +96,10 @@ class Written:
         said = self.overview
         return {
             "path": str(self.project),
+            "sha256": hash_of(self.project),
             "figure": str(self.figure) if self.figure else None,
             "notes": said.notes,
-            "columns": [dict(zip(HEADINGS, fields)) for fields in said.columns],
+            "columns": said.records,
             "warnings": [warning.removeprefix(WARNING) for warning in said.warnings],
         }
 
@@ -106,7 +117,8 @@ def overview(model: Model) -> Overview:
     said += [doubt for grade in grades for doubt in grade.doubts] + warnings_of(model, tonnes)
     warnings = [line for line in said if line.startswith(WARNING)]
     columns = [row_of(model, str(name)) for name in model.frame.columns]
-    return Overview([line for line in said if line not in warnings], columns, warnings)
+    roles = [key_of(model, str(name)) for name in model.frame.columns]
+    return Overview([line for line in said if line not in warnings], columns, warnings, roles)
 
 
 def axes_of(model: Model) -> list[str]:
@@ -208,6 +220,16 @@ def role_of(model: Model, name: str) -> tuple[str, str, str]:
             unit = UNITS.get(key, share_of(model)[1] if key == "rock_percent" else "")
             return ROLES.get(key, key), "%" if unit == "percent" else unit, guess.why
     return "not used", "", ""
+
+
+def key_of(model: Model, name: str) -> str:
+    """Returns the role of a column as `--role` has it."""
+    columns = model.columns
+    keys = {guess.column: axis for axis, guess in columns.centres.items()}
+    keys |= {columns.sizes[axis].column: key for key, axis in SIZES.items() if axis in columns.sizes}
+    keys |= {metal.column: Role(metal.metal, metal.unit).text for metal in columns.metals}
+    named = {guess.column: key for key, guess in columns.named.items()}
+    return UNUSED if name in unused(model) else keys.get(name, named.get(name, UNUSED))
 
 
 def unused(model: Model) -> list[str]:

@@ -4,7 +4,8 @@ from __future__ import annotations
 
 import json
 import os
-from collections.abc import Callable
+from collections.abc import Callable, Mapping
+from dataclasses import dataclass, field
 from pathlib import Path
 from typing import Optional
 
@@ -16,8 +17,9 @@ from pitplan.core.layout import figure_of_model
 from pitplan.errors import PlanError
 
 from .column_guesses import PRECIOUS, MetalGuess
+from .column_roles import Role
 from .guessed_model import Model, has_several_sizes, read, share_of, size_of, tonnes_of
-from .model_overview import Written, overview
+from .model_overview import Overview, Written, overview
 from .plausibility import USUAL_PRICES
 from .reader import filled_numbers
 
@@ -34,31 +36,53 @@ UNITS = {"density": ", in t/m3", "volume": ", in m3"}
 Draw = Callable[[Model, Path], None]
 
 
+@dataclass(frozen=True)
+class Choices:
+    """What a planner chooses for a new project.
+
+    Attributes
+    ----------
+    roles : dict of str to Role
+        By column, in place of the guess.
+    replaces : bool
+        Whether an existing project is replaced.
+    """
+
+    roles: Mapping[str, Role] = field(default_factory=dict)
+    replaces: bool = False
+
+
 def write(file: Path, out: Path, draw: Optional[Draw] = None) -> list[str]:
     """Writes a project as `write_project` does, and returns the lines that `pitplan init` prints."""
     return write_project(file, out, draw).lines
 
 
-def write_project(file: Path, out: Path, draw: Optional[Draw] = None) -> Written:
+def write_project(file: Path, out: Path, draw: Optional[Draw] = None, choices: Choices = Choices()) -> Written:
     """Writes a project for a table, and a figure of the block model if `draw` is given, which writes it to a path.
 
     Returns the overview of the block model, with warnings about what is doubtful in it. Raises PlanError if the table cannot be read, if no
-    columns of centroids, tonnes or grades are found, and if `out` exists.
+    columns of centroids, tonnes or grades are found, if a column cannot have the role that is chosen, and if `out` exists, unless it is replaced.
     """
-    if out.exists():
-        raise PlanError(f"{out}: already exists: name another file with --out")
-    model = read(file)
-    demand_enough(model)
-    demand_numbers(model, [guess.column for guess in model.columns.centres.values()])
-    found = overview(model)
+    if out.exists() and not choices.replaces:
+        raise PlanError(f"{out}: already exists: name another file with --out, or replace it with --replace")
+    model = read(file, choices.roles)
+    text, found = project_of(model, out)
     with staged_file(out) as place:
-        place.write_text(text_of(model, out), encoding="utf-8")
+        place.write_text(text, encoding="utf-8")
     if draw is None:
         return Written(found, out)
     figure = figure_of_model(out)
     with staged_file(figure) as place:
         draw(model, place)
     return Written(found, out, figure)
+
+
+def project_of(model: Model, out: Path) -> tuple[str, Overview]:
+    """Returns the text of a project in the place `out`, and the overview of its block model. Raises PlanError if columns are missing."""
+    demand_enough(model)
+    demand_numbers(model, [guess.column for guess in model.columns.centres.values()])
+    found = overview(model)
+    return text_of(model, out), found
 
 
 def demand_enough(model: Model) -> None:

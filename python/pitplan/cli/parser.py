@@ -118,12 +118,20 @@ def parser() -> Parser:
 
 
 def add_serve(subs: Subparsers) -> None:
-    more = "Only this machine reaches it, by the address with the token that is printed. Jobs go on after Ctrl-C."
+    more = "Only this machine reaches it, by the address with the token that is printed, unless you name it for a team. Jobs go on after Ctrl-C."
     does = "show and run the projects of a folder in the browser"
     sub = subs.add("serve", does, subcommands.serve, more)
     sub.add_argument("folder", nargs="?", type=Path, default=Path("."), help="folder with projects (default: this one)")
     sub.add_argument("--port", type=port_of, default=0, metavar="N", help="port, 0 to 65535 (default: 0, any free one)")
     sub.add_argument("--no-browser", action="store_true", help="print the address only")
+    text = "let a team reach this machine by this name or address, over TLS; requires a password file, a certificate and its key"
+    sub.add_argument("--host", metavar="NAME", help=text)
+    text = "file with the hash of the team's password"
+    sub.add_argument("--password-file", type=Path, metavar="FILE", help=text)
+    sub.add_argument("--certificate", type=Path, metavar="FILE", help="TLS certificate of the host (PEM)")
+    sub.add_argument("--key", type=Path, metavar="FILE", help="key of the certificate (PEM)")
+    text = "ask for a password, write its hash to this file, and exit"
+    sub.add_argument("--new-password", type=Path, metavar="FILE", help=text)
 
 
 def add_init(subs: Subparsers) -> None:
@@ -133,6 +141,9 @@ def add_init(subs: Subparsers) -> None:
     sub.add_argument("table", type=Path, metavar="TABLE", help=text)
     text = "write the project to this file (default: project.toml next to the table)"
     sub.add_argument("--out", type=Path, metavar="FILE", help=text)
+    text = "give a column a role in place of the guess (repeatable): unused, tonnes, domain, copper:percent .."
+    sub.add_argument("--role", action="append", default=[], metavar="COLUMN=ROLE", help=text)
+    sub.add_argument("--replace", action="store_true", help="replace the project if it exists")
     text = "draw histograms of grades and density, a plan and a section, next to the project"
     sub.add_argument("--figures", action="store_true", help=text)
     text = "print the columns, notes and warnings as JSON, with the paths of the project and the figure"

@@ -6,7 +6,7 @@ Each imports its command itself, so that a subcommand loads only the libraries t
 from __future__ import annotations
 
 from argparse import Namespace
-from typing import TYPE_CHECKING
+from typing import TYPE_CHECKING, Optional
 
 from minelib.ending import tell
 from pitplan.core.progress import Progress, on_standard_error, silent
@@ -19,6 +19,7 @@ if TYPE_CHECKING:
     from pitplan.studies.scenarios.result import ScenarioResult
 
     from ..commands.writing import Writing
+    from ..web.server import Team
 
 
 def progress_of(options: Namespace) -> Progress:
@@ -54,11 +55,13 @@ def init(options: Namespace) -> int:
     import json
 
     from pitplan.blockmodel import wizard
+    from pitplan.blockmodel.column_roles import roles_of_words
 
     from .printing import print_notes
 
     project_file = options.out or options.table.parent / "project.toml"
-    written = wizard.write_project(options.table, project_file, draw_block_model if options.figures else None)
+    choices = wizard.Choices(roles_of_words(options.role), options.replace)
+    written = wizard.write_project(options.table, project_file, draw_block_model if options.figures else None, choices)
     print_notes(written.lines)
     print(json.dumps(written.as_json, indent=2, ensure_ascii=False) if options.json else project_file)
     return 0
@@ -276,10 +279,55 @@ def verify(options: Namespace) -> int:
 
 def serve(options: Namespace) -> int:
     from .. import __version__
+    from ..web import passwords
     from ..web.server import Settings, serve
 
-    serve(Settings(options.folder, options.port, not options.no_browser, __version__))
+    if options.new_password:
+        passwords.write(options.new_password, asked_password())
+        print(options.new_password)
+        return 0
+    serve(Settings(options.folder, options.port, not options.no_browser, __version__, team_of(options)))
     return 0
+
+
+def team_of(options: Namespace) -> Optional[Team]:
+    """The team that may reach the server; None if only this machine may. Raises PlanError if an option is missing."""
+    from pitplan.errors import PlanError
+
+    from ..web import passwords
+    from ..web.server import Team
+
+    needed = {
+        "--password-file": options.password_file,
+        "--certificate": options.certificate,
+        "--key": options.key,
+    }
+    missing = [name for name, value in needed.items() if value is None]
+    if options.host is None:
+        if len(missing) < len(needed):
+            given = next(name for name in needed if name not in missing)
+            raise PlanError(f"{given}: requires --host, the name of this machine for the browsers of the team")
+        return None
+    if missing:
+        raise PlanError(
+            f"--host {options.host}: requires {', '.join(missing)} too: the network carries a password and your plans"
+        )
+    return Team(options.host, passwords.read(options.password_file), options.certificate, options.key)
+
+
+def asked_password() -> str:
+    """A password, from the terminal twice, otherwise a line of standard input. Raises PlanError if the two differ."""
+    import getpass
+    import sys
+
+    from pitplan.errors import PlanError
+
+    if not sys.stdin.isatty():
+        return sys.stdin.readline().rstrip("\n")
+    found = getpass.getpass("Password of the team: ")
+    if getpass.getpass("The same again: ") != found:
+        raise PlanError("--new-password: the two passwords differ: enter the same twice")
+    return found
 
 
 def completion(options: Namespace) -> int:

@@ -86,19 +86,13 @@ class EditPages:
         after = values_form.typed(before, form)
         try:
             text = values_form.changed(editor.text, before, after)
-            project_text.save(path, name, self.demanded(Editor(text, form.get("seen", "")), path, name))
+            project_text.save(path, name, project_text.demanded(Editor(text, form.get("seen", "")), path, name))
         except PlanError as error:
-            values = Values(after, wrong=str(error))
+            values = Values(after, wrong=str(error), form=form.get("form", "values"))
             status = 409 if isinstance(error, Changed) else 422
             return self.pages.project_page(name, replace(editor, seen=form.get("seen", "")), status, values)
-        return RedirectResponse(f"/project?name={quote(name)}&saved=values#values", status_code=303)
-
-    def demanded(self, editor: Editor, path: Path, name: str) -> Editor:
-        """Returns an editor whose text is a project. Raises PlanError otherwise."""
-        found = project_text.judged(editor, path, name)
-        if found.wrong:
-            raise PlanError(found.wrong)
-        return found
+        shown = "schedule" if form.get("form") == "schedule" else "values"
+        return RedirectResponse(f"/project?name={quote(name)}&saved={shown}#{shown}", status_code=303)
 
     async def editor_of(self, request: Request) -> tuple[str, Editor]:
         """Returns the name of the project of a form, and its text."""

@@ -3,39 +3,20 @@
 from __future__ import annotations
 
 import json
-from dataclasses import dataclass
 from typing import Any
 
 from starlette.requests import ClientDisconnect, Request
-from starlette.responses import JSONResponse, PlainTextResponse, Response
+from starlette.responses import JSONResponse, Response
 from starlette.routing import Route
 
 from pitplan.errors import PlanError
 
-from . import uploads
+from . import import_roles, uploads
+from .import_roles import Recognised, RolePages, in_words
 from .jobs import DONE, IMPORT, Job
-from .pages import Answer, Pages, number_of
+from .pages import Pages, number_of
 from .run_form import WrongForm, plain
 from .workspace import NotThere
-
-
-@dataclass(frozen=True)
-class Recognised:
-    """What `pitplan init` found in a block model.
-
-    Attributes
-    ----------
-    notes, warnings : list of str
-    columns : list of dict
-        Column, role, unit, nulls, least, mean, greatest and why, as texts.
-    figure : str
-        The path of the figure from the folder that is served; empty without one.
-    """
-
-    notes: list[str]
-    warnings: list[str]
-    columns: list[dict[str, str]]
-    figure: str
 
 
 class ImportPages:
@@ -58,6 +39,7 @@ class ImportPages:
             Route("/import/check", in_words(self.check)),
             Route("/import/file", in_words(self.file), methods=["PUT"]),
             Route("/imported", self.pages.answering(self.imported)),
+            *RolePages(self.pages, self.recognised).routes,
         ]
 
     async def form(self, request: Request) -> Response:
@@ -80,13 +62,18 @@ class ImportPages:
         """Takes a file, and starts the job that recognises it."""
         upload = self.upload_of(request)
         uploads.demand_size(size_of(request.headers.get("content-length", "0")))
+        parts = request.stream()
         try:
-            await uploads.receive(request.stream(), self.workspace, upload)
+            await uploads.receive(parts, self.workspace, upload)
         except ClientDisconnect as error:
             raise WrongForm(f"Block model: {upload.file}: was cut off: import it again") from error
+        except PlanError:
+            # A browser that still sends the file shows no answer.
+            await uploads.drain(parts)
+            raise
         table, project = (self.workspace.name(path) for path in (upload.path, upload.project))
         words = (IMPORT, plain(table), f"--out={project}", "--figures", "--json")
-        job = self.jobs.ask(words, project, upload.folder)
+        job = self.jobs.ask(words, project, upload.folder, removes=table)
         return JSONResponse({"next": f"/job?number={job.number}"}, status_code=201)
 
     def upload_of(self, request: Request) -> uploads.Upload:
@@ -101,6 +88,7 @@ class ImportPages:
             title=f"Block model of {job.folder}",
             job=job,
             found=self.recognised(job),
+            groups=import_roles.GROUPS,
         )
 
     def recognised(self, job: Job) -> Recognised:
@@ -109,7 +97,8 @@ class ImportPages:
             raise NotThere(f"job {job.number}: is not a successful import")
         try:
             said: dict[str, Any] = json.loads(self.jobs.answer(job.number))
-            return Recognised(said["notes"], said["warnings"], said["columns"], said["figure"] or "")
+            parts = said["notes"], said["warnings"], said["columns"], said["figure"] or "", said["sha256"]
+            return Recognised(*parts)
         except (ValueError, KeyError, TypeError) as error:
             raise NotThere(f"job {job.number}: its answer cannot be read: open its project") from error
 
@@ -119,17 +108,3 @@ def size_of(text: str) -> int:
     if not (text.isascii() and text.isdigit() and len(text) < 20):
         raise WrongForm(f"Block model: found a size of {text[:20]!r}, expected a number of bytes")
     return int(text)
-
-
-def in_words(answer: Answer) -> Answer:
-    """Returns the answer with words in place of an error of the planner's, which a script shows."""
-
-    async def answered(request: Request) -> Response:
-        try:
-            return await answer(request)
-        except WrongForm as error:
-            return PlainTextResponse(str(error), status_code=422)
-        except PlanError as error:
-            return PlainTextResponse(str(error), status_code=400)
-
-    return answered

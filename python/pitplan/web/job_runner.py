@@ -7,6 +7,7 @@ import os
 import signal
 import subprocess
 import sys
+from contextlib import suppress
 from pathlib import Path
 from types import FrameType
 from typing import Any, Optional
@@ -64,12 +65,12 @@ class Runner:
         """Runs the command to its end, unless another runner does."""
         if not self.claim():
             return
-        words = json.loads((self.folder / JOB).read_text(encoding="utf-8"))["words"]
+        job = json.loads((self.folder / JOB).read_text(encoding="utf-8"))
         signal.signal(signal.SIGTERM, self.cancel)
         self.write(status=RUNNING, started=now())
         with open(self.folder / LOG, "wb") as log, open(self.folder / ANSWER, "wb") as answer:
             self.child = subprocess.Popen(
-                [sys.executable, "-P", "-m", "pitplan", *words],
+                [sys.executable, "-P", "-m", "pitplan", *job["words"]],
                 cwd=self.root,
                 stdin=subprocess.DEVNULL,
                 stdout=answer,
@@ -79,8 +80,16 @@ class Runner:
             if (self.folder / CANCEL).exists():
                 self.cancel(signal.SIGTERM, None)
             code = self.child.wait()
+        if code != 0 and job.get("removes"):
+            self.remove(self.root / job["removes"])
         is_cancelled = (self.folder / CANCEL).exists() and code != 0
         self.write(status=CANCELLED if is_cancelled else DONE if code == 0 else FAILED, ended=now(), code=code)
+
+    def remove(self, file: Path) -> None:
+        """Removes a file, and its folder if that is empty then."""
+        with suppress(OSError):
+            file.unlink()
+            file.parent.rmdir()
 
 
 if __name__ == "__main__":

@@ -54,6 +54,8 @@ class Job:
         The name of its output folder; empty if it has none.
     asked : str
         When, in ISO format.
+    removes : str
+        The name of the file that is removed unless the job succeeds, and its folder if that is empty then; empty without one.
     status : str
         WAITING, RUNNING, or how it ended.
     started, ended : str
@@ -67,6 +69,7 @@ class Job:
     project: str
     folder: str
     asked: str
+    removes: str = ""
     status: str = WAITING
     started: str = ""
     ended: str = ""
@@ -97,7 +100,7 @@ class Jobs:
         self.root, self.folder = root, root / FOLDER
         self.runners: list[subprocess.Popen[bytes]] = []
 
-    def ask(self, words: tuple[str, ...], project: str, folder: str) -> Job:
+    def ask(self, words: tuple[str, ...], project: str, folder: str, removes: str = "") -> Job:
         """Adds a job to the queue and returns it; one that imports begins without waiting."""
         self.folder.mkdir(parents=True, exist_ok=True)
         number = 1 + max((job.number for job in self.all()), default=0)
@@ -107,7 +110,7 @@ class Jobs:
                 break
             except FileExistsError:
                 number += 1
-        job = Job(number, words, project, folder, now())
+        job = Job(number, words, project, folder, now(), removes)
         write_json(self.of(number) / JOB, asdict(job))
         if words[0] == IMPORT:
             # No import waits for the run of another mine.

@@ -6,7 +6,7 @@ import asyncio
 import json
 import shlex
 from collections.abc import AsyncIterator, Awaitable, Callable
-from dataclasses import asdict
+from dataclasses import asdict, replace
 from pathlib import Path
 from typing import Any, Optional
 from urllib.parse import parse_qsl, quote
@@ -17,9 +17,11 @@ from starlette.responses import FileResponse, HTMLResponse, RedirectResponse, Re
 from starlette.routing import Route
 
 from pitplan.core import layout, paths
+from pitplan.core.atomic_files import hash_of
 from pitplan.errors import PlanError
 
-from . import project_text, results_page, run_form
+from . import output_words, project_text, results_page, run_form
+from .grids import Grid
 from .jobs import DONE, IMPORT, Job, Jobs, steps_of
 from .project_text import Editor
 from .run_form import COMMANDS, OPTIONS, WrongForm
@@ -29,7 +31,9 @@ from .workspace import RECORDS, NotThere, Workspace
 
 TEMPLATES = paths.PACKAGE / "templates" / "web"
 SCRIPT = "text/javascript; charset=utf-8"
-STATIC = {"app.css": "text/css; charset=utf-8", "app.js": SCRIPT, "import.js": SCRIPT}
+STATIC = {"app.css": "text/css; charset=utf-8"} | {
+    name: SCRIPT for name in ("app.js", "import.js", "roles.js", "grid.js", "blocks.js", "areas.js", "chart.js")
+}
 # What a browser shows of the files of results; all others are downloaded.
 SHOWN = {
     ".png": "image/png",
@@ -125,8 +129,9 @@ class Pages:
         name = request.query_params.get("name", "")
         path, saved = self.project_path(name), request.query_params.get("saved")
         editor = project_text.opened(path, name, "Saved." if saved == "text" else "")
-        values = Values(project_text.fields_in(path, name), said="Saved." if saved == "values" else "")
-        return self.project_page(name, editor, values=values)
+        values = Values(project_text.fields_in(path, name), said=saved if saved in ("values", "schedule") else "")
+        grid = project_text.grids_in(path, name).get(saved or "")
+        return self.project_page(name, editor, values=values, grid=replace(grid, said="Saved.") if grid else None)
 
     def project_path(self, name: str) -> Path:
         """Returns the path of a project. Raises NotThere if it does not exist."""
@@ -135,8 +140,15 @@ class Pages:
             raise NotThere(f"{name}: is no project: it has no section [table]")
         return path
 
-    def project_page(self, name: str, editor: Editor, status: int = 200, values: Optional[Values] = None) -> Response:
-        """Returns the page of a project with a text in its editor, and with the numbers of the file or others in the form."""
+    def project_page(
+        self,
+        name: str,
+        editor: Editor,
+        status: int = 200,
+        values: Optional[Values] = None,
+        grid: Optional[Grid] = None,
+    ) -> Response:
+        """Returns the page of a project with a text in its editor, and with the numbers and the grids of the file, or others in their place."""
         path = self.workspace.place(name)
         found = self.workspace.project_in(path)
         folders = {
@@ -151,6 +163,7 @@ class Pages:
             project=found[0],
             editor=editor,
             values=values or Values(project_text.fields_in(path, name)),
+            grids=(project_text.grids_in(path, name) | ({grid.kind.name: grid} if grid else {})),
             figure=self.figure_of(path),
             commands=list(COMMANDS.values()),
             options=OPTIONS,
@@ -180,6 +193,8 @@ class Pages:
             title=f"{found.kind}: {found.name}",
             result=found,
             page=results_page.page_of(folder, self.workspace),
+            seen=hash_of(self.workspace.place(found.project)) if found.project else "",
+            formats=output_words.WORDS,
         )
 
     async def table(self, request: Request) -> Response:

@@ -2,6 +2,10 @@
 
 from __future__ import annotations
 
+import fcntl
+import os
+from collections.abc import Iterator
+from contextlib import contextmanager, suppress
 from dataclasses import dataclass
 from pathlib import Path
 from typing import Optional
@@ -11,6 +15,7 @@ from pitplan.config.project import Project, of_data
 from pitplan.core.atomic_files import hash_of, staged_file
 from pitplan.errors import PlanError
 
+from .grids import Grid, grids_of
 from .toml_lines import line_of_error
 from .values_form import Field, fields_of
 
@@ -88,9 +93,50 @@ def fields_in(path: Path, name: str) -> list[Field]:
     return [] if editor.wrong else fields_of(editor.text, demand_project(editor.text, path, name))
 
 
+def grids_in(path: Path, name: str) -> dict[str, Grid]:
+    """Returns the grids of a project's file; none if it has an error."""
+    editor = opened(path, name)
+    return {} if editor.wrong else grids_of(editor.text, demand_project(editor.text, path, name))
+
+
 def sent(text: str) -> str:
     """Returns a text as it was typed: browsers send each end of a line as two letters."""
     return text.replace("\r\n", "\n")
+
+
+def demanded(editor: Editor, path: Path, name: str) -> Editor:
+    """Returns an editor whose text is a project. Raises PlanError otherwise."""
+    found = judged(editor, path, name)
+    if found.wrong:
+        raise PlanError(found.wrong)
+    return found
+
+
+def demand_seen(path: Path, name: str, seen: str) -> None:
+    """Raises Changed if a file is not the one that the page showed, and PlanError if it cannot be read."""
+    try:
+        found = hash_of(path)
+    except OSError as error:
+        raise PlanError(f"{name}: cannot be read: {error.strerror}") from error
+    if found != seen:
+        raise Changed(
+            f"{name}: has changed since this page was opened: copy your text, open the project again, and enter your changes there"
+        )
+
+
+@contextmanager
+def locked(folder: Path) -> Iterator[None]:
+    """Keeps other pages and servers from saving into a folder, if its file system has locks. Raises PlanError if it cannot be read."""
+    try:
+        descriptor = os.open(folder, os.O_RDONLY | os.O_DIRECTORY | os.O_CLOEXEC)
+    except OSError as error:
+        raise PlanError(f"{folder.name}: cannot be read: {error.strerror}") from error
+    try:
+        with suppress(OSError):
+            fcntl.flock(descriptor, fcntl.LOCK_EX)
+        yield
+    finally:
+        os.close(descriptor)
 
 
 def save(path: Path, name: str, editor: Editor) -> None:
@@ -103,16 +149,12 @@ def save(path: Path, name: str, editor: Editor) -> None:
     PlanError
         If it cannot be written.
     """
-    try:
-        data = path.read_bytes()
-    except OSError as error:
-        raise PlanError(f"{name}: cannot be read: {error.strerror}") from error
-    if hash_of(path) != editor.seen:
-        raise Changed(
-            f"{name}: has changed since this page was opened: copy your text, open the project again, and enter your changes there"
-        )
-    text = editor.text.replace("\n", "\r\n") if b"\r\n" in data else editor.text
-    mode = path.stat().st_mode & 0o777
-    with staged_file(path) as place:
-        place.write_bytes(text.encode("utf-8"))
-        place.chmod(mode)
+    with locked(path.parent):
+        demand_seen(path, name, editor.seen)
+        text = editor.text.replace("\n", "\r\n") if b"\r\n" in path.read_bytes() else editor.text
+        mode = path.stat().st_mode & 0o777
+        with staged_file(path) as place:
+            place.write_bytes(text.encode("utf-8"))
+            place.chmod(mode)
+            # A program that takes no lock may have written meanwhile.
+            demand_seen(path, name, editor.seen)

@@ -14,8 +14,10 @@ from pitplan.config import project_writer
 from pitplan.config.project import load
 from pitplan.core import layout
 from pitplan.errors import PlanError
+from pitplan.results.names import TABLE
 from pitplan.results.sheet_heads import heads_of
 
+from .charts import Chart, charts_of
 from .workspace import RECORDS, Workspace
 
 # The most rows of a table on a page; a longer one is downloaded.
@@ -91,6 +93,11 @@ class Page:
         How many rules of the verification hold; None of results that have no rules of their own, such as a comparison.
     figures, tables, pages, files : list of str
         Names from the folder that is served: pictures; tables; report and 3D view; all files.
+    has_blocks : bool
+        Whether there are shells, whose blocks can be drawn.
+    charts : list of Chart
+    stages : list of str
+        What an export may be of: revenue_factor, and pushback or year if the results have them.
     """
 
     notes: list[str]
@@ -99,6 +106,14 @@ class Page:
     tables: list[str]
     pages: list[str]
     files: list[str]
+    has_blocks: bool
+    charts: list[Chart]
+    stages: list[str]
+
+    @property
+    def view(self) -> str:
+        """The name of the 3D view; empty without one."""
+        return next((name for name in self.pages if name.endswith("/view.html")), "")
 
 
 def page_of(folder: Path, workspace: Workspace) -> Page:
@@ -123,7 +138,18 @@ def page_of(folder: Path, workspace: Workspace) -> Page:
         [name for _, name in tables],
         pages,
         [name for _, name in named],
+        "shells" in record and (folder / TABLE).is_file(),
+        charts_in(folder, record),
+        ["revenue_factor", *(key for key, name in (("pushback", "pushbacks"), ("year", "schedule")) if name in record)],
     )
+
+
+def charts_in(folder: Path, record: dict[str, Any]) -> list[Chart]:
+    """Returns the charts of a plan; none if its project cannot be read."""
+    try:
+        return charts_of(folder, record, load(folder / project_writer.AS_RUN))
+    except PlanError:
+        return []
 
 
 def record_of(folder: Path) -> dict[str, Any]:

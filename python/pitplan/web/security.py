@@ -1,4 +1,4 @@
-"""Who may use the application: the browser that was opened with the token, on this machine, from its own pages."""
+"""Who may use the application: the browser that was opened with the token, on this machine, or with the password of a team; from its own pages."""
 
 from __future__ import annotations
 
@@ -16,9 +16,12 @@ from starlette.types import ASGIApp, Message, Receive, Scope, Send
 # The page that takes the token of the address that pitplan prints.
 ENTER = "/enter"
 SAFE = ("GET", "HEAD")
+# The style of the page that asks for a password.
+STYLE = "/static/app.css"
+HTTPS = 443
 # No script or style of a page is its own text, so text of a project can never become one.
 POLICY = (
-    "default-src 'none'; script-src 'self'; style-src 'self'; img-src 'self' data:; connect-src 'self'; "
+    "default-src 'none'; script-src 'self'; style-src 'self'; img-src 'self' data:; connect-src 'self'; frame-src 'self'; "
     "form-action 'self'; frame-ancestors 'none'; base-uri 'none'"
 )
 # Reports and 3D views hold their scripts and figures. A page in a sandbox has no cookie and reaches no address.
@@ -43,15 +46,24 @@ class Access:
     ----------
     port : int
     token : str
-        Random; it opens the application, and is the browser's cookie then.
+        Random; it opens the application, and is the browser's cookie then. With a password only the cookie.
+    host : str
+        The name by which the browsers of a team reach it; empty: only this machine does.
+    password : str
+        The hash of the team's password; empty without a team.
     """
 
     port: int
     token: str = field(default_factory=lambda: secrets.token_urlsafe(32))
+    host: str = ""
+    password: str = ""
 
     @property
     def hosts(self) -> frozenset[str]:
         """The accepted values of the header Host; they exclude a name that an attacker points to this machine."""
+        if self.host:
+            name = f"[{self.host}]" if ":" in self.host else self.host.lower()
+            return frozenset([f"{name}:{self.port}", *([name] if self.port == HTTPS else [])])
         return frozenset(f"{name}:{self.port}" for name in ("127.0.0.1", "localhost"))
 
     @property
@@ -62,16 +74,21 @@ class Access:
     @property
     def address(self) -> str:
         """The address that opens the application."""
+        if self.host:
+            return f"https://{max(self.hosts, key=len)}{ENTER}"
         return f"http://127.0.0.1:{self.port}{ENTER}?token={self.token}"
 
     def refusal(self, request: Request) -> Optional[Response]:
         """Returns why a request is refused; None if it is not."""
         headers = request.headers
-        if headers.get("host", "") not in self.hosts:
-            return refused(421, "This server answers only to 127.0.0.1 and localhost.")
+        if headers.get("host", "").lower() not in self.hosts:
+            known = self.host or "127.0.0.1 and localhost"
+            return refused(421, f"This server answers only to {known}.")
         if request.method not in SAFE and not self.is_own(headers):
             return refused(403, "This request comes from another site.")
-        if request.url.path != ENTER and not self.is_known(request):
+        if request.url.path not in (ENTER, STYLE) and not self.is_known(request):
+            if self.host:
+                return RedirectResponse(ENTER, status_code=303)
             return refused(403, "Open the address that pitplan serve has printed: it holds the token of this server.")
         return None
 
@@ -81,7 +98,7 @@ class Access:
         if origin is None:
             return headers.get("sec-fetch-site") == "same-origin"
         parts = urlsplit(origin)
-        return parts.scheme == "http" and parts.netloc == headers.get("host")
+        return parts.scheme == ("https" if self.host else "http") and parts.netloc == headers.get("host")
 
     def is_known(self, request: Request) -> bool:
         """Returns whether the browser has the cookie."""
@@ -94,8 +111,12 @@ class Access:
         """Sets the cookie of a browser that has the token, and shows the first page."""
         if not self.matches(request.query_params.get("token", "")):
             return refused(403, "This token is not that of this server: open the address that it has printed.")
+        return self.entered()
+
+    def entered(self) -> Response:
+        """Sets the cookie, and shows the first page."""
         response = RedirectResponse("/", status_code=303)
-        response.set_cookie(self.cookie, self.token, httponly=True, samesite="strict", path="/")
+        response.set_cookie(self.cookie, self.token, httponly=True, samesite="strict", path="/", secure=bool(self.host))
         return response
 
 

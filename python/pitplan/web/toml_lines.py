@@ -3,6 +3,7 @@
 from __future__ import annotations
 
 import re
+from collections.abc import Iterator
 from dataclasses import dataclass
 from typing import Optional
 
@@ -17,6 +18,10 @@ TOKEN = re.compile(
 # How errors name a line of a text that is no TOML, and a key of a section.
 AT_LINE = re.compile(r"\(at line (\d+)")
 OF_KEY = re.compile(r"\[(?P<section>[^\]\[]+)\](?: (?P<key>[\w-]+(?:\.[\w-]+)*):)?")
+
+# How they name an entry of a list, by its number or name, and a key that may be misspelled.
+OF_ENTRY = re.compile(r"\[\[(?P<list>[^\]\[]+)\]\] (?P<name>[\w-]+)(?: (?P<key>[\w-]+))?")
+MISSPELLED = re.compile(r"did you misspell it as ([\w-]+)\?")
 
 
 @dataclass(frozen=True)
@@ -105,12 +110,42 @@ def line_of(text: str, name: str) -> Optional[int]:
 
 
 def line_of_error(text: str, why: str) -> Optional[int]:
-    """Returns the line of a text that an error is about, if the error says it by its number or by section and key."""
+    """Returns the line of a text that an error is about, if the error says it by its number, or names a key, a section or an entry of a list."""
     at_line = AT_LINE.search(why)
     if at_line:
         return int(at_line[1])
-    of_key = OF_KEY.search(why)
-    if of_key:
-        return line_of(text, ".".join(filter(None, [of_key["section"], of_key["key"]])))
-    of_top = re.search(r": (\w+): ", why)
-    return line_of(text, of_top[1]) if of_top else None
+    found = (line_of(text, name) for name in names_in(text, why) if name)
+    return next((line for line in found if line), None)
+
+
+def names_in(text: str, why: str) -> Iterator[str]:
+    """Yields the keys and sections that an error names, the most exact first."""
+    of_key, of_entry = OF_KEY.search(why), OF_ENTRY.search(why)
+    section = of_key["section"] if of_key and not of_entry else ""
+    misspelled = MISSPELLED.search(why)
+    if misspelled:
+        yield ".".join(filter(None, [section, misspelled[1]]))
+    if of_entry:
+        entry = entry_called(text, of_entry["list"], of_entry["name"])
+        yield f"{entry}.{of_entry['key']}" if of_entry["key"] else entry
+    elif of_key:
+        called = entry_called(text, section, of_key["key"] or "")
+        yield called if called != section else ".".join(filter(None, [section, of_key["key"]]))
+    of_top = re.search(r": (\w+)(?: [\w ]+)?: ", why)
+    if of_top:
+        yield of_top[1]
+        yield next((it.name for it in entries(text) if it.name.endswith(f".{of_top[1]}")), "")
+    of_list = re.search(r"\[\[([^\]\[]+)\]\]", why)
+    if of_list:
+        yield of_list[1]
+
+
+def entry_called(text: str, header: str, name: str) -> str:
+    """Returns an entry of a list by its number or by its name; the list itself if it has none of them."""
+    if name.isdigit():
+        return f"{header} {name}"
+    for entry in entries(text):
+        of_list = re.fullmatch(re.escape(header) + r" \d+\.name", entry.name)
+        if of_list and text[entry.start : entry.end].strip("\"'") == name:
+            return entry.name.removesuffix(".name")
+    return header

@@ -9,6 +9,7 @@ from dataclasses import dataclass
 from pathlib import Path
 
 from starlette.concurrency import run_in_threadpool
+from starlette.requests import ClientDisconnect
 
 from pitplan.core import staging
 from pitplan.errors import PlanError
@@ -146,6 +147,16 @@ async def receive(parts: AsyncIterator[bytes], workspace: Workspace, upload: Upl
         raise PlanError(
             f"{upload.folder}/{upload.file}: cannot be written: {error.strerror or error}: free space, or check the permissions"
         ) from error
+
+
+async def drain(parts: AsyncIterator[bytes]) -> None:
+    """Reads what is still sent of a file that is refused, up to MOST_BYTES, since a browser shows the answer only after it has sent all."""
+    count = 0
+    with suppress(ClientDisconnect):
+        async for part in parts:
+            count += len(part)
+            if count > MOST_BYTES:
+                return
 
 
 async def write_parts(parts: AsyncIterator[bytes], path: Path) -> int:

@@ -11,6 +11,7 @@ from pitplan.config import toml_text
 from pitplan.config.project import Project
 
 from .run_form import WrongForm
+from .toml_edit import with_key, with_value, without_key
 from .toml_lines import Entry, entries
 
 # The fields of the form are named by the keys, after this.
@@ -34,7 +35,28 @@ KEYS = (
     (r"shells\.processing_capacity", "Processing capacity", "t of mill feed/year"),
     (r"shells\.mining_capacity", "Mining capacity", "t mined/year"),
     (r"slopes\.domains (?P<number>\d+)\.angle", "Slope angle{item}", "degrees, overall"),
+    (r"shells\.selected", "Selected shell", "revenue factor; empty: best NPV"),
+    (r"pushbacks\.count", "Number of pushbacks", "of even tonnage"),
+    (r"pushbacks\.ultimate_pit", "Ultimate pit", "revenue factor; empty: the selected shell"),
+    (r"pushbacks\.min_mining_width", "Minimum mining width", "m"),
+    (r"pushbacks\.min_bottom_width", "Minimum bottom width", "m"),
+    (r"schedule\.years", "Life of mine at most", "years"),
+    (r"schedule\.bench_lag", "Bench lag between pushbacks", "benches"),
+    (r"schedule\.vertical_advance_rate", "Vertical advance rate", "benches/year and pushback"),
+    (r"schedule\.bins", "Value bins of each process", "number"),
+    (r"cash_flow\.closure_cost", "Closure cost", "{currency}, in the last year"),
+    (r"cash_flow\.tax_rate", "Tax rate", "share of taxable income"),
 )
+# Keys that the form shows even if the project leaves them out: an empty field leaves a key out.
+OPTIONAL = (
+    *("economics.mining_cost_per_bench", "economics.royalty", "economics.fixed_cost_per_year"),
+    *("shells.mining_capacity", "shells.selected"),
+    *("pushbacks.count", "pushbacks.ultimate_pit", "pushbacks.min_mining_width", "pushbacks.min_bottom_width"),
+    *("schedule.years", "schedule.bench_lag", "schedule.vertical_advance_rate", "schedule.bins"),
+    *("cash_flow.closure_cost", "cash_flow.tax_rate"),
+)
+# How the keys begin that the form of pushbacks and schedule has.
+OF_SCHEDULE = ("shells.selected", "pushbacks.", "schedule.", "cash_flow.")
 
 
 @dataclass(frozen=True)
@@ -44,7 +66,7 @@ class Field:
     Attributes
     ----------
     entry : Entry
-        Where it lies in the text.
+        Where it lies in the text; its end is 0 if the text leaves it out.
     label, unit : str
     value : str
         As the form shows it.
@@ -59,30 +81,58 @@ class Field:
     def name(self) -> str:
         return PREFIX + self.entry.name
 
+    @property
+    def is_optional(self) -> bool:
+        return self.entry.name in OPTIONAL
+
+    @property
+    def is_of_schedule(self) -> bool:
+        """Whether the form of pushbacks and schedule has it."""
+        return self.entry.name.startswith(OF_SCHEDULE)
+
 
 @dataclass(frozen=True)
 class Values:
-    """What the form shows: its fields, what is wrong, and what was done."""
+    """What the forms show: their fields, what is wrong in which form, and the form that was saved."""
 
     fields: list[Field]
     wrong: str = ""
     said: str = ""
+    form: str = ""
+
+    @property
+    def forms(self) -> list[tuple[str, str, str, list[Field]]]:
+        """The name, title, description and fields of each form."""
+        economics = [it for it in self.fields if not it.is_of_schedule]
+        schedule = [it for it in self.fields if it.is_of_schedule]
+        return [
+            ("values", "Economics", "Prices, costs, recoveries, capacities and slope angles", economics),
+            ("schedule", "Pushbacks and schedule", "Pushbacks, mining widths, rates, closure and tax", schedule),
+        ]
 
 
 def fields_of(text: str, project: Project) -> list[Field]:
-    """Returns the keys of a project's text that the form changes: those whose value is one number, in the order of KEYS."""
+    """Returns the keys of a project's text that the form changes: those whose value is one number, and those that may be added."""
     data = toml_text.parsed(text, str(project.path))
     written = {entry.name: entry for entry in entries(text) if entry.end}
+    written |= {name: Entry(name, 0) for name in OPTIONAL if may_be_added(name, written, data)}
     found = []
     for pattern, label, unit in KEYS:
         for name, entry in written.items():
             match = re.fullmatch(pattern, name)
             value = text[entry.start : entry.end]
-            if match and IN_FILE.fullmatch(value):
+            if match and (not entry.end or IN_FILE.fullmatch(value)):
                 words = words_of(name, match.groupdict().get("number"), project, data)
                 shown = value.replace("_", "").removeprefix("+")
                 found.append(Field(entry, label.format(**words), unit.format(**words), shown))
     return found
+
+
+def may_be_added(name: str, written: Mapping[str, Entry], data: Mapping[str, Any]) -> bool:
+    """Returns whether a key is left out, and can be added: its section is none, or has a header of its own."""
+    section, key = name.split(".")
+    held = data.get(section, {})
+    return name not in written and isinstance(held, dict) and key not in held and section not in written
 
 
 def words_of(name: str, number: Optional[str], project: Project, data: Mapping[str, Any]) -> dict[str, str]:
@@ -117,20 +167,17 @@ def changed(text: str, before: list[Field], after: list[Field]) -> str:
     for old, new in pairs:
         if new.value == old.value:
             continue
+        section, key = old.entry.name.rsplit(".", 1)
+        if not new.value and old.is_optional:
+            text = without_key(text, section, (key,))
+            continue
         if not NUMBER.fullmatch(new.value) or len(new.value) > MOST_LETTERS:
             raise WrongForm(
-                f"{old.label}: found {new.value[:MOST_LETTERS]!r}, expected a number such as {old.value}: "
+                f"{old.label}: found {new.value[:MOST_LETTERS]!r}, expected a number such as {old.value or 1}: "
                 "write decimals with a point, and no separators of thousands"
             )
-        text = with_value(text, old.entry, new.value)
+        if old.entry.end:
+            text = with_value(text, old.entry.start, old.entry.end, new.value)
+        else:
+            text = with_key(text, section, (key,), new.value)
     return text
-
-
-def with_value(text: str, entry: Entry, value: str) -> str:
-    """Returns a text with another value of a key; the comment after it stays in its column if there is room."""
-    after = text[entry.end :]
-    rest = after.lstrip(" ")
-    if rest.startswith("#"):
-        blanks = len(after) - len(rest) - (len(value) - (entry.end - entry.start))
-        after = " " * max(blanks, 1) + rest
-    return text[: entry.start] + value + after

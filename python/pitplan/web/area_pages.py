@@ -1,0 +1,159 @@
+"""Areas on the map that the browser draws or uploads: a file next to the project, and an entry of its [[constraints.areas]]."""
+
+from __future__ import annotations
+
+import math
+import os
+import re
+from collections.abc import Mapping
+from contextlib import suppress
+from pathlib import Path
+from urllib.parse import quote
+
+from starlette.concurrency import run_in_threadpool
+from starlette.requests import Request
+from starlette.responses import JSONResponse, Response
+from starlette.routing import Route
+
+from pitplan.config import toml_text
+from pitplan.config.constraints import Area
+from pitplan.config.survey import SurveyFile
+from pitplan.constraints import in_area
+from pitplan.core.atomic_files import staged_file
+from pitplan.errors import PlanError
+
+from . import project_text, toml_edit
+from .block_data import Store
+from .grid_columns import at
+from .grids import toml_of
+from .import_roles import in_words
+from .pages import MOST_BYTES, Pages, form_of
+from .project_text import Editor
+from .run_form import WrongForm
+
+SIDES = ("inside", "outside")
+ENDINGS = (".csv", ".dxf", ".str", ".gpkg", ".geojson")
+NAME = re.compile(r"\w[\w -]{0,59}")
+# The most bytes of a file with polygons, and the most corners that are drawn.
+MOST_FILE, MOST_CORNERS = 64 << 20, 2_000
+
+
+class AreaPages:
+    """The answers to areas.
+
+    Parameters
+    ----------
+    pages : Pages
+        All other pages of the folder.
+    store : Store
+        The blocks that the page of plans and sections shows.
+    """
+
+    def __init__(self, pages: Pages, store: Store) -> None:
+        self.pages, self.store = pages, store
+
+    @property
+    def routes(self) -> list[Route]:
+        """The addresses."""
+        return [
+            Route("/project/area", in_words(self.drawn), methods=["POST"]),
+            Route("/project/area-file", in_words(self.uploaded), methods=["PUT"]),
+        ]
+
+    async def drawn(self, request: Request) -> Response:
+        """Adds an area by its corners."""
+        form = await form_of(request, 4 * MOST_BYTES)
+        corners = corners_of(form.get("corners", ""))
+        lines = "".join(f"{x:.3f},{y:.3f}\n" for x, y in corners)
+        return await self.added(form, ".csv", f"x,y\n{lines}".encode())
+
+    async def uploaded(self, request: Request) -> Response:
+        """Adds an area by its file."""
+        given = dict(request.query_params)
+        ending = Path(given.get("file", "")).suffix.lower()
+        if ending not in ENDINGS:
+            raise WrongForm(f"Polygon: {given.get('file', '')[:60]}: expected a file that ends in {', '.join(ENDINGS)}")
+        content = bytearray()
+        async for part in request.stream():
+            content += part
+            if len(content) > MOST_FILE:
+                raise WrongForm(f"Polygon: has more than {MOST_FILE >> 20} MiB: export the polygon alone")
+        return await self.added(given, ending, bytes(content))
+
+    async def added(self, form: Mapping[str, str], ending: str, content: bytes) -> Response:
+        """Writes the file and the key, or neither. Raises PlanError if the area cannot be used."""
+        name = form.get("project", "")
+        path = self.pages.project_path(name)
+        area = area_of(path, form, ending)
+        await run_in_threadpool(self.write, path, name, area, content)
+        return JSONResponse({"next": f"/blocks?name={quote(name)}"}, status_code=201)
+
+    def write(self, path: Path, name: str, area: Area, content: bytes) -> None:
+        editor = project_text.demanded(project_text.opened(path, name), path, name)
+        text = with_area(editor.text, area)
+        grid = self.store.of(path).grid
+        file = area.polygon.path
+        demand_free(file)
+        with staged_file(file) as place:
+            place.write_bytes(content)
+        try:
+            in_area(grid, area)
+            project_text.save(path, name, project_text.demanded(Editor(text, editor.seen), path, name))
+        except PlanError as error:
+            with suppress(OSError):
+                file.unlink()
+            raise WrongForm(str(error).replace(f"{path.parent}/", "")) from error
+
+
+def area_of(path: Path, form: Mapping[str, str], ending: str) -> Area:
+    """Returns the area of a form. Raises WrongForm if its name or side is wrong, with the field and the remedy."""
+    called, side = form.get("name", "").strip(), form.get("side", "")
+    if not NAME.fullmatch(called):
+        raise WrongForm(
+            f"Name of the area: found {called[:60]!r}, expected letters, digits, blanks, _ and -, such as lease"
+        )
+    if side not in SIDES:
+        raise WrongForm(f"May not be mined: found {side[:20]!r}, expected one of {', '.join(SIDES)}")
+    file = path.parent / f"{called}{ending}"
+    demand_free(file)
+    return Area(SurveyFile(file), side)
+
+
+def demand_free(file: Path) -> None:
+    """Raises WrongForm if there is a file of this name."""
+    if os.path.lexists(file):
+        raise WrongForm(f"Name of the area: {file.name}: exists already: give another name")
+
+
+def corners_of(text: str) -> list[tuple[float, float]]:
+    """Returns the corners of a text, x and y a line. Raises WrongForm if one is wrong, with its line."""
+    found = []
+    for number, line in enumerate(text.strip().splitlines(), 1):
+        fields = line.replace(",", " ").replace(";", " ").split()
+        try:
+            x, y = map(float, fields)
+        except ValueError as error:
+            raise WrongForm(f"Corners, line {number}: found {line[:40]!r}, expected x and y in metres") from error
+        if not (math.isfinite(x) and math.isfinite(y)):
+            raise WrongForm(f"Corners, line {number}: found {line[:40]!r}, expected x and y in metres")
+        found.append((x, y))
+    if not 3 <= len(found) <= MOST_CORNERS:
+        raise WrongForm(f"Corners: found {len(found):,}, expected 3 to {MOST_CORNERS:,}: click corners on the plan")
+    return found
+
+
+def with_area(text: str, area: Area) -> str:
+    """Returns a project's text with an area more. Raises WrongForm if its areas are not written as [[constraints.areas]]."""
+    before = at(toml_text.parsed(text, "project"), ("constraints", "areas")) or []
+    keys: list[tuple[toml_edit.Path, str]] = [
+        (("polygon",), toml_of(area.polygon.path.name)),
+        (("exclude",), toml_of(area.exclude)),
+    ]
+    try:
+        after = toml_edit.with_block(text, "constraints.areas", keys)
+        found = at(toml_text.parsed(after, "project"), ("constraints", "areas"))
+    except PlanError:
+        found = None
+    if not isinstance(found, list) or len(found) != len(before) + 1:
+        raise WrongForm("Constraints: areas are not written as [[constraints.areas]]: add this one in the text")
+    return after

@@ -1,0 +1,85 @@
+"""The page of plans and sections, and the arrays that it draws."""
+
+from __future__ import annotations
+
+import numpy as np
+from starlette.concurrency import run_in_threadpool
+from starlette.requests import Request
+from starlette.responses import JSONResponse, Response
+from starlette.routing import Route
+
+from .block_data import Blocks, Store
+from .import_roles import in_words
+from .pages import Pages
+from .workspace import NotThere
+
+BYTES = "application/octet-stream"
+
+
+class BlockPages:
+    """The answers of plans and sections.
+
+    Parameters
+    ----------
+    pages : Pages
+        All other pages of the folder.
+    """
+
+    def __init__(self, pages: Pages) -> None:
+        self.pages, self.store = pages, Store()
+
+    @property
+    def routes(self) -> list[Route]:
+        """The addresses."""
+        return [
+            Route("/blocks", self.pages.answering(self.page)),
+            Route("/blocks/model", in_words(self.model)),
+            Route("/blocks/cells", in_words(self.cells)),
+            Route("/blocks/column", in_words(self.column)),
+            Route("/blocks/values", in_words(self.values)),
+            Route("/blocks/row", in_words(self.row)),
+        ]
+
+    async def page(self, request: Request) -> Response:
+        """The page, which asks for its arrays."""
+        name = request.query_params.get("name", "")
+        path = self.pages.workspace.place(name)
+        is_project = not path.is_dir()
+        project = self.pages.project_path(name) if is_project else None
+        return self.pages.page(
+            "blocks.html", title=f"Plans and sections: {name}", name=name, is_project=project is not None
+        )
+
+    async def blocks(self, request: Request) -> Blocks:
+        """Returns the blocks that a request names. Raises PlanError if they cannot be read."""
+        path = self.pages.workspace.place(request.query_params.get("name", ""))
+        if not path.is_dir():
+            self.pages.project_path(request.query_params.get("name", ""))
+        return await run_in_threadpool(self.store.of, path)
+
+    async def model(self, request: Request) -> Response:
+        """The grid and the columns."""
+        return JSONResponse((await self.blocks(request)).as_json)
+
+    async def cells(self, request: Request) -> Response:
+        """The cell of each row, as unsigned integers of 32 bits."""
+        return Response((await self.blocks(request)).cells.astype("<u4").tobytes(), media_type=BYTES)
+
+    async def column(self, request: Request) -> Response:
+        """The range of a column, or its codes with their colours."""
+        blocks = await self.blocks(request)
+        shown = await run_in_threadpool(blocks.column, request.query_params.get("column", ""))
+        return JSONResponse(shown.as_json)
+
+    async def values(self, request: Request) -> Response:
+        """The values of a column by row: floats of 32 bits, or the places of its codes as bytes."""
+        blocks = await self.blocks(request)
+        shown = await run_in_threadpool(blocks.column, request.query_params.get("column", ""))
+        return Response(np.ascontiguousarray(shown.values).tobytes(), media_type=BYTES)
+
+    async def row(self, request: Request) -> Response:
+        """The fields of the block in a cell."""
+        text = request.query_params.get("cell", "")
+        if not (text.isascii() and text.isdigit() and len(text) < 12):
+            raise NotThere(f"cell {text[:20]}: found no number, expected that of a cell")
+        return JSONResponse((await self.blocks(request)).row(int(text)))

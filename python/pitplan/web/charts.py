@@ -1,0 +1,246 @@
+"""The charts of an output folder: numbers of its tables, which the browser draws."""
+
+from __future__ import annotations
+
+from collections.abc import Sequence
+from dataclasses import asdict, dataclass, field
+from pathlib import Path
+from typing import Any, Optional
+
+import pandas as pd
+
+from pitplan.config.project import Project
+from pitplan.core.revenue_factors import factor_text
+from pitplan.figures import palette
+from pitplan.results import names
+
+BAR, LINE = "bar", "line"
+LEFT, RIGHT = "left", "right"
+MILLION = 1e6
+# Colours of lines that lie over bars.
+LINES = ("#d55e00", "#009e73", "#cc79a7", "#0072b2", "#e69f00", "#56b4e9")
+WASTE, ORE = palette.WASTE, palette.ORE
+
+
+@dataclass(frozen=True)
+class Series:
+    """A row of bars, one on the other, or a line; None where there is no number. `axis` is the side of its scale."""
+
+    name: str
+    kind: str
+    colour: str
+    values: list[Optional[float]]
+    axis: str = LEFT
+
+
+@dataclass(frozen=True)
+class Chart:
+    """A chart.
+
+    Attributes
+    ----------
+    name, title : str
+    along : str
+        What its categories are.
+    categories : list of str
+    series : list of Series
+    left, right : str
+        The units of both scales.
+    table : str
+        The name of the table with its numbers.
+    """
+
+    name: str
+    title: str
+    along: str
+    categories: list[str]
+    series: list[Series]
+    left: str
+    right: str = ""
+    table: str = ""
+
+    @property
+    def as_json(self) -> dict[str, Any]:
+        return asdict(self)
+
+
+@dataclass(frozen=True)
+class Tables:
+    """The tables of a folder, its record and its project."""
+
+    folder: Path
+    record: dict[str, Any]
+    project: Project
+    kept: dict[str, Optional[pd.DataFrame]] = field(default_factory=dict)
+
+    def get(self, name: str) -> Optional[pd.DataFrame]:
+        """Returns a table; None if it does not exist or cannot be read."""
+        if name not in self.kept:
+            try:
+                self.kept[name] = pd.read_csv(self.folder / name, keep_default_na=True)
+            except (OSError, ValueError):
+                self.kept[name] = None
+        return self.kept[name]
+
+    def shown(self, name: str) -> Optional[pd.DataFrame]:
+        """Returns the rows of the schedule that is shown, with the period as a column `period`."""
+        table = self.get(name)
+        if table is None:
+            return None
+        if "method" in table:
+            table = table[table["method"] == self.record.get("schedule", table["method"].iloc[-1])]
+        return table.rename(columns={"year": "period"}) if "period" not in table else table
+
+
+def charts_of(folder: Path, record: dict[str, Any], project: Project) -> list[Chart]:
+    """Returns the charts of an output folder, without those whose tables are missing or have other columns."""
+    tables, found = Tables(folder, record, project), []
+    for make in (pit_by_pit, by_pushback, by_destination, head_grades, metal, cash_flow):
+        try:
+            chart = make(tables)
+        except (KeyError, IndexError, TypeError, ValueError):
+            chart = None
+        found += [chart] if chart and chart.categories else []
+    return found
+
+
+def numbers(values: Sequence[Any], by: float = 1.0) -> list[Optional[float]]:
+    return [None if pd.isna(it) else float(it) / by for it in values]
+
+
+def pit_by_pit(tables: Tables) -> Optional[Chart]:
+    """Returns tonnes and NPV by revenue factor."""
+    shells = tables.get(names.SHELLS)
+    if shells is None or "npv_best" not in shells:
+        return None
+    money = f"M {tables.project.economics.currency}"
+    cases = [("npv_best", "NPV, best case"), ("npv_specified", "NPV, specified case"), ("npv_worst", "NPV, worst case")]
+    lines = [
+        Series(words, LINE, LINES[k], numbers(shells[name], MILLION), RIGHT)
+        for k, (name, words) in enumerate(cases)
+        if name in shells
+    ]
+    bars = [
+        Series("in-situ ore", BAR, ORE, numbers(shells["in_situ_ore_tonnes"], MILLION)),
+        Series("waste", BAR, WASTE, numbers(shells["waste_tonnes"], MILLION)),
+    ]
+    factors = [factor_text(float(it)) for it in shells["revenue_factor"]]
+    return Chart("shells", "Pit by pit", "revenue factor", factors, [*bars, *lines], "Mt", money, names.SHELLS)
+
+
+def by_pushback(tables: Tables) -> Optional[Chart]:
+    """Returns tonnes and strip ratio by pushback."""
+    found = tables.get(names.PUSHBACKS)
+    if found is None:
+        return None
+    series = [
+        Series("in-situ ore", BAR, ORE, numbers(found["in_situ_ore_tonnes"], MILLION)),
+        Series("waste", BAR, WASTE, numbers(found["waste_tonnes"], MILLION)),
+        Series("strip ratio", LINE, LINES[0], numbers(found["strip_ratio"]), RIGHT),
+    ]
+    number = [str(it) for it in found["pushback"]]
+    return Chart("pushbacks", "Pushbacks", "pushback", number, series, "Mt", "t of waste per t of ore", names.PUSHBACKS)
+
+
+def by_destination(tables: Tables) -> Optional[Chart]:
+    """Returns the tonnes mined in each period by destination."""
+    flows = tables.shown(names.MATERIAL_FLOWS)
+    if flows is None:
+        return None
+    mined = flows[flows["source"] == "pit"].pivot_table("total_tonnes", "period", "destination", "sum", fill_value=0.0)
+    known = colours_of(tables.project)
+    order = sorted(mined.columns, key=lambda it: (list(known).index(it) if it in known else len(known), it))
+    series = [Series(str(it), BAR, known.get(str(it), WASTE), numbers(mined[it], MILLION)) for it in order]
+    word = tables.project.shells.calendar.word
+    return Chart(
+        "flows", "Tonnes mined by destination", word, periods(mined.index), series, "Mt", "", names.MATERIAL_FLOWS
+    )
+
+
+def colours_of(project: Project) -> dict[str, str]:
+    """Returns the colours of destinations, in the order in which they are stacked."""
+    stockpiles = [it.name for it in project.schedule.stockpiles] if project.schedule else []
+    processes = palette.of_processes([it.name for it in project.processes] or [""])
+    return {
+        **processes,
+        **palette.of_stockpiles(stockpiles),
+        **palette.of_dumps(it.name for it in project.dumps),
+        "waste": WASTE,
+    }
+
+
+def periods(values: Sequence[Any]) -> list[str]:
+    return [f"{int(it)}" for it in values]
+
+
+def head_grades(tables: Tables) -> Optional[Chart]:
+    """Returns mill feed and head grades of each process by period."""
+    feed = tables.shown(names.FEED)
+    if feed is None:
+        return None
+    known, project = colours_of(tables.project), tables.project
+    by = {name: part.set_index("period") for name, part in feed.groupby("process", sort=False)}
+    index = sorted(set(feed["period"]))
+    bars = [
+        Series(f"feed of {name}", BAR, known.get(str(name), ORE), numbers(part["feed_tonnes"].reindex(index), MILLION))
+        for name, part in by.items()
+    ]
+    first = project.metals[0]
+    lines = [
+        Series(
+            f"{first.name}, {name}" if len(by) > 1 else first.name,
+            LINE,
+            LINES[k],
+            numbers(part[f"head_grade_{first.name}"].reindex(index)),
+            RIGHT,
+        )
+        for k, (name, part) in enumerate(by.items())
+    ]
+    word, sign = project.shells.calendar.word, f"{first.name}, {first.sign}"
+    return Chart("feed", "Mill feed and head grade", word, periods(index), [*bars, *lines], "Mt", sign, names.FEED)
+
+
+def metal(tables: Tables) -> Optional[Chart]:
+    """Returns the recovered metal by period, each metal on a scale of its own; the first two."""
+    found = tables.shown(names.CASH_FLOW)
+    if found is None:
+        return None
+    both = tables.project.metals[:2]
+    scale = {"t": (1e3, "kt"), "g": (31.1034768e3, "koz")}
+    kinds = ((BAR, ORE, LEFT), (LINE, LINES[0], RIGHT))
+    series = [
+        Series(it.name, kind, colour, numbers(found[f"recovered_{it.name}"], scale[it.quantity][0]), axis)
+        for it, (kind, colour, axis) in zip(both, kinds)
+    ]
+    units = [f"{it.name}, {scale[it.quantity][1]}" for it in both]
+    word = tables.project.shells.calendar.word
+    return Chart(
+        "metal",
+        "Recovered metal",
+        word,
+        periods(found["period"]),
+        series,
+        units[0],
+        units[1] if len(units) > 1 else "",
+        names.CASH_FLOW,
+    )
+
+
+def cash_flow(tables: Tables) -> Optional[Chart]:
+    """Returns the cash flow of each period, and the discounted cash flow to date."""
+    found = tables.shown(names.CASH_FLOW)
+    if found is None:
+        return None
+    money = f"M {tables.project.economics.currency}"
+    series = [
+        Series("cash flow", BAR, ORE, numbers(found["cash_flow"], MILLION)),
+        Series(
+            "discounted cash flow to date",
+            LINE,
+            LINES[0],
+            numbers(found["discounted_cash_flow"].cumsum(), MILLION),
+            RIGHT,
+        ),
+    ]
+    word = tables.project.shells.calendar.word
+    return Chart("cash_flow", "Cash flow", word, periods(found["period"]), series, money, money, names.CASH_FLOW)

@@ -1,0 +1,278 @@
+"""Grids that set up a project: each shows a list of sections of its text as rows, and changes these in the text."""
+
+from __future__ import annotations
+
+import json
+import re
+from collections.abc import Mapping, Sequence
+from copy import deepcopy
+from dataclasses import dataclass, replace
+from decimal import Decimal
+from typing import Any, Optional
+
+from pitplan.config import toml_text
+from pitplan.config.project import Project
+from pitplan.errors import PlanError
+
+from . import toml_edit
+from .grid_columns import KINDS, LIST, NUMBER, VALUE, Column, Kind, at, columns_of
+from .run_form import WrongForm
+from .toml_lines import entries
+from .values_form import NUMBER as A_NUMBER
+
+# How the names of fields begin: of a row its place in the file or NEW, of a cell the numbers of row and column.
+ROW, CELL, NEW = "row:", "cell:", "new"
+MOST_ROWS, MOST_LETTERS = 1_000, 2_000
+
+
+@dataclass(frozen=True)
+class Row:
+    """A row of a grid: the place of its entry in the file, from 0, None for a new one; and the texts of its cells."""
+
+    source: Optional[int]
+    cells: tuple[str, ...]
+
+    @property
+    def is_empty(self) -> bool:
+        return self.source is None and not any(self.cells)
+
+
+@dataclass(frozen=True)
+class Grid:
+    """A grid.
+
+    Attributes
+    ----------
+    kind : Kind
+    columns : list of Column
+    rows : list of Row
+    why_not : str
+        Why it cannot be changed; empty if it can.
+    wrong, said : str
+        What is wrong, and what was done.
+    """
+
+    kind: Kind
+    columns: list[Column]
+    rows: list[Row]
+    why_not: str = ""
+    wrong: str = ""
+    said: str = ""
+
+    @property
+    def is_used(self) -> list[bool]:
+        """Whether each column is shown: it always is, or some row has a value there."""
+        return [it.is_shown or any(row.cells[k] for row in self.rows) for k, it in enumerate(self.columns)]
+
+    @property
+    def further(self) -> list[Column]:
+        """The columns that are not shown."""
+        return [column for column, is_used in zip(self.columns, self.is_used) if not is_used]
+
+
+def grids_of(text: str, project: Project) -> dict[str, Grid]:
+    """Returns all grids of a project's text, by name."""
+    data = toml_text.parsed(text, str(project.path))
+    return {name: grid_of(kind, text, data, project) for name, kind in KINDS.items()}
+
+
+def grid_of(kind: Kind, text: str, data: Mapping[str, Any], project: Project) -> Grid:
+    """Returns a grid of a project's text."""
+    found = at(data, kind.header.split("."))
+    listed = found if isinstance(found, list) else []
+    columns = columns_of(kind.name, project, listed)
+    rows = [Row(k, tuple(shown(at(entry, it.path), it) for it in columns)) for k, entry in enumerate(listed)]
+    return Grid(kind, columns, rows, why_not(kind, text, data))
+
+
+def why_not(kind: Kind, text: str, data: Mapping[str, Any]) -> str:
+    """Returns why a list cannot be changed as a grid; empty if it can."""
+    found = at(data, kind.header.split("."))
+    headers = [it for it in entries(text) if not it.end and re.fullmatch(re.escape(kind.header) + r" \d+", it.name)]
+    if isinstance(found, str):
+        return f"{kind.title} are in the table {found}: change them there"
+    if found is not None and (not isinstance(found, list) or len(headers) != len(found)):
+        return f"{kind.title} are not written as [[{kind.header}]]: change them in the text"
+    if kind.name == "stockpiles" and at(data, ("schedule", "stockpile")) is not None:
+        return "The stockpile has the short form [schedule.stockpile]: change it in the text, or write it as [[schedule.stockpiles]] there"
+    return ""
+
+
+def shown(value: Any, column: Column) -> str:
+    """Returns a value as a cell has it."""
+    if value is None or isinstance(value, dict):
+        return ""
+    if isinstance(value, str):
+        return value if column.kind != VALUE else json.dumps(value, ensure_ascii=False)
+    if column.kind == LIST and isinstance(value, list):
+        return ", ".join(map(str, value))
+    return toml_of(value)
+
+
+def toml_of(value: Any) -> str:
+    """Returns a value as TOML has it."""
+    if isinstance(value, bool):
+        return "true" if value else "false"
+    if isinstance(value, (int, Decimal)):
+        return f"{value:f}" if isinstance(value, Decimal) else str(value)
+    if isinstance(value, list):
+        return f"[{', '.join(map(toml_of, value))}]"
+    if isinstance(value, dict):
+        return f"{{ {', '.join(f'{toml_edit.quoted(key)} = {toml_of(it)}' for key, it in value.items())} }}"
+    return json.dumps(str(value), ensure_ascii=False)
+
+
+def typed(grid: Grid, form: Mapping[str, str]) -> Grid:
+    """Returns a grid with the rows of a form, without new rows that are empty. Raises WrongForm if they are too many."""
+    numbers = sorted(int(name[len(ROW) :]) for name in form if re.fullmatch(re.escape(ROW) + r"\d{1,6}", name))
+    if len(numbers) > MOST_ROWS:
+        raise WrongForm(f"{grid.kind.title}: found {len(numbers):,} rows, expected at most {MOST_ROWS:,}")
+    rows = []
+    for number in numbers:
+        source = form[f"{ROW}{number}"]
+        known = int(source) if source.isascii() and source.isdigit() and int(source) < len(grid.rows) else None
+        before = grid.rows[known].cells if known is not None else ("",) * len(grid.columns)
+        cells = [form.get(f"{CELL}{number}:{k}", before[k]).strip() for k in range(len(grid.columns))]
+        rows.append(Row(known, tuple(cells)))
+    return replace(grid, rows=[row for row in rows if not row.is_empty])
+
+
+def value_of(text: str, column: Column, where: str) -> str:
+    """Returns the text of a cell as TOML has it. Raises WrongForm if it cannot be one, with the column and the remedy."""
+    if len(text) > MOST_LETTERS:
+        raise WrongForm(f"{where}: found {len(text):,} letters, expected at most {MOST_LETTERS:,}")
+    if column.kind == LIST:
+        return toml_of([part.strip() for part in text.split(",") if part.strip()])
+    if column.kind not in (NUMBER, VALUE):
+        return toml_of(text).replace("\x7f", "\\u007f")
+    if A_NUMBER.fullmatch(text):
+        return text
+    if column.kind == NUMBER and text[:1] not in "[{":
+        raise WrongForm(
+            f"{where}: found {text[:40]!r}, expected a number such as 12.5: write decimals with a point, and no separators of thousands"
+        )
+    try:
+        if list(toml_text.parsed(f"value = {text}", where)) == ["value"] and "\n" not in text:
+            return text
+    except PlanError:
+        pass
+    raise WrongForm(f"{where}: found {text[:40]!r}, expected a number, a text in quotes, or a list such as [1, 2]")
+
+
+@dataclass(frozen=True)
+class Change:
+    """A value of a key, None to remove it."""
+
+    path: tuple[str, ...]
+    value: Optional[str]
+
+
+def changes_of(grid: Grid, row: Row, number: int, before: Sequence[str]) -> list[Change]:
+    """Returns the cells of a row that differ. Raises WrongForm if one is wrong."""
+    found = []
+    for column, old, new in zip(grid.columns, before, row.cells):
+        if new != old:
+            where = f"{grid.kind.title}, row {number}, {column.label}"
+            found.append(Change(column.path, value_of(new, column, where) if new else None))
+    # Removed keys first: a number may take the place of a table.
+    return sorted(found, key=lambda it: it.value is not None)
+
+
+def changed(text: str, before: Grid, after: Grid, name: str) -> str:
+    """Returns a text with the rows of a grid as a form has them; all else in it stays.
+
+    Raises
+    ------
+    WrongForm
+        If a cell is wrong, with its column and the remedy, or if the text is written in a way that a grid does not change.
+    """
+    if before.why_not:
+        raise WrongForm(f"{before.why_not}.")
+    header, empty = before.kind.header, ("",) * len(before.columns)
+    changes = [
+        changes_of(before, row, number, empty if row.source is None else before.rows[row.source].cells)
+        for number, row in enumerate(after.rows, 1)
+    ]
+    expected = expected_data(text, before, after, changes)
+    for row, its in zip(after.rows, changes):
+        for it in its if row.source is not None else ():
+            text = with_change(text, f"{header} {1 + (row.source or 0)}", it)
+    kept = [row.source for row in after.rows if row.source is not None]
+    if kept != sorted(set(kept)):
+        raise WrongForm(f"{before.kind.title}: the rows are in another order than in the file: open the project again")
+    for number in sorted({*range(len(before.rows))} - {*kept}, reverse=True):
+        text = toml_edit.without_block(text, f"{header} {number + 1}")
+    text = with_new_rows(text, header, after, changes)
+    demand_same(text, expected, before, name)
+    return text
+
+
+def with_change(text: str, section: str, change: Change) -> str:
+    if change.value is None:
+        return toml_edit.without_key(text, section, change.path)
+    return toml_edit.with_key(text, section, change.path, change.value)
+
+
+def with_new_rows(text: str, header: str, grid: Grid, changes: list[list[Change]]) -> str:
+    """Returns a text with the new rows of a grid, each before the next one that the file has, otherwise at the end."""
+    keys = [[(it.path, it.value) for it in its if it.value is not None] for its in changes]
+    is_new = [row.source is None for row in grid.rows]
+    last = max((k + 1 for k, new in enumerate(is_new) if not new), default=0)
+    for row in keys[last:]:
+        text = toml_edit.with_block(text, header, row)
+    before = sum(not new for new in is_new)
+    for k in range(last - 1, -1, -1):
+        if is_new[k]:
+            text = toml_edit.with_block(text, header, keys[k], f"{header} {before + 1}")
+        else:
+            before -= 1
+    return text
+
+
+def expected_data(text: str, before: Grid, after: Grid, changes: list[list[Change]]) -> dict[str, Any]:
+    """Returns the data that a text must have after the changes."""
+    data = deepcopy(toml_text.parsed(text, "project"))
+    *sections, key = before.kind.header.split(".")
+    holder = data
+    for section in sections:
+        holder = holder.setdefault(section, {})
+    old, found = holder.get(key, []), []
+    for row, its in zip(after.rows, changes):
+        entry = {} if row.source is None else deepcopy(old[row.source])
+        for it in its:
+            assign(entry, it)
+        found.append(entry)
+    holder[key] = found
+    return data
+
+
+def assign(entry: dict[str, Any], change: Change) -> None:
+    *tables, key = change.path
+    for table in tables:
+        if not isinstance(entry.get(table), dict):
+            entry[table] = {}
+        entry = entry[table]
+    if change.value is None:
+        entry.pop(key, None)
+    else:
+        entry[key] = toml_text.parsed(f"value = {change.value}", "cell")["value"]
+
+
+def pruned(value: Any) -> Any:
+    """Returns data without tables and lists that are empty."""
+    if isinstance(value, dict):
+        inner = {key: pruned(it) for key, it in value.items()}
+        return {key: it for key, it in inner.items() if it not in ({}, [])}
+    return [pruned(it) for it in value] if isinstance(value, list) else value
+
+
+def demand_same(text: str, expected: dict[str, Any], grid: Grid, name: str) -> None:
+    """Raises WrongForm if a text has other data than is expected."""
+    try:
+        is_same = pruned(toml_text.parsed(text, name)) == pruned(expected)
+    except PlanError:
+        is_same = False
+    if not is_same:
+        raise WrongForm(
+            f"{grid.kind.title}: {name} writes [[{grid.kind.header}]] in a way that this grid cannot change: change it in the text"
+        )

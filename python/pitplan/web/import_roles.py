@@ -1,0 +1,166 @@
+"""The page that gives columns of an imported block model other roles: the project that follows, and the job that writes it."""
+
+from __future__ import annotations
+
+import threading
+from collections.abc import Callable, Mapping
+from dataclasses import dataclass
+from pathlib import Path
+from typing import Any
+
+from starlette.concurrency import run_in_threadpool
+from starlette.requests import Request
+from starlette.responses import JSONResponse, PlainTextResponse, RedirectResponse, Response
+from starlette.routing import Route
+
+from pitplan.blockmodel import guessed_model, wizard
+from pitplan.blockmodel.column_guesses import METALS
+from pitplan.blockmodel.column_roles import WORDS, Role, demand_each_once, role_of_text
+from pitplan.blockmodel.guessed_model import Rows
+from pitplan.config.economics import GRADE_SIGNS
+from pitplan.core.atomic_files import hash_of
+from pitplan.errors import WARNING, PlanError
+
+from .jobs import IMPORT, Job
+from .pages import MOST_BYTES, Answer, Pages, form_of, number_of
+from .run_form import WrongForm
+
+# The names of fields that hold the role of a column begin with this, those of options of the command with the other.
+PREFIX, OPTION = "role:", "--role="
+# The roles to choose from, by their keys and in words, in groups.
+GROUPS: dict[str, list[tuple[str, str]]] = {
+    "": [("unused", WORDS["unused"])],
+    "Place": [(key, WORDS[key]) for key in ("x", "y", "z", "xinc", "yinc", "zinc")],
+    "Amount": [(key, WORDS[key]) for key in ("tonnes", "density", "volume", "rock_percent", "mcaf", "pcaf")],
+    "Code": [(key, WORDS[key]) for key in ("id", "rock_type", "domain", "class")],
+    **{
+        f"Grade, {sign}": [(Role(metal, unit).text, f"grade of {metal}, {sign}") for metal in METALS.values()]
+        for unit, sign in GRADE_SIGNS.items()
+    },
+}
+
+
+@dataclass(frozen=True)
+class Recognised:
+    """What `pitplan init` found in a block model.
+
+    Attributes
+    ----------
+    notes, warnings : list of str
+    columns : list of dict
+        Column, role, unit, nulls, least, mean, greatest, why and set (the role as `--role` has it), as texts.
+    figure : str
+        The path of the figure from the folder that is served; empty without one.
+    project_hash : str
+        SHA-256 of the project as it was written.
+    """
+
+    notes: list[str]
+    warnings: list[str]
+    columns: list[dict[str, str]]
+    figure: str
+    project_hash: str
+
+
+class RowsOfLast:
+    """The rows of the file that was read last: a change of a role does not read it again."""
+
+    def __init__(self) -> None:
+        self.lock, self.key = threading.Lock(), ("", 0, 0)
+        self.rows: Rows | None = None
+
+    def of(self, file: Path) -> Rows:
+        """Returns the rows of a file. Raises PlanError if it cannot be read."""
+        with self.lock:
+            try:
+                state = file.stat()
+            except OSError as error:
+                raise PlanError(f"{file.name}: cannot be read: {error.strerror}: import it again") from error
+            key = (str(file), state.st_mtime_ns, state.st_size)
+            if self.rows is None or key != self.key:
+                self.rows = None
+                self.rows, self.key = guessed_model.rows_of(file), key
+            return self.rows
+
+
+class RolePages:
+    """The answers to a change of roles.
+
+    Parameters
+    ----------
+    pages : Pages
+        All other pages of the folder.
+    recognised : callable
+        Gives what the job of an import has found.
+    """
+
+    def __init__(self, pages: Pages, recognised: Callable[[Job], Recognised]) -> None:
+        self.pages, self.recognised, self.last = pages, recognised, RowsOfLast()
+
+    @property
+    def routes(self) -> list[Route]:
+        """The addresses."""
+        return [
+            Route("/import/preview", in_words(self.preview), methods=["POST"]),
+            Route("/import/roles", self.pages.answering(self.write), methods=["POST"]),
+        ]
+
+    async def preview(self, request: Request) -> Response:
+        """The project that follows from other roles, which nothing writes."""
+        form = await form_of(request, 16 * MOST_BYTES)
+        job = self.pages.jobs.read(number_of(form.get("number", "")))
+        roles = self.roles_of(job, form)
+        return JSONResponse(await run_in_threadpool(self.previewed, job, roles))
+
+    def previewed(self, job: Job, roles: Mapping[str, Role]) -> dict[str, Any]:
+        """Returns the text of the project, the columns, and the warnings."""
+        model = guessed_model.model_of(self.last.of(self.pages.workspace.place(table_of(job))), roles)
+        text, found = wizard.project_of(model, self.pages.workspace.root / job.project)
+        warnings = [it.removeprefix(WARNING) for it in found.warnings]
+        return {"text": text, "columns": found.records, "warnings": warnings}
+
+    async def write(self, request: Request) -> Response:
+        """Starts the job that writes the project again with other roles."""
+        form = await form_of(request, 16 * MOST_BYTES)
+        job = self.pages.jobs.read(number_of(form.get("number", "")))
+        roles = self.roles_of(job, form)
+        path = self.pages.workspace.place(job.project)
+        if hash_of(path) != self.recognised(job).project_hash:
+            raise WrongForm(
+                f"{job.project}: has changed since the block model was imported: change its columns in its text, "
+                "or import the file under another name"
+            )
+        words = [f"{OPTION}{column}={role.text}" for column, role in roles.items()]
+        words = [IMPORT, job.words[1], f"--out={job.project}", *words, "--replace", "--figures", "--json"]
+        again = self.pages.jobs.ask(tuple(words), job.project, job.folder)
+        return RedirectResponse(f"/job?number={again.number}", status_code=303)
+
+    def roles_of(self, job: Job, form: Mapping[str, str]) -> dict[str, Role]:
+        """Returns the roles of a form that differ from the guesses, and those that the import had. Raises PlanError if one is wrong."""
+        texts = dict(word.removeprefix(OPTION).rpartition("=")[::2] for word in job.words if word.startswith(OPTION))
+        for it in self.recognised(job).columns:
+            text = form.get(PREFIX + it["column"], it["set"])
+            if text != it["set"]:
+                texts[it["column"]] = text
+        roles = {column: role_of_text(column, text) for column, text in texts.items()}
+        demand_each_once(roles)
+        return roles
+
+
+def table_of(job: Job) -> str:
+    """Returns the name of the block model of an import."""
+    return job.words[1].removeprefix("./")
+
+
+def in_words(answer: Answer) -> Answer:
+    """Returns the answer with words in place of an error of the planner's, which a script shows."""
+
+    async def answered(request: Request) -> Response:
+        try:
+            return await answer(request)
+        except WrongForm as error:
+            return PlainTextResponse(str(error), status_code=422)
+        except PlanError as error:
+            return PlainTextResponse(str(error), status_code=400)
+
+    return answered
