@@ -4,9 +4,10 @@ from __future__ import annotations
 
 from collections.abc import Callable
 from decimal import Decimal
+from functools import partial
 from itertools import zip_longest
 from pathlib import Path
-from typing import Optional
+from typing import Optional, TypeVar
 
 import pandas as pd
 
@@ -19,21 +20,22 @@ from planaudit.inputs.run import Run
 from planaudit.money import block_values, haulage
 from planaudit.pits import conventions, pushbacks, sums, years
 from planaudit.revenue_factors import factor_text
-from planaudit.rules import TOLD, Rule, rule
+from planaudit.rules import TOLD, Checks, Rule, rule, rules_of
 from planaudit.schedules import block_schedule, grade_tonnage, pushback_schedule
 from planaudit.studies import block_scenarios, scenarios, sensitivity
 
-OF_PITS = (slopes.verify, sums.verify, sums.verify_worth, years.verify)
-CHECKS = (
-    constraints.verify_places,
-    missing_blocks.verify,
-    slopes.verify,
-    slopes.verify_steepness,
-    constraints.verify,
-    block_values.verify,
-    *OF_PITS[1:],
-    conventions.verify,
-)
+Found = TypeVar("Found")
+OF_PITS = {"walls": slopes.verify, "shells": sums.verify, "values": sums.verify_worth, "years": years.verify}
+CHECKS = {
+    "blocks": constraints.verify_places,
+    "absent": missing_blocks.verify,
+    "walls": slopes.verify,
+    "levels": slopes.verify_steepness,
+    "fixed": constraints.verify,
+    "money": block_values.verify,
+    **OF_PITS,
+    "conventions": conventions.verify,
+}
 
 
 def verify(written: Path, folder: Optional[Path] = None, table: Optional[pd.DataFrame] = None) -> list[Rule]:
@@ -60,7 +62,7 @@ def verify(written: Path, folder: Optional[Path] = None, table: Optional[pd.Data
     """
     answer = answers.read(written, folder, table)
     try:
-        return rules_of(answer)
+        return rules_of(checks_of(answer))
     except KeyError as error:
         raise AuditError(f"{written}: a table has no column {error}: run pitplan again") from error
 
@@ -73,25 +75,50 @@ def read_ahead(written: Path, folder: Path) -> pd.DataFrame:
         raise AuditError(f"{error.filename}: cannot be read: {error.strerror}") from error
 
 
-def rules_of(answer: Answer) -> list[Rule]:
-    """Returns the rules of the results of a plan. Raises KeyError if a table lacks a column, and AuditError as `by_record`."""
-    more = [reblocked.verify(answer)] if answer.parts is not None else []
-    more += [hashes.verify(answer)] if "inputs" in answer.record else []
-    more += depletion.verify_cuts(answer)
-    more += [pit_limits.verify(answer)] if answer.beyond is not None else []
-    more += [haulage.verify(answer, block_values.sample(answer))] if answer.project.haulage else []
-    more += [verify_free(answer, answer.free)] if answer.free else []
-    more += pushbacks.verify(answer) if answer.pushbacks is not None else []
-    more += [grade_tonnage.verify(answer)] if grade_tonnage.is_written(answer) else []
-    more += by_record(block_schedule.verify, answer, block_schedule.FILE) if answer.is_by_block else []
-    more += by_record(pushback_schedule.verify, answer, pushback_schedule.FILE) if answer.schedule is not None else []
-    return [*(check(answer) for check in CHECKS), *more]
+def checks_of(answer: Answer) -> Checks:
+    """Returns the checks of the results of a plan. They raise KeyError if a table lacks a column, and AuditError as `by_record`."""
+    free, found = answer.free, {name: alone(check, answer) for name, check in CHECKS.items()}
+    if answer.parts is not None:
+        found["reblocked"] = alone(reblocked.verify, answer)
+    if "inputs" in answer.record:
+        found["inputs"] = alone(hashes.verify, answer)
+    found["cuts"] = lambda: depletion.verify_cuts(answer)
+    if answer.beyond is not None:
+        found["reach"] = alone(pit_limits.verify, answer)
+    if answer.project.haulage:
+        found["haulage"] = lambda: [haulage.verify(answer, block_values.sample(answer))]
+    if free is not None:
+        found["free"] = alone(partial(verify_free, free=free), answer)
+    if answer.pushbacks is not None:
+        found.update(pushbacks.checks_of(answer))
+    if grade_tonnage.is_written(answer):
+        found["grade tonnage"] = alone(grade_tonnage.verify, answer)
+    if answer.is_by_block:
+        found.update(by_record(block_schedule.checks_of, answer, block_schedule.FILE))
+    if answer.schedule is not None:
+        found.update(by_record(pushback_schedule.checks_of, answer, pushback_schedule.FILE))
+    return found
 
 
-def by_record(check: Callable[[Answer], list[Rule]], answer: Answer, name: str) -> list[Rule]:
-    """Runs rules that read a record of their own. Raises AuditError if a part of it is missing or of another type."""
+def alone(check: Callable[[Answer], Rule], answer: Answer) -> Callable[[], list[Rule]]:
+    """Returns the check of a single rule."""
+    return lambda: [check(answer)]
+
+
+def by_record(checks: Callable[[Answer], Checks], answer: Answer, name: str) -> Checks:
+    """Returns checks that read a record of their own. Both raise AuditError if a part of it is missing or of another type."""
+    found = recorded(lambda: checks(answer), answer, name)
+    return {key: recording(run, answer, name) for key, run in found.items()}
+
+
+def recording(run: Callable[[], list[Rule]], answer: Answer, name: str) -> Callable[[], list[Rule]]:
+    return lambda: recorded(run, answer, name)
+
+
+def recorded(run: Callable[[], Found], answer: Answer, name: str) -> Found:
+    """Returns the result of a call. Raises AuditError if a part of the record is missing or of another type."""
     try:
-        return check(answer)
+        return run()
     except OSError as error:
         raise AuditError(f"{error.filename}: cannot be read: run pitplan schedule first") from error
     except (LookupError, ValueError, TypeError, AttributeError) as error:
@@ -103,7 +130,7 @@ def by_record(check: Callable[[Answer], list[Rule]], answer: Answer, name: str) 
 
 def verify_free(kept: Answer, free: Answer) -> Rule:
     """Verifies the pit without constraints like the other, and that its value is not smaller, since constraints cannot gain anything."""
-    found = [check(free) for check in OF_PITS]
+    found = [check(free) for check in OF_PITS.values()]
     differences = [f"{rule_of.name}: {difference}" for rule_of in found for difference in rule_of.differences]
     lost = [
         f"revenue factor {factor_text(factor)}: value_at_revenue_factor {free.shells['value_at_revenue_factor'][factor]} is less than with constraints"

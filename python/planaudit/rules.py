@@ -32,6 +32,15 @@ class Rule:
     count: int = 0
 
 
+# Checks by the name of their rule, or of the first of several, which they return when they are called.
+Checks = Mapping[str, Callable[[], list[Rule]]]
+
+
+def rules_of(checks: Checks) -> list[Rule]:
+    """Runs all checks."""
+    return [found for run in checks.values() for found in run()]
+
+
 def rule(name: str, holds: str, differences: list[str], count: int | None = None) -> Rule:
     return Rule(name, holds, tuple(differences[:TOLD]), len(differences) if count is None else count)
 

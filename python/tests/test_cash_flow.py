@@ -5,6 +5,7 @@ import re
 import shutil
 from dataclasses import replace
 from decimal import Decimal
+from types import SimpleNamespace
 
 import numpy as np
 import pandas as pd
@@ -15,7 +16,7 @@ from helpers.verified import UNVERIFIED
 import pitplan
 from pitplan import PlanError, load, verify
 from pitplan.export import xlsx
-from pitplan.scheduling.cash_flow.finance import by_production, straight_line
+from pitplan.scheduling.cash_flow.finance import RATES, Finance, by_production, straight_line
 from planaudit.inputs import answer as answers
 from planaudit.schedules import cash_flow, material_flow
 
@@ -146,6 +147,24 @@ def test_depreciation_over_unequal_periods():
     assert straight_line(np.array([0, 8.0, 0]), starts, ends, 2.0).tolist() == [0, 6, 2]
     assert straight_line(np.array([0, 0, 8.0]), starts, ends, 2.0).tolist() == [0, 0, 8]
     assert by_production(np.array([0, 8.0, 0]), np.array([5.0, 0, 0])).tolist() == [0, 0, 8]
+
+
+@pytest.mark.parametrize("off", [-1e-14, 0.0, 1e-14])
+@pytest.mark.parametrize("discounting", ["end_of_year", "continuous"])
+def test_returns_at_the_rates_of_the_search_are_found(worked, discounting, off):
+    """Two periods, and capex that their cash pays back at a rate, where the NPV is 0 but for rounding, to either side."""
+    project = load(worked.parent.parent / "project.toml")
+    project = replace(project, shells=replace(project.shells, discounting=discounting))
+    cash = np.array([300.0, 700.0])
+    for rate in (*RATES[1:], 0.0, 0.123456, 10.5):
+        statement = SimpleNamespace(starts=np.array([0.0, 1.0]), ends=np.array([1.0, 2.0]), capex=np.zeros(2))
+        found = Finance(project, statement)
+        statement.capex[0] = found.npv(cash, rate)
+        of_cash, of_capex = found.factors(RATES[:, None])
+        found.__dict__["factors_of_rates"] = of_cash * (1 + off), of_capex
+        due = rate if 0 < rate <= RATES[-1] else np.nan
+        if off == 0 or rate in RATES[1:-1]:
+            assert found.irr(cash) == pytest.approx(due, abs=1e-9, nan_ok=True), rate
 
 
 def test_without_a_section_there_is_neither_closure_nor_tax(tmp_path):

@@ -8,6 +8,7 @@ from __future__ import annotations
 from collections.abc import Callable
 from dataclasses import dataclass, field
 from decimal import Decimal
+from functools import cached_property
 from pathlib import Path
 from typing import Optional, TypeVar
 
@@ -95,7 +96,7 @@ class Calendar:
     def __bool__(self) -> bool:
         return bool(self.periods)
 
-    @property
+    @cached_property
     def listed(self) -> tuple[Period, ...]:
         """The entry of each period."""
         return tuple(period for period in self.periods for _ in range(period.count))
@@ -120,7 +121,9 @@ class Calendar:
 
     def lengths(self, count: int) -> NDArray[np.float64]:
         """Returns the length of each period in years, shape (count,)."""
-        found = np.array([it.length for it in self.listed] or [1.0])
+        if not self.periods:
+            return np.ones(count)
+        found = np.array([it.length for it in self.listed])
         return np.asarray(found[np.minimum(np.arange(count), len(found) - 1)])
 
     def ends(self, count: int) -> NDArray[np.float64]:

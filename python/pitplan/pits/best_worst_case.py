@@ -17,7 +17,7 @@ from __future__ import annotations
 from collections.abc import Iterator, Sequence
 from dataclasses import dataclass
 from functools import cached_property
-from typing import Optional
+from typing import Optional, Union
 
 import numpy as np
 import pandas as pd
@@ -41,6 +41,8 @@ EQUAL, TINY = 1e-9, 1e-3
 BEFORE_THE_END = {"end_of_year": 0.0, "mid_year": 0.5}
 # Years of a period of which no time is used.
 MOMENT = 1e-12
+# A discount rate per year, or rates of shape (rates, 1).
+Rate = Union[float, np.ndarray]
 
 
 @dataclass(frozen=True)
@@ -175,7 +177,7 @@ def at(sums: np.ndarray, places: np.ndarray) -> np.ndarray:
     return np.asarray(sums[piece] + share * (sums[piece + 1] - sums[piece]))
 
 
-def mean_discount(start: np.ndarray, end: np.ndarray, rate: float) -> np.ndarray:
+def mean_discount(start: np.ndarray, end: np.ndarray, rate: Rate) -> np.ndarray:
     """Returns the mean of (1 + rate)^-t for t from start to end, in years; if both are equal its value there."""
     force = np.log1p(rate)
     fall = force * (end - start)
@@ -189,27 +191,29 @@ def course_of(amounts: np.ndarray, wait: Wait) -> Course:
     return Course(amounts, np.concatenate([np.zeros((1, years.shape[1])), np.cumsum(years, axis=0)]), wait.shares)
 
 
-def year_discounts(settings: ShellRules, count: int) -> np.ndarray:
-    """Discount factors of the periods 1 to `count`: for cash at the end of the year, at its middle, or evenly through it."""
-    return discounts_of(np.ones(count), settings)
+def year_discounts(settings: ShellRules, count: int, rate: Optional[Rate] = None) -> np.ndarray:
+    """Discount factors of the periods 1 to `count`: for cash at the end of the year, at its middle, or evenly through it. `rate` is by default
+    the discount rate of the settings."""
+    return discounts_of(np.ones(count), settings, rate)
 
 
-def discounts_of(parts: np.ndarray, settings: ShellRules) -> np.ndarray:
+def discounts_of(parts: np.ndarray, settings: ShellRules, rate: Optional[Rate] = None) -> np.ndarray:
     """Returns the discount factors of the first periods, of whose time only the first parts are used, shape (periods,).
 
     Cash flows at the end or the middle of its year, or of its period if that is shorter. A period of several years spreads it evenly over those
-    that are used.
+    that are used. With rates of shape (rates, 1) instead of that of the settings the factors are of shape (rates, periods).
     """
+    rate = settings.discount_rate if rate is None else rate
     starts, lengths = settings.calendar.starts(len(parts)), settings.calendar.lengths(len(parts))
     if settings.discounting not in BEFORE_THE_END:
-        return mean_discount(starts, starts + parts * lengths, settings.discount_rate)
+        return mean_discount(starts, starts + parts * lengths, rate)
     used, unit = np.maximum(parts * lengths, MOMENT), np.minimum(lengths, 1.0)
     found = np.zeros(len(parts))
     for number in range(int(np.ceil(lengths.max(initial=0.0)))):
         flows = np.clip(used - number * unit, 0.0, unit)
         time = starts + (number + 1 - BEFORE_THE_END[settings.discounting]) * unit
-        found += flows * (1 + settings.discount_rate) ** -time
-    return found / used
+        found = found + flows * (1 + rate) ** -time
+    return np.asarray(found / used)
 
 
 @dataclass(frozen=True)

@@ -9,16 +9,21 @@ from planaudit.ground import slopes as walls
 from planaudit.inputs.answer import Answer
 from planaudit.pits import mineralised, pushback_widths, sums
 from planaudit.revenue_factors import BASE_PRICE, factor_text, factor_texts
-from planaudit.rules import TOLD, Rule, rule, unlike
+from planaudit.rules import TOLD, Checks, Rule, rule, unlike
 
 CENT = 0.01
 
 
-def verify(answer: Answer) -> list[Rule]:
+def checks_of(answer: Answer) -> Checks:
     """Verifies pushbacks. Since each block has one pushback, the pits up to each number are nested by construction."""
     as_shells = by_pushback(answer)
-    of_shells = [of_pushbacks(check(as_shells)) for check in (walls.verify, fixed.verify)]
-    return [verify_places(answer), *of_shells, verify_sums(answer), pushback_widths.verify(answer)]
+    return {
+        "pushback of blocks": lambda: [verify_places(answer)],
+        "pushback walls": lambda: [of_pushbacks(walls.verify(as_shells))],
+        "pushback fixed": lambda: [of_pushbacks(fixed.verify(as_shells))],
+        "pushbacks": lambda: [verify_sums(answer)],
+        "pushback widths": lambda: [pushback_widths.verify(answer)],
+    }
 
 
 def of_pushbacks(of_shells: Rule) -> Rule:

@@ -12,7 +12,7 @@ import pandas as pd
 from planaudit.inputs.answer import Answer
 from planaudit.inputs.matching import own_name
 from planaudit.inputs.tables import YEAR
-from planaudit.rules import Rule
+from planaudit.rules import Checks
 from planaudit.schedules import cash_flow, grade_tonnage, inventory, price_paths
 from planaudit.schedules.limits import shares_of
 from planaudit.schedules.lots import MILL, BlockAmounts
@@ -63,16 +63,17 @@ def flow_of(answer: Answer) -> MaterialFlow:
     return replace(flow, rows=flow.rows.assign(**{name: due for name, (due, _) in flow.expected.items()}))
 
 
-def verify(answer: Answer) -> list[Rule]:
-    """Verifies inventory.csv, cash_flow.csv, valuation.csv and grade_tonnage.csv."""
+def checks_of(answer: Answer) -> Checks:
+    """Verifies inventory.csv, cash_flow.csv, valuation.csv and grade_tonnage.csv, and price paths if there are any."""
     flow = flow_of(answer)
-    more = [price_paths.verify(answer, CASE, recovered_of(flow))] if answer.project.price_paths else []
-    return [
-        inventory.rule_of([*untaken(flow), *inventory.unlike_rows(flow)]),
-        cash_flow.verify(flow, [CASE]),
-        grade_tonnage.verify(answer),
-        *more,
-    ]
+    found: Checks = {
+        "inventory": lambda: [inventory.rule_of([*untaken(flow), *inventory.unlike_rows(flow)])],
+        "cash flow": lambda: [cash_flow.verify(flow, [CASE])],
+        "grade tonnage": lambda: [grade_tonnage.verify(answer)],
+    }
+    if not answer.project.price_paths:
+        return found
+    return {**found, "price paths": lambda: [price_paths.verify(answer, CASE, recovered_of(flow))]}
 
 
 def recovered_of(flow: MaterialFlow) -> dict[str, np.ndarray]:

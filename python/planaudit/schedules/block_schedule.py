@@ -6,7 +6,7 @@ import json
 import math
 from dataclasses import replace
 from itertools import product
-from typing import Any, Optional
+from typing import Any
 
 import numpy as np
 import pandas as pd
@@ -17,7 +17,7 @@ from planaudit.inputs.answer import Answer
 from planaudit.inputs.tables import YEAR
 from planaudit.money import ore_costs
 from planaudit.money.period_costs import capex, fixed_cost, has_costs, mining_factor, premiums
-from planaudit.rules import TOLD, Rule, rule
+from planaudit.rules import TOLD, Checks, Rule, rule
 from planaudit.schedules import block_flow, block_grades, bounds, certificate, methods as ways_table
 from planaudit.schedules.discounts import discount, present_costs
 from planaudit.schedules.limits import amounts_of, limits_of, minima_of, shares_of
@@ -28,38 +28,33 @@ FILE, CASE = "block_schedule.json", block_flow.CASE
 SLIGHT = 1e-6
 
 
-def verify(answer: Answer) -> list[Rule]:
+def checks_of(answer: Answer) -> Checks:
     """Verifies constraints, order, limits and values, and the tables of money and material."""
     told = counted(json.loads((answer.folder / FILE).read_text(encoding="utf-8")), answer.project)
     flows = flows_of(answer)
     sums = flows.groupby(answer.said[YEAR].to_numpy()).sum()
-    rules = [
-        verify_order(answer, told),
-        verify_limits(answer, told, sums),
-        verify_fixed(answer),
-        verify_value(answer, told, sums),
-        bounds.verify(answer, told),
-        *block_flow.verify(answer),
-        *certificate.verify(answer, told),
-    ]
-    return [found for found in rules if found is not None]
+    return {
+        "block order": lambda: [verify_order(answer, told)],
+        "block limits": lambda: [verify_limits(answer, told, sums)],
+        "block fixed": lambda: verify_fixed(answer),
+        "block value": lambda: [verify_value(answer, told, sums)],
+        "upper bound": lambda: [bounds.verify(answer, told)],
+        **block_flow.checks_of(answer),
+        "certificate": lambda: certificate.verify(answer, told),
+    }
 
 
-def verify_fixed(answer: Answer) -> Optional[Rule]:
-    """Verifies that must-mine blocks are mined, and excluded blocks and those that depend on them are not."""
+def verify_fixed(answer: Answer) -> list[Rule]:
+    """Verifies that must-mine blocks are mined, and excluded blocks and those that depend on them are not, if the project has constraints."""
     if answer.project.constraints is None:
-        return None
+        return []
     year, (must, never) = answer.said[YEAR].to_numpy(), fixed.demanded(answer, answer.project.constraints)
     # Of a block that is mined out already nothing is left to mine.
     left, dug = np.flatnonzero(must & (answer.tonnes > 0) & (year == 0)), np.flatnonzero(never & (year > 0))
     differences = [f"{answer.called(row)} is must-mine, and is in no year" for row in left[:TOLD]]
     differences += [f"{answer.called(row)} is excluded, and is in year {year[row]}" for row in dug[:TOLD]]
-    return rule(
-        "block fixed",
-        "must-mine blocks are mined in some year, and excluded blocks in none",
-        differences,
-        len(left) + len(dug),
-    )
+    holds = "must-mine blocks are mined in some year, and excluded blocks in none"
+    return [rule("block fixed", holds, differences, len(left) + len(dug))]
 
 
 def flows_of(answer: Answer) -> pd.DataFrame:

@@ -16,7 +16,7 @@ import pandas as pd
 from planaudit.inputs.answer import Answer
 from planaudit.money.period_costs import capex, fixed_cost, mining_factor
 from planaudit.revenue_factors import factor_texts
-from planaudit.rules import TOLD, Rule, rule
+from planaudit.rules import TOLD, Checks, Rule, rule
 from planaudit.schedules import (
     cash_flow,
     dumps,
@@ -73,7 +73,7 @@ class Way:
         return dug.cumsum(axis=2)
 
 
-def verify(answer: Answer) -> list[Rule]:
+def checks_of(answer: Answer) -> Checks:
     """Verifies order, amounts, flows, limits, values, the bound, and the years of blocks."""
     told = counted(json.loads((answer.folder / FILE).read_text(encoding="utf-8")), answer.project)
     told["methods"] = {name: counted(method, answer.project) for name, method in told["methods"].items()}
@@ -81,20 +81,20 @@ def verify(answer: Answer) -> list[Rule]:
     sums = sums_of_benches(flow)
     misplaced, rows = levelled(answer, told)
     ways = [Way(answer, name, rows[rows["method"] == name], said) for name, said in told["methods"].items()]
-    return [
-        verify_amounts(ways, flow, sums, misplaced),
-        material_flow.verify(flow, rows, strange),
-        verify_order(ways, sums),
-        verify_limits(ways, told, flow),
-        verify_value(ways, told, sums),
-        cash_flow.verify(flow, list(told["methods"])),
-        inventory.verify(flow, told["shown"]),
-        grade_tonnage.verify(answer),
-        pushback_bounds.verify(answer, told, by_year(answer, int(told["years"]))),
-        *verify_certificate(answer, told, flow),
-        verify_years_of_blocks(ways, told, sums),
-        *verify_prices(answer, told["shown"]),
-    ]
+    return {
+        "schedule amounts": lambda: [verify_amounts(ways, flow, sums, misplaced)],
+        "material flow": lambda: [material_flow.verify(flow, rows, strange)],
+        "schedule order": lambda: [verify_order(ways, sums)],
+        "schedule limits": lambda: [verify_limits(ways, told, flow)],
+        "schedule value": lambda: [verify_value(ways, told, sums)],
+        "cash flow": lambda: [cash_flow.verify(flow, list(told["methods"]))],
+        "inventory": lambda: [inventory.verify(flow, told["shown"])],
+        "grade tonnage": lambda: [grade_tonnage.verify(answer)],
+        "upper bound": lambda: [pushback_bounds.verify(answer, told, by_year(answer, int(told["years"])))],
+        "certificate": lambda: verify_certificate(answer, told, flow),
+        "years of blocks": lambda: [verify_years_of_blocks(ways, told, sums)],
+        "price paths": lambda: verify_prices(answer, told["shown"]),
+    }
 
 
 def verify_certificate(answer: Answer, told: dict[str, Any], flow: MaterialFlow) -> list[Rule]:

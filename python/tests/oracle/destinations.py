@@ -21,6 +21,7 @@ Amounts = dict[str, Fraction]
 Limits = list[tuple[tuple[str, ...], Callable[[int], Fraction]]]
 Kind = tuple[tuple[int, ...], tuple[int, ...], int]
 BASE, BINS, MOST_WAITING = Fraction(1), 8, 3
+COSTS = ("processing_cost", "selling_cost")
 
 
 def premiums(mine: Mine, year: int, process: int = 0) -> dict[str, Fraction]:
@@ -28,7 +29,7 @@ def premiums(mine: Mine, year: int, process: int = 0) -> dict[str, Fraction]:
     found = {}
     for metal in [smelter.sold_by(metal, mine.processes[process]) for metal in mine.project["metals"]]:
         found[metal["name"]] = mine.earned(metal, price_of(mine, metal, year)) - mine.earned(metal, metal["price"])
-    return found | {cost: 1 - factor_of(mine, cost, year) for cost in ("processing_cost", "selling_cost")}
+    return found | {cost: 1 - factor_of(mine, cost, year) for cost in COSTS}
 
 
 @dataclass
@@ -50,6 +51,17 @@ class Ore:
     def joint(self, some: tuple[int, ...]) -> Callable[[int], Fraction]:
         """The capacity of some processes together, by year."""
         return lambda year: sum((most_of(self.mine, year)[k] for k in some), Fraction(0))
+
+    def premiums(self, year: int) -> list[dict[str, Fraction]]:
+        """The premiums of a year, from 1, of each process, without those that are 0."""
+        if year not in self.by_year:
+            of_processes = (premiums(self.mine, year, k) for k in range(self.count))
+            self.by_year[year] = [{name: it for name, it in found.items() if it} for found in of_processes]
+        return self.by_year[year]
+
+    @cached_property
+    def by_year(self) -> dict[int, list[dict[str, Fraction]]]:
+        return {}
 
     @cached_property
     def blocks(self) -> list[Place]:
@@ -138,7 +150,7 @@ class Ore:
 
     def ship(self, year: int, amounts: Amounts, part: Fraction) -> Amounts:
         """What a year, from 1, feeds, recovers and gains at the base price, where its ore goes best at its own prices."""
-        more = [premiums(self.mine, year, k) for k in range(self.count)]
+        more, metals = self.premiums(year), [metal["name"] for metal in self.mine.project["metals"]]
         kinds = [kind for kind in set(self.kinds.values()) if amounts.get(f"feed {kind}")]
         pairs = [(kind, k) for kind in kinds for k in kind[0]]
         gain = {
@@ -157,12 +169,19 @@ class Ore:
                 f"process {k}": f"feed {kind}",
                 "gain": f"gain {kind} {k}",
             }
-            parts |= {f"recovered_{name}": f"{name} {kind} {k}" for name in more[k]}
+            parts |= {f"recovered_{name}": f"{name} {kind} {k}" for name in (*metals, *COSTS)}
             for name, of in parts.items():
-                found[name] = found.get(name, Fraction(0)) + amounts[of] * taken
+                add(found, name, amounts[of], taken)
             premium = gain[kind, k] - amounts[f"gain {kind} {k}"]
-            found["premium"] = found.get("premium", Fraction(0)) + premium * taken
+            add(found, "premium", premium, taken)
         return found
+
+
+def add(found: Amounts, name: str, amount: Fraction, share: Fraction) -> None:
+    """Adds a share of an amount; sums of 0 and products by 1 take the time of other fractions."""
+    before = found.setdefault(name, Fraction(0))
+    if amount and share:
+        found[name] = before + (amount if share == 1 else amount * share)
 
 
 Pair = tuple[Kind, int]

@@ -8,7 +8,7 @@ from dataclasses import dataclass, field
 from fractions import Fraction
 from typing import Any, Optional
 
-from .destinations import Amounts, Limits, Ore, premiums
+from .destinations import Amounts, Limits, Ore, add, premiums
 from .mine import Mine, Place
 from .periods import capex_of, factor_of, fixed_of, length_of, mining_of, start_of
 
@@ -60,7 +60,7 @@ class Year:
 
     def add(self, piece: Amounts, share: Fraction) -> None:
         for name, amount in piece.items():
-            self.amounts[name] = self.amounts.get(name, Fraction(0)) + amount * share
+            add(self.amounts, name, amount, share)
 
 
 def mined(pieces: Iterable[Amounts], limits: Limits) -> list[Year]:

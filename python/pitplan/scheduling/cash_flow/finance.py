@@ -2,7 +2,7 @@
 
 from __future__ import annotations
 
-from dataclasses import dataclass, replace
+from dataclasses import dataclass
 from functools import cached_property
 
 import numpy as np
@@ -10,7 +10,7 @@ from scipy.optimize import brentq
 
 from pitplan.config.cash_flow import CashFlowRules
 from pitplan.config.project import Project
-from pitplan.pits.best_worst_case import year_discounts
+from pitplan.pits.best_worst_case import Rate, year_discounts
 
 from .lines import Statement
 from .operation import Amounts
@@ -75,10 +75,15 @@ class Finance:
         """The same after closure cost and tax."""
         return self.before_tax - self.closure - self.tax
 
-    def factors(self, rate: float) -> tuple[Amounts, Amounts]:
+    def factors(self, rate: Rate) -> tuple[Amounts, Amounts]:
         """Returns the discount factors of the periods at a rate: of their cash, and of capex at their start."""
-        settings = replace(self.project.shells, discount_rate=rate)
-        return year_discounts(settings, len(self.statement.ends)), (1 + rate) ** -self.statement.starts
+        of_cash = year_discounts(self.project.shells, len(self.statement.ends), rate)
+        return of_cash, (1 + rate) ** -self.statement.starts
+
+    @cached_property
+    def factors_of_rates(self) -> tuple[Amounts, Amounts]:
+        """The factors at each of RATES, shape (rates, periods)."""
+        return self.factors(RATES[:, None])
 
     def npv(self, cash: Amounts, rate: float) -> float:
         """Returns the net present value of cash and of the capex at a rate."""
@@ -87,11 +92,15 @@ class Finance:
 
     def irr(self, cash: Amounts) -> float:
         """Returns the least rate above 0 from which on the NPV is not positive; nan if it is none at 0 %, or still is at 1,000 %."""
-        found = [self.npv(cash, rate) for rate in RATES]
-        below = np.flatnonzero(np.array(found) <= 0)
+        of_cash, of_capex = self.factors_of_rates
+        below = np.flatnonzero(of_cash @ cash - of_capex @ self.statement.capex <= 0)
         if not len(below) or below[0] == 0:
             return float("nan")
         low, high = RATES[below[0] - 1], RATES[below[0]]
+        at_low, at_high = self.npv(cash, low), self.npv(cash, high)
+        if not at_high <= 0 < at_low:
+            # At one of both it is 0 but for rounding.
+            return float(low if abs(at_low) < abs(at_high) else high)
         return float(brentq(lambda rate: self.npv(cash, rate), low, high, xtol=1e-12))
 
     def payback(self, cash: Amounts) -> float:

@@ -214,7 +214,7 @@ class FlowModel:
             found.append((least, greatest))
         return tuple(found)
 
-    @property
+    @cached_property
     def blended(self) -> list[str]:
         """The limits of which processing some ore uses less than nothing, so that blends keep them."""
         ores = (self.ore, self.opening.ore)
@@ -234,7 +234,7 @@ class FlowModel:
         """Returns what each whole bench adds to an amount by mining alone."""
         return self.benches.of(name) if name in self.benches.names else np.zeros(len(self.benches))
 
-    @property
+    @cached_property
     def of_mining(self) -> Limits:
         """The limits of mining alone: those to which processing adds nothing, and the vertical advance rate."""
         limits = self.problem.limits
