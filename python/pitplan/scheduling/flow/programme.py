@@ -24,7 +24,7 @@ from pitplan.scheduling.highs_process import solve
 from .limit import Limit
 from .limit_names import ADVANCE, DUMP, DUMPED, MAX, MIN, RUNNING, STOCK, Prices
 from .model import FlowModel
-from .rows import by_end, furthest, order_rows, pace_rows
+from .rows import by_end, furthest, order_rows
 from .sparse import beside, kron
 
 # Programmes with more unknowns than these take minutes.
@@ -282,7 +282,7 @@ class FlowProgramme:
 
     def order_rows(self) -> tuple[csr_matrix, NDArray[np.float64]]:
         matrix, most = order_rows(self.model.benches, self.years)
-        paced = pace_rows(self.model.benches, self.model.of_mining, self.years) if self.paced else matrix[:0]
+        paced = self.model.paced if self.paced else matrix[:0]
         parts, sides = [matrix, paced], [most, np.zeros(paced.shape[0])]
         if self.between is not None:
             least = np.flatnonzero(self.between[0].ravel())
