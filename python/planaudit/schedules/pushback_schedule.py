@@ -80,7 +80,7 @@ class Way:
 
 
 def checks_of(answer: Answer) -> Checks:
-    """Verifies order, amounts, flows, limits, values, the bound, and the years of blocks."""
+    """Returns the checks of order, amounts, flows, limits, values, the bound, and the years of blocks."""
     told = counted(json.loads((answer.folder / FILE).read_text(encoding="utf-8")), answer.project)
     told["methods"] = {name: counted(method, answer.project) for name, method in told["methods"].items()}
     flow, strange = material_flow.read(answer)
