@@ -5,9 +5,9 @@ import json
 import pandas as pd
 import pytest
 from conftest import PROJECT, rows
-from helpers.block_commands import WIDE, YEARLY, rewrite, scheduled, with_processes, wrong, years_of
+from helpers.block_commands import WIDE, YEARLY, rewrite, scheduled, with_processes, years_of
 from helpers.pushbacks import pillars
-from helpers.verified import UNVERIFIED
+from helpers.verified import UNVERIFIED, differing
 
 import pitplan
 from pitplan import PlanError, load, verify
@@ -89,7 +89,7 @@ def test_a_sum_of_blocks_that_are_put_together(plan_folder, words):
     assert years_of(folder)["sum_as_kg"].tolist() == pytest.approx([6, 4])
     column = "as_kg" if "as_ppm" not in words else "as_ppm"
     blocks.assign(**{column: blocks[column] + 1e-5}).to_csv(folder / "tables/blocks.csv", index=False)
-    assert "reblocked" in wrong(folder)
+    assert differing(folder, "reblocked")
 
 
 def test_the_least_of_a_sum_by_hand(plan_folder):
@@ -149,7 +149,7 @@ def test_fixed_blocks_by_hand(plan_folder):
             folder / "tables/blocks.csv",
             lambda it: it.__setitem__("year", it["year"].where(it["name"] != name, 0 if name[1] == "3" else 3)),
         )
-        assert "block fixed" in wrong(folder)
+        assert differing(folder, "block fixed")
         (folder / "tables/blocks.csv").write_text(kept)
 
 
@@ -162,10 +162,10 @@ def test_fixed_blocks_that_no_year_has_room_for_are_told(plan_folder):
 def test_a_year_below_a_least_amount_is_found(plan_folder):
     _, folder = scheduled(plan_folder, "[schedule]\nyears = 3\nminimum = { feed = 100 }\n", WIDE)
     rewrite(folder / "tables/blocks.csv", lambda table: table.__setitem__("year", table["year"].replace({3: 2})))
-    assert {"block limits", "block value"} <= wrong(folder)
+    assert differing(folder, "block limits", "block value") == {"block limits", "block value"}
     told = json.loads((folder / "block_schedule.json").read_text())
     (folder / "block_schedule.json").write_text(json.dumps(told | {"least": {"feed_tonnes": 50}}))
-    assert "block limits" in wrong(folder)
+    assert differing(folder, "block limits")
 
 
 @pytest.mark.parametrize("name", ["sum_as_kg"])
@@ -173,7 +173,7 @@ def test_a_sum_that_is_not_that_of_its_blocks_is_found(plan_folder, name):
     text = '[schedule]\nyears = 3\n[[schedule.limits]]\ncolumn = "as_kg"\nmax = 6\n'
     _, folder = scheduled(plan_folder, text, WIDE, pillars(**ARSENIC))
     rewrite(folder / "tables/years.csv", lambda table: table.__setitem__(name, table[name] + 1))
-    assert "block value" in wrong(folder)
+    assert differing(folder, "block value")
 
 
 @pytest.mark.parametrize(

@@ -8,6 +8,7 @@ import pytest
 from conftest import rows
 from helpers.block_commands import WIDE, named_mill, rewrite, scheduled, with_processes, wrong, years_of
 from helpers.pushbacks import pillars
+from helpers.verified import differing
 
 import pitplan
 
@@ -131,7 +132,7 @@ def test_another_limit_of_a_period_is_found(plan_folder):
     text = path.read_text()
     assert text.count("max = 110") == 1
     path.write_text(text.replace("max = 110", "max = 70"))
-    assert {"block limits", "upper bound"} <= wrong(folder)
+    assert differing(folder, "block limits", "upper bound") == {"block limits", "upper bound"}
 
 
 @pytest.fixture(scope="module")
@@ -150,7 +151,7 @@ def mixed(written, tmp_path):
 
 def test_a_head_grade_above_its_limit_is_found(mixed):
     rewrite(mixed / "tables/blocks.csv", lambda table: table.__setitem__("share_mill", (table["cu"] > 0) * 1.0))
-    assert "block limits" in wrong(mixed)
+    assert differing(mixed, "block limits")
 
 
 def test_a_head_grade_that_is_not_that_of_the_blocks_is_found(mixed):

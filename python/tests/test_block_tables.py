@@ -9,6 +9,7 @@ from conftest import PROJECT, rows
 from helpers import block_commands, office, worked_cash_flow
 from helpers.block_commands import rewrite, wrong
 from helpers.pushbacks import pillars
+from helpers.verified import differing
 
 import pitplan
 from pitplan.export import xlsx
@@ -309,7 +310,7 @@ def test_a_changed_line_is_found(worked, tmp_path, name):
     # 1.6 t of copper with three decimals tell the C1 cost to a dollar.
     found.loc[1, name] += 5 if name == "c1_cost" else 0.05
     found.to_csv(folder / "tables/cash_flow.csv", index=False)
-    assert "cash flow" in wrong(folder)
+    assert differing(folder, "cash flow")
 
 
 @pytest.mark.parametrize(

@@ -7,7 +7,7 @@ import pandas as pd
 import pytest
 from conftest import PROJECT, rows
 from helpers.pushbacks import UPRIGHT, with_pushbacks
-from helpers.verified import UNVERIFIED
+from helpers.verified import UNVERIFIED, differing
 
 import pitplan
 from pitplan import PlanError, load, verify
@@ -186,7 +186,7 @@ def test_a_changed_number_is_found(copied, table, name, by, rules):
     found[name] = found[name].astype(float) if by % 1 else found[name]
     found.loc[row, name] += by
     found.to_csv(path, index=False)
-    assert rules <= wrong(copied)
+    assert differing(copied, *rules) == rules
 
 
 def test_ore_that_is_reclaimed_before_it_is_stocked_is_found(copied):
@@ -204,7 +204,7 @@ def test_ore_that_goes_elsewhere_is_found(copied):
     row = found.index[(found["method"] == "lp") & (found["destination"] == "mill")][0]
     found.loc[row, "destination"] = "leach"
     found.to_csv(path, index=False)
-    assert "material flow" in wrong(copied)
+    assert differing(copied, "material flow")
 
 
 def test_a_price_of_no_limit_is_found(copied):

@@ -7,6 +7,7 @@ import pandas as pd
 import pytest
 from conftest import PROJECT, rows
 from helpers import worked_cash_flow
+from helpers.verified import differing
 from matplotlib.figure import Figure
 
 import pitplan
@@ -72,7 +73,7 @@ def test_shells_and_pushbacks_have_the_curves_too(written, tmp_path, write):
         found[(found["part"] != "pit") | (found["class"] != "inferred")],
     ):
         changed.to_csv(path, index=False)
-        assert "grade tonnage" in wrong(tmp_path / "out")
+        assert differing(tmp_path / "out", "grade tonnage")
 
 
 def test_marked_cutoffs_are_as_worked_out_by_hand(written):

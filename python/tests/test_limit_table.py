@@ -4,7 +4,7 @@ import pandas as pd
 import pytest
 from conftest import PROJECT, rows
 from helpers.processes import deposit
-from helpers.verified import UNVERIFIED, wrong
+from helpers.verified import UNVERIFIED, differing, wrong
 
 import pitplan
 
@@ -104,7 +104,7 @@ def test_a_missing_row_is_found(scheduled):
     folder = scheduled(rows(1, 1, 1, cu=lambda i, j, k: 0.8))
     path = folder / "tables/limits.csv"
     pd.read_csv(path).iloc[1:].to_csv(path, index=False)
-    assert "schedule limits" in wrong(folder)
+    assert differing(folder, "schedule limits")
 
 
 def test_a_share_of_a_material_in_the_feed_is_a_head_grade_of_a_calculated_column(scheduled):

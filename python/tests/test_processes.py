@@ -7,6 +7,7 @@ import pandas as pd
 import pytest
 from conftest import PROJECT, rows
 from helpers.processes import LEACH_AND_MILL, WITH, deposit
+from helpers.verified import differing
 from hypothesis import given, strategies as st
 
 import pitplan
@@ -220,7 +221,7 @@ def test_what_is_bent_in_blocks_is_found(plan_folder, column):
     at = table.index[table["process"] == "mill"][0]
     table.loc[at, column] = "leach" if column == "process" else table.loc[at, column] + 0.02
     table.to_csv(folder / "tables/blocks.csv", index=False)
-    assert "money" in wrong(folder)
+    assert differing(folder, "money")
 
 
 def worst_way(ways, factor):
@@ -252,13 +253,13 @@ def test_a_capacity_that_is_passed_over_is_found(plan_folder, monkeypatch):
         "best_shares",
         lambda feed, gain, takes, capacity: shipped(feed, gain, takes, 10 * capacity),
     )
-    assert "years" in wrong(solved(plan_folder))
+    assert differing(solved(plan_folder), "years")
 
 
 def test_ore_that_goes_elsewhere_than_is_best_is_found(plan_folder, monkeypatch):
     shipped = best_worst_case.best_shares
     monkeypatch.setattr(best_worst_case, "best_shares", lambda *ore: 0.9 * shipped(*ore))
-    assert "years" in wrong(solved(plan_folder))
+    assert differing(solved(plan_folder), "years")
 
 
 def test_a_mine_that_waits_for_each_process_is_found(plan_folder, monkeypatch):
@@ -267,7 +268,7 @@ def test_a_mine_that_waits_for_each_process_is_found(plan_folder, monkeypatch):
     monkeypatch.setattr(ore_kinds.OreKinds, "waits", lambda self, settings: waits(self, settings)[-1:])
     path = plan_folder(deposit(), PROJECT, *MORE, ("capacity = 300", "capacity = 2"))
     pitplan.write_shells(path, writing=pitplan.Writing(verifies=False))
-    assert "years" in wrong(path.parent / "plan")
+    assert differing(path.parent / "plan", "years")
 
 
 @pytest.mark.parametrize("capacity", ["1", "30", "300"])

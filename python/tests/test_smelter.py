@@ -10,7 +10,7 @@ import pytest
 from conftest import ROOT, rows
 from helpers import office, worked_cash_flow
 from helpers.read_alike import demand_read_alike
-from helpers.verified import UNVERIFIED
+from helpers.verified import UNVERIFIED, differing
 
 import pitplan
 from pitplan import PlanError, load, verify
@@ -285,7 +285,7 @@ def test_a_changed_line_is_found(concentrate, tmp_path, name):
     found = pd.read_csv(path)
     found[name] = found[name] + 0.05
     found.to_csv(path, index=False)
-    assert "cash flow" in wrong(folder)
+    assert differing(folder, "cash flow")
 
 
 def test_a_changed_payable_metal_of_the_inventory_is_found(concentrate, tmp_path):
@@ -294,7 +294,7 @@ def test_a_changed_payable_metal_of_the_inventory_is_found(concentrate, tmp_path
     found = pd.read_csv(path)
     found["payable_gold"] += 1
     found.to_csv(path, index=False)
-    assert "inventory" in wrong(folder)
+    assert differing(folder, "inventory")
 
 
 def test_npv_is_rebuilt_from_the_sheet_down_to_prices(tmp_path, with_workbooks):

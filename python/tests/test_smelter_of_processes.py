@@ -7,7 +7,7 @@ import pytest
 from conftest import rows
 from helpers import office
 from helpers.read_alike import demand_read_alike
-from helpers.verified import UNVERIFIED
+from helpers.verified import UNVERIFIED, differing
 
 import pitplan
 from pitplan import PlanError, load, verify
@@ -185,7 +185,7 @@ def test_a_line_by_the_terms_of_the_other_process_is_found(both, tmp_path, name)
     found = pd.read_csv(path)
     found[name] = found[name] * 174 / 170
     found.to_csv(path, index=False)
-    assert "cash flow" in wrong(folder)
+    assert differing(folder, "cash flow")
 
 
 def test_terms_of_all_processes_are_those_of_each(tmp_path):

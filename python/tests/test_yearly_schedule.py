@@ -11,7 +11,7 @@ import pandas as pd
 import pytest
 from conftest import PROJECT, rows
 from helpers.pushbacks import PUSHBACKS, UPRIGHT, pillars, with_pushbacks
-from helpers.verified import UNVERIFIED
+from helpers.verified import UNVERIFIED, differing
 
 import pitplan
 from pitplan import PlanError, load, verify
@@ -241,18 +241,18 @@ def with_more(name, by):
 @pytest.mark.parametrize("name", ["total_tonnes", "feed_tonnes", "recovered_copper", "cash_flow", "share"])
 def test_an_amount_that_is_not_of_its_bench_is_found(copied, name):
     rewrite(copied / "tables/schedule.csv", with_more(name, 0.01 if name in ("recovered_copper", "share") else 1))
-    assert "schedule amounts" in wrong(copied)
+    assert differing(copied, "schedule amounts")
 
 
 @pytest.mark.parametrize(("name", "by"), [("pushback", 7), ("bench", 3), ("bench", 5000), ("year", -9)])
 def test_a_row_of_no_bench_is_found(copied, name, by):
     rewrite(copied / "tables/schedule.csv", with_more(name, by))
-    assert "schedule amounts" in wrong(copied)
+    assert differing(copied, "schedule amounts")
 
 
 def test_a_bench_that_is_dug_twice_is_found(copied):
     rewrite(copied / "tables/schedule.csv", lambda table: pd.concat([table, table.head(1)]))
-    assert "schedule amounts" in wrong(copied)
+    assert differing(copied, "schedule amounts")
 
 
 def test_a_bench_before_its_time_is_found(copied):
@@ -263,7 +263,7 @@ def test_a_bench_before_its_time_is_found(copied):
         return table
 
     rewrite(copied / "tables/schedule.csv", change)
-    assert "schedule order" in wrong(copied)
+    assert differing(copied, "schedule order")
 
 
 @pytest.mark.parametrize(
@@ -282,7 +282,7 @@ def test_a_year_above_a_limit_is_found(copied, old, new):
     text = project.read_text()
     assert old in text
     project.write_text(text.replace(old, new))
-    assert "schedule limits" in wrong(copied)
+    assert differing(copied, "schedule limits")
 
 
 @pytest.mark.parametrize(
@@ -301,7 +301,7 @@ def test_a_lag_that_is_not_kept_is_found(plan_folder):
     path = plan_folder(pillars(), PUSHBACKS + "[schedule]\nvertical_advance_rate = 1\n")
     pitplan.write_schedule(path)
     path.write_text(path.read_text() + "bench_lag = 1\n")
-    assert "schedule order" in wrong(path.parent / "plan" / "schedule")
+    assert differing(path.parent / "plan" / "schedule", "schedule order")
 
 
 def change_told(folder, **more):
@@ -315,7 +315,7 @@ def test_a_total_that_does_not_follow_is_found(copied, name):
     told = change_told(copied)
     told["methods"]["rule"][name] += 1
     change_told(copied, methods=told["methods"])
-    assert "schedule value" in wrong(copied)
+    assert differing(copied, "schedule value")
 
 
 @pytest.mark.parametrize("name", ["upper_bound", "milp_upper_bound"])
@@ -343,7 +343,7 @@ def test_what_the_rule_leaves_is_found(copied):
 
 def test_cash_that_is_discounted_otherwise_is_found(copied):
     rewrite(copied / "tables/schedule.csv", with_more("discounted_cash_flow", 1))
-    assert "schedule value" in wrong(copied)
+    assert differing(copied, "schedule value")
 
 
 @pytest.mark.parametrize(
@@ -356,7 +356,7 @@ def test_years_that_do_not_follow_are_found(copied, name):
         return table
 
     rewrite(copied / "tables/years.csv", change)
-    assert "schedule value" in wrong(copied)
+    assert differing(copied, "schedule value")
 
 
 def test_a_year_of_a_block_is_found(copied):
@@ -374,9 +374,9 @@ def test_a_way_that_is_shown_and_earns_less_is_found(copied):
     other = next(name for name in told["methods"] if name != told["shown"])
     told["methods"][told["shown"]]["npv"] = told["methods"][other]["npv"] - 1
     change_told(copied, methods=told["methods"])
-    assert "years of blocks" in wrong(copied)
+    assert differing(copied, "years of blocks")
     change_told(copied, shown="hand")
-    assert "years of blocks" in wrong(copied)
+    assert differing(copied, "years of blocks")
 
 
 def test_great_amounts_are_right_too(plan_folder):

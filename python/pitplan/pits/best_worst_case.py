@@ -150,9 +150,10 @@ class Course:
 
     def after_a_year(self, place: float, year: int) -> float:
         """The place at the end of a year, from 0, that starts at a place: where a piece first needs a capacity that is used up."""
-        until = float(len(self.amounts))
-        for used, target in zip(self.used.T, at(self.used, np.array([place]))[0] + self.of_year(year)):
-            piece = int(np.searchsorted(used, target + HAIR, side="right")) - 1
+        until, first = float(len(self.amounts)), min(int(place), len(self.used) - 2)
+        begins = self.used[first] + (place - first) * (self.used[first + 1] - self.used[first])
+        for used, target in zip(self.used.T, begins + self.of_year(year)):
+            piece = int(used.searchsorted(target + HAIR, side="right")) - 1
             if piece < len(self.amounts):
                 share = (target - used[piece]) / (used[piece + 1] - used[piece])
                 until = min(until, piece + max(share, 0.0))

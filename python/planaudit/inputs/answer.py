@@ -20,6 +20,7 @@ from planaudit.inputs.matching import (
     PUSHBACK,
     TableRows,
     beside,
+    is_as_written,
     own_columns,
     own_name,
     read_blocks,
@@ -57,7 +58,8 @@ def read_shells(
         *([BIN, MINED] if schedule is not None else []),
         *shares,
     ]
-    said = block_table.columns_of(written, [*said_of(project), *more], order)
+    rows_of_said = None if is_as_written(order, written) else order
+    said = block_table.columns_of(written, [*said_of(project), *more], rows_of_said)
     factors = tuple(record["shells"]["revenue_factors"])
     found = {"pushbacks": pushbacks, "schedule": schedule, "parts": parts, "beyond": beyond, "is_by_block": is_by_block}
     found["own"] = own_columns(written, rows, order)

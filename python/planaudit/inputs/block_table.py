@@ -52,7 +52,8 @@ def read(project: Project) -> pd.DataFrame:
         for name in amounts
         if name not in project.economics.adjusting
     }
-    frame = frame.assign(**whole)
+    # Without a copy of the other columns.
+    frame = pd.DataFrame({name: whole.get(name, frame[name].array) for name in frame}, frame.index, copy=False)
     is_of_parents = table.reblock is not None and table.reblock.counts is None and table.reblock.size is None
     cells = rules.cell_size or () if is_of_parents else ()
     frame = with_tonnes(frame, project)

@@ -113,7 +113,15 @@ def plain_blocks(path: Path, wanted: Optional[set[str]], texts: list[str]) -> Op
 def own_columns(written: pd.DataFrame, rows: pd.DataFrame, order: np.ndarray) -> pd.DataFrame:
     """Returns the planner's columns of blocks.csv by their names in the table, in the order of `rows`."""
     there = [name for name in rows.columns if own_name(name) in written]
-    return pd.DataFrame({name: written[own_name(name)].to_numpy()[order] for name in there})
+    arrays = {name: written[own_name(name)].to_numpy() for name in there}
+    if not is_as_written(order, written):
+        arrays = {name: values[order] for name, values in arrays.items()}
+    return pd.DataFrame(arrays, copy=False)
+
+
+def is_as_written(order: np.ndarray, written: pd.DataFrame) -> bool:
+    """Whether rows in an order are all rows of a table as they are written."""
+    return len(order) == len(written) and bool((order == np.arange(len(order))).all())
 
 
 def own_name(column: str) -> str:

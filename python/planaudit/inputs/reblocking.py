@@ -121,7 +121,8 @@ def divided(frame: pd.DataFrame, project: Project, grid: dict[str, Any]) -> tupl
     Raises AuditError if the number of these is not that of the removed blocks.
     """
     columns = project.table
-    east, north, up = np.rint(steps_of(frame[[columns.x, columns.y, columns.z]].to_numpy(), grid)).T
+    centres = np.column_stack([frame[name] for name in (columns.x, columns.y, columns.z)])
+    east, north, up = np.rint(steps_of(centres, grid)).T
     levels, rows, width = grid["shape"]
     inside = (east >= 0) & (east < width) & (north >= 0) & (north < rows) & (up <= 0) & (up > -levels)
     beyond = np.count_nonzero(~inside)

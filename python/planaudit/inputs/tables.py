@@ -2,8 +2,9 @@
 
 from __future__ import annotations
 
-from collections.abc import Iterable, Sequence
+from collections.abc import Iterable, Iterator, Sequence
 from pathlib import Path
+from typing import Any
 
 import numpy as np
 import pandas as pd
@@ -55,9 +56,10 @@ def read_table(path: Path, texts: Sequence[str] = ()) -> pd.DataFrame:
         With file, row and column, if a field of a numeric column is not a number.
     """
     frame = pd.read_csv(path, dtype=dict.fromkeys([*texts, EXACT], str), keep_default_na=False, na_values=[""])
-    frame = in_thousandths(frame.drop(columns=frame.columns.intersection(WORDS)))
+    words = [name for name in WORDS if name in frame]
+    frame = in_thousandths(frame.drop(columns=words) if words else frame)
     demand_numbers(frame, path.name, texts)
-    return frame.rename(columns={PERIOD: YEAR})
+    return frame.rename(columns={PERIOD: YEAR}, copy=False) if PERIOD in frame else frame
 
 
 def read_prices(path: Path) -> pd.DataFrame:
@@ -70,7 +72,7 @@ def demand_numbers(frame: pd.DataFrame, source: str, texts: Iterable[str]) -> No
     """Raises AuditError as `read_table` does."""
     words = {*texts}
     for name, column in frame.items():
-        if name in words or (column.dtype.kind in "iuf" and not np.isnan(column.to_numpy()).any()):
+        if name in words or column.dtype.kind == "i" or (column.dtype.kind == "f" and may_be(str(name), column)):
             continue
         lacking = pd.to_numeric(column.astype(str), errors="coerce").isna()
         if str(name).startswith(MAY_LACK):
@@ -83,6 +85,17 @@ def demand_numbers(frame: pd.DataFrame, source: str, texts: Iterable[str]) -> No
                 else "is empty"
             )
             raise AuditError(f"{source} row {row + FIRST_ROW} column {name}: {why}")
+
+
+def may_be(name: str, column: pd.Series) -> bool:
+    """Whether a column of numbers may have the empty fields that it has."""
+    return name.startswith(MAY_LACK) or not np.isnan(column.to_numpy()).any()
+
+
+def some(rows: pd.DataFrame, mask: np.ndarray | pd.Series) -> Iterator[Any]:
+    """Yields the rows of a mask; for none without the time that pandas takes for an empty table."""
+    if mask.any():
+        yield from rows[mask].itertuples()
 
 
 def demand_factors(frame: pd.DataFrame, factors: Iterable[float], source: str) -> None:

@@ -39,19 +39,21 @@ def recovered(metal: Metal, rows: pd.DataFrame, project: Project) -> np.ndarray:
     grades, table = rows[metal.column].to_numpy(), project.table
     grades = np.where(treated_as("waste", rows, project) | refused(rows, project, project.accepts), 0.0, grades)
     tonnes_of = 1 + by_code(project.economics.dilution, rows, table)
-    codes = [
-        rows[name].astype(str).to_numpy() if name else np.full(len(rows), "")
-        for name in (table.rock_type, table.domain)
-    ]
-    of_rocks = (
-        metal.recovery if isinstance(metal.recovery, dict) else dict.fromkeys(np.unique(codes[0]), metal.recovery)
-    )
+    place, codes = np.zeros(len(rows), dtype=np.int64), [""]
+    if table.rock_type:
+        place, found = pd.factorize(rows[table.rock_type].astype(str))
+        codes = found.tolist()
     share = np.zeros(len(rows))
-    for code, recovery in of_rocks.items():
-        mine = np.flatnonzero(codes[0] == code)
+    for number, code in enumerate(codes):
+        recovery = metal.recovery.get(code) if isinstance(metal.recovery, dict) else metal.recovery
+        if recovery is None:
+            continue
+        mine = np.flatnonzero(place == number)
         share[mine], close = by_grade(recovery, grades[mine] / tonnes_of[mine])
         for row in mine[close].tolist():
-            whole = 1 + of_code(project.economics.dilution, codes[0][row], codes[1][row])
+            whole = 1 + of_code(
+                project.economics.dilution, code, str(rows[table.domain].iloc[row]) if table.domain else ""
+            )
             share[row] = float(at_grade(recovery, Fraction(repr(float(grades[row]))) / Fraction(whole)))
     return np.maximum(grades - by_code(metal.tail_grade, rows, table) * tonnes_of, 0.0) * share
 

@@ -15,7 +15,7 @@ CENT = 0.01
 
 
 def checks_of(answer: Answer) -> Checks:
-    """Verifies pushbacks. Since each block has one pushback, the pits up to each number are nested by construction."""
+    """Returns the checks of pushbacks. Since each block has one pushback, the pits up to each number are nested by construction."""
     as_shells = by_pushback(answer)
     return {
         "pushback of blocks": lambda: [verify_places(answer)],

@@ -64,7 +64,7 @@ def flow_of(answer: Answer) -> MaterialFlow:
 
 
 def checks_of(answer: Answer) -> Checks:
-    """Verifies inventory.csv, cash_flow.csv, valuation.csv and grade_tonnage.csv, and price paths if there are any."""
+    """Returns the checks of inventory.csv, cash_flow.csv, valuation.csv and grade_tonnage.csv, and of price paths if there are any."""
     flow = flow_of(answer)
     found: Checks = {
         "inventory": lambda: [inventory.rule_of([*untaken(flow), *inventory.unlike_rows(flow)])],

@@ -29,7 +29,7 @@ SLIGHT = 1e-6
 
 
 def checks_of(answer: Answer) -> Checks:
-    """Verifies constraints, order, limits and values, and the tables of money and material."""
+    """Returns the checks of constraints, order, limits and values, and of the tables of money and material."""
     told = counted(json.loads((answer.folder / FILE).read_text(encoding="utf-8")), answer.project)
     flows = flows_of(answer)
     sums = flows.groupby(answer.said[YEAR].to_numpy()).sum()

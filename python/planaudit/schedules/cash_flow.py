@@ -6,6 +6,7 @@ from collections.abc import Callable, Iterator
 from dataclasses import dataclass, replace
 from decimal import Decimal
 from functools import cached_property, partial
+from typing import SupportsFloat
 
 import numpy as np
 import pandas as pd
@@ -125,8 +126,9 @@ class CashFlow:
         found["mining_cost_waste"] = waste * whole["mining"]
         found["mining_cost_depth"], found["mining_cost_added"] = from_pit * whole["depth"], from_pit * whole["added"]
         found["haulage_cost"] = from_pit * whole["hauled"] + self.by_process("hauled")
+        dearer = self.dearer("mining_cost")
         for name in ("ore", "waste", "depth", "added"):
-            found[f"mining_cost_{name}"] = found[f"mining_cost_{name}"] * self.dearer("mining_cost")
+            found[f"mining_cost_{name}"] = found[f"mining_cost_{name}"] * dearer
         for number, name in enumerate(flow.blocks.processes):
             of_process = np.where(flow.process == number, self.by_process("processing"), 0.0)
             found[f"processing_cost_{name or MILL}"] = of_process * self.dearer(PROCESSING)
@@ -135,11 +137,20 @@ class CashFlow:
         found["reclaim_cost"] = np.where(fed, flow.of_stockpile(lambda it: it.reclaim_cost, 0.0), 0.0) * feed
         return {name: np.asarray(values) for name, values in found.items()}
 
-    def by_year(self, metal: Metal, value: Callable[[Decimal], Decimal]) -> np.ndarray:
+    @cached_property
+    def years(self) -> tuple[list[int], np.ndarray]:
+        """The years of the rows, and the place of each row's year among them."""
+        years, place = np.unique(self.flow.rows["year"].to_numpy(), return_inverse=True)
+        return [int(year) for year in years], place
+
+    def by_year(self, value: Callable[[int], SupportsFloat]) -> np.ndarray:
+        """Returns a value of each row's year."""
+        years, place = self.years
+        return np.array([float(value(year)) for year in years], dtype=float)[place]
+
+    def at_prices(self, metal: Metal, value: Callable[[Decimal], Decimal]) -> np.ndarray:
         """Returns a value at the price of each row's year."""
-        years = self.flow.rows["year"]
-        by_year = {year: float(value(price_in(self.project, metal, int(year)))) for year in years.unique()}
-        return years.map(by_year).to_numpy(dtype=float)
+        return self.by_year(lambda year: value(price_in(self.project, metal, year)))
 
     def sold(self, number: int) -> Lines:
         """Returns for a metal, by number, its revenue and selling cost, and what a smelter pays for and charges: in the process of each row."""
@@ -158,37 +169,31 @@ class CashFlow:
 
     def dearer(self, cost: str) -> np.ndarray:
         """Returns the factor of a cost in the year of each row."""
-        years = self.flow.rows["year"]
-        return years.map({year: factor_in(self.project, cost, int(year)) for year in years.unique()}).to_numpy(float)
+        return self.by_year(lambda year: factor_in(self.project, cost, year))
 
     def sold_by(self, metal: Metal, recovered: np.ndarray) -> Lines:
         """Returns the same for a metal as one process sells it, without penalties."""
-        found = {f"revenue_{metal.name}": recovered * self.by_year(metal, partial(smelter.paid, metal))}
+        found = {f"revenue_{metal.name}": recovered * self.at_prices(metal, partial(smelter.paid, metal))}
         found[f"payable_{metal.name}"] = recovered * float(smelter.paid_share(metal))
         dry = float(smelter.dry_tonnes(metal))
         found |= {f"concentrate_tonnes_{metal.name}": recovered * dry} if dry else {}
         for name in smelter.charged(metal, metal.price):
-            line = recovered * self.by_year(metal, partial(smelter.charged_as, metal, name))
+            line = recovered * self.at_prices(metal, partial(smelter.charged_as, metal, name))
             found[f"{name}_{metal.name}"] = line if name == smelter.PARTICIPATION else line * self.dearer(SELLING)
         return found
 
-    def of(self, method: str, years: pd.Series) -> tuple[pd.DataFrame, pd.DataFrame]:
+    def of(self, method: str, years: np.ndarray) -> tuple[Lines, Lines]:
         """Returns the lines of a method by year, and their tolerances."""
         mine = (self.flow.rows["method"] == method).to_numpy()
         share, tonnes = self.flow.share[mine], self.flow.whole["total_tonnes"].to_numpy()[mine]
-        year = self.flow.rows["year"].to_numpy()[mine]
-        found = pd.DataFrame({name: values[mine] * share for name, values in self.lines.items()})
-        rounded = self.flow.rounded / tonnes
-        slack = pd.DataFrame({name: np.abs(values[mine]) * rounded for name, values in self.lines.items()})
+        rounded, year = self.flow.rounded / tonnes, self.flow.rows["year"].to_numpy()[mine]
+        lines = {name: by_years(values[mine] * share, year, years) for name, values in self.lines.items()}
+        loose = {name: by_years(np.abs(values[mine]) * rounded, year, years) for name, values in self.lines.items()}
         fed = (self.flow.process >= 0)[mine]
         # Half of the last decimal of a mining cost, and of a revenue and a processing cost.
-        slack["rounding"] = (
-            self.whole["blocks"].to_numpy()[mine] * share * (0.5 * self.dearer("mining_cost")[mine] + fed)
-        )
-        slack["rounding"] *= 10.0**-self.project.economics.decimals
-        sums = (it.groupby(year).sum().reindex(years, fill_value=0.0).reset_index(drop=True) for it in (found, slack))
-        lines, loose = sums
-        return lines, loose + AMOUNT + 1e-9 * lines.reindex(columns=loose.columns, fill_value=0.0).abs()
+        blocks = self.whole["blocks"].to_numpy()[mine] * share * (0.5 * self.dearer("mining_cost")[mine] + fed)
+        loose["rounding"] = by_years(blocks * 10.0**-self.project.economics.decimals, year, years)
+        return lines, {name: it + AMOUNT + 1e-9 * np.abs(lines.get(name, 0.0)) for name, it in loose.items()}
 
     def due(self, name: str) -> bool:
         """Whether a line is written."""
@@ -205,9 +210,16 @@ class CashFlow:
         return bool(optional.get(name, True))
 
 
-def prices(project: Project, metal: Metal, years: pd.Series) -> np.ndarray:
+def by_years(amounts: np.ndarray, year: np.ndarray, years: np.ndarray) -> np.ndarray:
+    """Returns the sums of amounts by their year, of given years; what has no amount, as a share of nothing, counts as 0."""
+    there, place = np.unique(year, return_inverse=True)
+    sums = dict(zip(there.tolist(), np.bincount(place, np.where(np.isnan(amounts), 0.0, amounts)).tolist()))
+    return np.array([sums.get(it, 0.0) for it in years.tolist()], dtype=float)
+
+
+def prices(project: Project, metal: Metal, years: np.ndarray) -> np.ndarray:
     """Returns the price of a metal in given years, in its own unit."""
-    return years.map({year: float(price_in(project, metal, int(year))) for year in years.unique()}).to_numpy(float)
+    return np.array([float(price_in(project, metal, int(year))) for year in years], dtype=float)
 
 
 def units_of(metal: Metal) -> float:
@@ -253,47 +265,53 @@ def unlike(found: CashFlow, method: str, said: pd.DataFrame, years: pd.DataFrame
 def due_of(found: CashFlow, method: str, said: pd.DataFrame, years: pd.DataFrame) -> tuple[Lines, Lines]:
     """Returns the columns of a method, and their tolerances: lines from the blocks, and sums, ratios and tax from the written lines."""
     project = found.project
-    lines, slack = found.of(method, years["year"])
-    expected = {name: lines[name].to_numpy() for name in lines if found.due(name)}
-    loose = {name: slack[name].to_numpy() for name in expected}
+    lines, slack = found.of(method, years["year"].to_numpy())
+    expected = {name: line for name, line in lines.items() if found.due(name)}
+    loose = {name: slack[name] for name in expected}
     taken = ["cash_flow", "discounted_cash_flow", *(["fixed_cost", "capex"] if has_costs(project) else [])]
     expected |= {name: years[name].to_numpy() for name in taken}
-    costs = ["royalty", *(name for name in said if name in OTHER_COSTS or name.startswith(COSTS))]
-    revenue = [name for name in said if name.startswith("revenue_")]
-    earned, bound = said[revenue].sum(axis=1) - said[costs].sum(axis=1), slack["rounding"].to_numpy()
+    written = {str(name): said[name].to_numpy() for name in said if name != "method"}
+    costs = ["royalty", *(name for name in written if name in OTHER_COSTS or name.startswith(COSTS))]
+    revenue = [name for name in written if name.startswith("revenue_")]
+    earned, bound = total(written, revenue) - total(written, costs), slack["rounding"]
     if project.economics.decimals < MOST_DECIMALS:
         expected["rounding"], loose["rounding"] = np.zeros(len(said)), bound
-        earned, bound = earned + said["rounding"], np.zeros(len(said))
-    expected["operating_cash_flow"] = earned.to_numpy()
+        earned, bound = earned + written["rounding"], np.zeros(len(said))
+    expected["operating_cash_flow"] = earned
     loose["operating_cash_flow"] = AMOUNT * (len(costs) + len(revenue) + 3) + bound
-    for values, known in zip(ratios(project, said), (expected, loose)):
+    for values, known in zip(ratios(project, written), (expected, loose)):
         known.update(values)
     loose |= dict.fromkeys(valuation.OF_TAX, np.full(len(said), AMOUNT * 4 * len(said)))
     return expected | valuation.taxed(found.answer, said), loose
 
 
-def ratios(project: Project, said: pd.DataFrame) -> tuple[Lines, Lines]:
+def total(lines: Lines, names: list[str]) -> np.ndarray:
+    """Returns the sum of some lines."""
+    return np.sum([lines[name] for name in names] or [np.zeros(len(lines["year"]))], axis=0)
+
+
+def ratios(project: Project, said: Lines) -> tuple[Lines, Lines]:
     """Returns prices, ratios, grades and unit costs, from the other columns; and their tolerances."""
     first, found = project.metals[0], {}
     mining = [name for name in said if name.startswith("mining_cost_") or name == "haulage_cost"]
     site = [name for name in said if name in OTHER_COSTS or name.startswith(("mining_cost_", "processing_cost_"))]
     selling = [name for name in said if name.startswith(OF_SELLING)]
-    credit = said[[f"revenue_{metal.name}" for metal in project.metals[1:]]].sum(axis=1)
-    whole, feed, ore = said[site].sum(axis=1), said["feed_tonnes"], said["total_tonnes"] - said["waste_tonnes"]
+    credit = total(said, [f"revenue_{metal.name}" for metal in project.metals[1:]])
+    whole, feed, ore = total(said, site), said["feed_tonnes"], said["total_tonnes"] - said["waste_tonnes"]
     parts = {"strip_ratio": (said["waste_tonnes"], ore, 1.0)}
     for metal in project.metals:
         parts[f"head_grade_{metal.name}"] = (said[f"contained_{metal.name}"], feed, float(GRADE_UNITS[metal.unit]))
         found[f"price_{metal.name}"] = prices(project, metal, said["year"])
-    parts["cost_per_tonne_mined"] = (said[mining].sum(axis=1), said["total_tonnes"], 1.0)
+    parts["cost_per_tonne_mined"] = (total(said, mining), said["total_tonnes"], 1.0)
     parts["cost_per_tonne_fed"] = (whole, feed, 1.0)
-    c1 = whole + said[selling].sum(axis=1) - credit
+    c1 = whole + total(said, selling) - credit
     sold = "payable" if first.smelter else "recovered"
     parts["c1_cost"] = (c1, said[f"{sold}_{first.name}"], units_of(first))
     loose = {}
     with np.errstate(divide="ignore", invalid="ignore"):
         for name, (amount, per, unit) in parts.items():
-            found[name] = (amount / per / unit).to_numpy(dtype=float)
+            found[name] = np.asarray(amount / per / unit, dtype=float)
             # All are sums of rounded amounts.
             slack = AMOUNT * (len(site) + len(project.metals) * 7 + 2 * np.abs(amount / per)) / per / unit
-            loose[name] = 2e-6 + np.nan_to_num(slack.to_numpy(dtype=float), posinf=0.0)
+            loose[name] = 2e-6 + np.nan_to_num(np.asarray(slack, dtype=float), posinf=0.0)
     return found, loose

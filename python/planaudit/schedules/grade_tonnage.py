@@ -39,25 +39,29 @@ def verify(answer: Answer) -> Rule:
 def unlike_curves(answer: Answer, said: pd.DataFrame) -> Iterator[str]:
     """Yields rows that differ from the sums over blocks, and missing parts or classes."""
     column = answer.project.table.resource_class
-    code = answer.rows[column].astype(str).to_numpy() if column else np.full(len(answer.rows), "all")
-    parts = parts_of(answer)
-    masks = {(part, name): mask & (code == name) for part, mask in parts.items() for name in sorted(set(code))}
-    masks = {key: mask & (answer.tonnes > 0) for key, mask in masks.items() if (mask & (answer.tonnes > 0)).any()}
+    weighs = answer.tonnes > 0
+    codes = {"all": weighs} if not column else masks_of(answer.rows[column].astype(str), weighs)
+    masks = {(part, name): mask & code for part, mask in parts_of(answer).items() for name, code in codes.items()}
+    masks = {key: mask for key, mask in masks.items() if mask.any()}
     metals = {metal.name: metal for metal in answer.project.metals}
     groups = dict(list(said.groupby(["part", "class", "metal"])))
     if set(groups) != {(*key, name) for key in masks for name in metals}:
         yield f"{FILE}: parts, classes and metals are not those of the blocks"
         return
     for (part, name, of_metal), rows in groups.items():
-        if rows["cutoff_grade"].min() != 0 or not rows["cutoff_grade"].is_monotonic_increasing:
+        cutoffs = rows["cutoff_grade"].to_numpy()
+        if cutoffs.min() != 0 or not rows["cutoff_grade"].is_monotonic_increasing:
             yield f"{FILE}: {part}, {name}, {of_metal}: cut-off grades do not rise from 0"
             continue
-        due = above(answer, masks[part, name], metals[of_metal], rows["cutoff_grade"].to_numpy())
-        for number, row in enumerate(rows.to_dict("records")):
-            yield from (
-                f"{FILE}: {part}, {name}, {of_metal} above {row['cutoff_grade']:.10g}: {text}"
-                for text in unlike(row, answer, {key: float(values[number]) for key, values in due.items()})
-            )
+        due = above(answer, masks[part, name], metals[of_metal], cutoffs)
+        for row, text in unlike(rows, answer, due):
+            yield f"{FILE}: {part}, {name}, {of_metal} above {cutoffs[row]:.10g}: {text}"
+
+
+def masks_of(codes: pd.Series, mask: np.ndarray) -> dict[str, np.ndarray]:
+    """Returns by code the rows of a mask that have it."""
+    place, names = pd.factorize(codes, sort=True)
+    return {str(name): mask & (place == number) for number, name in enumerate(names)}
 
 
 def above(answer: Answer, mask: np.ndarray, metal: Metal, cutoffs: np.ndarray) -> dict[str, np.ndarray]:
@@ -85,17 +89,20 @@ def parts_of(answer: Answer) -> dict[str, np.ndarray]:
     return {"model": pushback >= 0, "pit": pushback > 0} | of_each
 
 
-def unlike(row: dict[str, float], answer: Answer, sums: dict[str, float]) -> Iterator[str]:
-    """Yields amounts of a row that are not those of its blocks, whose sums are given."""
+def unlike(rows: pd.DataFrame, answer: Answer, sums: dict[str, np.ndarray]) -> Iterator[tuple[int, str]]:
+    """Yields amounts of rows that are not those of their blocks, whose sums are given, with the place of the row."""
     whole = sums[TONNES]
     due = {"tonnes": (whole, AMOUNT)}
     for metal in answer.project.metals:
         content = sums[metal.name]
         due[f"in_situ_{metal.name}"] = content * float(GRADE_UNITS[metal.unit]), AMOUNT
-        due[f"grade_{metal.name}"] = (content / whole if whole else np.nan), GRADE
+        grade = np.divide(content, whole, out=np.full(len(whole), np.nan), where=whole != 0)
+        due[f"grade_{metal.name}"] = grade, GRADE
     for name, (expected, slack) in due.items():
-        if abs(row[name] - expected) > slack + 1e-9 * abs(expected) or np.isnan(row[name]) != np.isnan(expected):
-            yield f"{name} {row[name]:.10g} for {expected:.10g}"
+        said = rows[name].to_numpy(dtype=float)
+        off = np.abs(said - expected) > slack + 1e-9 * np.abs(expected)
+        off |= np.isnan(said) != np.isnan(expected)
+        yield from ((row, f"{name} {said[row]:.10g} for {expected[row]:.10g}") for row in np.flatnonzero(off).tolist())
 
 
 def unlike_marks(answer: Answer, said: pd.DataFrame) -> Iterator[str]:

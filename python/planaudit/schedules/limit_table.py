@@ -5,7 +5,7 @@ from __future__ import annotations
 from collections.abc import Callable, Iterator
 from dataclasses import dataclass
 from functools import cached_property
-from typing import Optional
+from typing import Any, Optional
 
 import numpy as np
 import pandas as pd
@@ -88,19 +88,22 @@ class LimitTable:
         if set(there) != due or len(there) != len(due):
             yield f"{FILE}: {method}: {len(there)} rows for {len(due)} limits by year, or others"
             return
-        for name in dict.fromkeys(rows["limit"]):
-            yield from self.unlike_limit(method, rows[rows["limit"] == name].set_index("year"), str(name), used)
+        by_limit: dict[str, list[dict[str, Any]]] = {}
+        for row in rows.to_dict("records"):
+            by_limit.setdefault(str(row["limit"]), []).append(row)
+        for name, of_one in by_limit.items():
+            yield from self.unlike_limit(method, of_one, name, used)
 
     @property
     def minimums(self) -> list[str]:
         return [name for name, (least, _) in self.limits.items() if (least > 0).any()]
 
-    def unlike_limit(self, method: str, rows: pd.DataFrame, name: str, used: Used) -> Iterator[str]:
-        """Yields differences of the rows of a limit, by year."""
+    def unlike_limit(self, method: str, rows: list[dict[str, Any]], name: str, used: Used) -> Iterator[str]:
+        """Yields differences of the rows of a limit."""
         grades = self.grades.get(name)
         amounts, slack = used(grades[0].name if grades else name)
-        for year, row in rows.iterrows():
-            number = int(str(year))
+        for row in rows:
+            number = int(row["year"])
             amount, loose = float(amounts.get(number, 0.0)), float(slack.get(number, 0.0))
             price, (least, most) = self.price(name, number), (np.nan, np.nan)
             if grades:

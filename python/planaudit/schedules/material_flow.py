@@ -12,7 +12,7 @@ import pandas as pd
 
 from planaudit.inputs.answer import Answer
 from planaudit.inputs.project import GRADE_UNITS, Stockpile
-from planaudit.inputs.tables import read_table
+from planaudit.inputs.tables import read_table, some
 from planaudit.money.period_costs import BY_TERMS, SELLING, premiums
 from planaudit.rules import TOLD, Rule, rule
 from planaudit.schedules import cutoff_table, dumps, stockpiles
@@ -223,7 +223,7 @@ def read(answer: Answer) -> tuple[MaterialFlow, list[str]]:
     leg = pd.Series(list(zip(rows["source"], rows["destination"]))).isin(legs).to_numpy()
     wrong = ((steps - rows["level"]).abs() > SLIGHT).to_numpy() | ~known | ~leg | (rows["year"] < 1).to_numpy()
     wrong |= (rows["total_tonnes"] < 0).to_numpy()
-    differences = [f"flows.csv: {called(row)}: no such bench, bin or flow" for row in rows[wrong].itertuples()]
+    differences = [f"flows.csv: {called(row)}: no such bench, bin or flow" for row in some(rows, wrong)]
     return MaterialFlow(answer, blocks, rows[~wrong].reset_index(drop=True)), differences
 
 
@@ -263,15 +263,15 @@ def verify(flow: MaterialFlow, schedule: pd.DataFrame, misplaced: list[str]) -> 
 
 def unlike_amounts(flow: MaterialFlow) -> Iterator[str]:
     for name, (expected, slack) in flow.expected.items():
-        off = np.flatnonzero(np.abs(flow.rows[name].to_numpy() - expected) > slack + 1e-9 * np.abs(expected))
-        for row in flow.rows.iloc[off].itertuples():
+        off = np.abs(flow.rows[name].to_numpy() - expected) > slack + 1e-9 * np.abs(expected)
+        for row in some(flow.rows, off):
             yield f"flows.csv: {called(row)}: {name} {getattr(row, name):.10g} for {expected[row.Index]:.10g}"
 
 
 def untaken(flow: MaterialFlow) -> Iterator[str]:
     """Yields rows that send blocks to a process in which they have no revenue."""
-    off = np.flatnonzero((flow.by_process("not taken") > 0) & (flow.rows["total_tonnes"].to_numpy() > AMOUNT))
-    yield from (f"flows.csv: {called(row)}: blocks without revenue there" for row in flow.rows.iloc[off].itertuples())
+    off = (flow.by_process("not taken") > 0) & (flow.rows["total_tonnes"].to_numpy() > AMOUNT)
+    yield from (f"flows.csv: {called(row)}: blocks without revenue there" for row in some(flow.rows, off))
 
 
 def unlike_mined(flow: MaterialFlow, schedule: pd.DataFrame) -> Iterator[str]:
@@ -284,7 +284,7 @@ def unlike_mined(flow: MaterialFlow, schedule: pd.DataFrame) -> Iterator[str]:
     both = pd.DataFrame({"due": due, "sum": from_pit["sum"], "count": from_pit["count"]}).fillna(0.0)
     whole = flow.blocks.lots["total_tonnes"].reindex(both.index.droplevel(["method", "year"])).to_numpy()
     off = (both["sum"] - both["due"]).abs() > AMOUNT * (both["count"] + 1) + SHARE * whole
-    for at, row in both[off].iterrows():
+    for at, row in both[off].iterrows() if off.any() else ():
         yield f"flows.csv: {', '.join(map(str, at))}: {row['sum']:.10g} t leave the pit for {row['due']:.10g} mined"
 
 
@@ -293,8 +293,9 @@ def unlike_feed(flow: MaterialFlow, said: pd.DataFrame) -> Iterator[str]:
     keys, metals = ["method", "year", "process"], flow.answer.project.metals
     rows = flow.rows[flow.process >= 0].rename(columns={"destination": "process"})
     names = ["feed_tonnes", *(f"{kind}_{metal.name}" for kind in ("contained", "recovered") for metal in metals)]
-    sums, count = rows.groupby(keys)[names].sum(), rows.groupby(keys).size()
-    sums["reclaimed_tonnes"] = rows[rows["source"] != PIT].groupby(keys)["feed_tonnes"].sum()
+    rows = rows.assign(reclaimed_tonnes=rows["feed_tonnes"].where(rows["source"] != PIT, 0.0))
+    groups = rows.groupby(keys)
+    sums, count = groups[[*names, "reclaimed_tonnes"]].sum(), groups.size()
     at = pd.MultiIndex.from_frame(said[keys])
     missing = [key for key in sums.index if key not in at]
     yield from (f"feed.csv: {', '.join(map(str, key))}: is missing" for key in missing)
@@ -310,12 +311,12 @@ def unlike_feed(flow: MaterialFlow, said: pd.DataFrame) -> Iterator[str]:
             )
         sums.loc[sums["feed_tonnes"] <= 0, head] = np.nan
     for name, slack in tolerance.items():
-        values = said[name].astype(float)
-        off = ((values - sums[name]).abs() > slack) | (values.isna() != sums[name].isna())
+        values, due = said[name].to_numpy(dtype=float), sums[name].to_numpy()
+        off = (np.abs(values - due) > slack.to_numpy()) | (np.isnan(values) != np.isnan(due))
         if name.startswith("head_grade_"):
             # Of less feed than the last decimal shows the grade is not known.
             off &= (said["feed_tonnes"] > AMOUNT * (count + 1)).to_numpy()
         yield from (
-            f"feed.csv: {row.method}, year {row.year}, {row.process}: {name} {getattr(row, name):.10g} for {sums[name][row.Index]:.10g}"
-            for row in said[off].itertuples()
+            f"feed.csv: {row.method}, year {row.year}, {row.process}: {name} {getattr(row, name):.10g} for {due[row.Index]:.10g}"
+            for row in some(said, off)
         )

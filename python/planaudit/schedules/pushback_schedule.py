@@ -12,8 +12,10 @@ from typing import Any
 
 import numpy as np
 import pandas as pd
+from pandas.core.groupby import DataFrameGroupBy
 
 from planaudit.inputs.answer import Answer
+from planaudit.inputs.tables import some
 from planaudit.money.period_costs import capex, fixed_cost, mining_factor
 from planaudit.revenue_factors import factor_texts
 from planaudit.rules import TOLD, Checks, Rule, rule
@@ -59,9 +61,13 @@ class Way:
     def project_rules(self) -> Any:
         return self.answer.project.schedule
 
-    @property
+    @cached_property
     def last(self) -> int:
         return int(self.rows["year"].max()) if len(self.rows) else 0
+
+    @cached_property
+    def by_year(self) -> DataFrameGroupBy:
+        return self.rows.groupby("year")
 
     @cached_property
     def done(self) -> np.ndarray:
@@ -74,7 +80,7 @@ class Way:
 
 
 def checks_of(answer: Answer) -> Checks:
-    """Verifies order, amounts, flows, limits, values, the bound, and the years of blocks."""
+    """Returns the checks of order, amounts, flows, limits, values, the bound, and the years of blocks."""
     told = counted(json.loads((answer.folder / FILE).read_text(encoding="utf-8")), answer.project)
     told["methods"] = {name: counted(method, answer.project) for name, method in told["methods"].items()}
     flow, strange = material_flow.read(answer)
@@ -125,7 +131,7 @@ def levelled(answer: Answer, told: dict[str, Any]) -> tuple[list[str], pd.DataFr
     lost |= ~(rows["pushback"].between(1, answer.said["pushback"].max()) | opening) | (rows["year"] < 1) | nothing
     differences = [
         f"{row.method}, year {row.year}: no bench {row.bench:.10g} of pushback {row.pushback}, or no share {row.share:g}"
-        for row in rows[lost].itertuples()
+        for row in some(rows, lost)
     ]
     if not set(rows["method"]) <= set(told["methods"]):
         differences.append(f"methods {sorted(set(rows['method']))} for {sorted(told['methods'])}")
@@ -206,18 +212,13 @@ def flows_of(way: Way, rows: pd.DataFrame, flow: MaterialFlow) -> tuple[pd.DataF
     keys = ["year", "pushback", "level"]
     mine = mine.assign(level=mine["level"].clip(lower=FIRST))
     at = pd.MultiIndex.from_frame(rows[keys])
-    found = mine.groupby(keys)[names].sum().reindex(at).fillna(0.0).reset_index(drop=True)
+    groups = mine.groupby(keys)
+    found = groups[names].sum().reindex(at).fillna(0.0).reset_index(drop=True)
     for process in way.answer.project.processes:
         of_one = mine[mine["destination"] == process.name].groupby(keys)["feed_tonnes"].sum()
         found[f"feed_tonnes_{process.name}"] = of_one.reindex(at).fillna(0.0).to_numpy()
-    count = mine.groupby(keys).size().reindex(at).fillna(0).to_numpy()
+    count = groups.size().reindex(at).fillna(0).to_numpy()
     return found, pd.DataFrame({name: AMOUNT * count for name in found})
-
-
-def some(rows: pd.DataFrame, mask: np.ndarray) -> Iterator[Any]:
-    """Yields the rows of a mask; for none without the time that pandas takes for an empty table."""
-    if mask.any():
-        yield from rows[mask].itertuples()
 
 
 def place(row: Any) -> str:
@@ -312,7 +313,7 @@ def used_of(way: Way, flow: MaterialFlow, name: str) -> tuple[pd.Series, pd.Seri
     """Returns by year a limited amount, what a pushback advances, or as `feed K` the feed of a process; and its tolerance."""
     nothing = pd.Series(dtype=float)
     if name in way.rows:
-        return way.rows.groupby("year")[name].sum(), nothing
+        return way.by_year[name].sum(), nothing
     if name.startswith(limit_table.ADVANCE):
         mine = way.rows[way.rows["pushback"] == int(name.removeprefix(limit_table.ADVANCE))]
         return mine.groupby("year")["share"].sum(), nothing
@@ -329,7 +330,7 @@ def used_of(way: Way, flow: MaterialFlow, name: str) -> tuple[pd.Series, pd.Seri
 def used_rounded(way: Way, flow: MaterialFlow, name: str) -> tuple[pd.Series, pd.Series]:
     """Returns the same with the tolerance of amounts whose rows are rounded."""
     used, slack = used_of(way, flow, name)
-    return used, AMOUNT * way.rows.groupby("year").size() if name in way.rows else slack
+    return used, AMOUNT * way.by_year.size() if name in way.rows else slack
 
 
 def verify_value(ways: list[Way], told: dict[str, Any], sums: pd.DataFrame) -> Rule:

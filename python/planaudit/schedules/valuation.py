@@ -3,14 +3,14 @@
 from __future__ import annotations
 
 from collections.abc import Iterator
-from dataclasses import dataclass, replace
+from dataclasses import dataclass
 
 import numpy as np
 import pandas as pd
 
 from planaudit.inputs.answer import Answer
 from planaudit.inputs.tables import read_table
-from planaudit.schedules.discounts import discount
+from planaudit.money.discounts import factor
 
 FILE = "valuation.csv"
 AMOUNT, RATE, YEAR = 0.6e-3, 1e-9, 1e-6
@@ -35,10 +35,13 @@ class Periods:
 
     def present(self, rate: float) -> np.ndarray:
         """Returns the discounted cash flow of each period."""
-        project = self.answer.project
-        other = replace(self.answer, project=replace(project, shells=replace(project.shells, discount_rate=rate)))
-        factors = np.array([discount(other, number) for number in range(1, len(self.cash) + 1)])
-        return self.cash * factors - self.capex * (1 + rate) ** -self.starts
+        return self.of_rates(np.array([rate]))[0]
+
+    def of_rates(self, rates: np.ndarray) -> np.ndarray:
+        """Returns the discounted cash flow of each period at each rate, shape (rates, periods)."""
+        factors = [factor(self.answer.project, number, rate=rates) for number in range(1, len(self.cash) + 1)]
+        of_cash = np.array(factors).reshape(len(self.cash), len(rates)).T
+        return self.cash * of_cash - self.capex * (1 + rates[:, None]) ** -self.starts
 
     def npv(self, rate: float) -> float:
         return float(self.present(rate).sum())
@@ -48,8 +51,9 @@ class Periods:
         slight = AMOUNT * (len(self.cash) + 2)
         if np.isnan(said):
             return self.npv(0.0) <= slight or self.npv(10.0) > -slight
-        before = all(self.npv(rate) > -slight for rate in np.linspace(0.0, said, 50)[:-1])
-        return before and self.npv(said - RATE) > -slight and self.npv(said + RATE) < slight
+        rates = np.array([*np.linspace(0.0, said, 50)[:-1], said - RATE, said + RATE])
+        *before, after = self.of_rates(rates).sum(axis=1).tolist()
+        return min(before) > -slight and after < slight
 
     def payback(self) -> tuple[float, float]:
         """Returns the years until the cumulative cash flow is first 0 after it was negative; 0 if it never is, nan if it stays so; and their

@@ -2,8 +2,16 @@
 
 import shutil
 import subprocess
+import tempfile
+from functools import lru_cache
 
 import pytest
+
+
+@lru_cache(maxsize=1)
+def home():
+    """The folder of LibreOffice's settings, which it takes longer to make than to recalculate a workbook."""
+    return tempfile.TemporaryDirectory(prefix="office-")
 
 
 def recalculated(book, place):
@@ -11,7 +19,7 @@ def recalculated(book, place):
     openpyxl = pytest.importorskip("openpyxl")
     if not shutil.which("soffice"):
         pytest.skip("LibreOffice is missing: apt-get install libreoffice-calc-nogui")
-    home = f"-env:UserInstallation=file://{place}/home"
-    words = ["soffice", "--headless", "--norestore", home, "--convert-to", "xlsx:Calc MS Excel 2007 XML"]
+    words = ["soffice", "--headless", "--norestore", f"-env:UserInstallation=file://{home().name}"]
+    words += ["--convert-to", "xlsx:Calc MS Excel 2007 XML"]
     subprocess.run([*words, "--outdir", place / "out", book], check=True, capture_output=True, timeout=300)
     return openpyxl.load_workbook(place / "out" / book.name, data_only=True)

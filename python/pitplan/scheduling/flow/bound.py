@@ -21,7 +21,7 @@ from .limit_names import ADVANCE, MAX, MIN, RUNNING, STOCK, Prices
 from .model import FlowModel
 from .ore import FEED, Ore
 from .programme import FlowProgramme
-from .rows import by_end, order_rows, pace_rows
+from .rows import by_end, order_rows
 
 
 @dataclass(frozen=True)
@@ -131,7 +131,7 @@ class Lagrangian:
         unit = float(np.abs(gain).max(initial=0.0)) or 1.0
         benches, years = self.model.benches, self.model.years
         matrix, _ = order_rows(benches, years)
-        matrix = vstack([matrix, pace_rows(benches, self.model.of_mining, years)], format="csr")
+        matrix = vstack([matrix, self.model.paced], format="csr")
         most = np.zeros(matrix.shape[0])
         bounds = np.column_stack([np.zeros(len(gain)), self.programme.reachable.ravel()])
         found = linprog(-gain / unit, A_ub=matrix, b_ub=most, bounds=bounds, method="highs-ds")

@@ -8,6 +8,7 @@ from typing import Optional
 
 import numpy as np
 from numpy.typing import NDArray
+from scipy.sparse import csr_matrix
 
 from pitplan.config.dumps import Dump
 from pitplan.config.stockpiles import Stockpile
@@ -17,6 +18,7 @@ from pitplan.scheduling.bench_sequencing import Limits, Problem
 
 from .dumping import SET, Waste
 from .ore import FEED, Ore
+from .rows import pace_rows
 
 
 @dataclass(frozen=True)
@@ -241,7 +243,12 @@ class FlowModel:
         most = {name: amount for name, amount in limits.most.items() if not self.is_of_ore(name)}
         return replace(limits, most=most, least={})
 
-    @property
+    @cached_property
+    def paced(self) -> csr_matrix:
+        """The rows of `pace_rows`."""
+        return pace_rows(self.benches, self.of_mining, self.years)
+
+    @cached_property
     def mining_cash(self) -> NDArray[np.float64]:
         """Discounted cash flow of mining each whole bench in each year, shape (benches, years)."""
         return self.problem.worths(self.years)

@@ -305,14 +305,15 @@ def gained(ore: dict[str, NDArray[np.float64]], free: dict[str, NDArray[np.float
     for process, kind in zip(*np.unravel_index(np.argsort(-whole, axis=None, kind="stable"), whole.shape)):
         if whole[process, kind] <= 0:
             break
-        share = rest[:, kind].copy()
+        gains = gain[:, process, kind]
+        share = np.where(gains > 0, rest[:, kind], 0.0)
+        takes = {name: ore[name][:, process, kind] for name in left}
         for name, amounts in left.items():
-            takes = ore[name][:, process, kind]
-            fits = np.divide(amounts, takes, out=np.ones_like(takes), where=takes > 0)
-            share = np.minimum(share, np.clip(fits, 0.0, 1.0))
-        share = np.where(gain[:, process, kind] > 0, share, 0.0)
+            limited = takes[name] > 0
+            fits = np.divide(amounts, takes[name], out=np.ones(len(gains)), where=limited)
+            np.minimum(share, np.maximum(fits, 0.0), out=share)
         for name in left:
-            left[name] = left[name] - share * ore[name][:, process, kind]
+            left[name] -= share * takes[name]
         rest[:, kind] -= share
-        found += share * gain[:, process, kind]
+        found += share * gains
     return found

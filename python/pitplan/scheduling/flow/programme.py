@@ -11,12 +11,11 @@ from __future__ import annotations
 from collections.abc import Iterator
 from dataclasses import dataclass, field
 from functools import cached_property
-from itertools import zip_longest
 from typing import Optional
 
 import numpy as np
 from numpy.typing import NDArray
-from scipy.sparse import csr_matrix, diags, eye, hstack, kron, vstack
+from scipy.sparse import csr_matrix, diags, eye, hstack, spmatrix, vstack
 
 from pitplan.config.schedule import Effort
 from pitplan.scheduling.highs import Programme
@@ -25,7 +24,8 @@ from pitplan.scheduling.highs_process import solve
 from .limit import Limit
 from .limit_names import ADVANCE, DUMP, DUMPED, MAX, MIN, RUNNING, STOCK, Prices
 from .model import FlowModel
-from .rows import by_end, furthest, order_rows, pace_rows
+from .rows import by_end, furthest, order_rows
+from .sparse import beside, kron
 
 # Programmes with more unknowns than these take minutes.
 MANY = 60_000
@@ -96,12 +96,10 @@ class FlowProgramme:
     def is_large(self) -> bool:
         return sum(self.sizes) > MANY
 
-    def row(self, *parts: Optional[csr_matrix]) -> csr_matrix:
+    def row(self, *parts: Optional[spmatrix]) -> csr_matrix:
         """Returns rows of all unknowns from rows of those of mining, direct feed, to, in and from the stockpiles, and from what lies there at the
         start; the last ones may be left out."""
-        height = next(part.shape[0] for part in parts if part is not None)
-        wide = [csr_matrix((height, size)) if part is None else part for part, size in zip_longest(parts, self.sizes)]
-        return csr_matrix(hstack(wide, format="csr"))
+        return beside(parts, self.sizes)
 
     @cached_property
     def gain(self) -> NDArray[np.float64]:
@@ -284,7 +282,7 @@ class FlowProgramme:
 
     def order_rows(self) -> tuple[csr_matrix, NDArray[np.float64]]:
         matrix, most = order_rows(self.model.benches, self.years)
-        paced = pace_rows(self.model.benches, self.model.of_mining, self.years) if self.paced else matrix[:0]
+        paced = self.model.paced if self.paced else matrix[:0]
         parts, sides = [matrix, paced], [most, np.zeros(paced.shape[0])]
         if self.between is not None:
             least = np.flatnonzero(self.between[0].ravel())
