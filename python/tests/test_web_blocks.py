@@ -248,7 +248,8 @@ def test_an_export_that_there_is_not_is_refused(form):
 
 
 def test_an_export_and_a_view_are_files_of_the_result(served, client):
-    for action, form in (("export", {"to": "table"}), ("view", {})):
+    exports = [("export", {"to": "table", "factor": ""}), ("export", {"to": "lines", "factor": ""})]
+    for action, form in (*exports, ("view", {})):
         answer = client.post(f"/result/{action}", data={"name": "hill/plan", **form}, headers=OWN)
         assert answer.status_code == 303
         number = int(answer.headers["location"].rpartition("=")[2])
@@ -256,6 +257,8 @@ def test_an_export_and_a_view_are_files_of_the_result(served, client):
         assert "/result?name=hill/plan" in client.get(f"/job?number={number}").text
     page = client.get("/result", params={"name": "hill/plan"}).text
     assert "/file?name=hill/plan/table.csv" in page
+    selected = json.loads((served / "hill/plan/plan.json").read_text())["shells"]["selected"]
+    assert f"/file?name=hill/plan/lines-{selected:.2f}.csv" in page
     assert '<iframe class="view" src="/file?name=hill/plan/view.html" sandbox="allow-scripts"' in page
     for name in ("hill", "none", "../x"):
         assert client.post("/result/view", data={"name": name}, headers=OWN).status_code == 404

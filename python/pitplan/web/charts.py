@@ -3,7 +3,7 @@
 from __future__ import annotations
 
 from collections.abc import Sequence
-from dataclasses import asdict, dataclass, field
+from dataclasses import asdict, dataclass, field, replace
 from pathlib import Path
 from typing import Any, Optional
 
@@ -48,6 +48,8 @@ class Chart:
         The units of both scales.
     table : str
         The name of the table with its numbers.
+    mark, says : str
+        The category that is marked, and what that means; empty without one.
     """
 
     name: str
@@ -58,6 +60,8 @@ class Chart:
     left: str
     right: str = ""
     table: str = ""
+    mark: str = ""
+    says: str = ""
 
     @property
     def as_json(self) -> dict[str, Any]:
@@ -125,7 +129,9 @@ def pit_by_pit(tables: Tables) -> Optional[Chart]:
         Series("waste", BAR, WASTE, numbers(shells["waste_tonnes"], MILLION)),
     ]
     factors = [factor_text(float(it)) for it in shells["revenue_factor"]]
-    return Chart("shells", "Pit by pit", "revenue factor", factors, [*bars, *lines], "Mt", money, names.SHELLS)
+    chart = Chart("shells", "Pit by pit", "revenue factor", factors, [*bars, *lines], "Mt", money, names.SHELLS)
+    selected = tables.record.get("shells", {}).get("selected")
+    return replace(chart, mark=factor_text(float(selected)), says="selected shell") if selected else chart
 
 
 def by_pushback(tables: Tables) -> Optional[Chart]:

@@ -24,8 +24,8 @@ FOLDER = ".pitplan-serve/jobs"
 JOB, STATE, LOG, ANSWER, CANCEL, CLAIM = "job.json", "state.json", "log", "answer", "cancel", "claimed"
 WAITING, RUNNING, DONE, FAILED, CANCELLED, LOST = "waiting", "running", "done", "failed", "cancelled", "lost"
 ENDED = (DONE, FAILED, CANCELLED, LOST)
-# The command that imports a block model.
-IMPORT = "init"
+# The commands that import a block model, and that write a file for other programs.
+IMPORT, EXPORT = "init", "export"
 # A line of the log that names a step, and the seconds that it took if it has ended.
 STEP = re.compile(r"^(?P<what>.+?) \.\.(?:.*?)(?: (?P<seconds>\d+\.\d) s)?$")
 

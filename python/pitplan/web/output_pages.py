@@ -10,10 +10,12 @@ from starlette.responses import RedirectResponse, Response
 from starlette.routing import Route
 
 from pitplan.cli.parser import FORMATS
+from pitplan.core.revenue_factors import factor_text
 from pitplan.export.registry import OF_ONE, SURFACES
 from pitplan.results.names import RECORD
 
-from . import choice, project_text
+from . import choice, project_text, results_page
+from .jobs import EXPORT
 from .pages import Pages, form_of
 from .project_text import Editor
 from .run_form import WrongForm, plain
@@ -71,7 +73,9 @@ class OutputPages:
         """Starts the command that writes an export."""
         form = await form_of(request)
         folder, project = self.folder_of(form)
-        job = self.pages.jobs.ask(("export", plain(folder), *export_words(form)), project, folder)
+        selected = results_page.record_of(self.pages.workspace.root / folder).get("shells", {}).get("selected")
+        words = export_words({"factor": factor_text(float(selected)), **filled(form)} if selected else form)
+        job = self.pages.jobs.ask((EXPORT, plain(folder), *words), project, folder)
         return RedirectResponse(f"/job?number={job.number}", status_code=303)
 
     def folder_of(self, form: Mapping[str, str]) -> tuple[str, str]:
@@ -82,6 +86,11 @@ class OutputPages:
         if found is None or not (folder / RECORD).is_file():
             raise NotThere(f"{name}: is no output folder with a plan: run shells, pushbacks or schedule")
         return name, found.project
+
+
+def filled(form: Mapping[str, str]) -> dict[str, str]:
+    """Returns the fields of a form that are not empty."""
+    return {name: value for name, value in form.items() if value}
 
 
 def export_words(form: Mapping[str, str]) -> list[str]:

@@ -22,7 +22,7 @@ from pitplan.errors import PlanError
 
 from . import output_words, project_text, results_page, run_form
 from .grids import Grid
-from .jobs import DONE, IMPORT, Job, Jobs, steps_of
+from .jobs import DONE, EXPORT, IMPORT, Job, Jobs, steps_of
 from .project_text import Editor
 from .run_form import COMMANDS, OPTIONS, WrongForm
 from .security import SANDBOX
@@ -254,7 +254,7 @@ class Pages:
         """A job with its progress, which the page keeps up to date."""
         job = self.jobs.read(number_of(request.query_params.get("number", "")))
         is_import = job.words[0] == IMPORT
-        title = f"Import of {job.folder}" if is_import else f"Job {job.number}"
+        title = f"Import of {job.folder}" if is_import else f"Job {job.number}: {job.words[0]}"
         return self.page("job.html", title=title, job=job, state=self.state_of(job), is_import=is_import)
 
     async def events(self, request: Request) -> Response:
@@ -287,7 +287,19 @@ class Pages:
             "seconds": job.seconds,
             "usual": self.jobs.usual_seconds(job),
             "folder": job.folder if self.has_next(job) else "",
+            "file": self.file_of(job),
         }
+
+    def file_of(self, job: Job) -> str:
+        """Returns the name of the file that an export has written; empty without one."""
+        if job.words[0] != EXPORT or job.status != DONE:
+            return ""
+        lines = self.jobs.answer(job.number).strip().splitlines()
+        try:
+            path = self.workspace.place(lines[-1] if lines else "")
+        except NotThere:
+            return ""
+        return self.workspace.name(path) if path.is_file() and self.is_result(path) else ""
 
     def has_next(self, job: Job) -> bool:
         """Returns whether a page shows what a job has written."""

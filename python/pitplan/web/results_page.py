@@ -115,6 +115,11 @@ class Page:
         """The name of the 3D view; empty without one."""
         return next((name for name in self.pages if name.endswith("/view.html")), "")
 
+    @property
+    def workbook(self) -> str:
+        """The name of the workbook; empty without one."""
+        return next((name for name in self.files if name.endswith(".xlsx")), "")
+
 
 def page_of(folder: Path, workspace: Workspace) -> Page:
     """Returns the parts of the page of an output folder. Raises PlanError if it has no record."""
