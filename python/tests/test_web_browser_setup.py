@@ -14,6 +14,7 @@ from helpers.browser_clicks import (
     enter,
     start,
     status_of,
+    submit,
     wait,
     words_of,
 )
@@ -42,8 +43,7 @@ def server(tmp_path_factory):
 
 
 def saved(driver, kind):
-    driver.find_element(CSS, f"#{kind} button[type=submit]").click()
-    wait(driver, lambda it: words_of(it, f"said-{kind}") or words_of(it, f"wrong-{kind}"))
+    submit(driver, driver.find_element(CSS, f"#{kind} button[type=submit]"))
     return words_of(driver, f"wrong-{kind}")
 
 

@@ -1,6 +1,7 @@
 """The whole way of a planner in Chromium: from a vendor's export to pit shells, a schedule, its workbook and its report, by clicks alone."""
 
 import io
+import json
 
 import openpyxl
 import pytest
@@ -19,6 +20,7 @@ from helpers.browser_clicks import (
     enter,
     start,
     status_of,
+    submit,
     wait,
     words_of,
 )
@@ -78,9 +80,8 @@ def set_number(driver, label, number):
 
 
 def saved(driver, form):
-    driver.find_element(ID, f"save-{form}").click()
-    wait(driver, lambda it: words_of(it, "said-value") or words_of(it, "wrong-value"))
-    assert words_of(driver, "wrong-value") == ""
+    submit(driver, driver.find_element(ID, f"save-{form}"))
+    assert (words_of(driver, "said-value"), words_of(driver, "wrong-value")) == ("Saved.", "")
 
 
 def run(driver, command):
@@ -126,6 +127,9 @@ def test_from_a_vendors_export_to_a_schedule_and_its_workbook(driver, server, ex
     wait(driver, lambda it: "/imported" in it.current_url)
     assert driver.find_element(CSS, "select[name='role:cu_ok']").get_attribute("value") == "copper:percent"
     assert "are null (-99" in driver.find_element(ID, "warned").text
+    figure = driver.find_element(CSS, "figure img")
+    wait(driver, lambda it: it.execute_script("return arguments[0].naturalWidth", figure) > 100)
+    assert (server.root / "north pit/north pit.csv").read_bytes() == export.read_bytes()
     click(driver, "Open the project")
     for label, number in (("Price of copper", "8200"), ("Mining cost", "2.1"), ("Processing capacity", "200000")):
         set_number(driver, label, number)
@@ -143,6 +147,7 @@ def test_from_a_vendors_export_to_a_schedule_and_its_workbook(driver, server, ex
     run(driver, "schedule")
     project = tomllib.loads((server.root / "north pit/project.toml").read_text())
     assert project["shells"]["selected"] == float(chosen) and project["pushbacks"] == {"count": 2}
+    assert json.loads((server.root / "north pit/plan/schedule/plan.json").read_text())["verified"]
     sheet = openpyxl.load_workbook(io.BytesIO(download(driver, "Workbook")), read_only=True)
     assert {"cash_flow", "reserves", "schedule"} <= set(sheet.sheetnames)
     assert len(driver.find_elements(CSS, "figure.chart svg .hit")) > 6 and complaints(driver) == []

@@ -2,6 +2,7 @@
 
 import html
 import re
+import shutil
 
 import pytest
 from conftest import rows
@@ -32,12 +33,23 @@ def client(root):
     return entered(root, Access(PORT))
 
 
-@pytest.fixture
-def imported(root, client):
-    """An import that has succeeded; gives the number of its job."""
+@pytest.fixture(scope="module")
+def imported_once(tmp_path_factory):
+    """A folder with an import that has succeeded."""
+    folder = tmp_path_factory.mktemp("imported").resolve() / "mines"
+    folder.mkdir()
     query = {"folder": "hill", "file": "blocks.csv"}
-    assert client.put("/import/file", params=query, content=table().to_csv(index=False), headers=OWN).status_code == 201
-    assert ended(root, 1).status == DONE
+    answer = entered(folder, Access(PORT)).put(
+        "/import/file", params=query, content=table().to_csv(index=False), headers=OWN
+    )
+    assert answer.status_code == 201 and ended(folder, 1).status == DONE
+    return folder
+
+
+@pytest.fixture
+def imported(root, client, imported_once):
+    """A copy of it; gives the number of its job."""
+    shutil.copytree(imported_once, root, dirs_exist_ok=True)
     return 1
 
 
