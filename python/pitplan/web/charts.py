@@ -7,6 +7,7 @@ from dataclasses import asdict, dataclass, field, replace
 from pathlib import Path
 from typing import Any, Optional
 
+import numpy as np
 import pandas as pd
 
 from pitplan.config.project import Project
@@ -109,7 +110,7 @@ def charts_of(folder: Path, record: dict[str, Any], project: Project) -> list[Ch
 
 
 def numbers(values: Sequence[Any], by: float = 1.0) -> list[Optional[float]]:
-    return [None if pd.isna(it) else float(it) / by for it in values]
+    return [float(it) / by if np.isfinite(it) else None for it in values]
 
 
 def pit_by_pit(tables: Tables) -> Optional[Chart]:

@@ -11,7 +11,6 @@ from starlette.routing import Route
 
 from pitplan.cli.parser import FORMATS
 from pitplan.core.revenue_factors import factor_text
-from pitplan.export.registry import OF_ONE, SURFACES
 from pitplan.results.names import RECORD
 
 from . import choice, project_text, results_page
@@ -95,6 +94,8 @@ def filled(form: Mapping[str, str]) -> dict[str, str]:
 
 def export_words(form: Mapping[str, str]) -> list[str]:
     """Returns the options of an export. Raises WrongForm if one is wrong, with the field."""
+    from pitplan.export.registry import OF_ONE, SURFACES
+
     kind, of, ground = form.get("to", ""), form.get("of", STAGES[0]), form.get("surface", GROUNDS[0])
     for field, given, options in (("Format", kind, FORMATS), ("Of", of, STAGES), ("Surface", ground, GROUNDS)):
         if given not in options:

@@ -8,7 +8,7 @@ from collections.abc import Callable
 from dataclasses import dataclass
 from decimal import Decimal, InvalidOperation
 from pathlib import Path
-from typing import Any, Optional
+from typing import TYPE_CHECKING, Any, Optional
 
 from pitplan.config import project_writer
 from pitplan.config.project import load
@@ -17,8 +17,11 @@ from pitplan.errors import PlanError
 from pitplan.results.names import TABLE
 from pitplan.results.sheet_heads import heads_of
 
-from .charts import Chart, charts_of
 from .workspace import RECORDS, Workspace
+
+# Charts need pandas, which is loaded when a page needs it.
+if TYPE_CHECKING:
+    from .charts import Chart
 
 # The most rows of a table on a page; a longer one is downloaded.
 MOST_ROWS = 2_000
@@ -151,6 +154,8 @@ def page_of(folder: Path, workspace: Workspace) -> Page:
 
 def charts_in(folder: Path, record: dict[str, Any]) -> list[Chart]:
     """Returns the charts of a plan; none if its project cannot be read."""
+    from .charts import charts_of
+
     try:
         return charts_of(folder, record, load(folder / project_writer.AS_RUN))
     except PlanError:
