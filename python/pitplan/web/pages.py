@@ -5,7 +5,7 @@ from __future__ import annotations
 import asyncio
 import json
 import shlex
-from collections.abc import AsyncIterator, Awaitable, Callable
+from collections.abc import AsyncIterator, Awaitable, Callable, Mapping
 from dataclasses import asdict, replace
 from pathlib import Path
 from typing import Any, Optional
@@ -24,7 +24,7 @@ from . import output_words, project_text, results_page, run_form
 from .grids import Grid
 from .jobs import DONE, EXPORT, IMPORT, Job, Jobs, steps_of
 from .project_text import Editor
-from .run_form import COMMANDS, OPTIONS, WrongForm
+from .run_form import COMMANDS, OPTIONS, Asked, WrongForm
 from .security import SANDBOX
 from .values_form import Values
 from .workspace import RECORDS, NotThere, Workspace
@@ -174,8 +174,17 @@ class Pages:
         )
 
     async def run(self, request: Request) -> Response:
-        """Starts a command."""
-        asked = run_form.read(await form_of(request), self.workspace)
+        """Starts a command, or shows it."""
+        form = await form_of(request)
+        asked = run_form.read(form, self.workspace)
+        return self.started(asked, form)
+
+    def started(self, asked: Asked, form: Mapping[str, str]) -> Response:
+        """Starts a command; if its form asks so, shows it instead."""
+        if form.get("show") == "on":
+            return self.page(
+                "command.html", title="Command", words=asked.words, project=asked.project, root=self.workspace.root
+            )
         job = self.jobs.ask(asked.words, asked.project, asked.folder)
         return RedirectResponse(f"/job?number={job.number}", status_code=303)
 
