@@ -6,6 +6,7 @@ from collections.abc import Mapping, Sequence
 from dataclasses import dataclass, replace
 from typing import Any
 
+from pitplan.config.classes import TREATMENTS
 from pitplan.config.codes import CLASS, CODES, DOMAIN, ROCK_TYPE
 from pitplan.config.economics import GRADE_UNITS, GRAMS
 from pitplan.config.project import Project
@@ -14,6 +15,8 @@ from pitplan.config.slopes import DIP, WALL
 # A number, a text, codes with commas between, one of some words, or anything that TOML has.
 NUMBER, TEXT, LIST, CHOICE, VALUE = "number", "text", "codes", "choice", "value"
 Entry = Mapping[str, Any]
+# The section whose keys are the rows of a grid, not its entries.
+CLASSES = "classes"
 CODE_WORDS = {ROCK_TYPE: "rock type", DOMAIN: "domain", CLASS: "class"}
 
 
@@ -74,6 +77,7 @@ KINDS = {
         Kind("stockpiles", "schedule.stockpiles", "Stockpiles", "Stockpile", "Costs, capacities and accepted ore"),
         Kind("dumps", "dumps", "Dumps", "Dump", "Costs, capacities and accepted waste"),
         Kind("periods", "periods", "Periods", "Period", "Capacities, prices, costs and minimums that differ by period"),
+        Kind(CLASSES, CLASSES, "Resource classes", "Class", "Which classes may be ore; inferred is waste by default"),
         Kind("slopes", "slopes.domains", "Slopes", "Slope domain", "Slope angles by domain and azimuth"),
     )
 }
@@ -240,6 +244,13 @@ def limited(key: str, names: Sequence[str], unit: str) -> list[Column]:
     ]
 
 
+def of_classes(project: Project) -> list[Column]:
+    return [
+        Column(("class",), "Class", f"code in {project.table.resource_class or 'the column [table] class'}", TEXT),
+        Column(("rule",), "Rule", "", CHOICE, TREATMENTS),
+    ]
+
+
 def of_slopes(project: Project) -> list[Column]:
     return [
         Column(("domain",), "Domain", "codes; empty: all others", LIST),
@@ -258,5 +269,6 @@ OF_KIND = {
     "stockpiles": of_stockpiles,
     "dumps": of_dumps,
     "periods": of_periods,
+    CLASSES: of_classes,
     "slopes": of_slopes,
 }

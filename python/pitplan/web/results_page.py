@@ -13,7 +13,7 @@ from typing import TYPE_CHECKING, Any, Optional
 from pitplan.config import project_writer
 from pitplan.config.project import load
 from pitplan.core import layout
-from pitplan.errors import PlanError
+from pitplan.errors import WARNING, PlanError
 from pitplan.results.names import TABLE
 from pitplan.results.sheet_heads import heads_of
 
@@ -112,6 +112,11 @@ class Page:
     has_blocks: bool
     charts: list[Chart]
     stages: list[str]
+
+    @property
+    def warnings(self) -> list[str]:
+        """The warnings among the notes."""
+        return [it.removeprefix(WARNING) for it in self.notes if it.startswith(WARNING)]
 
     @property
     def view(self) -> str:
