@@ -57,6 +57,11 @@ def paste(driver, cell, text):
     driver.execute_script(script, cell, text)
 
 
+def may_leave(driver):
+    """Whether the page can be left without a question."""
+    return driver.execute_script("return window.dispatchEvent(new Event('beforeunload', { cancelable: true }))")
+
+
 def focused(driver):
     return driver.execute_script("return document.activeElement.getAttribute('aria-label')")
 
@@ -69,7 +74,9 @@ def test_periods_are_typed_pasted_and_saved(driver, server):
     click(driver, "Test hill")
     driver.find_element(CSS, "#periods summary").click()
     cell = driver.find_element(CSS, "#periods td input")
+    assert may_leave(driver)
     cell.send_keys("2")
+    assert not may_leave(driver)
     assert len(driver.find_elements(CSS, "#periods tbody tr")) == 2
     cell.send_keys(DOWN)
     assert focused(driver) == "Period 2, Years, duration"
