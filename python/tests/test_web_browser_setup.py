@@ -158,3 +158,24 @@ def test_an_area_is_drawn_on_the_plan(driver, server):
     )
     assert complaints(driver) == []
     (server.root / "project.toml").write_text(before)
+
+
+def test_a_file_that_is_refused_while_it_is_sent_says_why(driver, server, tmp_path):
+    """The folder of unfinished files cannot be made; the browser has a large file to send."""
+    (tmp_path / "large.csv").write_bytes(b"x,y,z\n" + b"1,2,3\n" * 2_000_000)
+    enter(driver, server)
+    waiting = server.root / ".pitplan-serve" / "uploads"
+    kept = waiting.rename(waiting.with_name("kept")) if waiting.exists() else None
+    waiting.parent.mkdir(exist_ok=True)
+    waiting.write_text("")
+    click(driver, "Import")
+    driver.find_element(ID, "file").send_keys(str(tmp_path / "large.csv"))
+    driver.find_element(ID, "send").click()
+    wait(driver, lambda it: words_of(it, "problem"))
+    assert words_of(driver, "problem").startswith(
+        "large/large.csv: cannot be written: File exists: free space, or check"
+    )
+    waiting.unlink()
+    if kept:
+        kept.rename(waiting)
+    assert not (server.root / "large").exists() and driver.find_element(ID, "send").is_enabled()
