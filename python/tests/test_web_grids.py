@@ -122,7 +122,7 @@ def wrong(page, kind):
 
 def test_each_grid_shows_its_entries_with_labels_and_units(path, client):
     found = grids_of(TEXT, load(path))
-    assert list(found) == ["metals", "processes", "stockpiles", "dumps", "periods", "classes", "slopes"]
+    assert list(found) == ["metals", "processes", "stockpiles", "dumps", "periods", "classes", "slopes", "areas"]
     metals = found["metals"]
     cells = [dict(zip((it.name for it in metals.columns), row.cells)) for row in metals.rows]
     assert cells[0]["price"] == "9000.50" and cells[1]["name"] == "gold" and cells[1]["smelter.payable"] == "0.99"

@@ -16,7 +16,7 @@ from starlette.responses import JSONResponse, Response
 from starlette.routing import Route
 
 from pitplan.config import toml_text
-from pitplan.config.constraints import Area
+from pitplan.config.constraints import SIDES, Area
 from pitplan.config.survey import SurveyFile
 from pitplan.core.atomic_files import staged_file
 from pitplan.errors import PlanError
@@ -30,7 +30,6 @@ from .pages import MOST_BYTES, Pages, form_of
 from .project_text import Editor
 from .run_form import WrongForm
 
-SIDES = ("inside", "outside")
 ENDINGS = (".csv", ".dxf", ".str", ".gpkg", ".geojson")
 NAME = re.compile(r"\w[\w -]{0,59}")
 # The most bytes of a file with polygons, and the most corners that are drawn.

@@ -8,6 +8,7 @@ from typing import Any
 
 from pitplan.config.classes import TREATMENTS
 from pitplan.config.codes import CLASS, CODES, DOMAIN, ROCK_TYPE
+from pitplan.config.constraints import SIDES
 from pitplan.config.economics import GRADE_UNITS, GRAMS
 from pitplan.config.project import Project
 from pitplan.config.slopes import DIP, WALL
@@ -79,6 +80,7 @@ KINDS = {
         Kind("periods", "periods", "Periods", "Period", "Capacities, prices, costs and minimums that differ by period"),
         Kind(CLASSES, CLASSES, "Resource classes", "Class", "Which classes may be ore; inferred is waste by default"),
         Kind("slopes", "slopes.domains", "Slopes", "Slope domain", "Slope angles by domain and azimuth"),
+        Kind("areas", "constraints.areas", "Areas", "Area", "Polygons in or outside which nothing is mined"),
     )
 }
 
@@ -263,6 +265,13 @@ def of_slopes(project: Project) -> list[Column]:
     ]
 
 
+def of_areas(project: Project) -> list[Column]:
+    return [
+        Column(("polygon",), "Polygon", "file next to the project", TEXT),
+        Column(("exclude",), "May not be mined", "side of the polygon", CHOICE, SIDES),
+    ]
+
+
 OF_KIND = {
     "metals": of_metals,
     "processes": of_processes,
@@ -271,4 +280,5 @@ OF_KIND = {
     "periods": of_periods,
     CLASSES: of_classes,
     "slopes": of_slopes,
+    "areas": of_areas,
 }
