@@ -12,10 +12,12 @@ from helpers.browser_application import OWN, PORT, ended, entered
 from helpers.pushbacks import PUSHBACKS, pillars
 
 import pitplan
+from pitplan.cli.parser import FORMATS
 from pitplan.web import block_data, project_text
 from pitplan.web.choice import with_pushbacks, with_shell
 from pitplan.web.jobs import DONE, Jobs
 from pitplan.web.output_pages import export_words
+from pitplan.web.output_words import WORDS
 from pitplan.web.results_page import grouped, read_table
 from pitplan.web.run_form import WrongForm
 from pitplan.web.security import Access
@@ -263,6 +265,10 @@ def test_an_export_becomes_the_words_of_a_command(form, words):
 def test_an_export_that_there_is_not_is_refused(form):
     with pytest.raises(WrongForm, match="found"):
         export_words(form)
+
+
+def test_each_format_of_the_command_line_has_words():
+    assert tuple(WORDS) == FORMATS
 
 
 def test_an_export_and_a_view_are_files_of_the_result(served, client):

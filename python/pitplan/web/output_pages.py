@@ -9,12 +9,12 @@ from starlette.requests import Request
 from starlette.responses import RedirectResponse, Response
 from starlette.routing import Route
 
-from pitplan.cli.parser import FORMATS
 from pitplan.core.revenue_factors import factor_text
 from pitplan.results.names import RECORD
 
 from . import choice, project_text, results_page
 from .jobs import EXPORT
+from .output_words import WORDS
 from .pages import Pages, form_of
 from .project_text import Editor
 from .run_form import Asked, WrongForm, plain
@@ -96,7 +96,7 @@ def export_words(form: Mapping[str, str]) -> list[str]:
     from pitplan.export.registry import OF_ONE, SURFACES
 
     kind, of, ground = form.get("to", ""), form.get("of", STAGES[0]), form.get("surface", GROUNDS[0])
-    for field, given, options in (("Format", kind, FORMATS), ("Of", of, STAGES), ("Surface", ground, GROUNDS)):
+    for field, given, options in (("Format", kind, tuple(WORDS)), ("Of", of, STAGES), ("Surface", ground, GROUNDS)):
         if given not in options:
             raise WrongForm(f"{field}: found {given[:20]!r}, expected one of {', '.join(options)}")
     words = [f"--to={kind}"]
