@@ -21,7 +21,6 @@ from pitplan import PlanError
 from pitplan.core import paths
 from pitplan.web import jobs as jobs_of, run_form, uploads
 from pitplan.web.jobs import CANCELLED, DONE, FAILED, LOST, RUNNING, WAITING, Jobs, Step, steps_of
-from pitplan.web.results_page import grouped, read_table
 from pitplan.web.run_form import WrongForm
 from pitplan.web.security import Access
 from pitplan.web.server import listening
@@ -191,23 +190,6 @@ def test_results_that_were_not_verified_say_so(root, client):
     assert "Not verified." in client.get("/result?name=hill/plan").text
 
 
-def test_numbers_have_groups_of_digits():
-    assert [grouped(it) for it in ("65590338.164", "-1234", "0.5", "lp", "nan", "")] == [
-        "65,590,338.164",
-        "-1,234",
-        "0.5",
-        "lp",
-        "nan",
-        "",
-    ]
-
-
-def test_a_long_table_shows_its_first_rows(tmp_path):
-    (tmp_path / "t.csv").write_text("a,b\n" + "1,x\n" * 2500)
-    found = read_table(tmp_path / "t.csv")
-    assert (found.count, len(found.rows), found.are_numbers) == (2500, 2000, [True, False])
-
-
 # ---- forms
 
 
@@ -239,6 +221,13 @@ def test_a_long_table_shows_its_first_rows(tmp_path):
 )
 def test_a_form_becomes_the_words_of_a_command(root, form, words):
     assert run_form.read({"project": "hill/project.toml", **form}, Workspace(root)).words == words
+
+
+def test_a_command_is_shown_and_not_started(root, client):
+    form = {"project": "hill/project.toml", "command": "shells", "show": "on"}
+    text = client.post("/run", data=form, headers=OWN).text
+    assert "pitplan shells hill/project.toml --out=hill/plan --no-figures --no-verify" in text
+    assert "not started" in text and Jobs(root).all() == []
 
 
 @pytest.mark.parametrize(

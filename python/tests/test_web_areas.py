@@ -1,6 +1,7 @@
 """Areas that the browser draws or uploads: their files, their keys, and what is refused."""
 
 import html
+from dataclasses import replace
 
 import pytest
 import tomllib
@@ -9,8 +10,10 @@ from helpers.browser_application import OWN, PORT, entered
 
 import pitplan
 from pitplan.config.constraints import Area
+from pitplan.config.project import load
 from pitplan.config.survey import SurveyFile
 from pitplan.web.area_pages import corners_of, with_area
+from pitplan.web.grids import changed, grids_of
 from pitplan.web.run_form import WrongForm
 from pitplan.web.security import Access
 
@@ -58,6 +61,11 @@ def test_an_area_that_is_drawn_is_a_file_and_a_key_and_holds_in_the_pits(path, c
     assert send(client, name="river bed", side="inside", corners="10 10\n20 10\n20 20").status_code == 201
     areas = tomllib.loads(path.read_text())["constraints"]["areas"]
     assert [(it["polygon"], it["exclude"]) for it in areas] == [("lease.csv", "outside"), ("river bed.csv", "inside")]
+    # The grid of areas removes one and keeps its file.
+    grid = grids_of(path.read_text(), load(path))["areas"]
+    assert [row.cells for row in grid.rows] == [("lease.csv", "outside"), ("river bed.csv", "inside")]
+    text = changed(path.read_text(), grid, replace(grid, rows=grid.rows[1:]), NAME)
+    assert tomllib.loads(text)["constraints"]["areas"] == areas[1:]
 
 
 def test_an_area_that_is_uploaded_is_kept_as_it_is(path, client):

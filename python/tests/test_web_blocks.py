@@ -12,10 +12,13 @@ from helpers.browser_application import OWN, PORT, ended, entered
 from helpers.pushbacks import PUSHBACKS, pillars
 
 import pitplan
+from pitplan.cli.parser import FORMATS
 from pitplan.web import block_data, project_text
 from pitplan.web.choice import with_pushbacks, with_shell
 from pitplan.web.jobs import DONE, Jobs
 from pitplan.web.output_pages import export_words
+from pitplan.web.output_words import WORDS
+from pitplan.web.results_page import grouped, read_table
 from pitplan.web.run_form import WrongForm
 from pitplan.web.security import Access
 
@@ -175,6 +178,23 @@ def test_results_without_their_tables_have_a_page_without_charts(served, client,
             path.write_bytes(data)
 
 
+def test_a_long_table_shows_its_first_rows(tmp_path):
+    (tmp_path / "t.csv").write_text("a,b\n" + "1,x\n" * 2500)
+    found = read_table(tmp_path / "t.csv")
+    assert (found.count, len(found.rows), found.are_numbers) == (2500, 2000, [True, False])
+
+
+def test_numbers_have_groups_of_digits():
+    assert [grouped(it) for it in ("65590338.164", "-1234", "0.5", "lp", "nan", "")] == [
+        "65,590,338.164",
+        "-1,234",
+        "0.5",
+        "lp",
+        "nan",
+        "",
+    ]
+
+
 # ---- the choice of a shell
 
 
@@ -247,8 +267,13 @@ def test_an_export_that_there_is_not_is_refused(form):
         export_words(form)
 
 
+def test_each_format_of_the_command_line_has_words():
+    assert tuple(WORDS) == FORMATS
+
+
 def test_an_export_and_a_view_are_files_of_the_result(served, client):
-    for action, form in (("export", {"to": "table"}), ("view", {})):
+    exports = [("export", {"to": "table", "factor": ""}), ("export", {"to": "lines", "factor": ""})]
+    for action, form in (*exports, ("view", {})):
         answer = client.post(f"/result/{action}", data={"name": "hill/plan", **form}, headers=OWN)
         assert answer.status_code == 303
         number = int(answer.headers["location"].rpartition("=")[2])
@@ -256,6 +281,10 @@ def test_an_export_and_a_view_are_files_of_the_result(served, client):
         assert "/result?name=hill/plan" in client.get(f"/job?number={number}").text
     page = client.get("/result", params={"name": "hill/plan"}).text
     assert "/file?name=hill/plan/table.csv" in page
+    selected = json.loads((served / "hill/plan/plan.json").read_text())["shells"]["selected"]
+    assert f"/file?name=hill/plan/lines-{selected:.2f}.csv" in page
     assert '<iframe class="view" src="/file?name=hill/plan/view.html" sandbox="allow-scripts"' in page
+    shown = client.post("/result/export", data={"name": "hill/plan", "to": "dxf", "show": "on"}, headers=OWN).text
+    assert f"pitplan export hill/plan --to=dxf --revenue-factor={selected:.2f}" in shown
     for name in ("hill", "none", "../x"):
         assert client.post("/result/view", data={"name": name}, headers=OWN).status_code == 404

@@ -157,26 +157,6 @@ def send(driver, model, folder=None):
     driver.find_element(ID, "send").click()
 
 
-def test_from_a_block_model_to_pit_shells_by_clicks(driver, server, root, model):
-    enter(driver, server)
-    complaints(driver)
-    click(driver, "Import")
-    send(driver, model)
-    # The page of the job leads to that of the block model by itself.
-    wait(driver, lambda it: "/imported" in it.current_url)
-    role = driver.find_element(CSS, "select[name='role:CU_PCT']")
-    assert role.get_attribute("value") == "copper:percent" and len(driver.find_elements(CSS, "#columns tbody tr")) == 8
-    figure = driver.find_element(CSS, "figure img")
-    wait(driver, lambda it: it.execute_script("return arguments[0].naturalWidth", figure) > 100)
-    click(driver, "Open the project")
-    assert driver.find_element(TAG, "h1").text == "North Hill"
-    start(driver, "shells")
-    wait(driver, lambda it: status_of(it) == "done")
-    assert complaints(driver) == []
-    assert (root / "North Hill" / "North Hill.csv").read_bytes() == model.read_bytes()
-    assert json.loads((root / "North Hill/plan/plan.json").read_text())["verified"]
-
-
 def test_an_import_that_is_refused_or_fails_says_what_to_do(driver, server, root, model):
     enter(driver, server)
     click(driver, "Import")

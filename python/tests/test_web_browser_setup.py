@@ -14,6 +14,7 @@ from helpers.browser_clicks import (
     enter,
     start,
     status_of,
+    submit,
     wait,
     words_of,
 )
@@ -42,8 +43,7 @@ def server(tmp_path_factory):
 
 
 def saved(driver, kind):
-    driver.find_element(CSS, f"#{kind} button[type=submit]").click()
-    wait(driver, lambda it: words_of(it, f"said-{kind}") or words_of(it, f"wrong-{kind}"))
+    submit(driver, driver.find_element(CSS, f"#{kind} button[type=submit]"))
     return words_of(driver, f"wrong-{kind}")
 
 
@@ -55,6 +55,11 @@ def paste(driver, cell, text):
         arguments[0].dispatchEvent(new ClipboardEvent("paste", { clipboardData: data, bubbles: true, cancelable: true }));
     """
     driver.execute_script(script, cell, text)
+
+
+def may_leave(driver):
+    """Whether the page can be left without a question."""
+    return driver.execute_script("return window.dispatchEvent(new Event('beforeunload', { cancelable: true }))")
 
 
 def focused(driver):
@@ -69,7 +74,9 @@ def test_periods_are_typed_pasted_and_saved(driver, server):
     click(driver, "Test hill")
     driver.find_element(CSS, "#periods summary").click()
     cell = driver.find_element(CSS, "#periods td input")
+    assert may_leave(driver)
     cell.send_keys("2")
+    assert not may_leave(driver)
     assert len(driver.find_elements(CSS, "#periods tbody tr")) == 2
     cell.send_keys(DOWN)
     assert focused(driver) == "Period 2, Years, duration"
@@ -151,3 +158,24 @@ def test_an_area_is_drawn_on_the_plan(driver, server):
     )
     assert complaints(driver) == []
     (server.root / "project.toml").write_text(before)
+
+
+def test_a_file_that_is_refused_while_it_is_sent_says_why(driver, server, tmp_path):
+    """The folder of unfinished files cannot be made; the browser has a large file to send."""
+    (tmp_path / "large.csv").write_bytes(b"x,y,z\n" + b"1,2,3\n" * 2_000_000)
+    enter(driver, server)
+    waiting = server.root / ".pitplan-serve" / "uploads"
+    kept = waiting.rename(waiting.with_name("kept")) if waiting.exists() else None
+    waiting.parent.mkdir(exist_ok=True)
+    waiting.write_text("")
+    click(driver, "Import")
+    driver.find_element(ID, "file").send_keys(str(tmp_path / "large.csv"))
+    driver.find_element(ID, "send").click()
+    wait(driver, lambda it: words_of(it, "problem"))
+    assert words_of(driver, "problem").startswith(
+        "large/large.csv: cannot be written: File exists: free space, or check"
+    )
+    waiting.unlink()
+    if kept:
+        kept.rename(waiting)
+    assert not (server.root / "large").exists() and driver.find_element(ID, "send").is_enabled()

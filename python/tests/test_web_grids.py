@@ -122,7 +122,7 @@ def wrong(page, kind):
 
 def test_each_grid_shows_its_entries_with_labels_and_units(path, client):
     found = grids_of(TEXT, load(path))
-    assert list(found) == ["metals", "processes", "stockpiles", "dumps", "periods", "slopes"]
+    assert list(found) == ["metals", "processes", "stockpiles", "dumps", "periods", "classes", "slopes", "areas"]
     metals = found["metals"]
     cells = [dict(zip((it.name for it in metals.columns), row.cells)) for row in metals.rows]
     assert cells[0]["price"] == "9000.50" and cells[1]["name"] == "gold" and cells[1]["smelter.payable"] == "0.99"
@@ -135,7 +135,7 @@ def test_each_grid_shows_its_entries_with_labels_and_units(path, client):
     assert form_in(page, "metals").keys() >= {"project", "seen", "grid", "row:0", "row:2", "cell:2:0"}
 
 
-@pytest.mark.parametrize("kind", list(KINDS))
+@pytest.mark.parametrize("kind", [kind for kind in KINDS if kind != "classes"])
 def test_a_grid_without_changes_changes_no_letter(path, client, kind):
     answer = send(client, kind)
     assert answer.status_code == 303 and answer.headers["location"].endswith(f"&saved={kind}#{kind}")
@@ -216,6 +216,49 @@ def test_a_new_list_is_added(path, client):
     assert [it.name for it in project.schedule.stockpiles] == ["low"] and project.shells.calendar.periods[0].years == 2
 
 
+CLASSED = TEXT.replace('rock_type = "rock"\n', 'rock_type = "rock"\nclass = "region"\n')
+
+
+def test_rules_of_classes_are_set_changed_and_removed(path, client):
+    assert "names no column of resource classes" in page_of(client)
+    path.write_text(CLASSED)
+    answer = send(client, "classes", r1_class="inferred", r1_rule="refuse")
+    assert answer.status_code == 303, wrong(answer.text, "classes")
+    assert path.read_text() == f'{CLASSED}\n[classes]\ninferred = "refuse"\n'
+    answer = send(client, "classes", r1_rule="ore", r2_class="Cat 3", r2_rule="waste")
+    assert path.read_text() == f'{CLASSED}\n[classes]\ninferred = "ore"\n"Cat 3" = "waste"\n'
+    assert load(path).classes.of("inferred") == "ore" and load(path).classes.of("Cat 3") == "waste"
+    page = page_of(client)
+    form = {
+        name: value for name, value in form_in(page, "classes").items() if not name.startswith(("row:0", "cell:0:"))
+    }
+    assert client.post("/project/grid", data=form, headers=OWN).status_code == 303
+    assert path.read_text() == f'{CLASSED}\n[classes]\n"Cat 3" = "waste"\n'
+
+
+@pytest.mark.parametrize(
+    ("cells", "why"),
+    [
+        ({"r1_rule": "ore"}, "Resource classes, row 1, Class: found nothing, expected a code"),
+        ({"r1_class": "inf"}, "Resource classes, row 1, Rule: found '', expected one of ore, waste, refuse"),
+        ({"r1_class": "inf", "r1_rule": "maybe"}, "Rule: found 'maybe', expected one of ore, waste, refuse"),
+    ],
+)
+def test_rules_of_classes_that_are_wrong(path, client, cells, why):
+    path.write_text(CLASSED)
+    answer = send(client, "classes", **cells)
+    assert answer.status_code == 422 and why in wrong(answer.text, "classes") and path.read_text() == CLASSED
+
+
+def test_rules_in_another_form_are_left_to_the_text(path):
+    text = CLASSED.replace("[table]", 'classes = { inf = "ore" }\n[table]')
+    path.write_text(text)
+    grid = grids_of(text, load(path))["classes"]
+    assert [row.cells for row in grid.rows] == [("inf", "ore")]
+    with pytest.raises(WrongForm, match="in a way that this grid cannot change"):
+        grids.changed(text, grid, replace(grid, rows=[Row(0, ("inf", "ore")), Row(None, ("x", "ore"))]), NAME)
+
+
 # ---- refused
 
 
@@ -251,7 +294,7 @@ def test_a_file_that_has_changed_is_kept(path, client):
     page, theirs = page_of(client), TEXT.replace("0.9,", "0.8,")
     path.write_text(theirs)
     answer = send(client, "processes", page, r1_capacity="x2")
-    assert answer.status_code in (409, 422) and path.read_text() == theirs
+    assert answer.status_code == 409 and path.read_text() == theirs
     answer = send(client, "processes", page, r1_capacity="2000")
     assert answer.status_code == 409 and path.read_text() == theirs
     assert "has changed since this page was opened" in wrong(answer.text, "processes")

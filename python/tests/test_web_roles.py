@@ -1,7 +1,9 @@
 """Roles of columns that a planner sets: by `pitplan init --role`, and on the page of an imported block model."""
 
 import html
+import json
 import re
+import shutil
 
 import pytest
 from conftest import rows
@@ -10,7 +12,7 @@ from helpers.browser_application import OWN, PORT, ended, entered
 import pitplan
 from pitplan.cli import main
 from pitplan.web import uploads
-from pitplan.web.jobs import DONE, FAILED, Jobs
+from pitplan.web.jobs import DONE, FAILED, LOST, Jobs, now
 from pitplan.web.security import Access
 
 
@@ -32,12 +34,23 @@ def client(root):
     return entered(root, Access(PORT))
 
 
-@pytest.fixture
-def imported(root, client):
-    """An import that has succeeded; gives the number of its job."""
+@pytest.fixture(scope="module")
+def imported_once(tmp_path_factory):
+    """A folder with an import that has succeeded."""
+    folder = tmp_path_factory.mktemp("imported").resolve() / "mines"
+    folder.mkdir()
     query = {"folder": "hill", "file": "blocks.csv"}
-    assert client.put("/import/file", params=query, content=table().to_csv(index=False), headers=OWN).status_code == 201
-    assert ended(root, 1).status == DONE
+    answer = entered(folder, Access(PORT)).put(
+        "/import/file", params=query, content=table().to_csv(index=False), headers=OWN
+    )
+    assert answer.status_code == 201 and ended(folder, 1).status == DONE
+    return folder
+
+
+@pytest.fixture
+def imported(root, client, imported_once):
+    """A copy of it; gives the number of its job."""
+    shutil.copytree(imported_once, root, dirs_exist_ok=True)
     return 1
 
 
@@ -169,6 +182,26 @@ def test_a_failed_import_leaves_files_that_others_put_there(root, client):
     assert client.put("/import/file", params=query, content="a,b\n1,2\n", headers=OWN).status_code == 201
     assert ended(root, 1).status == FAILED
     assert [it.name for it in (root / "hill").iterdir()] == ["notes.txt"]
+
+
+def test_an_import_whose_runner_was_killed_leaves_no_folder(root):
+    found = Jobs(root)
+    (root / "hill").mkdir()
+    (root / "hill" / "blocks.csv").write_text("x\n")
+    for number in (1, 2):
+        folder = found.of(number)
+        folder.mkdir(parents=True)
+        job = {"number": number, "words": ["check"], "project": "", "folder": "hill", "asked": now()}
+        (folder / "job.json").write_text(json.dumps(job | ({"removes": "hill/blocks.csv"} if number == 1 else {})))
+        (folder / "state.json").write_text(json.dumps({"runner": 0, "began": "0", "status": "running"}))
+    assert found.read(1).status == LOST
+    found.pump()
+    assert not (root / "hill").exists()
+    # The name is free, and a file that comes later is another one's.
+    (root / "hill").mkdir()
+    (root / "hill" / "blocks.csv").write_text("new\n")
+    found.pump()
+    assert (root / "hill" / "blocks.csv").read_text() == "new\n"
 
 
 def test_the_rest_of_a_file_that_is_refused_is_read(root, client, monkeypatch):

@@ -109,7 +109,7 @@ def test_the_form_has_the_numbers_with_labels_and_units(path, client):
     assert found == FIELDS
     page, form = page_of(client), form_in(page_of(client))
     left_out = {it.name: "" for it in fields if not it.entry.end and not it.is_of_schedule}
-    assert "value:shells.mining_capacity" in left_out and len(left_out) == 4
+    assert "value:shells.mining_capacity" in left_out and len(left_out) == 3
     written = {f"value:{it[0]}": it[3] for it in FIELDS}
     assert form == {"project": NAME, "seen": form["seen"], "form": "values", **written, **left_out}
     for name, label, unit, _ in FIELDS:

@@ -57,7 +57,8 @@ def write_export(
     """
     shape = shape if isinstance(shape, Shape) else Shape(revenue_factor=shape)
     registry.demand_apt(kind, shape)
-    result = read_factor(folder, shape.revenue_factor) if shape.of == FACTOR else read_folder(plan_folder(folder))
+    has_factor = shape.of == FACTOR and kind in registry.OF_ONE
+    result = read_factor(folder, shape.revenue_factor) if has_factor else read_folder(plan_folder(folder))
     default = result.path / registry.name_of(kind, shape)
     target = folder_of(out, default, result) if registry.is_folder(kind, shape) else file_of(out, default, result)
     with progress.step(f"writing {target.name}"), registry.staged(target, kind, shape) as path:

@@ -11,6 +11,8 @@ from .toml_section import Section
 
 # The original ground is the tops of the blocks.
 BLOCKS = "blocks"
+# The sides of an area that may be excluded.
+SIDES = ("inside", "outside")
 
 
 @dataclass(frozen=True)
@@ -61,6 +63,6 @@ def read_constraints(section: Section, folder: Path) -> ConstraintRules:
 
 def read_area(section: Section, folder: Path) -> Area:
     polygon = read_survey(section, "polygon", folder, heights=False)
-    area = Area(polygon, section.choice("exclude", ("inside", "outside"), None))
+    area = Area(polygon, section.choice("exclude", SIDES, None))
     section.finish()
     return area

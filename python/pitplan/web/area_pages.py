@@ -16,14 +16,13 @@ from starlette.responses import JSONResponse, Response
 from starlette.routing import Route
 
 from pitplan.config import toml_text
-from pitplan.config.constraints import Area
+from pitplan.config.constraints import SIDES, Area
 from pitplan.config.survey import SurveyFile
-from pitplan.constraints import in_area
 from pitplan.core.atomic_files import staged_file
 from pitplan.errors import PlanError
 
 from . import project_text, toml_edit
-from .block_data import Store
+from .block_pages import BlockPages
 from .grid_columns import at
 from .grids import toml_of
 from .import_roles import in_words
@@ -31,7 +30,6 @@ from .pages import MOST_BYTES, Pages, form_of
 from .project_text import Editor
 from .run_form import WrongForm
 
-SIDES = ("inside", "outside")
 ENDINGS = (".csv", ".dxf", ".str", ".gpkg", ".geojson")
 NAME = re.compile(r"\w[\w -]{0,59}")
 # The most bytes of a file with polygons, and the most corners that are drawn.
@@ -45,12 +43,12 @@ class AreaPages:
     ----------
     pages : Pages
         All other pages of the folder.
-    store : Store
-        The blocks that the page of plans and sections shows.
+    blocks : BlockPages
+        The page of plans and sections, with the blocks that it shows.
     """
 
-    def __init__(self, pages: Pages, store: Store) -> None:
-        self.pages, self.store = pages, store
+    def __init__(self, pages: Pages, blocks: BlockPages) -> None:
+        self.pages, self.blocks = pages, blocks
 
     @property
     def routes(self) -> list[Route]:
@@ -89,9 +87,12 @@ class AreaPages:
         return JSONResponse({"next": f"/blocks?name={quote(name)}"}, status_code=201)
 
     def write(self, path: Path, name: str, area: Area, content: bytes) -> None:
+        """Writes the file and the key. Raises PlanError if no block lies in the area, or one of them cannot be written."""
+        from pitplan.constraints import in_area
+
         editor = project_text.demanded(project_text.opened(path, name), path, name)
         text = with_area(editor.text, area)
-        grid = self.store.of(path).grid
+        grid = self.blocks.store.of(path).grid
         file = area.polygon.path
         demand_free(file)
         with staged_file(file) as place:

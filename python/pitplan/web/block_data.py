@@ -87,8 +87,8 @@ class Blocks:
         Revenue factors of shells; empty without shells.
     selected : float
         That of the selected shell; 0 without shells.
-
-
+    kept : dict of str to Shown
+        The columns that were asked for.
     """
 
     grid: Grid

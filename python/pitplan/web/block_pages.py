@@ -2,16 +2,21 @@
 
 from __future__ import annotations
 
-import numpy as np
+from functools import cached_property
+from typing import TYPE_CHECKING
+
 from starlette.concurrency import run_in_threadpool
 from starlette.requests import Request
 from starlette.responses import JSONResponse, Response
 from starlette.routing import Route
 
-from .block_data import Blocks, Store
 from .import_roles import in_words
 from .pages import Pages
 from .workspace import NotThere
+
+# The modules of block models need pandas, which is loaded when a page needs it.
+if TYPE_CHECKING:
+    from .block_data import Blocks, Store
 
 BYTES = "application/octet-stream"
 
@@ -26,7 +31,14 @@ class BlockPages:
     """
 
     def __init__(self, pages: Pages) -> None:
-        self.pages, self.store = pages, Store()
+        self.pages = pages
+
+    @cached_property
+    def store(self) -> Store:
+        """The models that were asked for last."""
+        from .block_data import Store
+
+        return Store()
 
     @property
     def routes(self) -> list[Route]:
@@ -75,7 +87,7 @@ class BlockPages:
         """The values of a column by row: floats of 32 bits, or the places of its codes as bytes."""
         blocks = await self.blocks(request)
         shown = await run_in_threadpool(blocks.column, request.query_params.get("column", ""))
-        return Response(np.ascontiguousarray(shown.values).tobytes(), media_type=BYTES)
+        return Response(shown.values.tobytes(), media_type=BYTES)
 
     async def row(self, request: Request) -> Response:
         """The fields of the block in a cell."""

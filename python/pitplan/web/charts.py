@@ -3,10 +3,11 @@
 from __future__ import annotations
 
 from collections.abc import Sequence
-from dataclasses import asdict, dataclass, field
+from dataclasses import asdict, dataclass, field, replace
 from pathlib import Path
 from typing import Any, Optional
 
+import numpy as np
 import pandas as pd
 
 from pitplan.config.project import Project
@@ -48,6 +49,8 @@ class Chart:
         The units of both scales.
     table : str
         The name of the table with its numbers.
+    mark, says : str
+        The category that is marked, and what that means; empty without one.
     """
 
     name: str
@@ -58,6 +61,8 @@ class Chart:
     left: str
     right: str = ""
     table: str = ""
+    mark: str = ""
+    says: str = ""
 
     @property
     def as_json(self) -> dict[str, Any]:
@@ -105,7 +110,7 @@ def charts_of(folder: Path, record: dict[str, Any], project: Project) -> list[Ch
 
 
 def numbers(values: Sequence[Any], by: float = 1.0) -> list[Optional[float]]:
-    return [None if pd.isna(it) else float(it) / by for it in values]
+    return [float(it) / by if np.isfinite(it) else None for it in values]
 
 
 def pit_by_pit(tables: Tables) -> Optional[Chart]:
@@ -125,7 +130,9 @@ def pit_by_pit(tables: Tables) -> Optional[Chart]:
         Series("waste", BAR, WASTE, numbers(shells["waste_tonnes"], MILLION)),
     ]
     factors = [factor_text(float(it)) for it in shells["revenue_factor"]]
-    return Chart("shells", "Pit by pit", "revenue factor", factors, [*bars, *lines], "Mt", money, names.SHELLS)
+    chart = Chart("shells", "Pit by pit", "revenue factor", factors, [*bars, *lines], "Mt", money, names.SHELLS)
+    selected = tables.record.get("shells", {}).get("selected")
+    return replace(chart, mark=factor_text(float(selected)), says="selected shell") if selected else chart
 
 
 def by_pushback(tables: Tables) -> Optional[Chart]:

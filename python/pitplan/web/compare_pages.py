@@ -5,7 +5,7 @@ from __future__ import annotations
 from collections.abc import Mapping
 
 from starlette.requests import Request
-from starlette.responses import RedirectResponse, Response
+from starlette.responses import Response
 from starlette.routing import Route
 
 from pitplan.results import names
@@ -84,6 +84,5 @@ class ComparePages:
 
     async def compare(self, request: Request) -> Response:
         """Starts the comparison."""
-        asked = read(await form_of(request), self.pages.workspace)
-        job = self.pages.jobs.ask(asked.words, asked.project, asked.folder)
-        return RedirectResponse(f"/job?number={job.number}", status_code=303)
+        form = await form_of(request)
+        return self.pages.started(read(form, self.pages.workspace), form)

@@ -6,7 +6,9 @@ from collections.abc import Mapping, Sequence
 from dataclasses import dataclass, replace
 from typing import Any
 
+from pitplan.config.classes import TREATMENTS
 from pitplan.config.codes import CLASS, CODES, DOMAIN, ROCK_TYPE
+from pitplan.config.constraints import SIDES
 from pitplan.config.economics import GRADE_UNITS, GRAMS
 from pitplan.config.project import Project
 from pitplan.config.slopes import DIP, WALL
@@ -14,6 +16,8 @@ from pitplan.config.slopes import DIP, WALL
 # A number, a text, codes with commas between, one of some words, or anything that TOML has.
 NUMBER, TEXT, LIST, CHOICE, VALUE = "number", "text", "codes", "choice", "value"
 Entry = Mapping[str, Any]
+# The section whose keys are the rows of a grid, not its entries.
+CLASSES = "classes"
 CODE_WORDS = {ROCK_TYPE: "rock type", DOMAIN: "domain", CLASS: "class"}
 
 
@@ -74,7 +78,9 @@ KINDS = {
         Kind("stockpiles", "schedule.stockpiles", "Stockpiles", "Stockpile", "Costs, capacities and accepted ore"),
         Kind("dumps", "dumps", "Dumps", "Dump", "Costs, capacities and accepted waste"),
         Kind("periods", "periods", "Periods", "Period", "Capacities, prices, costs and minimums that differ by period"),
+        Kind(CLASSES, CLASSES, "Resource classes", "Class", "Which classes may be ore; inferred is waste by default"),
         Kind("slopes", "slopes.domains", "Slopes", "Slope domain", "Slope angles by domain and azimuth"),
+        Kind("areas", "constraints.areas", "Areas", "Area", "Polygons in or outside which nothing is mined"),
     )
 }
 
@@ -240,6 +246,13 @@ def limited(key: str, names: Sequence[str], unit: str) -> list[Column]:
     ]
 
 
+def of_classes(project: Project) -> list[Column]:
+    return [
+        Column(("class",), "Class", f"code in {project.table.resource_class or 'the column [table] class'}", TEXT),
+        Column(("rule",), "Rule", "", CHOICE, TREATMENTS),
+    ]
+
+
 def of_slopes(project: Project) -> list[Column]:
     return [
         Column(("domain",), "Domain", "codes; empty: all others", LIST),
@@ -252,11 +265,20 @@ def of_slopes(project: Project) -> list[Column]:
     ]
 
 
+def of_areas(project: Project) -> list[Column]:
+    return [
+        Column(("polygon",), "Polygon", "file next to the project", TEXT),
+        Column(("exclude",), "May not be mined", "side of the polygon", CHOICE, SIDES),
+    ]
+
+
 OF_KIND = {
     "metals": of_metals,
     "processes": of_processes,
     "stockpiles": of_stockpiles,
     "dumps": of_dumps,
     "periods": of_periods,
+    CLASSES: of_classes,
     "slopes": of_slopes,
+    "areas": of_areas,
 }

@@ -57,6 +57,7 @@ class GridPages:
         after = before
         try:
             after = grids.typed(before, form)
+            project_text.demand_seen(path, name, form.get("seen", ""))
             text = grids.changed(editor.text, before, after, name)
             self.write(path, name, Editor(text, form.get("seen", "")))
         except PlanError as error:
@@ -74,6 +75,7 @@ class GridPages:
         if editor.wrong:
             return self.pages.project_page(name, editor, 422)
         try:
+            project_text.demand_seen(path, name, form.get("seen", ""))
             text = with_named_process(editor.text, form.get("name", "").strip(), name)
             self.write(path, name, Editor(text, form.get("seen", "")))
         except PlanError as error:
@@ -83,7 +85,6 @@ class GridPages:
 
     def write(self, path: Path, name: str, editor: Editor) -> None:
         """Saves a text. Raises PlanError if it is no project, or if the file has changed."""
-        project_text.demand_seen(path, name, editor.seen)
         project_text.save(path, name, project_text.demanded(editor, path, name))
 
 

@@ -14,8 +14,8 @@ from pitplan.config import toml_text
 from pitplan.config.project import Project
 from pitplan.errors import PlanError
 
-from . import toml_edit
-from .grid_columns import KINDS, LIST, NUMBER, VALUE, Column, Kind, at, columns_of
+from . import class_rules, toml_edit
+from .grid_columns import CLASSES, KINDS, LIST, NUMBER, VALUE, Column, Kind, at, columns_of
 from .run_form import WrongForm
 from .toml_lines import entries
 from .values_form import NUMBER as A_NUMBER
@@ -79,9 +79,16 @@ def grids_of(text: str, project: Project) -> dict[str, Grid]:
 def grid_of(kind: Kind, text: str, data: Mapping[str, Any], project: Project) -> Grid:
     """Returns a grid of a project's text."""
     found = at(data, kind.header.split("."))
-    listed = found if isinstance(found, list) else []
+    listed = class_rules.rows_of(data) if kind.name == CLASSES else found if isinstance(found, list) else []
     columns = columns_of(kind.name, project, listed)
     rows = [Row(k, tuple(shown(at(entry, it.path), it) for it in columns)) for k, entry in enumerate(listed)]
+    if kind.name == CLASSES:
+        none = (
+            ""
+            if project.table.resource_class
+            else "The project names no column of resource classes: add class to [table]"
+        )
+        return Grid(kind, columns, rows, none)
     return Grid(kind, columns, rows, why_not(kind, text, data))
 
 
@@ -188,6 +195,9 @@ def changed(text: str, before: Grid, after: Grid, name: str) -> str:
     """
     if before.why_not:
         raise WrongForm(f"{before.why_not}.")
+    if before.kind.name == CLASSES:
+        old, new = ([row.cells for row in it.rows] for it in (before, after))
+        return class_rules.with_rules(text, old, new, name)
     header, empty = before.kind.header, ("",) * len(before.columns)
     changes = [
         changes_of(before, row, number, empty if row.source is None else before.rows[row.source].cells)

@@ -88,7 +88,7 @@ class ImportPages:
             title=f"Block model of {job.folder}",
             job=job,
             found=self.recognised(job),
-            groups=import_roles.GROUPS,
+            groups=import_roles.groups(),
         )
 
     def recognised(self, job: Job) -> Recognised:

@@ -5,19 +5,15 @@ from __future__ import annotations
 import threading
 from collections.abc import Callable, Mapping
 from dataclasses import dataclass
+from functools import cache
 from pathlib import Path
-from typing import Any
+from typing import TYPE_CHECKING, Any
 
 from starlette.concurrency import run_in_threadpool
 from starlette.requests import Request
 from starlette.responses import JSONResponse, PlainTextResponse, RedirectResponse, Response
 from starlette.routing import Route
 
-from pitplan.blockmodel import guessed_model, wizard
-from pitplan.blockmodel.column_guesses import METALS
-from pitplan.blockmodel.column_roles import WORDS, Role, demand_each_once, role_of_text
-from pitplan.blockmodel.guessed_model import Rows
-from pitplan.config.economics import GRADE_SIGNS
 from pitplan.core.atomic_files import hash_of
 from pitplan.errors import WARNING, PlanError
 
@@ -25,19 +21,36 @@ from .jobs import IMPORT, Job
 from .pages import MOST_BYTES, Answer, Pages, form_of, number_of
 from .run_form import WrongForm
 
+# The modules of block models need pandas, which is loaded when a page needs it.
+if TYPE_CHECKING:
+    from pitplan.blockmodel.column_roles import Role
+    from pitplan.blockmodel.guessed_model import Rows
+
 # The names of fields that hold the role of a column begin with this, those of options of the command with the other.
 PREFIX, OPTION = "role:", "--role="
-# The roles to choose from, by their keys and in words, in groups.
-GROUPS: dict[str, list[tuple[str, str]]] = {
-    "": [("unused", WORDS["unused"])],
-    "Place": [(key, WORDS[key]) for key in ("x", "y", "z", "xinc", "yinc", "zinc")],
-    "Amount": [(key, WORDS[key]) for key in ("tonnes", "density", "volume", "rock_percent", "mcaf", "pcaf")],
-    "Code": [(key, WORDS[key]) for key in ("id", "rock_type", "domain", "class")],
-    **{
+
+
+@cache
+def groups() -> dict[str, list[tuple[str, str]]]:
+    """Returns the roles to choose from, by their keys and in words, in groups."""
+    from pitplan.blockmodel.column_guesses import METALS
+    from pitplan.blockmodel.column_roles import WORDS, Role
+    from pitplan.config.economics import GRADE_SIGNS
+
+    def named(*keys: str) -> list[tuple[str, str]]:
+        return [(key, WORDS[key]) for key in keys]
+
+    grades = {
         f"Grade, {sign}": [(Role(metal, unit).text, f"grade of {metal}, {sign}") for metal in METALS.values()]
         for unit, sign in GRADE_SIGNS.items()
-    },
-}
+    }
+    return {
+        "": named("unused"),
+        "Place": named("x", "y", "z", "xinc", "yinc", "zinc"),
+        "Amount": named("tonnes", "density", "volume", "rock_percent", "mcaf", "pcaf"),
+        "Code": named("id", "rock_type", "domain", "class"),
+        **grades,
+    }
 
 
 @dataclass(frozen=True)
@@ -71,6 +84,8 @@ class RowsOfLast:
 
     def of(self, file: Path) -> Rows:
         """Returns the rows of a file. Raises PlanError if it cannot be read."""
+        from pitplan.blockmodel import guessed_model
+
         with self.lock:
             try:
                 state = file.stat()
@@ -114,6 +129,8 @@ class RolePages:
 
     def previewed(self, job: Job, roles: Mapping[str, Role]) -> dict[str, Any]:
         """Returns the text of the project, the columns, and the warnings."""
+        from pitplan.blockmodel import guessed_model, wizard
+
         model = guessed_model.model_of(self.last.of(self.pages.workspace.place(table_of(job))), roles)
         text, found = wizard.project_of(model, self.pages.workspace.root / job.project)
         warnings = [it.removeprefix(WARNING) for it in found.warnings]
@@ -137,6 +154,8 @@ class RolePages:
 
     def roles_of(self, job: Job, form: Mapping[str, str]) -> dict[str, Role]:
         """Returns the roles of a form that differ from the guesses, and those that the import had. Raises PlanError if one is wrong."""
+        from pitplan.blockmodel.column_roles import demand_each_once, role_of_text
+
         texts = dict(word.removeprefix(OPTION).rpartition("=")[::2] for word in job.words if word.startswith(OPTION))
         for it in self.recognised(job).columns:
             text = form.get(PREFIX + it["column"], it["set"])

@@ -7,14 +7,13 @@ import os
 import signal
 import subprocess
 import sys
-from contextlib import suppress
 from pathlib import Path
 from types import FrameType
 from typing import Any, Optional
 
 from pitplan.core.atomic_files import write_json
 
-from .jobs import ANSWER, CANCEL, CANCELLED, CLAIM, DONE, FAILED, JOB, LOG, RUNNING, STATE, begun_at, now
+from .jobs import ANSWER, CANCEL, CANCELLED, CLAIM, DONE, FAILED, JOB, LOG, RUNNING, STATE, begun_at, now, remove_file
 
 # A command that is interrupted gets these seconds to end by itself.
 PATIENCE = 20.0
@@ -81,15 +80,9 @@ class Runner:
                 self.cancel(signal.SIGTERM, None)
             code = self.child.wait()
         if code != 0 and job.get("removes"):
-            self.remove(self.root / job["removes"])
+            remove_file(self.root / job["removes"])
         is_cancelled = (self.folder / CANCEL).exists() and code != 0
         self.write(status=CANCELLED if is_cancelled else DONE if code == 0 else FAILED, ended=now(), code=code)
-
-    def remove(self, file: Path) -> None:
-        """Removes a file, and its folder if that is empty then."""
-        with suppress(OSError):
-            file.unlink()
-            file.parent.rmdir()
 
 
 if __name__ == "__main__":

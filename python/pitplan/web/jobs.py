@@ -22,10 +22,11 @@ from .workspace import NotThere
 # Below the folder that is served.
 FOLDER = ".pitplan-serve/jobs"
 JOB, STATE, LOG, ANSWER, CANCEL, CLAIM = "job.json", "state.json", "log", "answer", "cancel", "claimed"
+REMOVED = "removed"
 WAITING, RUNNING, DONE, FAILED, CANCELLED, LOST = "waiting", "running", "done", "failed", "cancelled", "lost"
 ENDED = (DONE, FAILED, CANCELLED, LOST)
-# The command that imports a block model.
-IMPORT = "init"
+# The commands that import a block model, and that write a file for other programs.
+IMPORT, EXPORT = "init", "export"
 # A line of the log that names a step, and the seconds that it took if it has ended.
 STEP = re.compile(r"^(?P<what>.+?) \.\.(?:.*?)(?: (?P<seconds>\d+\.\d) s)?$")
 
@@ -163,11 +164,22 @@ class Jobs:
         """Starts the oldest job that waits, unless one runs."""
         self.runners = [it for it in self.runners if it.poll() is None]
         jobs = self.all()
+        for job in jobs:
+            if job.status == LOST and job.removes:
+                self.remove(job)
         if self.runners or any(job.status == RUNNING for job in jobs):
             return
         waiting = [job for job in jobs if job.status == WAITING]
         if waiting:
             self.start(waiting[-1])
+
+    def remove(self, job: Job) -> None:
+        """Removes, once, the file of a job whose runner was killed before it could."""
+        try:
+            (self.of(job.number) / REMOVED).touch(exist_ok=False)
+        except OSError:
+            return
+        remove_file(self.root / job.removes)
 
     def start(self, job: Job) -> None:
         """Starts the runner of a job, which goes on without the server."""
@@ -226,6 +238,13 @@ def steps_of(log: str) -> list[Step]:
             seconds = None if step["seconds"] is None else float(step["seconds"])
             found[step["what"]] = Step(step["what"], seconds)
     return list(found.values())
+
+
+def remove_file(file: Path) -> None:
+    """Removes a file, and its folder if that is empty then."""
+    with suppress(OSError):
+        file.unlink()
+        file.parent.rmdir()
 
 
 def now() -> str:

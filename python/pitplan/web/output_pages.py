@@ -9,14 +9,15 @@ from starlette.requests import Request
 from starlette.responses import RedirectResponse, Response
 from starlette.routing import Route
 
-from pitplan.cli.parser import FORMATS
-from pitplan.export.registry import OF_ONE, SURFACES
+from pitplan.core.revenue_factors import factor_text
 from pitplan.results.names import RECORD
 
-from . import choice, project_text
+from . import choice, project_text, results_page
+from .jobs import EXPORT
+from .output_words import WORDS
 from .pages import Pages, form_of
 from .project_text import Editor
-from .run_form import WrongForm, plain
+from .run_form import Asked, WrongForm, plain
 from .values_form import NUMBER
 from .workspace import NotThere
 
@@ -71,8 +72,9 @@ class OutputPages:
         """Starts the command that writes an export."""
         form = await form_of(request)
         folder, project = self.folder_of(form)
-        job = self.pages.jobs.ask(("export", plain(folder), *export_words(form)), project, folder)
-        return RedirectResponse(f"/job?number={job.number}", status_code=303)
+        selected = results_page.record_of(self.pages.workspace.root / folder).get("shells", {}).get("selected")
+        words = export_words({"factor": factor_text(float(selected)), **filled(form)} if selected else form)
+        return self.pages.started(Asked((EXPORT, plain(folder), *words), project, folder), form)
 
     def folder_of(self, form: Mapping[str, str]) -> tuple[str, str]:
         """Returns the name of the output folder of a form, and that of its project. Raises NotThere if it has no plan."""
@@ -84,10 +86,17 @@ class OutputPages:
         return name, found.project
 
 
+def filled(form: Mapping[str, str]) -> dict[str, str]:
+    """Returns the fields of a form that are not empty."""
+    return {name: value for name, value in form.items() if value}
+
+
 def export_words(form: Mapping[str, str]) -> list[str]:
     """Returns the options of an export. Raises WrongForm if one is wrong, with the field."""
+    from pitplan.export.registry import OF_ONE, SURFACES
+
     kind, of, ground = form.get("to", ""), form.get("of", STAGES[0]), form.get("surface", GROUNDS[0])
-    for field, given, options in (("Format", kind, FORMATS), ("Of", of, STAGES), ("Surface", ground, GROUNDS)):
+    for field, given, options in (("Format", kind, tuple(WORDS)), ("Of", of, STAGES), ("Surface", ground, GROUNDS)):
         if given not in options:
             raise WrongForm(f"{field}: found {given[:20]!r}, expected one of {', '.join(options)}")
     words = [f"--to={kind}"]

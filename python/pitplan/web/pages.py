@@ -5,7 +5,7 @@ from __future__ import annotations
 import asyncio
 import json
 import shlex
-from collections.abc import AsyncIterator, Awaitable, Callable
+from collections.abc import AsyncIterator, Awaitable, Callable, Mapping
 from dataclasses import asdict, replace
 from pathlib import Path
 from typing import Any, Optional
@@ -22,9 +22,9 @@ from pitplan.errors import PlanError
 
 from . import output_words, project_text, results_page, run_form
 from .grids import Grid
-from .jobs import DONE, IMPORT, Job, Jobs, steps_of
+from .jobs import DONE, EXPORT, IMPORT, Job, Jobs, steps_of
 from .project_text import Editor
-from .run_form import COMMANDS, OPTIONS, WrongForm
+from .run_form import COMMANDS, OPTIONS, Asked, WrongForm
 from .security import SANDBOX
 from .values_form import Values
 from .workspace import RECORDS, NotThere, Workspace
@@ -174,8 +174,17 @@ class Pages:
         )
 
     async def run(self, request: Request) -> Response:
-        """Starts a command."""
-        asked = run_form.read(await form_of(request), self.workspace)
+        """Starts a command, or shows it."""
+        form = await form_of(request)
+        asked = run_form.read(form, self.workspace)
+        return self.started(asked, form)
+
+    def started(self, asked: Asked, form: Mapping[str, str]) -> Response:
+        """Starts a command; if its form asks so, shows it instead."""
+        if form.get("show") == "on":
+            return self.page(
+                "command.html", title="Command", words=asked.words, project=asked.project, root=self.workspace.root
+            )
         job = self.jobs.ask(asked.words, asked.project, asked.folder)
         return RedirectResponse(f"/job?number={job.number}", status_code=303)
 
@@ -254,7 +263,7 @@ class Pages:
         """A job with its progress, which the page keeps up to date."""
         job = self.jobs.read(number_of(request.query_params.get("number", "")))
         is_import = job.words[0] == IMPORT
-        title = f"Import of {job.folder}" if is_import else f"Job {job.number}"
+        title = f"Import of {job.folder}" if is_import else f"Job {job.number}: {job.words[0]}"
         return self.page("job.html", title=title, job=job, state=self.state_of(job), is_import=is_import)
 
     async def events(self, request: Request) -> Response:
@@ -287,7 +296,19 @@ class Pages:
             "seconds": job.seconds,
             "usual": self.jobs.usual_seconds(job),
             "folder": job.folder if self.has_next(job) else "",
+            "file": self.file_of(job),
         }
+
+    def file_of(self, job: Job) -> str:
+        """Returns the name of the file that an export has written; empty without one."""
+        if job.words[0] != EXPORT or job.status != DONE:
+            return ""
+        lines = self.jobs.answer(job.number).strip().splitlines()
+        try:
+            path = self.workspace.place(lines[-1] if lines else "")
+        except NotThere:
+            return ""
+        return self.workspace.name(path) if path.is_file() and self.is_result(path) else ""
 
     def has_next(self, job: Job) -> bool:
         """Returns whether a page shows what a job has written."""

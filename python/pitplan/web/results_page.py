@@ -8,17 +8,20 @@ from collections.abc import Callable
 from dataclasses import dataclass
 from decimal import Decimal, InvalidOperation
 from pathlib import Path
-from typing import Any, Optional
+from typing import TYPE_CHECKING, Any, Optional
 
 from pitplan.config import project_writer
 from pitplan.config.project import load
 from pitplan.core import layout
-from pitplan.errors import PlanError
+from pitplan.errors import WARNING, PlanError
 from pitplan.results.names import TABLE
 from pitplan.results.sheet_heads import heads_of
 
-from .charts import Chart, charts_of
 from .workspace import RECORDS, Workspace
+
+# Charts need pandas, which is loaded when a page needs it.
+if TYPE_CHECKING:
+    from .charts import Chart
 
 # The most rows of a table on a page; a longer one is downloaded.
 MOST_ROWS = 2_000
@@ -111,9 +114,19 @@ class Page:
     stages: list[str]
 
     @property
+    def warnings(self) -> list[str]:
+        """The warnings among the notes."""
+        return [it.removeprefix(WARNING) for it in self.notes if it.startswith(WARNING)]
+
+    @property
     def view(self) -> str:
         """The name of the 3D view; empty without one."""
         return next((name for name in self.pages if name.endswith("/view.html")), "")
+
+    @property
+    def workbook(self) -> str:
+        """The name of the workbook; empty without one."""
+        return next((name for name in self.files if name.endswith(".xlsx")), "")
 
 
 def page_of(folder: Path, workspace: Workspace) -> Page:
@@ -146,6 +159,8 @@ def page_of(folder: Path, workspace: Workspace) -> Page:
 
 def charts_in(folder: Path, record: dict[str, Any]) -> list[Chart]:
     """Returns the charts of a plan; none if its project cannot be read."""
+    from .charts import charts_of
+
     try:
         return charts_of(folder, record, load(folder / project_writer.AS_RUN))
     except PlanError:

@@ -100,7 +100,7 @@ def make_app(root: Path, access: Access, version: str = "") -> Starlette:
     entrance = Entrance(pages, access)
     setup = [*ImportPages(pages).routes, *EditPages(pages).routes, *GridPages(pages).routes]
     blocks = BlockPages(pages)
-    setup += AreaPages(pages, blocks.store).routes
+    setup += AreaPages(pages, blocks).routes
     results = [*blocks.routes, *OutputPages(pages).routes, *ComparePages(pages).routes]
     routes = [*entrance.routes, *pages.routes, *setup, *results]
     return Starlette(routes=routes, middleware=[Middleware(Guard, access=access)], lifespan=lifespan)

@@ -84,6 +84,18 @@ def click(driver, words):
     driver.find_element(LINK, words).click()
 
 
+def submit(driver, button):
+    """Clicks a button that sends a form, and waits for the page that answers."""
+    driver.execute_script("document.body.dataset.old = 'yes'")
+    button.click()
+    wait(
+        driver,
+        lambda it: it.execute_script(
+            "return document.readyState === 'complete' && document.body.dataset.old !== 'yes'"
+        ),
+    )
+
+
 def status_of(driver):
     """The status on the page; empty while another page is loaded."""
     return driver.execute_script("return (document.getElementById('status') || {textContent: ''}).textContent")

@@ -116,7 +116,15 @@ function show(state) {
   const hasEnded = !["waiting", "running"].includes(state.status);
   document.getElementById("cancel").hidden = hasEnded;
   document.getElementById("next").hidden = !(hasEnded && state.folder);
-  const failed = document.getElementById("failed");
+  const failed = document.getElementById("failed"), again = document.getElementById("again");
+  const download = document.getElementById("download");
+  if (download && state.file) {
+    download.href = "/file?name=" + encodeURIComponent(state.file);
+    download.hidden = false;
+  }
+  if (again) {
+    again.hidden = !["failed", "lost"].includes(state.status);
+  }
   if (failed) {
     failed.hidden = !hasEnded || state.folder !== "";
     document.getElementById("busy").hidden = hasEnded;

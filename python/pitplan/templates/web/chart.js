@@ -137,6 +137,7 @@ class Chart {
     this.data.categories.forEach((words, k) => {
       const hit = node("rect", { x: this.x(k) - wide / 2, y: TOP, width: wide, height: HIGH - TOP - BOTTOM, class: "hit", "data-category": words });
       hit.setAttribute("aria-label", this.words(k));
+      hit.classList.toggle("marked", words === this.data.mark);
       hit.setAttribute("role", mayChoose ? "button" : "img");
       hit.tabIndex = mayChoose || k === 0 ? 0 : -1;
       hit.addEventListener("mouseenter", () => this.say(k));
@@ -162,7 +163,8 @@ class Chart {
   words(k) {
     const { along, categories, series, left, right } = this.data;
     const said = series.map((it) => it.name + " " + told(it.values[k]) + " " + (it.axis === "right" ? right : left));
-    return along + " " + categories[k] + ": " + said.join("; ");
+    const mark = categories[k] === this.data.mark ? " (" + this.data.says + ")" : "";
+    return along + " " + categories[k] + mark + ": " + said.join("; ");
   }
 
   say(k) {

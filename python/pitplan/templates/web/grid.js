@@ -65,6 +65,7 @@ class Grid {
     }
     this.grow();
     this.number();
+    this.form.dispatchEvent(new Event("change"));
     const to = near && near.isConnected ? near : this.body.rows[0];
     this.cell(to, this.shown()[0]).focus();
   }
@@ -152,12 +153,28 @@ class Grid {
       row = row.nextElementSibling || this.add();
     }
     this.grow();
+    this.form.dispatchEvent(new Event("change"));
   }
 }
 
 for (const form of document.querySelectorAll("form.grid")) {
   new Grid(form);
 }
+
+// What is typed in one form is not lost, unasked, when another one is saved.
+const typed = new Set();
+let sent = null;
+for (const form of document.querySelectorAll("form.grid, form.numbers")) {
+  for (const kind of ["input", "change"]) {
+    form.addEventListener(kind, () => typed.add(form));
+  }
+  form.addEventListener("submit", () => { sent = form; });
+}
+window.addEventListener("beforeunload", (event) => {
+  if (Array.from(typed).some((it) => it !== sent)) {
+    event.preventDefault();
+  }
+});
 
 // The part of the page that an address names is open.
 function open() {
