@@ -17,7 +17,7 @@ _pitplan() {
     local command=${COMP_WORDS[1]} before=${COMP_WORDS[COMP_CWORD - 1]} options="" valued="" given=0 k
     COMPREPLY=()
     if [ "$COMP_CWORD" -eq 1 ]; then
-        _pitplan_words "init check completion prepare shells pit pushbacks schedule sensitivity compare scenarios gather scenario report view export audit verify convert serve --version -h --help"
+        _pitplan_words "init check completion doctor prepare shells pit pushbacks schedule sensitivity compare scenarios gather scenario report view export audit verify convert serve --version -h --help"
         return
     fi
     case "$command $before" in
@@ -53,6 +53,7 @@ _pitplan() {
     init) options="--out --role --replace --figures --json -h --help" valued="--out --role" ;;
     check) options="--set --quiet -h --help" valued="--set" ;;
     completion) options="-h --help" valued="" ;;
+    doctor) options="--json -h --help" valued="" ;;
     prepare) options="--set --out --quiet -h --help" valued="--set --out" ;;
     shells) options="--set --out --quiet --no-verify --json --no-figures --solver -h --help" valued="--set --out --solver" ;;
     pit) options="--set --out --quiet --no-verify --json --solver --revenue-factor --rf -h --help" valued="--set --out --solver --revenue-factor --rf" ;;

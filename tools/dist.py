@@ -8,9 +8,17 @@
     pitshell-VERSION-linux-MACHINE.tar.gz   the same, to unpack anywhere
     pitshell-VERSION-py3-none-*.whl         the solver on numpy arrays, with the program
     pitplan-VERSION-py3-none-any.whl        the planner's layer, on that
+    pitshell-VERSION-source.tar.gz          the sources of the last commit, in a clone with git
+    SHA256SUMS                              the hashes of these files
 
-It needs dpkg-dev, python3-setuptools and python3-wheel of Debian.
+The files depend on the sources and on build/ alone: all times in them are that of the last commit. It needs dpkg-dev, python3-setuptools
+and python3-wheel of Debian.
 """
+import contextlib
+import functools
+import gzip
+import hashlib
+import os
 import pathlib
 import platform
 import re
@@ -18,6 +26,8 @@ import shutil
 import subprocess
 import sys
 import tarfile
+import time
+from collections.abc import Iterator
 
 from crates import TOP
 
@@ -53,6 +63,19 @@ def version() -> str:
     return re.search(r'^__version__ = "(.+)"$', (TOP / "python" / "pitplan" / "__init__.py").read_text(), re.MULTILINE)[1]
 
 
+def is_clone() -> bool:
+    """Whether this is a clone of the repository."""
+    return (TOP / ".git").exists()
+
+
+@functools.cache
+def time_of_files() -> int:
+    """The time that all files in the packages have, in seconds: that of the last commit, or SOURCE_DATE_EPOCH or now in a folder without git."""
+    if is_clone():
+        return int(run("git", "log", "-1", "--format=%ct"))
+    return int(os.environ.get("SOURCE_DATE_EPOCH", time.time()))
+
+
 def run(*words: object, folder: pathlib.Path = TOP) -> str:
     """Standard output of a command; what it says beside that is told where it fails."""
     ran = subprocess.run([str(word) for word in words], cwd=folder, capture_output=True, text=True)
@@ -85,7 +108,7 @@ def debian_package() -> pathlib.Path:
     (paths / "pitshell.pth").write_text("/usr/lib/pitshell/python\n")
     (root / "usr/share/doc/pitshell/LICENSE").rename(root / "usr/share/doc/pitshell/copyright")
     words = {"version": version(), "architecture": run("dpkg", "--print-architecture").strip(), "c_library": c_library()}
-    words["kilobytes"] = run("du", "-sk", root).split()[0]
+    words["kilobytes"] = kilobytes(root)
     words["layer"] = ", ".join(run("tools/setup.sh", "names", "core").split())
     (root / "DEBIAN").mkdir()
     (root / "DEBIAN" / "control").write_text(CONTROL.format(**words))
@@ -96,19 +119,42 @@ def debian_package() -> pathlib.Path:
     return made
 
 
+def kilobytes(root: pathlib.Path) -> int:
+    """The size of a folder, each file and folder rounded up, as Debian's policy asks for."""
+    return sum(-(-it.stat().st_size // 1024) if it.is_file() else 1 for it in root.rglob("*"))
+
+
 def archive() -> pathlib.Path:
     name = f"pitshell-{version()}-linux-{platform.machine()}"
     root = installed("")
     made = DIST / f"{name}.tar.gz"
-    with tarfile.open(made, "w:gz") as packed:
+    with compressed(made) as file, tarfile.open(fileobj=file, mode="w") as packed:
         packed.add(root, arcname=name, filter=owned_by_root)
     return made
+
+
+@contextlib.contextmanager
+def compressed(path: pathlib.Path) -> Iterator[gzip.GzipFile]:
+    """Opens a file whose bytes are compressed, without a name and with the time of all files."""
+    with path.open("wb") as file, gzip.GzipFile(filename="", fileobj=file, mode="wb", mtime=time_of_files()) as packed:
+        yield packed
 
 
 def owned_by_root(entry: tarfile.TarInfo) -> tarfile.TarInfo:
     entry.uid = entry.gid = 0
     entry.uname = entry.gname = "root"
+    entry.mtime = time_of_files()
     return entry
+
+
+def source_archive() -> pathlib.Path:
+    """The files of the last commit."""
+    name = f"pitshell-{version()}"
+    made = DIST / f"{name}-source.tar.gz"
+    ran = subprocess.run(["git", "archive", f"--prefix={name}/", "HEAD"], cwd=TOP, capture_output=True, check=True)
+    with compressed(made) as file:
+        file.write(ran.stdout)
+    return made
 
 
 def wheel(name: str, files: dict[str, pathlib.Path], tag: str) -> pathlib.Path:
@@ -135,12 +181,17 @@ def main() -> int:
     if missing:
         print(f"build/ has no {' and no '.join(missing)}: make, and make library, prove and build them")
         return 1
+    os.umask(0o022)
+    os.environ["SOURCE_DATE_EPOCH"] = str(time_of_files())
     shutil.rmtree(DIST, ignore_errors=True)
     DIST.mkdir(parents=True)
     machine = f"manylinux_{c_library().replace('.', '_')}_{platform.machine()}"
     program = {f"pitshell/{name}": BUILD / name for name in ("libpitshell.so", "pitshell", "pitschedule")}
     checkers = {f"pitplan/checkers/{name}": TOP / "tools" / name for name in ("check_certificate.py", "replay_journal.py")}
     made = [debian_package(), archive(), wheel("pitshell", program, f"py3-none-{machine}"), wheel("pitplan", checkers, "py3-none-any")]
+    made += [source_archive()] if is_clone() else []
+    hashes = "".join(f"{hashlib.sha256(file.read_bytes()).hexdigest()}  {file.name}\n" for file in made)
+    (DIST / "SHA256SUMS").write_text(hashes)
     for file in made:
         print(f"{file.relative_to(TOP)} {file.stat().st_size:,} bytes")
     shutil.rmtree(BUILD / "stage")

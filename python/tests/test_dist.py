@@ -1,5 +1,6 @@
 """What others install: from a folder outside of the repository each package plans the example, and its audit is checked."""
 
+import os
 import shutil
 import subprocess
 from pathlib import Path
@@ -21,6 +22,23 @@ def dist() -> Path:
         pytest.skip("make and make library build what is packed")
     subprocess.run([ROOT / "tools" / "dist.py"], check=True, capture_output=True)
     return BUILD / "dist"
+
+
+def test_another_build_has_the_same_bytes(dist, tmp_path):
+    """In another folder, with other rights for new files and another time zone."""
+    said = subprocess.run(["git", "status", "--porcelain"], cwd=ROOT, capture_output=True, text=True)
+    if said.returncode or said.stdout:
+        pytest.skip("compares with a clone of the last commit")
+    first = (dist / "SHA256SUMS").read_text()
+    assert [line.split()[1] for line in first.splitlines()] == sorted(
+        (it.name for it in dist.iterdir() if it.name != "SHA256SUMS"), key=lambda name: first.index(name)
+    )
+    clone = tmp_path / "clone"
+    subprocess.run(["git", "clone", "-q", "--shared", ROOT, clone], check=True)
+    shutil.copytree(BUILD, clone / "build", ignore=shutil.ignore_patterns("dist", "stage"))
+    command = ["sh", "-c", f"umask 077 && exec {clone}/tools/dist.py"]
+    subprocess.run(command, check=True, capture_output=True, env={**os.environ, "TZ": "Asia/Tokyo"})
+    assert (clone / "build" / "dist" / "SHA256SUMS").read_text() == first
 
 
 def test_the_wheel_of_the_layer_asks_for_the_python_that_it_needs():

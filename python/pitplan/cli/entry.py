@@ -10,20 +10,14 @@ from typing import Optional, Sequence
 import minelib
 from minelib.ending import ended
 
+from ..core.libraries import LIBRARIES
 from ..errors import MissingPackage, PlanError, PlanWarning
 from .parser import parser
 
 # The subcommands that require Python alone.
-PLAIN = ("convert", "completion")
+PLAIN = ("convert", "completion", "doctor")
 # Packages of Python that all others require, with those of Debian.
-REQUIRED = {
-    "numpy": "python3-numpy",
-    "pandas": "python3-pandas",
-    "matplotlib": "python3-matplotlib",
-    "scipy": "python3-scipy",
-    "openpyxl": "python3-openpyxl",
-    "jinja2": "python3-jinja2",
-}
+REQUIRED = {it.module: it.package for it in LIBRARIES if not it.purpose}
 
 
 def main(arguments: Optional[Sequence[str]] = None) -> int:

@@ -108,7 +108,7 @@ def parser() -> Parser:
     )
     top.add_argument("--version", action="version", version=f"pitplan {__version__}", help="print the version and exit")
     subs = Subparsers(top)
-    subs.group("set up", add_init, add_check, add_completion)
+    subs.group("set up", add_init, add_check, add_completion, add_doctor)
     subs.group("plan", add_prepare, add_shells, add_pit, add_pushbacks, add_schedule)
     subs.group("studies", add_sensitivity, add_compare, add_scenarios, add_gather, add_scenario)
     subs.group("outputs", add_report, add_view, add_export, add_audit, add_verify)
@@ -162,6 +162,12 @@ def add_completion(subs: Subparsers) -> None:
     more = 'The packages install it; otherwise, in bash: eval "$(pitplan completion bash)".'
     sub = subs.add("completion", "print the completion script of a shell", subcommands.completion, more)
     sub.add_argument("shell", choices=SHELLS, help="shell that reads the script")
+
+
+def add_doctor(subs: Subparsers) -> None:
+    more = "Import each library, and solve a mine of two blocks. Exit with status 1 if a part is missing that every command needs."
+    sub = subs.add("doctor", "print versions, and what is missing with the remedy", subcommands.doctor, more)
+    sub.add_argument("--json", action="store_true", help="print the parts as JSON")
 
 
 def add_prepare(subs: Subparsers) -> None:

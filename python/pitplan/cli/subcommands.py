@@ -67,6 +67,20 @@ def init(options: Namespace) -> int:
     return 0
 
 
+def doctor(options: Namespace) -> int:
+    import json
+
+    from .. import __version__
+    from ..commands import doctor as doctoring
+
+    found = doctoring.findings(__version__)
+    if options.json:
+        print(json.dumps(doctoring.as_records(found), indent=2, ensure_ascii=False))
+    else:
+        print("\n".join(doctoring.lines_of(found)))
+    return int(any(it.is_wrong for it in found))
+
+
 def check(options: Namespace) -> int:
     from ..commands.check import check as check_project
     from .printing import print_notes
