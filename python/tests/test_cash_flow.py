@@ -152,7 +152,7 @@ def test_depreciation_over_unequal_periods():
 @pytest.mark.parametrize("off", [-1e-14, 0.0, 1e-14])
 @pytest.mark.parametrize("discounting", ["end_of_year", "continuous"])
 def test_returns_at_the_rates_of_the_search_are_found(worked, discounting, off):
-    """Two periods, and capex that their cash pays back at a rate, where the NPV is 0 but for rounding, to either side."""
+    """Two periods, and capex that their cash pays back at a rate, where the NPV is 0 within rounding, above or below it."""
     project = load(worked.parent.parent / "project.toml")
     project = replace(project, shells=replace(project.shells, discounting=discounting))
     cash = np.array([300.0, 700.0])

@@ -19,7 +19,7 @@ def by_part(found):
 
 
 def test_versions_are_those_of_the_installed_packages():
-    """A Debian version has an epoch in front and a revision behind."""
+    """A Debian version may begin with an epoch and ends with a revision."""
     words = ["dpkg-query", "-W", "-f", "${Package} ${Version}\n"]
     packages = [it.package for it in LIBRARIES if it.package]
     said = subprocess.run([*words, *packages], capture_output=True, text=True, check=True).stdout
@@ -56,7 +56,7 @@ def test_a_missing_library_of_every_command_is_an_error(monkeypatch, capsys):
     assert said.endswith("\npitplan cannot run: openpyxl\n")
 
 
-def test_a_missing_library_of_one_command_is_none(monkeypatch, capsys):
+def test_a_missing_library_of_one_command_is_no_error(monkeypatch, capsys):
     monkeypatch.setitem(sys.modules, "ezdxf", None)
     assert main(["doctor"]) == 0
     said = capsys.readouterr().out

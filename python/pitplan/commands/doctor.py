@@ -1,6 +1,6 @@
 """`pitplan doctor`: the versions of what an installation has, and what is missing or broken, with the remedy.
 
-Nothing of numpy and its like is imported above, so that a missing one is a line of the report.
+It imports third-party libraries in its functions only, so that the report lists one that is missing.
 """
 
 from __future__ import annotations

@@ -101,7 +101,7 @@ class Blocks:
     kept: dict[str, Shown] = field(default_factory=dict)
 
     def column(self, name: str) -> Shown:
-        """Returns a column to colour by. Raises PlanError if there is none of this name."""
+        """Returns a column to colour by. Raises PlanError if no column has this name."""
         if name not in self.names:
             raise PlanError(f"{name}: found no such column, expected one of {', '.join(self.names)}")
         if name not in self.kept:

@@ -99,7 +99,7 @@ class Finance:
         low, high = RATES[below[0] - 1], RATES[below[0]]
         at_low, at_high = self.npv(cash, low), self.npv(cash, high)
         if not at_high <= 0 < at_low:
-            # At one of both it is 0 but for rounding.
+            # At one of the two rates the NPV is 0 within rounding.
             return float(low if abs(at_low) < abs(at_high) else high)
         return float(brentq(lambda rate: self.npv(cash, rate), low, high, xtol=1e-12))
 

@@ -25,7 +25,7 @@ from .limit import Limit
 from .limit_names import ADVANCE, DUMP, DUMPED, MAX, MIN, RUNNING, STOCK, Prices
 from .model import FlowModel
 from .rows import by_end, furthest, order_rows
-from .sparse import beside, kron
+from .sparse import kron, side_by_side
 
 # Programmes with more unknowns than these take minutes.
 MANY = 60_000
@@ -99,7 +99,7 @@ class FlowProgramme:
     def row(self, *parts: Optional[spmatrix]) -> csr_matrix:
         """Returns rows of all unknowns from rows of those of mining, direct feed, to, in and from the stockpiles, and from what lies there at the
         start; the last ones may be left out."""
-        return beside(parts, self.sizes)
+        return side_by_side(parts, self.sizes)
 
     @cached_property
     def gain(self) -> NDArray[np.float64]:

@@ -19,8 +19,8 @@ def kron(one: Any, other: Any) -> coo_matrix:
     return coo_matrix((data.ravel(), (row.ravel(), column.ravel())), shape=(height * rows, width * columns))
 
 
-def beside(parts: Sequence[Optional[Any]], widths: Sequence[int]) -> csr_matrix:
-    """Returns matrices next to each other, of given widths; None is all zeros."""
+def side_by_side(parts: Sequence[Optional[Any]], widths: Sequence[int]) -> csr_matrix:
+    """Returns matrices side by side, of given widths. None stands for zeros."""
     starts, height = np.cumsum([0, *widths]), next(part.shape[0] for part in parts if part is not None)
     there = [(part.tocoo(), start) for part, start in zip(parts, starts.tolist()) if part is not None]
     row = np.concatenate([part.row for part, _ in there])
