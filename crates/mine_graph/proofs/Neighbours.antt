@@ -7,8 +7,7 @@ use Rattle.pit_model.specs.Graph.{first_of, second_of}
 use Rattle.pit_model.specs.Fixed.{transposed}
 use Rattle.pit_model.specs.Part.{AreConnected, AreNeighbours}
 use Rattle.pit_model.proofs.Fixed.{transposed_at, transposed_count}
-use Rattle.mine_graph.specs.BreadthFirst.{HasNeighbours, VisitsComponent, IsJoinedWith, IsTrail, VisitsExactly, is_visited, queued}
-use Rattle.mine_graph.specs.Users.{LeadsTo}
+use Rattle.mine_graph.specs.BreadthFirst.{HasNeighbours, VisitsComponent, IsJoinedWith, IsTrail, VisitsExactly, is_visited, queued, LeadsTo}
 use Rattle.mine_graph.specs.declared.breadth_first.BreadthFirst.{BreadthFirst}
 use Rattle.mine_graph.proofs.Spreading.{takes_both}
 

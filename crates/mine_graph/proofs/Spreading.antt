@@ -7,8 +7,7 @@ use Rattle.pit_model.specs.Graph.{first_of, second_of, AreInRange, AreSamePairs}
 use Rattle.pit_model.specs.Fixed.{IsClosedAlong, IsClosure, transposed}
 use Rattle.pit_model.proofs.Fixed.{transposed_at, transposed_count}
 use Rattle.mine_graph.specs.FixedBlocks.{mark_of}
-use Rattle.mine_graph.specs.BreadthFirst.{IsAt, VisitsClosure, IsTrail, VisitsExactly, is_visited, queued}
-use Rattle.mine_graph.specs.Users.{LeadsTo}
+use Rattle.mine_graph.specs.BreadthFirst.{IsAt, VisitsClosure, IsTrail, VisitsExactly, is_visited, queued, LeadsTo}
 use Rattle.mine_graph.specs.declared.breadth_first.BreadthFirst.{BreadthFirst}
 use Rattle.csr.proofs.Pigeon.{pigeon_more}
 

@@ -3,8 +3,12 @@ use Rattle.std.specs.Prelude.{◌≡◌, ◌⊎◌, ℕ, ◌<◌, ◌≤◌, Boo
 use Rattle.pit_model.specs.Fixed.{IsClosedAlong}
 use Rattle.pit_model.specs.Part.{AreConnected, AreNeighbours}
 use Rattle.mine_graph.specs.FixedBlocks.{mark_of}
-use Rattle.mine_graph.specs.Users.{LeadsTo}
+use Rattle.pit_model.specs.Graph.{first_of, second_of}
 use Rattle.mine_graph.specs.declared.breadth_first.BreadthFirst.{BreadthFirst}
+
+-- a pair leads from a to u
+abbrev pub LeadsTo : List (ℕ × ℕ) → ℕ → ℕ → Type 0
+LeadsTo pairs a u = (k : ℕ) × (k < length pairs) × (first_of pairs k ≡ a) × (second_of pairs k ≡ u)
 
 -- u is the block of one of the places from `begin` up to `end`
 abbrev pub IsAt : (ℕ → ℕ) → ℕ → ℕ → ℕ → Type 0

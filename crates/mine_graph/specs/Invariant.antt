@@ -2,17 +2,14 @@
 use Rattle.std.specs.Prelude.{◌≡◌, ℕ, ◌^◌, ◌<◌, ◌≤◌, ℤ, pos, neg_ℤ, ◌≤ℤ◌, List, length, get_or}
 use Rattle.pit_model.specs.Size.{most_blocks, most_pairs}
 use Rattle.pit_model.specs.Graph.{Graph, IsGraph}
-use Rattle.csr.specs.Transposed.{transposed_pairs}
 use Rattle.mine_graph.specs.RowSamples.{AreRowSamples}
 
--- a graph within the limits, and the same arcs transposed
-pub record GraphInvariant (blocks : ℕ) (predecessors successors : Graph) (row_samples : List ℕ) : Type 0 where
+-- a graph within the limits
+pub record GraphInvariant (blocks : ℕ) (predecessors : Graph) (row_samples : List ℕ) : Type 0 where
   pub few_blocks : blocks ≤ most_blocks
   pub few_arcs : length predecessors.pairs ≤ most_pairs
   pub rows : predecessors.blocks ≡ blocks
   pub graph : IsGraph blocks predecessors.pairs
-  pub same_rows : successors.blocks ≡ blocks
-  pub transposed : successors.pairs ≡ transposed_pairs predecessors.pairs blocks
   pub sampled : AreRowSamples predecessors.pairs row_samples
 
 -- a value for each block, each within 10^23 of 0

@@ -1,6 +1,6 @@
 pub mod RowSamples
 pub mod FixedBlocks
-pub mod Users
+pub mod Directions
 pub mod Invariant
 pub mod Faults
 pub mod Renumbered

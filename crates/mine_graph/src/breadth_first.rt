@@ -5,8 +5,7 @@ ghost use Rattle.std.specs.List.{All};
 ghost use Rattle.pit_model.specs.Graph.{AreInRange, AreSamePairs};
 ghost use Rattle.pit_model.specs.Fixed.{IsClosure, is_among, transposed};
 ghost use Rattle.mine_graph.specs.FixedBlocks.{mark_of};
-ghost use Rattle.mine_graph.specs.Users.{LeadsTo};
-ghost use Rattle.mine_graph.specs.BreadthFirst.{HasNeighbours, IsAt, IsJoinedWith, IsTrail, VisitsExactly, is_visited};
+ghost use Rattle.mine_graph.specs.BreadthFirst.{HasNeighbours, IsAt, IsJoinedWith, IsTrail, VisitsExactly, is_visited, LeadsTo};
 
 use csr::Csr;
 use std::alloc::{AllocError, Global};

@@ -88,6 +88,7 @@ impl Graph {
         ensures { IfOk result (λ components. AreComponents self.now components.labels.items components.count self.now.blocks) }
     {
         self.law();
-        find_components(self.n(), self.predecessors(), self.successors())
+        let successors = self.successors()?;
+        find_components(self.n(), self.predecessors(), &successors)
     }
 }

@@ -1,9 +1,10 @@
 //! Blocks forced in and blocks barred. What forced blocks need, directly or through others, must be dug too; what needs barred
 //! ones so must be left. Which of the others are dug is open: `rest` is the graph of those.
 ghost use Rattle.std.specs.Prelude.{◌≡◌, ◌<◌, ◌↔◌, ◌&&◌, ◌||◌, ℕ, IsTrue, false, true, length, get_or, IfOk, IfErr, IfSome, IfNone};
+ghost use Rattle.std.specs.List.{All};
 ghost use Rattle.std.specs.List.Sorted.{IsStrictlyIncreasing};
 ghost use Rattle.faults.specs.Refused.{no_memory};
-ghost use Rattle.pit_model.specs.Fixed.{AreFixable, IsFixedRest, fixed_of, is_among, is_open};
+ghost use Rattle.pit_model.specs.Fixed.{AreFixable, IsClosure, IsFixedRest, fixed_of, is_among, is_open, transposed};
 ghost use Rattle.pit_model.specs.Cycle.{IsLeast};
 ghost use Rattle.pit_model.specs.Graph.{Graph as AnyGraph};
 ghost use Rattle.mine_graph.specs.FixedBlocks.{IsFixedOf, RefusesFixed, forced_closure, barred_closure, lists_of, mark_of, no_lists};
@@ -69,6 +70,22 @@ fn settled_marks(alloc: Global, n: u32, fixed: &Fixed) -> Result<Vec<bool>, Allo
         .collect(alloc)
 }
 
+/// A mark for each block: whether it is barred, or needs a block that is, directly or through others. Without a barred block no
+/// arc is transposed.
+fn barred_marks(alloc: Global, graph: &Graph, barred: &[u32]) -> Result<Vec<bool>, AllocError>
+    requires { All (λ u. u < graph.now.blocks) barred.now }
+    ensures { IfOk result (λ marks. IsClosure (transposed graph.now.pairs) (is_among barred.now) (mark_of marks.items)) }
+{
+    graph.law();
+    if barred.is_empty() {
+        let none = vec![in alloc; false; graph.n() as usize]?;
+        return Ok(none);
+    }
+    let successors = graph.successors()?;
+    let marks = closure_of(alloc, graph.n(), &successors, barred)?;
+    Ok(marks)
+}
+
 impl Fixed {
     /// Returns the blocks of the first list as forced in, and those of the second as barred. Errors: the least barred block that is
     /// forced in (21); lack of memory (1). Time is linear in blocks and pairs.
@@ -88,7 +105,7 @@ impl Fixed {
         if let Some(block) = first_marked(&barred, &dug) {
             return Err(Fault::clash(block));
         }
-        let left = closure_of(alloc, graph.n(), graph.successors(), &barred)?;
+        let left = barred_marks(alloc, graph, &barred)?;
         Ok(Fixed {
             settled: Some(Settled {
                 forced,

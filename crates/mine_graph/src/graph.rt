@@ -7,7 +7,7 @@ ghost use Rattle.pit_model.specs.Direction.{IsReversed};
 ghost use Rattle.pit_model.specs.Fixed.{transposed};
 ghost use Rattle.pit_model.specs.Graph.{first_of, second_of, AreApart, AreInRange, AreSamePairs, IsAcyclic, IsGraph};
 ghost use Rattle.mine_graph.specs.Faults.{IsGraphFault};
-ghost use Rattle.mine_graph.specs.Users.{AreUsers};
+ghost use Rattle.csr.specs.Transposed.{transposed_pairs};
 
 use crate::no_cycle::check_acyclic;
 use crate::row_samples::{STEP, next_row_sample, row_between, sample_rows};
@@ -23,8 +23,6 @@ pub struct Graph {
     blocks: u32,
     /// The blocks that each block needs.
     predecessors: Csr,
-    /// The blocks that need each block.
-    successors: Csr,
     /// The block of every 64th pair.
     row_samples: Vec<u32>,
 }
@@ -37,7 +35,7 @@ impl Model for Graph {
 
     ghost view = { λ g. record { blocks = g.blocks; pairs = g.predecessors.pairs } };
 
-    ghost invariant = { λ g. GraphInvariant g.blocks g.predecessors g.successors g.row_samples.items };
+    ghost invariant = { λ g. GraphInvariant g.blocks g.predecessors g.row_samples.items };
 }
 
 impl Graph {
@@ -97,12 +95,10 @@ impl Graph {
         ensures blocks { IfOk result (λ g. g.blocks ≡ n) }
         ensures pairs { IfOk result (λ g. g.pairs ≡ predecessors.pairs) }
     {
-        let successors = transposed_rows(alloc, n, predecessors.view())?;
         let row_samples = sample_rows(alloc, n, predecessors.view())?;
         Ok(Graph {
             blocks: n,
             predecessors,
-            successors,
             row_samples,
         })
     }
@@ -124,12 +120,19 @@ impl Graph {
         &self.predecessors
     }
 
-    /// The arcs from each block to those that need it.
-    pub(crate) fn successors(&self) -> &Csr
-        ensures blocks { result.now.blocks ≡ self.now.blocks }
-        ensures turned { AreSamePairs (transposed self.now.pairs) result.now.pairs }
+    /// Returns the arcs from each block to those that need it, in time linear in blocks and pairs.
+    ///
+    /// # Errors
+    ///
+    /// If memory runs out.
+    pub(crate) fn successors(&self) -> Result<Csr, AllocError>
+        ensures blocks { IfOk result (λ r. r.blocks ≡ self.now.blocks) }
+        ensures pairs { IfOk result (λ r. r.pairs ≡ transposed_pairs self.now.pairs self.now.blocks) }
+        ensures same { IfOk result (λ r. AreSamePairs (transposed self.now.pairs) r.pairs) }
     {
-        &self.successors
+        self.law();
+        let rows = transposed_rows(self.alloc(), self.blocks, self.predecessors.view())?;
+        Ok(rows)
     }
 
     /// Where the graph takes its memory from.
@@ -188,26 +191,15 @@ impl Graph {
         self.predecessors.row(u)
     }
 
-    /// The blocks that need a block, rising.
-    pub fn users(&self, p: u32) -> &[u32]
-        requires { p < self.now.blocks }
-        ensures { AreUsers self.now.pairs p result.now }
-    {
-        let rows = self.successors.view();
-        let begin = rows.offsets[p as usize] as usize;
-        let end = rows.offsets[p as usize + 1] as usize;
-        &rows.targets[begin..end]
-    }
-
     /// Returns the transposed graph: the blocks that need a block there are those that it needs here. Error: `NoMemory`. Time is
     /// linear in blocks and pairs.
     pub fn reversed(&self) -> Result<Graph, Fault>
         ensures reversed { IfOk result (λ g. IsReversed self.now g) }
         ensures no_memory { IfErr result (λ e. e ≡ no_memory) }
     {
-        let alloc = self.alloc();
-        let predecessors = Csr::from_view(alloc, self.successors.view())?;
-        Ok(Graph::of_acyclic_rows(alloc, self.blocks, predecessors)?)
+        self.law();
+        let predecessors = self.successors()?;
+        Ok(Graph::of_acyclic_rows(self.alloc(), self.blocks, predecessors)?)
     }
 
     /// The number of a pair, by halving the row of its block.

@@ -1,13 +1,49 @@
-//! Whether pairs have a cycle: a topological order along the pairs as they lie decides it. Only if blocks are left over are the pairs
-//! transposed and ordered once more, and the blocks left then name the cycle (cycle.rt).
-ghost use Rattle.std.specs.Prelude.{◌≡◌, ℕ, ◌^◌, ◌<◌, ◌≤◌, length, get_or, IfOk, IfErr};
+//! Whether pairs have a cycle. If all lead to lower numbers, or all to higher ones, they have none. Otherwise a topological order along
+//! the pairs decides it. Only if blocks are left over are the pairs transposed and ordered once more, and the blocks left then name
+//! the cycle (cycle.rt).
+ghost use Rattle.std.specs.Prelude.{◌≡◌, ◌↔◌, ℕ, ◌^◌, ◌<◌, ◌≤◌, IsTrue, length, get_or, IfOk, IfErr};
 ghost use Rattle.pit_model.specs.Graph.{AreInRange, AreRising, IsAcyclic};
+ghost use Rattle.mine_graph.specs.Directions.{NeedLower, NeedHigher};
 ghost use Rattle.mine_graph.specs.Faults.{IsGraphFault};
 
 use crate::cycle::cycle_of;
 use csr::{Csr, first_left, in_degrees_left, transposed_rows};
 use faults::{Fault, Refusal, Source};
 use std::alloc::Global;
+
+/// Returns whether each block needs blocks of lower numbers alone.
+fn need_lower(n: u32, rows: &Csr) -> bool
+    requires range { AreInRange rows.now.pairs n }
+    requires blocks { rows.now.blocks ≡ n }
+    ensures { IsTrue result ↔ NeedLower rows.now.pairs }
+{
+    for u in 0..n {
+        let row = rows.row(u);
+        for k in row.start..row.end {
+            if rows.target(k) >= u {
+                return false;
+            }
+        }
+    }
+    true
+}
+
+/// Returns whether each block needs blocks of higher numbers alone.
+fn need_higher(n: u32, rows: &Csr) -> bool
+    requires range { AreInRange rows.now.pairs n }
+    requires blocks { rows.now.blocks ≡ n }
+    ensures { IsTrue result ↔ NeedHigher rows.now.pairs }
+{
+    for u in 0..n {
+        let row = rows.row(u);
+        for k in row.start..row.end {
+            if rows.target(k) <= u {
+                return false;
+            }
+        }
+    }
+    true
+}
 
 /// Errors: the cycle that the pairs have, if they have one (14); lack of memory (1).
 fn refuse_cycle(alloc: Global, n: u32, rows: &Csr) -> Result<(), Fault>
@@ -32,7 +68,7 @@ fn refuse_cycle(alloc: Global, n: u32, rows: &Csr) -> Result<(), Fault>
 }
 
 /// Errors: the cycle that the pairs have, if they have one (14); lack of memory (1). Without a cycle it allocates for the blocks
-/// alone.
+/// at most.
 pub fn check_acyclic(alloc: Global, n: u32, rows: &Csr) -> Result<(), Fault>
     requires few_blocks { n < 2 ^ 31 }
     requires few { length rows.now.pairs < 2 ^ 32 }
@@ -42,6 +78,9 @@ pub fn check_acyclic(alloc: Global, n: u32, rows: &Csr) -> Result<(), Fault>
     ensures acyclic { IfOk result (λ _. IsAcyclic rows.now.pairs) }
     ensures refused { IfErr result (IsGraphFault rows.now.pairs n) }
 {
+    if need_lower(n, rows) || need_higher(n, rows) {
+        return Ok(());
+    }
     let left = in_degrees_left(alloc, n, rows)?;
     match first_left(&left) {
         None => Ok(()),

@@ -1,10 +1,12 @@
 -- Marks on the blocks from which an open pair leads, while labels change and while they are looked through.
-use Rattle.std.proofs.Common.{◌≡◌, ℕ, ◌<◌, ◌≤◌, nat_lt, Bool, true, false, not, ◌&&◌, refl, sym, ap, ◌∙◌, arith, ⊎_elim, List, set, length, get_or}
+use Rattle.std.proofs.Common.{◌≡◌, ℕ, ◌<◌, ◌≤◌, nat_lt, Bool, true, false, not, ◌&&◌, refl, sym, ap, subst, ◌∙◌, arith, ⊎_elim, List, set, length, get_or}
 use Rattle.std.specs.Bool.{beq}
 use Rattle.std.proofs.lemmas.Bool.{cases_eq, cases_lt, cases_Bool, true≢false, ltb-true, and_parts, not-true}
-use Rattle.std.proofs.lemmas.List.{get_or-set_same, set-set, set-get_or}
-use Rattle.pit_model.specs.Graph.{first_of, second_of, IsGraph}
-use Rattle.norm_tree.specs.Labelled.{Labelled, label, is_candidate, AreSourcesMarked, IsClosedBelow}
+use Rattle.std.proofs.lemmas.List.{get_or-set_other, get_or-set_same, set-set, set-get_or}
+use Rattle.pit_model.specs.Direction.{IsReversed}
+use Rattle.pit_model.specs.Graph.{Graph, first_of, second_of, IsGraph}
+use Rattle.pit_model.proofs.Fixed.{transposed_at, transposed_count}
+use Rattle.norm_tree.specs.Labelled.{Labelled, label, with_labels, is_candidate, AreSourcesMarked, IsClosedBelow}
 
 not_other : (a b : Bool) → beq a b ≡ false → not b ≡ a
 not_other true true ne = absurd (true≢false ne)
@@ -62,3 +64,35 @@ closed_below_first l k graph least i below = not_open_inside l i (λ inside. ⊎
     (graph.rising k i (omega arith) inside))
     (cases_eq k i))
     (cases_lt i k))
+
+-- marks on the strong users of a block that turned weak are all that its index lacks
+module _ (graph users : Graph) (strong : List Bool) (block : ℕ) (weak : label strong block ≡ false) (reversed : IsReversed graph users) where
+  before : List Bool
+  before = set strong block (not (label strong block))
+
+  -- a pair that does not touch the block is open before if it is open now
+  open_before : (k : ℕ) → (first_of graph.pairs k ≡ block → ⊥) → (second_of graph.pairs k ≡ block → ⊥) → is_candidate (with_labels graph strong) k ≡ true → is_candidate (with_labels graph before) k ≡ true
+  unfolding before
+  open_before k from to is =
+      ap (λ b. nat_lt k (length graph.pairs) && b && not (label before (second_of graph.pairs k))) (get_or-set_other strong block (first_of graph.pairs k) (not (label strong block)) false from)
+      ∙ ap (λ b. nat_lt k (length graph.pairs) && label strong (first_of graph.pairs k) && not b) (get_or-set_other strong block (second_of graph.pairs k) (not (label strong block)) false to)
+      ∙ is
+
+  pub marked_after : (old new : List Bool) → AreSourcesMarked (with_labels graph (set strong block (not (label strong block)))) old
+      → ((u : ℕ) → get_or old u false ≡ true → get_or new u false ≡ true)
+      → ((k : ℕ) → k < length users.pairs → first_of users.pairs k ≡ block → label strong (second_of users.pairs k) ≡ true → get_or new (second_of users.pairs k) false ≡ true)
+      → AreSourcesMarked (with_labels graph strong) new
+  unfolding before
+  marked_after old new was kept marked k is =
+      let parts = open_parts (with_labels graph strong) k is in
+      ⊎_elim
+      (λ (e : second_of graph.pairs k ≡ block).
+      let size = transposed_count graph.pairs in
+      let inside = parts.0 in
+      let there = reversed.pairs_are.forth k (omega arith) in
+      let at = there.2 ∙ transposed_at graph.pairs k inside in
+      let to : second_of users.pairs there.0 ≡ first_of graph.pairs k = ap (λ (q : ℕ × ℕ). q.1) at in
+      subst (λ u. get_or new u false ≡ true) to (marked there.0 there.1 (ap (λ (q : ℕ × ℕ). q.0) at ∙ e) (ap (label strong) to ∙ parts.1)))
+      (λ (ne : second_of graph.pairs k ≡ block → ⊥).
+      kept (first_of graph.pairs k) (was k (open_before k (λ e. true≢false (sym parts.1 ∙ ap (label strong) e ∙ weak)) ne is)))
+      (cases_eq (second_of graph.pairs k) block)

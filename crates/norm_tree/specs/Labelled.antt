@@ -1,6 +1,8 @@
 -- Labels of blocks, and what is kept to find the first pair that leads from a strong block to a weak one.
 use Rattle.std.specs.Prelude.{◌≡◌, ℕ, ◌<◌, nat_lt, Bool, true, false, not, ◌&&◌, List, length, get_or}
+use Rattle.pit_model.specs.Direction.{IsReversed}
 use Rattle.pit_model.specs.Graph.{Graph, first_of, second_of}
+use Rattle.norm_tree.specs.declared.index.Index.{Index}
 
 -- a graph, and which of its blocks are strong
 pub record Labelled : Type 0 where
@@ -25,7 +27,9 @@ IsClosedBelow l bound = (k : ℕ) → first_of l.graph.pairs k < bound → is_ca
 abbrev pub AreSourcesMarked : Labelled → List Bool → Type 0
 AreSourcesMarked l marks = (k : ℕ) → is_candidate l k ≡ true → get_or marks (first_of l.graph.pairs k) false ≡ true
 
-pub record IsIndexed (graph : Graph) (strong marks : List Bool) : Type 0 where
+-- the index marks these blocks, and has the transposed graph
+pub record IsIndexed (graph : Graph) (strong : List Bool) (index : Index) : Type 0 where
   pub sized : length strong ≡ graph.blocks
-  pub room : length marks ≡ graph.blocks
-  pub marked : AreSourcesMarked (with_labels graph strong) marks
+  pub room : length index.marks ≡ graph.blocks
+  pub marked : AreSourcesMarked (with_labels graph strong) index.marks
+  pub reversed : IsReversed graph index.users

@@ -16,6 +16,8 @@ use std::alloc::Global;
 pub(crate) struct Index {
     /// Each strong block that needs a weak one, and others.
     marks: Marks,
+    /// The transposed graph: the blocks that need each block.
+    users: Graph,
 }
 
 /// Marks the strong blocks.
@@ -32,19 +34,19 @@ fn mark_strong(strong: &[bool], marks: &mut Marks)
     }
 }
 
-/// Marks the strong successors of a block.
-fn mark_users(graph: &Graph, strong: &[bool], block: u32, marks: &mut Marks)
-    requires labelled { length strong.now ≡ graph.now.blocks }
-    requires room { length marks.old ≡ graph.now.blocks }
-    requires inside { block < graph.now.blocks }
+/// Marks the strong successors of a block, which the transposed graph lists.
+fn mark_users(users: &Graph, strong: &[bool], block: u32, marks: &mut Marks)
+    requires labelled { length strong.now ≡ users.now.blocks }
+    requires room { length marks.old ≡ users.now.blocks }
+    requires inside { block < users.now.blocks }
     ensures count { length marks.new ≡ length marks.old }
     ensures kept { (u : ℕ) → get_or marks.old u false ≡ true → get_or marks.new u false ≡ true }
-    ensures marked { (k : ℕ) → k < length graph.now.pairs → second_of graph.now.pairs k ≡ block → label strong.now (first_of graph.now.pairs k) ≡ true → get_or marks.new (first_of graph.now.pairs k) false ≡ true }
+    ensures marked { (k : ℕ) → k < length users.now.pairs → first_of users.now.pairs k ≡ block → label strong.now (second_of users.now.pairs k) ≡ true → get_or marks.new (second_of users.now.pairs k) false ≡ true }
 {
-    graph.law();
-    let users = graph.users(block);
-    for place in 0..users.len() {
-        let user = users[place];
+    users.law();
+    let arcs = users.arcs_of(block);
+    for k in arcs.start..arcs.end {
+        let user = users.needed(k);
         if strong[user as usize] {
             marks.mark(user);
         }
@@ -88,38 +90,39 @@ pub(crate) fn first_open_need(graph: &Graph, strong: &[bool], block: u32) -> Opt
 }
 
 impl Index {
-    /// Returns the index of these labels, in time linear in the blocks.
+    /// Returns the index of these labels, in time linear in blocks and arcs.
     ///
     /// # Errors
     ///
     /// If memory runs out.
     pub(crate) fn of(alloc: Global, graph: &Graph, strong: &[bool]) -> Result<Index, Fault>
         requires { length strong.now ≡ graph.now.blocks }
-        ensures indexed { IfOk result (λ i. IsIndexed graph.now strong.now i.marks) }
+        ensures indexed { IfOk result (IsIndexed graph.now strong.now) }
         ensures no_memory { IfErr result (λ e. e ≡ no_memory) }
     {
         graph.law();
+        let users = graph.reversed()?;
         let mut marks = Marks::none(alloc, graph.n())?;
         mark_strong(strong, &mut marks);
-        Ok(Index { marks })
+        Ok(Index { marks, users })
     }
 
     /// Updates the index after a change of a block's label. If the block turned weak, the time is linear in its successors.
     pub(crate) fn take_in(&mut self, graph: &Graph, strong: &[bool], block: u32)
         requires inside { block < graph.now.blocks }
-        requires indexed { IsIndexed graph.now (set strong.now block (not (get_or strong.now block false))) self.old.marks }
-        ensures { IsIndexed graph.now strong.now self.new.marks }
+        requires indexed { IsIndexed graph.now (set strong.now block (not (get_or strong.now block false))) self.old }
+        ensures { IsIndexed graph.now strong.now self.new }
     {
         if strong[block as usize] {
             self.marks.mark(block);
         } else {
-            mark_users(graph, strong, block, &mut self.marks);
+            mark_users(&self.users, strong, block, &mut self.marks);
         }
     }
 
     /// Returns the first arc by number from a strong block to a weak one.
     pub(crate) fn first(&self, graph: &Graph, strong: &[bool]) -> Option<u32>
-        requires { IsIndexed graph.now strong.now self.now.marks }
+        requires { IsIndexed graph.now strong.now self.now }
         ensures merger { IfSome result (λ k. IsTrue (is_candidate (with_labels graph.now strong.now) k)) }
         ensures least { IfSome result (λ k. (l : ℕ) → l < k → is_candidate (with_labels graph.now strong.now) l ≡ false) }
         ensures none { IsNone result → (k : ℕ) → is_candidate (with_labels graph.now strong.now) k ≡ false }
@@ -138,7 +141,7 @@ impl Index {
 
     /// Returns the block of the first such arc, or the number of blocks if there is no such arc.
     fn first_block(&self, graph: &Graph, strong: &[bool]) -> u32
-        requires { IsIndexed graph.now strong.now self.now.marks }
+        requires { IsIndexed graph.now strong.now self.now }
         ensures inside { result ≤ graph.now.blocks }
         ensures closed { IsClosedBelow (with_labels graph.now strong.now) result }
     {
@@ -151,8 +154,8 @@ impl Index {
 
     /// Removes the marks below that block.
     pub(crate) fn settle(&mut self, graph: &Graph, strong: &[bool])
-        requires { IsIndexed graph.now strong.now self.old.marks }
-        ensures { IsIndexed graph.now strong.now self.new.marks }
+        requires { IsIndexed graph.now strong.now self.old }
+        ensures { IsIndexed graph.now strong.now self.new }
     {
         let block = self.first_block(graph, strong);
         self.marks.clear_below(block);

@@ -27,7 +27,7 @@ impl Model for Labels {
 
     ghost view = { λ l. record { graph = l.graph.value; strong = l.strong.items } };
 
-    ghost invariant = { λ l. (length l.strong.items ≡ l.graph.value.blocks) × IfSome l.index (λ i. IsIndexed l.graph.value l.strong.items i.marks) };
+    ghost invariant = { λ l. (length l.strong.items ≡ l.graph.value.blocks) × IfSome l.index (IsIndexed l.graph.value l.strong.items) };
 }
 
 /// Returns the first arc by number from a strong block to a weak one, by scanning the arcs of each strong block.
@@ -60,7 +60,7 @@ impl Labels {
         }
     }
 
-    /// Adds an index to the labels, in time linear in the blocks.
+    /// Adds an index to the labels, in time linear in blocks and arcs.
     ///
     /// # Errors
     ///

@@ -1,10 +1,11 @@
 -- Visiting the users of a block from which flow comes, one after another; and that a pair stands at one place alone.
 use Rattle.std.proofs.Common.{◌≡◌, ℕ, ◌+◌, ◌<◌, ◌≤◌, Bool, true, refl, sym, ap, subst, ◌∙◌, arith, inl, inr, ⊎_elim, List, get_or, length}
-use Rattle.std.specs.Prelude.{ℤ}
+use Rattle.std.specs.Prelude.{ℤ, ◌↔◌}
 use Rattle.std.proofs.lemmas.Bool.{cases_eq, cases_lt}
-use Rattle.pit_model.specs.Graph.{first_of, second_of, AreRising, IsBefore}
+use Rattle.pit_model.specs.Direction.{IsReversed}
+use Rattle.pit_model.specs.Graph.{Graph, first_of, second_of, AreRising, IsBefore}
+use Rattle.pit_model.proofs.Fixed.{transposed_at, transposed_count}
 use Rattle.mine_graph.specs.BreadthFirst.{IsTrail, VisitsExactly}
-use Rattle.mine_graph.specs.Users.{AreUsers}
 use Rattle.mine_graph.specs.declared.breadth_first.BreadthFirst.{BreadthFirst}
 use Rattle.mine_graph.proofs.Spreading.{takes_as, takes_both, takes_nothing}
 use Rattle.optimality.specs.Check.{has}
@@ -23,38 +24,48 @@ one_place pairs rising k l inside there first second =
     (cases_lt k l))
     (cases_eq k l)
 
--- u is one of the first users, flow comes from it, and it lies inside
-abbrev pub SentBefore : List (ℕ × ℕ) → List ℤ → List Bool → List ℕ → ℕ → ℕ → ℕ → Type 0
-SentBefore pairs flow inside users block end u = (x : ℕ) × (x < end) × (get_or users x 0 ≡ u) × Sends pairs flow u block × (has inside u ≡ true)
+-- u stands at one of the places from `begin` up to `end`, flow comes from it, and it lies inside
+abbrev pub SentBetween : List (ℕ × ℕ) → List ℤ → List Bool → (ℕ → ℕ) → ℕ → ℕ → ℕ → ℕ → Type 0
+SentBetween pairs flow inside user block begin end u = (x : ℕ) × (begin ≤ x) × (x < end) × (user x ≡ u) × Sends pairs flow u block × (has inside u ≡ true)
 
-module _ (pairs : List (ℕ × ℕ)) (flow : List ℤ) (inside : List Bool) (users : List ℕ) (block : ℕ) where
-  pub sent_none : (a : BreadthFirst) → IsTrail a → VisitsExactly (SentBefore pairs flow inside users block 0) a a
-  sent_none a trail = takes_nothing (SentBefore pairs flow inside users block 0) a trail (λ u w. absurd (omega (arith, w.1)))
+module _ (pairs : List (ℕ × ℕ)) (flow : List ℤ) (inside : List Bool) (user : ℕ → ℕ) (block begin : ℕ) where
+  pub sent_none : (a : BreadthFirst) → IsTrail a → VisitsExactly (SentBetween pairs flow inside user block begin begin) a a
+  sent_none a trail = takes_nothing (SentBetween pairs flow inside user block begin begin) a trail (λ u w. absurd (omega (arith, w.1, w.2)))
 
-  module _ (i : ℕ) (a b : BreadthFirst) (was : VisitsExactly (SentBefore pairs flow inside users block i) a b) where
-    longer : (u : ℕ) → SentBefore pairs flow inside users block i u → SentBefore pairs flow inside users block (i + 1) u
-    longer u w = (w.0, omega (arith, w.1), w.2, w.3, w.4)
+  module _ (i : ℕ) (from : begin ≤ i) (a b : BreadthFirst) (was : VisitsExactly (SentBetween pairs flow inside user block begin i) a b) where
+    longer : (u : ℕ) → SentBetween pairs flow inside user block begin i u → SentBetween pairs flow inside user block begin (i + 1) u
+    longer u w = (w.0, w.1, omega (arith, w.2), w.3, w.4, w.5)
 
-    pub sent_skip : (Sends pairs flow (get_or users i 0) block → ⊥) → VisitsExactly (SentBefore pairs flow inside users block (i + 1)) a b
-    sent_skip none = takes_as (SentBefore pairs flow inside users block i) (SentBefore pairs flow inside users block (i + 1)) a b longer
+    pub sent_skip : (Sends pairs flow (user i) block → ⊥) → VisitsExactly (SentBetween pairs flow inside user block begin (i + 1)) a b
+    sent_skip none = takes_as (SentBetween pairs flow inside user block begin i) (SentBetween pairs flow inside user block begin (i + 1)) a b longer
         (λ u w. ⊎_elim
-        (λ (e : w.0 ≡ i). absurd (none (subst (λ v. Sends pairs flow v block) (sym w.2 ∙ ap (λ x. get_or users x 0) e) w.3)))
-        (λ (ne : w.0 ≡ i → ⊥). (w.0, omega (arith, w.1), w.2, w.3, w.4))
+        (λ (e : w.0 ≡ i). absurd (none (subst (λ v. Sends pairs flow v block) (sym w.3 ∙ ap user e) w.4)))
+        (λ (ne : w.0 ≡ i → ⊥). (w.0, w.1, omega (arith, w.2), w.3, w.4, w.5))
         (cases_eq w.0 i))
         was
 
-    pub sent_more : (c : BreadthFirst) → Sends pairs flow (get_or users i 0) block → VisitsExactly (IsVisited inside (λ x. true) (λ x. get_or users i 0) 0 1) b c → VisitsExactly (SentBefore pairs flow inside users block (i + 1)) a c
-    sent_more c sends one = takes_both (SentBefore pairs flow inside users block i) (IsVisited inside (λ x. true) (λ x. get_or users i 0) 0 1) (SentBefore pairs flow inside users block (i + 1)) a b c was one
+    pub sent_more : (c : BreadthFirst) → Sends pairs flow (user i) block → VisitsExactly (IsVisited inside (λ x. true) (λ x. user i) 0 1) b c → VisitsExactly (SentBetween pairs flow inside user block begin (i + 1)) a c
+    sent_more c sends one = takes_both (SentBetween pairs flow inside user block begin i) (IsVisited inside (λ x. true) (λ x. user i) 0 1) (SentBetween pairs flow inside user block begin (i + 1)) a b c was one
         (λ u w. ⊎_elim
-        (λ (e : w.0 ≡ i). inr (0, omega arith, omega arith, refl, ap (λ x. get_or users x 0) (sym e) ∙ w.2, w.4))
-        (λ (ne : w.0 ≡ i → ⊥). inl (w.0, omega (arith, w.1), w.2, w.3, w.4))
+        (λ (e : w.0 ≡ i). inr (0, omega arith, omega arith, refl, ap user (sym e) ∙ w.3, w.5))
+        (λ (ne : w.0 ≡ i → ⊥). inl (w.0, w.1, omega (arith, w.2), w.3, w.4, w.5))
         (cases_eq w.0 i))
         longer
-        (λ u w. (i, omega arith, w.4, subst (λ v. Sends pairs flow v block) w.4 sends, w.5))
+        (λ u w. (i, from, omega arith, w.4, subst (λ v. Sends pairs flow v block) w.4 sends, w.5))
 
-  -- all users are those from which a pair leads to the block
-  pub sent_all : (a b : BreadthFirst) → AreUsers pairs block users → VisitsExactly (SentBefore pairs flow inside users block (length users)) a b
-      → VisitsExactly (λ u. Sends pairs flow u block × (has inside u ≡ true)) a b
-  sent_all a b used = takes_as (SentBefore pairs flow inside users block (length users)) (λ u. Sends pairs flow u block × (has inside u ≡ true)) a b
-      (λ u w. (w.3, w.4))
-      (λ u w. let at = used.all u (w.0.0, w.0.1, w.0.2, w.0.3) in (at.0, at.1, at.2, w.0, w.1))
+-- the row of a block in the transposed graph has all from which a pair leads to the block
+pub sent_all : (graph users : Graph) (flow : List ℤ) (inside : List Bool) (block begin end : ℕ) (a b : BreadthFirst) → IsReversed graph users
+    → ((k : ℕ) → k < length users.pairs → (first_of users.pairs k ≡ block) ↔ ((begin ≤ k) × (k < end)))
+    → VisitsExactly (SentBetween graph.pairs flow inside (second_of users.pairs) block begin end) a b
+    → VisitsExactly (λ u. Sends graph.pairs flow u block × (has inside u ≡ true)) a b
+sent_all graph users flow inside block begin end a b reversed own =
+    takes_as (SentBetween graph.pairs flow inside (second_of users.pairs) block begin end) (λ u. Sends graph.pairs flow u block × (has inside u ≡ true)) a b
+    (λ u w. (w.4, w.5))
+    (λ u w.
+    let k : ℕ = w.0.0 in
+    let inside : k < length graph.pairs = w.0.1 in
+    let size = transposed_count graph.pairs in
+    let there = reversed.pairs_are.forth k (omega arith) in
+    let at = there.2 ∙ transposed_at graph.pairs k inside in
+    let row = (own there.0 there.1).0 (ap (λ (q : ℕ × ℕ). q.0) at ∙ w.0.3) in
+    (there.0, row.0, row.1, ap (λ (q : ℕ × ℕ). q.1) at ∙ w.0.2, w.0, w.1))

@@ -4,8 +4,7 @@ use Rattle.std.proofs.lemmas.List.{get_or_default}
 use Rattle.pit_model.specs.Fixed.{transposed}
 use Rattle.pit_model.specs.Graph.{AreInRange}
 use Rattle.pit_model.specs.Part.{AreNeighbours}
-use Rattle.mine_graph.specs.BreadthFirst.{VisitsExactly, queued}
-use Rattle.mine_graph.specs.Users.{LeadsTo}
+use Rattle.mine_graph.specs.BreadthFirst.{VisitsExactly, queued, LeadsTo}
 use Rattle.mine_graph.proofs.Spreading.{leads_back, leads_forth, takes_as, turned_range}
 use Rattle.mine_graph.proofs.Neighbours.{joined_all, joined_more, joined_none, takes_neighbours}
 use Rattle.mine_graph.proofs.breadth_first.BreadthFirst.visit_joined.Goals as goal

@@ -1,8 +1,7 @@
 -- One arc of the row more.
 use Rattle.std.proofs.Common.{◌≡◌, ◌<◌, ℕ, length, arith, subst}
 use Rattle.pit_model.specs.Graph.{second_of}
-use Rattle.mine_graph.specs.BreadthFirst.{IsAt, VisitsExactly}
-use Rattle.mine_graph.specs.Users.{LeadsTo}
+use Rattle.mine_graph.specs.BreadthFirst.{IsAt, VisitsExactly, LeadsTo}
 use Rattle.mine_graph.proofs.Spreading.{takes_as, takes_more}
 use Rattle.mine_graph.proofs.breadth_first.BreadthFirst.visit_row.Goals as goal
 

@@ -2,14 +2,8 @@
 use Rattle.std.proofs.Common.{subst, sym, ap, ◌∙◌}
 use Rattle.std.specs.Prelude.{IsTrue}
 use Rattle.pit_model.specs.Fixed.{IsClosure, is_among, transposed}
-use Rattle.pit_model.specs.Graph.{AreInRange}
 use Rattle.mine_graph.specs.FixedBlocks.{mark_of}
-use Rattle.mine_graph.proofs.Spreading.{closure_back, turned_range}
 use Rattle.mine_graph.proofs.fixed.Fixed.new.Goals as goal
-
-pub closure_of-requires-2-clause-range : goal.closure_of-requires-2-clause-range
-closure_of-requires-2-clause-range c =
-    subst (AreInRange c.successors.result.now.pairs) (sym c.n-2.ensures) (turned_range c.args.graph.now.pairs c.successors.result.now.pairs c.args.graph.now.blocks c.law.ensures.graph.in_range c.successors.ensures.turned)
 
 pub returns-clause-of_graph : goal.returns-clause-of_graph
 returns-clause-of_graph c =
@@ -19,8 +13,7 @@ returns-clause-of_graph c =
       fixable = c.requires;
       settled = record {
         dug_is = subst (λ qs. IsClosure qs (is_among c.args.forced.items) (mark_of dug)) c.predecessors.ensures.pairs (subst (λ xs. IsClosure c.predecessors.result.now.pairs (is_among xs) (mark_of dug)) c.deref.ensures.value c.in_ok-dug.ensures);
-        left_is = closure_back (transposed pairs) c.successors.result.now.pairs c.successors.ensures.turned (is_among c.args.barred.items) (mark_of c.in_ok-left.left.items)
-            (subst (λ xs. IsClosure c.successors.result.now.pairs (is_among xs) (mark_of c.in_ok-left.left.items)) c.deref-4.ensures.value c.in_ok-left.ensures);
+        left_is = subst (λ xs. IsClosure (transposed pairs) (is_among xs) (mark_of c.in_ok-left.left.items)) c.deref-4.ensures.value c.in_ok-left.ensures;
       };
       clash_free = λ u h. ap (λ m. mark_of m u) (sym c.deref-3.ensures.value) ∙ c.in_default.ensures.none u (subst (λ xs. IsTrue (is_among xs u)) (sym c.deref-2.ensures.value) h);
     }

@@ -1,13 +1,16 @@
--- The transposed rows have the transposed pairs.
-use Rattle.std.proofs.Common.{subst, sym}
+-- The rows spell the transposed pairs, which are the same pairs transposed.
+use Rattle.std.proofs.Common.{◌≡◌, ap, subst, sym, ◌∙◌}
 use Rattle.pit_model.specs.Fixed.{transposed}
 use Rattle.pit_model.specs.Graph.{Graph, AreSamePairs}
+use Rattle.csr.specs.Transposed.{transposed_pairs}
 use Rattle.mine_graph.proofs.Reversed.{turned_same}
 use Rattle.mine_graph.proofs.graph.Graph.successors.Goals as goal
 
-pub returns-clause-turned : goal.returns-clause-turned
-returns-clause-turned c =
-    let kept = c.self.invariant in
+pub returns-clause-same : goal.returns-clause-same
+returns-clause-same c =
     let own = c.self.inside.predecessors.pairs in
-    subst (λ (g : Graph). AreSamePairs (transposed g.pairs) c.self.inside.successors.pairs) c.self.view_is
-    (subst (AreSamePairs (transposed own)) (sym kept.transposed) (turned_same own c.self.inside.blocks kept.graph.in_range))
+    let n = c.self.inside.blocks in
+    let rows = c.in_ok-rows.rows in
+    let is : rows.pairs ≡ transposed_pairs own n = c.in_ok-rows.ensures.pairs ∙ ap (λ q. transposed_pairs q n) c.view.ensures.pairs in
+    subst (λ (g : Graph). AreSamePairs (transposed g.pairs) rows.pairs) c.self.view_is
+    (subst (AreSamePairs (transposed own)) (sym is) (turned_same own n c.self.invariant.graph.in_range))
