@@ -95,20 +95,22 @@ def fails(copy: pathlib.Path, files: list[str]) -> bool:
 @contextlib.contextmanager
 def planted(copy: pathlib.Path, change: Change) -> Iterator[None]:
     """The copy has the change meanwhile."""
-    path = copy / change.file
-    before = path.read_text()
-    write(path, change.changed)
+    before = (copy / change.file).read_text()
+    write(copy, change.file, change.changed)
     try:
         yield
     finally:
-        write(path, before)
+        write(copy, change.file, before)
 
 
-def write(path: pathlib.Path, text: str) -> None:
-    """Gives a module another text, and removes what was compiled of it: a text of the same length in the same second would pass for it."""
+def write(copy: pathlib.Path, file: pathlib.Path, text: str) -> None:
+    """Gives a module another text, and removes what was compiled of it: a text of the same length in the same second would pass for it. The tests
+    keep what they compile in build/pycache."""
+    path = copy / file
     path.write_text(text)
-    for compiled in (path.parent / "__pycache__").glob(f"{path.stem}.*"):
-        compiled.unlink()
+    for folder in (path.parent / "__pycache__", (copy / "build/pycache").joinpath(*path.parent.parts[1:])):
+        for compiled in folder.glob(f"{path.stem}.*"):
+            compiled.unlink()
 
 
 @pytest.hookimpl(tryfirst=True)

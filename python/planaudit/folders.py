@@ -1,4 +1,7 @@
-"""Verifies folders: of a plan, of a sensitivity and of scenarios."""
+"""Verifies folders: of a plan, of a sensitivity and of scenarios.
+
+What only some folders need is imported by the functions that use it, since the modules of schedules take a tenth of a second.
+"""
 
 from __future__ import annotations
 
@@ -21,8 +24,7 @@ from planaudit.money import block_values, haulage
 from planaudit.pits import conventions, pushbacks, sums, years
 from planaudit.revenue_factors import factor_text
 from planaudit.rules import TOLD, Checks, Rule, rule, rules_of
-from planaudit.schedules import block_schedule, grade_tonnage, pushback_schedule
-from planaudit.studies import block_scenarios, scenarios, sensitivity
+from planaudit.schedules import grade_tonnage
 
 Found = TypeVar("Found")
 OF_PITS = {"walls": slopes.verify, "shells": sums.verify, "values": sums.verify_worth, "years": years.verify}
@@ -94,8 +96,12 @@ def checks_of(answer: Answer) -> Checks:
     if grade_tonnage.is_written(answer):
         found["grade tonnage"] = alone(grade_tonnage.verify, answer)
     if answer.is_by_block:
+        from planaudit.schedules import block_schedule
+
         found.update(by_record(block_schedule.checks_of, answer, block_schedule.FILE))
     if answer.schedule is not None:
+        from planaudit.schedules import pushback_schedule
+
         found.update(by_record(pushback_schedule.checks_of, answer, pushback_schedule.FILE))
     return found
 
@@ -144,6 +150,8 @@ def verify_free(kept: Answer, free: Answer) -> Rule:
 
 def verify_sensitivity(written: Path, folder: Path) -> list[Rule]:
     """Verifies a sensitivity with its tables in `written` and the results of its cases in `folder`. Raises AuditError as `verify`."""
+    from planaudit.studies import sensitivity
+
     return sensitivity.verify(written, folder)
 
 
@@ -160,13 +168,19 @@ def verify_folder(folder: Path) -> list[Rule]:
 
 def verify_scenarios(folder: Path, written: Optional[Path] = None) -> list[Rule]:
     """Verifies scenarios, of pits or of schedules by block; their tables may be in another folder, `written`. Raises AuditError as `verify`."""
+    from planaudit.studies import block_scenarios, scenarios
+
     if block_scenarios.is_by_block(folder):
         return block_scenarios.verify(folder, written)
     return scenarios.verify(folder, written)
 
 
 def demand(rules: list[Rule]) -> None:
-    """Raises AuditError with ten of the differences, if there are any: the first of each rule, then the second of each, and so on."""
+    """Raises AuditError with ten of the differences, if there are any: the first of each rule, then the second of each, and so on.
+
+    Inputs that have changed come first, since they explain the others.
+    """
+    rules = sorted(rules, key=lambda rule: rule.name != hashes.NAME)
     by_turns = zip_longest(*(rule.differences for rule in rules))
     told = [f"{rule.name}: {said}" for turn in by_turns for rule, said in zip(rules, turn) if said is not None]
     if told:

@@ -60,6 +60,45 @@ def test_numbers_and_texts_are_those_of_pandas(tmp_path_factory, rows, size, end
     assert found["code"].tolist() == due["code"].tolist()
 
 
+@examples(60)
+@given(
+    st.lists(WHOLE | DECIMAL | FLOAT | ODD | st.just("-123456.5"), min_size=1, max_size=4),
+    st.lists(DECIMAL | ODD | st.just(""), min_size=1, max_size=4),
+    st.lists(TEXT, min_size=1, max_size=4),
+    st.sampled_from([100, 1 << 21]),
+    st.data(),
+)
+def test_fields_that_recur_are_those_of_pandas(tmp_path_factory, numbers, perhaps, codes, size, data):
+    """Equal fields are read once, and fields of more than eight characters with those that recur."""
+    path, count = tmp_path_factory.mktemp("plain") / "t.csv", data.draw(st.integers(4, 40))
+    columns = [[data.draw(st.sampled_from(some)) for _ in range(count)] for some in (numbers, perhaps, codes)]
+    text = "\n".join([",".join(NAMES), *map(",".join, zip(*columns))])
+    with pytest.MonkeyPatch.context() as patch:
+        patch.setattr(plain_tables, "BYTES", size)
+        found = read(path, text)
+    due = by_pandas(path)
+    for name in ("number", "perhaps"):
+        assert found[name].to_numpy(dtype=float).tobytes() == due[name].to_numpy().tobytes()
+    assert found["code"].tolist() == due["code"].tolist() == columns[2]
+
+
+@pytest.mark.parametrize("rows", [3, 40])
+def test_blanks_are_no_part_of_codes_and_ids_that_are_stripped(tmp_path, rows):
+    names, kinds = ("number", "perhaps", "code"), ("code", "stripped id", "id")
+    texts = [f" a{row} b,\tc{row % 3} , {row}" for row in range(rows)]
+    found = read(tmp_path / "t.csv", "\n".join([",".join(names), *texts]), kinds=dict(zip(names, kinds)))
+    assert found["number"].tolist() == [f"a{row} b" for row in range(rows)]
+    assert [*found["perhaps"]] == [f"c{row % 3}" for row in range(rows)]
+    assert [*found["code"]] == [f" {row}" for row in range(rows)]
+
+
+def test_a_number_among_fields_that_recur_must_be_one(tmp_path):
+    good = "1,2,a\n" * 40
+    for wrong in ("x,2,a\n", "12345678x,2,a\n", "-12345678x,2,a\n"):
+        assert read(tmp_path / "t.csv", "number,perhaps,code\n" + good) is not None
+        assert read(tmp_path / "t.csv", "number,perhaps,code\n" + good + wrong + good) is None
+
+
 def test_types_are_those_of_pandas(tmp_path):
     found = read(tmp_path / "t.csv", "number,perhaps,code\n1,2,a\n-3,4.,b\n")
     assert [found[name].dtype for name in NAMES] == [np.int64, np.float64, object]

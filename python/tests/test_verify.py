@@ -11,7 +11,7 @@ import pandas as pd
 import pytest
 from conftest import PROJECT, rows
 from helpers.random_tests import examples
-from helpers.verified import TEXT, deposit, looked_at, ore_everywhere, wrong
+from helpers.verified import TEXT, UNVERIFIED, deposit, looked_at, ore_everywhere, wrong
 from hypothesis import HealthCheck, given, strategies as st
 
 import pitplan
@@ -25,7 +25,7 @@ from pitplan.pits import best_worst_case
 from pitplan.results.folder import read_record
 from pitplan.slopes import slope_patterns
 from planaudit.ground.slopes import flatness, high_walls
-from planaudit.inputs import project_file
+from planaudit.inputs import answer, project_file
 from planaudit.inputs.matching import read_blocks
 from planaudit.pits import sums
 from planaudit.rules import rule
@@ -711,3 +711,14 @@ def test_each_rows_own_columns_alone_are_read(plan_folder, tmp_path):
         == list(blocks.columns)
         == list(read_blocks(tmp_path / "written.csv", project_file.load(path)).columns)
     )
+
+
+def test_a_column_without_rows_is_unknown_ground_up_to_its_top(plan_folder):
+    """Only above the highest row of a column is air; of the corner column no row is known, of the one next to it the highest is missing."""
+    table = rows(4, 4, 3, cu=lambda i, j, k: 6 if (i, j, k) == (2, 2, 1) else 0)
+    lacking = (table["x"] == 5) & (table["y"] == 5) | (table["x"] == 15) & (table["y"] == 5) & (table["z"] == 25)
+    path = plan_folder(table[~lacking])
+    pitplan.write_shells(path, path.parent / "out", UNVERIFIED)
+    dug = answer.read(path.parent / "out").dug
+    assert dug[:, 0, 0].tolist() == [np.inf] * 3 and dug[:, 0, 1].tolist() == [0, np.inf, np.inf]
+    assert dug[:, 2, 2].tolist() == [0.5, 0.5, np.inf]

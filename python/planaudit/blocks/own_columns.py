@@ -4,6 +4,7 @@ from __future__ import annotations
 
 import numpy as np
 
+from planaudit.inputs import identifiers
 from planaudit.inputs.answer import Answer
 from planaudit.inputs.matching import UNCUT
 from planaudit.rules import TOLD
@@ -18,10 +19,12 @@ def unlike(answer: Answer) -> tuple[list[str], int]:
     for name in answer.rows.columns.drop(UNCUT, errors="ignore"):
         if name not in answer.own:
             return [f"the file of blocks has no column {name}"], 1
-        said, due = answer.own[name].to_numpy(), answer.rows[name].to_numpy()
+        columns = answer.own[name], answer.rows[name]
+        said, due = identifiers.comparable(*columns)
         off = np.flatnonzero(said != due)
-        if due.dtype != object:
+        if due.dtype.kind in "if":
             off = off[~np.isclose(said[off], due[off], rtol=DIGITS, atol=0.0)]
-        differences += [f"{answer.called(row)}: {name} {said[row]} for {due[row]}" for row in off[:TOLD]]
+        shown = [(row, *(column.iloc[row] for column in columns)) for row in off[:TOLD]]
+        differences += [f"{answer.called(row)}: {name} {there} for {here}" for row, there, here in shown]
         count += len(off)
     return differences, count

@@ -7,7 +7,6 @@ from dataclasses import dataclass
 
 import numpy as np
 import pandas as pd
-from scipy.spatial import ConvexHull, QhullError
 
 from planaudit.inputs.answer import NOTHING, UNDUG, Answer
 from planaudit.inputs.project import Wall
@@ -151,6 +150,9 @@ def asked(wall: Wall, turn: float) -> np.ndarray:
 
 def high_walls(wall: Wall, size: tuple[float, float, float], levels: int, turn: float = 0.0) -> np.ndarray:
     """Returns the angles of high slopes, of cones upon cones, in the same way: those of the convex hull of the cone."""
+    # Here, since it takes a tenth of a second, and not if the project sets the number of benches.
+    from scipy.spatial import ConvexHull, QhullError
+
     points = []
     for up in range(1, levels + 1):
         inside = cone(wall, size, up, turn)

@@ -11,7 +11,6 @@ from itertools import combinations
 
 import numpy as np
 import pandas as pd
-from scipy.spatial import ConvexHull, cKDTree
 
 from planaudit.ground.triangles import cross, highest as highest_of
 from planaudit.inputs.answer import Answer
@@ -55,8 +54,9 @@ def between(answer: Answer, points: np.ndarray, places: np.ndarray) -> np.ndarra
     points  x, y, z in metres, shape (points, 3)
     places  row and column of each column of blocks, shape (places, 2)
     """
-    # Here, since it takes a third of a second and few projects have an as-mined surface.
+    # Here, since these take a third of a second and few projects have an as-mined surface.
     from matplotlib.tri import Triangulation
+    from scipy.spatial import ConvexHull, cKDTree
 
     middle = points[:, :2].mean(axis=0)
     flat, centres = points[:, :2] - middle, places_of(places[:, ::-1], answer.record["grid"]) - middle

@@ -9,7 +9,6 @@ from typing import Optional
 
 import numpy as np
 import pandas as pd
-from scipy.spatial import Delaunay
 
 from planaudit.ground.triangles import highest, near
 from planaudit.inputs import surveys as survey
@@ -43,6 +42,9 @@ class Ground:
         grid = answer.record["grid"]
         points, faces = survey.heights(file, grid, cells)
         if not len(faces):
+            # Here, since it takes a tenth of a second and few projects have a topography.
+            from scipy.spatial import Delaunay
+
             faces = Delaunay(points[:, :2] - points[:, :2].mean(axis=0)).simplices
         steps = steps_of(points, grid) + [0, 0, answer.shape[0] - 0.5]
         return Ground(steps[faces], answer.shape)

@@ -5,7 +5,6 @@ from __future__ import annotations
 from collections.abc import Iterator
 
 import numpy as np
-from scipy.spatial import cKDTree
 
 # Rounding errors of barycentric coordinates, and of metres.
 HAIR = 1e-9
@@ -13,6 +12,9 @@ HAIR = 1e-9
 
 def near(places: np.ndarray, corners: np.ndarray, reach: float) -> Iterator[tuple[np.ndarray, np.ndarray]]:
     """Yields pairs of a place x, y and a triangle that may come within a distance of it in metres, by class of size."""
+    # Here, since scipy takes a tenth of a second and few projects need it.
+    from scipy.spatial import cKDTree
+
     flat = corners[..., :2]
     middles = flat.mean(axis=1)
     radii = np.sqrt(((flat - middles[:, None]) ** 2).sum(axis=2)).max(axis=1)

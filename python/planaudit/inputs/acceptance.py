@@ -5,6 +5,7 @@ from __future__ import annotations
 import numpy as np
 import pandas as pd
 
+from planaudit.inputs.codes import numbered
 from planaudit.inputs.project import Accepts, Project
 
 
@@ -19,7 +20,8 @@ def refused(rows: pd.DataFrame, project: Project, rules: Accepts) -> np.ndarray:
     )
     for codes, column in named:
         if codes:
-            found |= ~np.isin(rows[column].astype(str).to_numpy(dtype=str), codes)
+            place, names = numbered(rows[column])
+            found |= np.array([name not in codes for name in names], dtype=bool)[place]
     for it in rules.grades:
         grade = rows[it.column].to_numpy(dtype=float)
         found |= grade < it.min if it.min is not None else False

@@ -12,6 +12,7 @@ import pandas as pd
 
 from planaudit.errors import AuditError
 from planaudit.inputs import block_table
+from planaudit.inputs.codes import Codes, numbered
 from planaudit.inputs.matching import (
     BIN,
     FREE,
@@ -30,7 +31,7 @@ from planaudit.inputs.matching import (
 )
 from planaudit.inputs.project import GRADE_UNITS, Project, Wall
 from planaudit.inputs.record import PLAN, read_plan
-from planaudit.inputs.rotated_grid import steps_of
+from planaudit.inputs.rotated_grid import centroids, steps_of
 from planaudit.inputs.run import Run
 from planaudit.inputs.tables import YEAR, demand_factors, read_table
 from planaudit.money.feed import by_code, recovered
@@ -179,21 +180,29 @@ class Answer:
         return self.record["grid"]["origin"][2] - np.arange(self.shape[0]) * self.size[2]
 
     @cached_property
+    def codes(self) -> Codes:
+        """The numbers of rock types and domains, as far as the table has them."""
+        columns = self.project.table.rock_type, self.project.table.domain
+        return {name: numbered(self.rows[name]) for name in columns if name}
+
+    @cached_property
     def undiluted(self) -> np.ndarray:
         """In-situ tonnes of each block that reach the mill if it is processed, without dilution."""
-        return self.tonnes * by_code(self.project.economics.mining_recovery, self.rows, self.project.table)
+        return self.tonnes * by_code(self.project.economics.mining_recovery, self.rows, self.project.table, self.codes)
 
     @cached_property
     def feed(self) -> np.ndarray:
         """Mill feed of each block if it is processed, in tonnes."""
-        return self.undiluted * (1 + by_code(self.project.economics.dilution, self.rows, self.project.table))
+        return self.undiluted * (
+            1 + by_code(self.project.economics.dilution, self.rows, self.project.table, self.codes)
+        )
 
     @cached_property
     def quantities(self) -> dict[str, np.ndarray]:
         """Recovered metal of each block if it is processed, by metal, in tonnes or grams."""
         found = {}
         for number, metal in enumerate(self.project.metals):
-            grades = [recovered(way.metals[number], self.rows, way) for way in self.project.by_process]
+            grades = [recovered(way.metals[number], self.rows, way, self.codes) for way in self.project.by_process]
             found[metal.name] = self.undiluted * np.choose(self.process, grades) * float(GRADE_UNITS[metal.unit])
         return found
 
@@ -246,16 +255,23 @@ class Answer:
         return self.worths - a_tonne[np.clip(self.said[PUSHBACK].to_numpy(), 0, len(a_tonne) - 1)] * self.tonnes
 
     @cached_property
+    def mined(self) -> tuple[np.ndarray, np.ndarray]:
+        """The rows of the blocks in any shell, and their least revenue factor."""
+        first = self.said["revenue_factor"].to_numpy()
+        rows = np.flatnonzero(first > 0)
+        return rows, first[rows]
+
+    @cached_property
     def cells(self) -> tuple[np.ndarray, np.ndarray, np.ndarray]:
         """Level from the top, row from the south and column from the west of each block, by its centroid."""
         east, north, up = (np.rint(axis).astype(np.int64) for axis in self.steps)
         return up, north, east
 
-    @property
+    @cached_property
     def steps(self) -> tuple[np.ndarray, np.ndarray, np.ndarray]:
         """Blocks east, north and down from the first block; whole numbers up to the tolerance."""
         columns = self.project.table
-        centres = np.column_stack([self.rows[name] for name in (columns.x, columns.y, columns.z)])
+        centres = centroids(self.rows, (columns.x, columns.y, columns.z))
         east, north, up = steps_of(centres, self.record["grid"]).T
         return east, north, -up
 
@@ -282,11 +298,14 @@ class Answer:
         column, walls = self.project.table.domain, self.project.slopes.domains
         others = next((k for k, wall in enumerate(walls) if wall.domains is None), 0)
         by_region = {name: k for k, wall in enumerate(walls) for name in wall.domains or ()}
-        place, names = pd.factorize(self.rows[column].astype(str) if column else np.full(len(self.rows), ""))
-        cube = np.full(self.shape, np.nan)
-        cube[self.cells] = np.array([by_region.get(name, others) for name in names])[place]
-        columns = pd.DataFrame(cube.reshape(self.shape[0], -1))
-        return columns.bfill().ffill().fillna(others).to_numpy(dtype=np.int16).reshape(self.shape)
+        place, names = self.codes[column] if column else (np.zeros(len(self.rows), dtype=np.int64), [""])
+        cube = np.full(self.shape, -1, dtype=np.int16)
+        cube[self.cells] = np.array([by_region.get(name, others) for name in names], dtype=np.int16)[place]
+        for level in range(len(cube) - 2, -1, -1):
+            np.copyto(cube[level], cube[level + 1], where=cube[level] < 0)
+        for level in range(1, len(cube)):
+            np.copyto(cube[level], cube[level - 1], where=cube[level] < 0)
+        return np.where(cube < 0, np.int16(others), cube)
 
     def levels(self, wall: Wall) -> int:
         """Returns the precedence benches of an entry of `[[slopes.domains]]`."""

@@ -144,7 +144,7 @@ def read_columns(
     """
     layout = layout_by(file, table)
     if layout is None:
-        frame = parquet(file, wanted) if is_parquet(file) else models.read(file, codes)
+        frame = with_stripped(parquet(file, wanted) if is_parquet(file) else models.read(file, codes), codes)
     else:
         frame = delimited(file, table, layout, (codes, wanted))
     missing = [name for name in wanted if name not in frame]
@@ -156,7 +156,7 @@ def read_columns(
     for name in wanted:
         nulls = table.rules.codes_of(name)
         if name in codes:
-            frame[name] = without_nulls(stripped(frame[name]), nulls)
+            frame[name] = without_nulls(frame[name], nulls)
         else:
             must_be = numeric is None or name in numeric
             frame[name] = numbers_or_texts(frame[name], str(file), nulls, (has_comma, must_be))
@@ -185,6 +185,13 @@ def numbers_or_texts(fields: pd.Series, file: str, nulls: list[str], how: tuple[
     return fields.mask(row_rules.is_null(fields, nulls)) if nulls else fields
 
 
+def with_stripped(frame: pd.DataFrame, codes: list[str]) -> pd.DataFrame:
+    for name in codes:
+        if name in frame:
+            frame[name] = stripped(frame[name])
+    return frame
+
+
 def stripped(codes: pd.Series) -> pd.Series:
     """Returns codes without blanks around them; missing ones are empty."""
     texts = codes.fillna("").astype(str) if codes.hasnans else codes
@@ -197,15 +204,17 @@ def stripped(codes: pd.Series) -> pd.Series:
 def delimited(
     file: Path, table: TableColumns, layout: TextLayout, columns: tuple[list[str], list[str]]
 ) -> pd.DataFrame:
-    """Returns columns of a text; `columns` are the codes and those that are wanted."""
+    """Returns columns of a text; `columns` are the codes, without blanks around them, and the wanted columns."""
     codes, wanted = columns
-    kinds = {name: "text" if name in codes else "number or empty" for name in wanted}
+    kinds = {name: plain_tables.CODE if name in codes else plain_tables.OR_EMPTY for name in wanted}
+    if table.id in codes and not table.rules.codes_of(table.id) and table.id not in table.rules.mapped:
+        kinds[table.id] = plain_tables.STRIPPED_ID
     plain = plain_tables.read(file, layout, kinds) if table.encoding is None else None
     if plain is not None:
         return plain
     try:
         with text_of(file, table) as text:
-            return pd.read_csv(
+            frame = pd.read_csv(
                 text,
                 sep=r"\s+" if layout.separator == " " else layout.separator,
                 skiprows=layout.passed,
@@ -219,6 +228,7 @@ def delimited(
             )
     except (ValueError, EOFError, zipfile.BadZipFile) as error:
         raise AuditError(f"{file}: cannot be read as a table: {' '.join(str(error).split())}") from error
+    return with_stripped(frame, codes)
 
 
 def parquet(file: Path, wanted: list[str]) -> pd.DataFrame:

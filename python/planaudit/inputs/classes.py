@@ -5,6 +5,7 @@ from __future__ import annotations
 import numpy as np
 import pandas as pd
 
+from planaudit.inputs.codes import numbered
 from planaudit.inputs.project import Project
 
 # Without a rule these are waste, in capital or small letters, and so is a block without a class.
@@ -23,5 +24,5 @@ def treated_as(word: str, rows: pd.DataFrame, project: Project) -> np.ndarray:
     column = project.table.resource_class
     if column is None:
         return np.zeros(len(rows), dtype=bool)
-    by_code = {code: treatment(code, project) == word for code in rows[column].unique()}
-    return rows[column].map(by_code).to_numpy(dtype=bool)
+    place, names = numbered(rows[column])
+    return np.array([treatment(name, project) == word for name in names], dtype=bool)[place]

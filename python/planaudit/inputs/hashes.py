@@ -25,8 +25,16 @@ def verify(answer: Answer) -> Rule:
         if name not in recorded:
             differences.append(f"plan.json has no hash of {name}")
         elif recorded[name] != hash_of(path):
-            differences.append(f"{path}: has changed since the run")
+            differences.append(
+                f"{plain(path)}: has changed since the run, and the folder is compared with it as it is now"
+            )
     return rule(NAME, HOLDS, [*differences, *unlike_report(answer)])
+
+
+def plain(path: Path) -> Path:
+    """Returns a path without the folders that it leaves again, unless a symbolic link makes that another file."""
+    short = Path(os.path.normpath(path))
+    return short if short.resolve() == path.resolve() else path
 
 
 def unlike_report(answer: Answer) -> Iterator[str]:

@@ -13,7 +13,7 @@ from planaudit.errors import AuditError
 from planaudit.inputs import block_table, plain_tables
 from planaudit.inputs.project import MissingRock, Project
 from planaudit.inputs.reblocking import divided, together, written_rows
-from planaudit.inputs.rotated_grid import steps_of
+from planaudit.inputs.rotated_grid import centroids, steps_of
 from planaudit.inputs.tables import PERIOD, YEAR, demand_numbers
 from planaudit.inputs.text_layout import TextLayout
 
@@ -87,7 +87,10 @@ def read_blocks(path: Path, project: Project, said: Optional[tuple[str, ...]] = 
     word = project.shells.calendar.word
     wanted = {word if name == YEAR else name for name in wanted}
     texts = [*codes, PROCESS]
-    found = plain_blocks(path, None if is_whole else wanted, texts)
+    kinds = dict.fromkeys(texts, plain_tables.TEXT)
+    if columns.id:
+        kinds[own_name(columns.id)] = plain_tables.ID
+    found = plain_blocks(path, None if is_whole else wanted, kinds)
     if found is None:
         found = pd.read_csv(
             path,
@@ -102,20 +105,21 @@ def read_blocks(path: Path, project: Project, said: Optional[tuple[str, ...]] = 
     return found.rename(columns={word: YEAR}, copy=False)
 
 
-def plain_blocks(path: Path, wanted: Optional[set[str]], texts: list[str]) -> Optional[pd.DataFrame]:
-    """Returns columns of blocks.csv, all by default; None if it is not a plain table."""
+def plain_blocks(path: Path, wanted: Optional[set[str]], texts: dict[str, str]) -> Optional[pd.DataFrame]:
+    """Returns columns of blocks.csv, all by default; None if it is not a plain table. `texts` has the kinds of columns without numbers."""
     with open(path, encoding="utf-8", newline="") as file:
         names: list[str] = next(csv.reader(file), [])
-    kinds = {name: "text" if name in texts else "number" for name in names if wanted is None or name in wanted}
+    there = [name for name in names if wanted is None or name in wanted]
+    kinds = {name: texts.get(name, plain_tables.NUMERIC) for name in there}
     return plain_tables.read(path, TextLayout(",", tuple(names), 1, 2), kinds)
 
 
 def own_columns(written: pd.DataFrame, rows: pd.DataFrame, order: np.ndarray) -> pd.DataFrame:
     """Returns the planner's columns of blocks.csv by their names in the table, in the order of `rows`."""
     there = [name for name in rows.columns if own_name(name) in written]
-    arrays = {name: written[own_name(name)].to_numpy() for name in there}
+    arrays = {name: written[own_name(name)].array for name in there}
     if not is_as_written(order, written):
-        arrays = {name: values[order] for name, values in arrays.items()}
+        arrays = {name: values.take(order) for name, values in arrays.items()}
     return pd.DataFrame(arrays, copy=False)
 
 
@@ -155,15 +159,16 @@ def beside(
     """
     columns = project.table
     axes = (columns.x, columns.y, columns.z)
-    centres = np.column_stack([table[name] for name in axes])
-    answered = np.column_stack([written[own_name(name)] for name in axes])
+    centres, answered = centroids(table, axes), centroids(written, [own_name(name) for name in axes])
     row_of = np.full(int(np.prod(grid["shape"])), -1, dtype=np.int64)
     row_of[nearest_cells(answered, grid)] = np.arange(len(written))
     at = row_of[nearest_cells(centres, grid)]
-    lost = np.count_nonzero((at < 0) | (answered[at] != centres).any(axis=1))
-    if lost or len(np.unique(at)) < len(at):
+    unlike = [there[at] != here for there, here in zip(answered.T, centres.T)]
+    lost = np.count_nonzero(np.logical_or.reduce([at < 0, *unlike]))
+    times = np.bincount(at[at >= 0], minlength=len(written))
+    if lost or (times > 1).any():
         raise AuditError(f"{source}: {lost:,} blocks of the table are not in it: has the table changed since?")
-    more = np.setdiff1d(np.arange(len(written)), at)
+    more = np.flatnonzero(times == 0)
     if len(more) and not isinstance(columns.missing_blocks, MissingRock):
         raise AuditError(f"{source}: {len(more):,} of its blocks are not in the table: has the table changed since?")
     known, rows, order = len(table), table, np.concatenate([at, more])

@@ -2,7 +2,7 @@
 
 A plain table is ASCII without quotes, each row of which has as many fields as there are names. A number of at most 15 digits is a whole number that
 a float holds, divided by a power of ten that a float holds, so that one division rounds it as the standard sets it. Other numbers are read field by
-field. Tables that are not plain are left to pandas.
+field. Fields of at most eight characters are words, and equal words are read once. Pandas reads tables that are not plain.
 """
 
 from __future__ import annotations
@@ -10,18 +10,21 @@ from __future__ import annotations
 import re
 from collections.abc import Iterator, Mapping
 from dataclasses import dataclass
+from functools import cached_property
 from pathlib import Path
 from typing import Optional
 
 import numpy as np
 import pandas as pd
 
+from planaudit.inputs.identifiers import Identifiers
 from planaudit.inputs.text_layout import TextLayout
 
 # Bytes of the file that are read at the same time: their arrays fit into a processor's cache.
-BYTES = 1 << 21
+BYTES = 1 << 22
 # Bytes around the rows, so that each field may be loaded with more bytes before and after it. Longer codes are left to pandas.
 MARGIN = 64
+AROUND = b"\0" * MARGIN
 # Eight characters in a word, the first one in its lowest byte.
 ONES, WORD = 0x0101010101010101, 8
 ZEROS, DOTS, TOPS = ONES * ord("0"), ONES * ord("."), ONES * 0x80
@@ -32,23 +35,24 @@ LAST = ~FIRST[::-1]
 POWERS = np.array([float(f"1e{places}") for places in range(2 * WORD)])
 MOST_EXACT = 1 << 53
 NUMBER = re.compile(rb"[-+]?(?:\d+\.?\d*|\.\d+)(?:[eE][-+]?\d{1,3})?")
+# Number of rows in the sample that shows whether the fields of a column recur.
+SAMPLE = 512
+# The kinds of columns: a text as it is written, or without blanks around it, both also as ids; and a number, or nan for an empty field.
+TEXT, CODE, ID, STRIPPED_ID, NUMERIC, OR_EMPTY = "text", "code", "id", "stripped id", "number", "number or empty"
 
 
 @dataclass(frozen=True)
-class Piece:
-    """Whole rows of a file.
-
-    Attributes
-    ----------
-    data : bytes
-        The rows, with a margin before and after them.
-    starts, ends : array of int, shape (columns, rows)
-        Where fields lie in it.
-    """
+class Fields:
+    """Fields of a column: where they start and end in their bytes, which have a margin before and after them."""
 
     data: bytes
     starts: np.ndarray
     ends: np.ndarray
+
+    @cached_property
+    def lengths(self) -> np.ndarray:
+        found: np.ndarray = self.ends - self.starts
+        return found
 
     def words(self, places: np.ndarray) -> np.ndarray:
         """Returns the eight characters from each of some places on."""
@@ -56,57 +60,79 @@ class Piece:
         found: np.ndarray = whole[places]
         return found
 
+    def word(self, number: int) -> np.ndarray:
+        """Returns a word of each field, by its number from 0, with zeros after the field."""
+        if not number:
+            return self.words(self.starts) & FIRST[np.minimum(self.lengths, WORD)]
+        place = WORD * number
+        return self.words(self.starts + place) & FIRST[np.clip(self.lengths - place, 0, WORD)]
+
     def characters(self, places: np.ndarray) -> np.ndarray:
         found: np.ndarray = np.frombuffer(self.data, dtype=np.uint8)[places]
         return found
 
+    def of(self, rows: np.ndarray) -> Fields:
+        return Fields(self.data, self.starts[rows], self.ends[rows])
+
+
+@dataclass(frozen=True)
+class Piece:
+    """Whole rows of a file: their bytes, with a margin before and after them; and where fields end, shape (columns, rows)."""
+
+    data: bytes
+    ends: np.ndarray
+
+    def column(self, number: int) -> Fields:
+        starts = np.empty_like(self.ends[number])
+        if number:
+            np.add(self.ends[number - 1], 1, out=starts)
+        else:
+            starts[0], starts[1:] = MARGIN, self.ends[-1, :-1] + 1
+        return Fields(self.data, starts, self.ends[number])
+
 
 def read(path: Path, layout: TextLayout, kinds: Mapping[str, str]) -> Optional[pd.DataFrame]:
-    """Returns columns of a table; None if it is not plain.
-
-    Parameters
-    ----------
-    path : Path
-    layout : TextLayout
-    kinds : dict of str to str
-        For each column "text"; "number"; or "number or empty", nan for an empty field.
-    """
+    """Returns columns of a table, by name with their kind; None if it is not plain."""
     names = layout.names
     if layout.separator == " " or len({*names}) < len(names) or not kinds.keys() <= {*names}:
         return None
     found: dict[str, list[np.ndarray]] = {name: [] for name in names if name in kinds}
     for piece in pieces(path, layout):
         for name, before in found.items():
-            values = None if piece is None else values_of(piece, names.index(name), kinds[name])
+            values = None if piece is None else values_of(piece.column(names.index(name)), kinds[name])
             if values is None:
                 return None
             before.append(values)
     arrays = {name: np.concatenate(values) for name, values in found.items() if values}
-    return pd.DataFrame(arrays, copy=False) if arrays else None
+    columns = {name: Identifiers(values) if values.dtype.kind == "S" else values for name, values in arrays.items()}
+    return pd.DataFrame(columns, copy=False) if columns else None
 
 
-def values_of(piece: Piece, column: int, kind: str) -> Optional[np.ndarray]:
-    return texts(piece, column) if kind == "text" else numbers(piece, column, kind)
+def values_of(fields: Fields, kind: str) -> Optional[np.ndarray]:
+    return numbers(fields, kind) if kind in (NUMERIC, OR_EMPTY) else texts(fields, kind)
 
 
 def pieces(path: Path, layout: TextLayout) -> Iterator[Optional[Piece]]:
     """Yields the rows of a file; None and nothing more if they are not plain."""
-    rest, margin = b"", b"\0" * MARGIN
+    rest = b""
     with open(path, "rb") as file:
         above = [file.readline() for _ in range(layout.first_row - 1)]
         block = b"" if any(b"\r" in line.rstrip(b"\r\n") for line in above) else file.read(BYTES)
         while rest or block:
-            rows, cut, rest = (rest + (block or b"\n")).rpartition(b"\n")
+            block = block or b"\n"
+            cut = block.rfind(b"\n") + 1
             if cut:
-                piece = piece_of(margin + (rows + cut).replace(b"\r\n", b"\n") + margin, layout)
+                piece = piece_of(b"".join([AROUND, rest, memoryview(block)[:cut], AROUND]), layout)
                 yield piece
                 if piece is None:
                     return
+            rest = block[cut:] if cut else rest + block
             block = file.read(BYTES)
 
 
 def piece_of(data: bytes, layout: TextLayout) -> Optional[Piece]:
     """Returns the fields of rows; None if these are not plain."""
+    data = data.replace(b"\r\n", b"\n") if b"\r" in data else data
     if not data.isascii() or b'"' in data or b"\r" in data or data.find(b"\0", MARGIN, -MARGIN) >= 0:
         return None
     letters = np.frombuffer(data, dtype=np.uint8)
@@ -115,42 +141,81 @@ def piece_of(data: bytes, layout: TextLayout) -> Optional[Piece]:
     ends = np.flatnonzero(is_end | (letters == ord(layout.separator)))
     if len(ends) != rows * columns or not is_end[ends[columns - 1 :: columns]].all():
         return None
-    ends = np.ascontiguousarray(ends.reshape(rows, columns).T)
-    starts = np.empty_like(ends)
-    starts[1:] = ends[:-1] + 1
-    starts[0, 1:] = ends[-1, :-1] + 1
-    starts[0, 0] = MARGIN
-    return Piece(data, starts, ends)
+    # As small numbers as hold them: memory is what this takes.
+    small = ends.astype(np.int32 if len(data) <= np.iinfo(np.int32).max else np.int64)
+    return Piece(data, np.ascontiguousarray(small.reshape(rows, columns).T))
 
 
-def texts(piece: Piece, column: int) -> Optional[np.ndarray]:
-    """Returns the fields of a column as texts; None if one is too long."""
-    starts, lengths = piece.starts[column], piece.ends[column] - piece.starts[column]
-    count = -(-int(lengths.max()) // WORD)
+def are_varied(words: np.ndarray) -> bool:
+    """Returns whether most of some words differ, by a sample."""
+    some = words[:: -(-len(words) // SAMPLE)]
+    return 2 * len(np.unique(some)) > len(some)
+
+
+def texts(fields: Fields, kind: str) -> Optional[np.ndarray]:
+    """Returns the fields of a column as texts, or ids as their bytes; None if one is too long."""
+    count = max(1, -(-int(fields.lengths.max()) // WORD))
     if count * WORD > MARGIN:
         return None
-    if count <= 1:
-        place, distinct = pd.factorize(piece.words(starts) & FIRST[lengths])
-        return decoded(distinct[:, None])[place]
-    words = [
-        piece.words(starts + WORD * number) & FIRST[np.clip(lengths - WORD * number, 0, WORD)]
-        for number in range(count)
-    ]
-    return decoded(np.stack(words, axis=1))
+    words = [fields.word(number) for number in range(count)]
+    if kind in (ID, STRIPPED_ID):
+        found: np.ndarray = np.stack(words, axis=1).view(f"S{WORD * count}")[:, 0]
+        return np.char.strip(found) if kind == STRIPPED_ID and has_blanks(found) else found
+    if any(map(are_varied, words)):
+        return decoded(words, kind)
+    place, distinct = pd.factorize(words[0])
+    for word in words[1:]:
+        more, there = pd.factorize(word)
+        place, distinct = pd.factorize(place * len(there) + more)
+    # Of equal texts the last one is decoded.
+    row_of = np.empty(len(distinct), dtype=np.int64)
+    row_of[place] = np.arange(len(place))
+    return decoded([word[row_of] for word in words], kind)[place]
 
 
-def decoded(words: np.ndarray) -> np.ndarray:
-    """Returns the texts of rows of words, without the zeros after them."""
-    return np.ascontiguousarray(words).view(f"S{WORD * words.shape[1]}")[:, 0].astype(str).astype(object)
+def decoded(words: list[np.ndarray], kind: str) -> np.ndarray:
+    """Returns texts by their words, with zeros after each text."""
+    found: np.ndarray = np.stack(words, axis=1).view(f"S{WORD * len(words)}")[:, 0]
+    stripped = np.char.strip(found) if kind == CODE and has_blanks(found) else found
+    return stripped.astype(str).astype(object)
 
 
-def numbers(piece: Piece, column: int, kind: str) -> Optional[np.ndarray]:
+def has_blanks(texts: np.ndarray) -> bool:
+    """Returns whether any character of texts in bytes is a blank."""
+    letters = texts.view(np.uint8)
+    return bool(((letters <= ord(" ")) & (letters > 0)).any())
+
+
+def numbers(fields: Fields, kind: str) -> Optional[np.ndarray]:
     """Returns the numbers of a column, int64 if none has a decimal point; None if a field is not a number."""
-    starts, ends = piece.starts[column], piece.ends[column]
-    first = piece.characters(starts)
+    words, others = fields.word(0), np.flatnonzero(fields.lengths > WORD)
+    words[others] = ZERO
+    if 2 * len(others) > len(words) or are_varied(words):
+        return spelled(fields, kind)
+    place, distinct = pd.factorize(words)
+    found, more = spelled(of_words(distinct), kind), spelled(fields.of(others), kind) if len(others) else distinct[:0]
+    if found is None or more is None:
+        return None
+    values: np.ndarray = found[place]
+    if len(others):
+        values = values.astype(np.result_type(found, more), copy=False)
+        values[others] = more
+    return values
+
+
+def of_words(words: np.ndarray) -> Fields:
+    """Returns fields of one word each, with zeros after a shorter one."""
+    starts = MARGIN + WORD * np.arange(len(words))
+    lengths = np.count_nonzero(words.view(np.uint8).reshape(-1, WORD), axis=1)
+    return Fields(AROUND + words.tobytes() + AROUND, starts, starts + lengths)
+
+
+def spelled(fields: Fields, kind: str) -> Optional[np.ndarray]:
+    """Returns the numbers that fields spell, as `numbers` does, each by itself."""
+    first = fields.characters(fields.starts)
     is_negative = first == ord("-")
-    lengths = ends - starts - (is_negative | (first == ord("+")))
-    found = digits_of(piece, ends, lengths)
+    lengths = fields.lengths - (is_negative | (first == ord("+")))
+    found = digits_of(fields, lengths)
     is_plain = found.are_all & (lengths > found.has_point) & (lengths <= 2 * WORD) & (found.whole < MOST_EXACT)
     others = np.flatnonzero(~is_plain)
     if not len(others) and not found.has_point.any():
@@ -158,8 +223,8 @@ def numbers(piece: Piece, column: int, kind: str) -> Optional[np.ndarray]:
     values = found.whole / POWERS[found.places]
     values = np.where(is_negative, -values, values)
     for row in others.tolist():
-        field = piece.data[starts[row] : ends[row]]
-        if not (NUMBER.fullmatch(field) or (not field and kind == "number or empty")):
+        field = fields.data[fields.starts[row] : fields.ends[row]]
+        if not (NUMBER.fullmatch(field) or (not field and kind == OR_EMPTY)):
             return None
         values[row] = float(field or b"nan")
     return values
@@ -176,13 +241,14 @@ class Digits:
     are_all: np.ndarray
 
 
-def digits_of(piece: Piece, ends: np.ndarray, lengths: np.ndarray) -> Digits:
-    """Returns the digits of the last 16 characters of fields of these lengths."""
-    tail = filled(piece.words(ends - WORD), np.minimum(lengths, WORD))
+def digits_of(fields: Fields, lengths: np.ndarray) -> Digits:
+    """Returns the digits among the last 16 characters of fields; `lengths` are those of the fields without their sign."""
+    ends = fields.ends
+    tail = filled(fields.words(ends - WORD), np.clip(lengths, 0, WORD))
     if lengths.max() <= WORD:
         tail, places, has_point = without_point(tail, ZERO)
         return Digits(value_of(tail), places, has_point, are_digits(tail))
-    head = filled(piece.words(ends - 2 * WORD), np.clip(lengths - WORD, 0, WORD))
+    head = filled(fields.words(ends - 2 * WORD), np.clip(lengths - WORD, 0, WORD))
     tail, places, has_point = without_point(tail, head >> np.uint64(8 * (WORD - 1)))
     moved, more, is_ahead = without_point(head, ZERO)
     head = np.where(has_point, head << np.uint64(8) | ZERO, moved)

@@ -10,7 +10,7 @@ import pandas as pd
 
 from planaudit.errors import AuditError
 from planaudit.inputs.project import Project, TableColumns
-from planaudit.inputs.rotated_grid import places_of, steps_of
+from planaudit.inputs.rotated_grid import centroids, places_of, steps_of
 
 # Decimals of grades; and the distance from a half, in their last place, within which a mean is computed exactly.
 GRADE_PLACES, NEAR = 9, 1e-3
@@ -121,8 +121,7 @@ def divided(frame: pd.DataFrame, project: Project, grid: dict[str, Any]) -> tupl
     Raises AuditError if the number of these is not that of the removed blocks.
     """
     columns = project.table
-    centres = np.column_stack([frame[name] for name in (columns.x, columns.y, columns.z)])
-    east, north, up = np.rint(steps_of(centres, grid)).T
+    east, north, up = np.rint(steps_of(centroids(frame, (columns.x, columns.y, columns.z)), grid)).T
     levels, rows, width = grid["shape"]
     inside = (east >= 0) & (east < width) & (north >= 0) & (north < rows) & (up <= 0) & (up > -levels)
     beyond = np.count_nonzero(~inside)

@@ -2,9 +2,11 @@
 
 from __future__ import annotations
 
+from collections.abc import Sequence
 from typing import Any
 
 import numpy as np
+import pandas as pd
 
 
 def axes_of(grid: dict[str, Any]) -> np.ndarray:
@@ -20,7 +22,15 @@ def steps_of(places: np.ndarray, grid: dict[str, Any]) -> np.ndarray:
     """Returns blocks east, north and up from the first centroid, with fractions, for rows x, y, z; for rows x, y the first two."""
     count = places.shape[1]
     away = places - np.array(grid["origin"])[:count]
-    return away @ axes_of(grid)[:count, :count].T / np.array(grid["size"])[:count]
+    if grid.get("azimuth"):
+        away = away @ axes_of(grid)[:count, :count].T
+    found: np.ndarray = away / np.array(grid["size"])[:count]
+    return found
+
+
+def centroids(frame: pd.DataFrame, names: Sequence[str]) -> np.ndarray:
+    """Returns rows x, y, z of the columns with these names, which lie in memory one after the other."""
+    return np.stack([frame[name] for name in names]).T
 
 
 def places_of(steps: np.ndarray, grid: dict[str, Any]) -> np.ndarray:

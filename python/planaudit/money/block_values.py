@@ -7,6 +7,7 @@ from bisect import bisect
 from dataclasses import dataclass, field, replace
 from decimal import ROUND_HALF_EVEN, Decimal
 from fractions import Fraction
+from functools import cached_property, lru_cache
 from typing import Any, Optional
 
 import numpy as np
@@ -102,7 +103,10 @@ def not_exact(answer: Answer, chosen: np.ndarray, names: tuple[str, str]) -> lis
 
 def sample(answer: Answer) -> np.ndarray:
     """Returns some rows, the same each time."""
-    return np.sort(np.random.default_rng(0).permutation(len(answer.rows))[:SAMPLE])
+    count = len(answer.rows)
+    if count <= SAMPLE:
+        return np.arange(count)
+    return np.sort(np.random.default_rng(0).choice(count, SAMPLE, replace=False, shuffle=False))
 
 
 def more_for_depth(answer: Answer, elevation: float) -> Decimal:
@@ -164,19 +168,23 @@ class Costs:
         share, tail = self.recoveries[number], self.tails[number]
         if isinstance(share, Curve):
             share = at_grade(share, Fraction(grade) / Fraction(1 + self.dilution))
-        return max(grade - tail * (1 + self.dilution), Decimal(0)) * share
+        return (max(grade - tail * (1 + self.dilution), Decimal(0)) if tail else grade) * share
+
+
+@lru_cache(maxsize=1 << 16)
+def exact(value: float) -> Decimal:
+    """Returns the shortest decimal of a float."""
+    return Decimal(repr(value))
 
 
 @dataclass(frozen=True)
 class Place:
-    """What changes the costs of a block besides its codes: its level from the top, its haul distance, its cost adjustment factors, and by metal the
-    grades of the elements that its smelter penalises."""
+    """What changes the costs of a block besides its codes: its level from the top, its haul distance, and its cost adjustment factors."""
 
     level: int
     road: float
     mcaf: float
     pcaf: float
-    elements: tuple[tuple[float, ...], ...]
 
 
 @dataclass(frozen=True)
@@ -189,7 +197,9 @@ class Exactly:
     roads   haul distances of blocks, in metres; 0 without haulage
     factors factors of mining and processing cost of each block
     others  grades of penalised elements of each block, by metal
+    rates   by metal what is paid and charged for a recovered tonne or gram
     weighed a cache of amounts by their numbers, since many blocks of waste are equal
+    charges a cache of costs per tonne, by codes and place
     """
 
     answer: Answer
@@ -202,7 +212,9 @@ class Exactly:
     roads: list[float]
     factors: list[tuple[float, float]]
     others: list[tuple[tuple[float, ...], ...]]
+    rates: list[tuple[Decimal, Decimal]]
     weighed: dict[tuple[Any, ...], Amounts] = field(default_factory=dict)
+    charges: dict[tuple[Any, ...], tuple[Decimal, Decimal]] = field(default_factory=dict)
 
     @staticmethod
     def of(answer: Answer) -> "Exactly":
@@ -225,49 +237,56 @@ class Exactly:
         )
         levels = answer.cells[0].tolist()
         others = elements_of(answer)
-        return Exactly(answer, answer.tonnes.tolist(), grades, codes, costs, levels, depths, roads, factors, others)
+        rates = [(smelter.paid(it, it.price), smelter.all_charged(it, it.price)) for it in project.metals]
+        tonnes = answer.tonnes.tolist()
+        return Exactly(answer, tonnes, grades, codes, costs, levels, depths, roads, factors, others, rates)
 
     def amounts(self, row: int) -> Amounts:
         """Returns mining cost, revenue and processing cost of a block."""
         grades = tuple(grades[row] for grades in self.grades)
-        at = (self.level[row], self.roads[row], *self.factors[row], self.others[row])
-        numbers = (self.tonnes[row], self.codes[row], at, grades)
+        at = (self.codes[row], self.level[row], self.roads[row], *self.factors[row])
+        numbers = (self.tonnes[row], at, self.others[row], grades)
         found = self.weighed.get(numbers)
         if found is None:
-            found = self.weighed[numbers] = self.of_numbers(self.tonnes[row], self.codes[row], Place(*at), *grades)
+            found = self.weighed[numbers] = self.of_numbers(exact(self.tonnes[row]), at, self.others[row], grades)
         return found
 
-    def of_numbers(self, rock: float, codes: tuple[str, str], place: Place, *grades: float) -> Amounts:
-        """Returns the amounts of a block with given tonnes, codes, place and grades."""
-        project, tonnes = self.answer.project, Decimal(repr(rock))
-        of_mining, of_processing = (Decimal(repr(factor)) for factor in (place.mcaf, place.pcaf))
-        costs, rules = self.costs[codes], self.answer.project.haulage
-        waste, ore = (
-            (haulage.a_tonne(place.road, kind) for kind in (rules.waste, rules.ore))
-            if rules
-            else (Decimal(0), Decimal(0))
-        )
-        mining = tonnes * (costs.mining * of_mining + self.depths[place.level] + waste)
-        revenue = selling = Decimal(0)
-        for number, (metal, told, elements) in enumerate(zip(project.metals, grades, place.elements)):
-            if not told:
+    def of_numbers(
+        self, tonnes: Decimal, at: tuple[Any, ...], others: tuple[tuple[float, ...], ...], grades: tuple[float, ...]
+    ) -> Amounts:
+        """Returns the amounts of a block with given tonnes, codes and place, penalised elements, and grades."""
+        project, costs = self.answer.project, self.costs[at[0]]
+        a_tonne = self.charges.get(at)
+        if a_tonne is None:
+            a_tonne = self.charges[at] = self.a_tonne(costs, Place(*at[1:]))
+        undiluted, revenue, selling = tonnes * costs.mining_recovery, Decimal(0), Decimal(0)
+        for number, (metal, grade, elements) in enumerate(zip(project.metals, grades, others)):
+            if not grade:
                 continue
-            grade = costs.recovered(number, Decimal(repr(told)))
-            quantity = tonnes * costs.mining_recovery * grade * GRADE_UNITS[metal.unit]
-            revenue += quantity * smelter.paid(metal, metal.price)
-            selling += quantity * smelter.all_charged(metal, metal.price)
-            contents = [tonnes * costs.mining_recovery * Decimal(repr(it)) for it in elements]
-            selling += smelter.penalty_exactly(metal, quantity, contents)
-        unit = Decimal(1).scaleb(-project.economics.decimals)
-        processing = (
-            tonnes
-            * costs.mining_recovery
-            * (1 + costs.dilution)
-            * (costs.processing * of_processing + project.economics.royalty_per_tonne + ore - waste)
-        )
-        amounts = (mining, revenue - revenue * project.economics.royalty, processing + selling)
-        mining, revenue, processing = (amount.quantize(unit, ROUND_HALF_EVEN) for amount in amounts)
+            paid, charged = self.rates[number]
+            quantity = undiluted * costs.recovered(number, exact(grade)) * GRADE_UNITS[metal.unit]
+            revenue += quantity * paid
+            selling += quantity * charged
+            if elements:
+                contents = [undiluted * exact(it) for it in elements]
+                selling += smelter.penalty_exactly(metal, quantity, contents)
+        mining, processing = tonnes * a_tonne[0], undiluted * (1 + costs.dilution) * a_tonne[1] + selling
+        amounts = (mining, revenue - revenue * project.economics.royalty, processing)
+        mining, revenue, processing = [amount.quantize(self.unit, ROUND_HALF_EVEN) for amount in amounts]
         return mining, revenue, processing if revenue else Decimal(0)
+
+    def a_tonne(self, costs: Costs, place: Place) -> tuple[Decimal, Decimal]:
+        """Returns the mining cost per tonne, and the processing cost per tonne of mill feed with royalty and haulage."""
+        waste = ore = Decimal(0)
+        if rules := self.answer.project.haulage:
+            waste, ore = (haulage.a_tonne(place.road, kind) for kind in (rules.waste, rules.ore))
+        mining = costs.mining * exact(place.mcaf) + self.depths[place.level] + waste
+        royalty = self.answer.project.economics.royalty_per_tonne
+        return mining, costs.processing * exact(place.pcaf) + royalty + ore - waste
+
+    @cached_property
+    def unit(self) -> Decimal:
+        return Decimal(1).scaleb(-self.answer.project.economics.decimals)
 
 
 def elements_of(answer: Answer) -> list[tuple[tuple[float, ...], ...]]:
@@ -292,7 +311,7 @@ def by_floats(answer: Answer, revenue: str | None = None) -> tuple[np.ndarray, n
     """
     money, columns = answer.project.economics, answer.project.table
     deeper = np.array([float(more_for_depth(answer, z)) for z in answer.elevations])
-    adjusted = by_code(money.mining_cost, answer.rows, columns) * factors_of(answer, money.mcaf)
+    adjusted = by_code(money.mining_cost, answer.rows, columns, answer.codes) * factors_of(answer, money.mcaf)
     a_tonne = adjusted + deeper[answer.cells[0]]
     if rules := answer.project.haulage:
         a_tonne = a_tonne + haulage.rate(haulage.roads_of(answer, rules), rules.waste)
@@ -310,7 +329,7 @@ def gains_by_floats(answer: Answer) -> tuple[np.ndarray, np.ndarray]:
         quantity = answer.quantities[metal.name]
         revenue += quantity * float(smelter.paid(metal, metal.price)) * (1 - float(money.royalty))
         selling += quantity * float(smelter.all_charged(metal, metal.price)) + smelter.penalties(answer, metal)
-    adjusted = by_code(money.processing_cost, answer.rows, columns) * factors_of(answer, money.pcaf)
+    adjusted = by_code(money.processing_cost, answer.rows, columns, answer.codes) * factors_of(answer, money.pcaf)
     a_tonne = adjusted + float(money.royalty_per_tonne)
     if rules := project.haulage:
         a_tonne = a_tonne + haulage.rate(haulage.roads_of(answer, rules), rules.ore, rules.waste)

@@ -8,22 +8,23 @@ from fractions import Fraction
 import numpy as np
 import pandas as pd
 
+from planaudit.inputs import codes
 from planaudit.inputs.acceptance import refused
 from planaudit.inputs.classes import treated_as
 from planaudit.inputs.project import ByCode, ByDomain, Curve, Metal, Project, Recovery, TableColumns
 
 # A recovery this close to a half, in millionths, is computed exactly.
 NEAR = 1e-3
+NOTHING: codes.Codes = {}
 
 
-def by_code(value: ByCode, rows: pd.DataFrame, columns: TableColumns) -> np.ndarray:
-    """Returns a number per row by its rock type or domain, shape (rows,); 0 if the code has none."""
+def by_code(value: ByCode, rows: pd.DataFrame, columns: TableColumns, known: codes.Codes = NOTHING) -> np.ndarray:
+    """Returns a number per row by its rock type or domain, shape (rows,); 0 if the code has none. `known` has codes that are numbered."""
     if isinstance(value, Decimal):
         return np.full(len(rows), float(value))
-    column, numbers = (columns.domain, value.values) if isinstance(value, ByDomain) else (columns.rock_type, value)
-    return (
-        rows[column].astype(str).map({code: float(number) for code, number in numbers.items()}).fillna(0.0).to_numpy()
-    )
+    column, amounts = (columns.domain, value.values) if isinstance(value, ByDomain) else (columns.rock_type, value)
+    of_rows = known.get(str(column)) or codes.numbered(rows[column])
+    return codes.valued(of_rows, lambda code: float(amounts.get(code, 0)))
 
 
 def of_code(value: ByCode, rock: str, region: str) -> Decimal:
@@ -33,20 +34,19 @@ def of_code(value: ByCode, rock: str, region: str) -> Decimal:
     return value.values.get(region, Decimal(0)) if isinstance(value, ByDomain) else value.get(rock, Decimal(0))
 
 
-def recovered(metal: Metal, rows: pd.DataFrame, project: Project) -> np.ndarray:
+def recovered(metal: Metal, rows: pd.DataFrame, project: Project, known: codes.Codes = NOTHING) -> np.ndarray:
     """Returns the recovered grade of each row per undiluted tonne that reaches the mill, in the unit of the column; 0 of a row that is waste by its
-    resource class, or that the process does not accept."""
+    resource class, or that the process does not accept. `known` has codes that are numbered."""
     grades, table = rows[metal.column].to_numpy(), project.table
     grades = np.where(treated_as("waste", rows, project) | refused(rows, project, project.accepts), 0.0, grades)
-    tonnes_of = 1 + by_code(project.economics.dilution, rows, table)
-    place, codes = np.zeros(len(rows), dtype=np.int64), [""]
+    tonnes_of = 1 + by_code(project.economics.dilution, rows, table, known)
+    place, rocks = np.zeros(len(rows), dtype=np.int64), [""]
     if table.rock_type:
-        place, found = pd.factorize(rows[table.rock_type].astype(str))
-        codes = found.tolist()
-    share = np.zeros(len(rows))
-    for number, code in enumerate(codes):
-        recovery = metal.recovery.get(code) if isinstance(metal.recovery, dict) else metal.recovery
-        if recovery is None:
+        place, rocks = known.get(table.rock_type) or codes.numbered(rows[table.rock_type])
+    shares = [metal.recovery.get(code) if isinstance(metal.recovery, dict) else metal.recovery for code in rocks]
+    share = np.array([0.0 if it is None or isinstance(it, Curve) else float(it) for it in shares])[place]
+    for number, (code, recovery) in enumerate(zip(rocks, shares)):
+        if not isinstance(recovery, Curve):
             continue
         mine = np.flatnonzero(place == number)
         share[mine], close = by_grade(recovery, grades[mine] / tonnes_of[mine])
@@ -55,7 +55,7 @@ def recovered(metal: Metal, rows: pd.DataFrame, project: Project) -> np.ndarray:
                 project.economics.dilution, code, str(rows[table.domain].iloc[row]) if table.domain else ""
             )
             share[row] = float(at_grade(recovery, Fraction(repr(float(grades[row]))) / Fraction(whole)))
-    return np.maximum(grades - by_code(metal.tail_grade, rows, table) * tonnes_of, 0.0) * share
+    return np.maximum(grades - by_code(metal.tail_grade, rows, table, known) * tonnes_of, 0.0) * share
 
 
 def by_grade(recovery: Recovery, head: np.ndarray) -> tuple[np.ndarray, np.ndarray]:

@@ -54,23 +54,23 @@ class Benches:
 
     @staticmethod
     def of(answer: Answer) -> Benches:
-        first, cash = answer.said["revenue_factor"].to_numpy(), answer.earned
-        rows = np.flatnonzero(first > 0)
-        factors, number = np.unique(first[rows], return_inverse=True)
+        rows, first = answer.mined
+        cash, is_ore = answer.earned[rows], answer.ore[rows]
+        factors, number = np.unique(first, return_inverse=True)
         place = number * answer.shape[0] + answer.cells[0][rows]
         there, piece = np.unique(place, return_inverse=True)
-        columns = {"total_tonnes": answer.tonnes, "feed_tonnes": np.where(answer.ore, answer.feed, 0.0), **answer.feeds}
-        columns |= {f"recovered_{name}": np.where(answer.ore, metal, 0.0) for name, metal in answer.quantities.items()}
-        columns |= ore_costs.at_best(answer)
-        gain = np.where(answer.ore, (answer.said["revenue"] - answer.said["processing_cost"]).to_numpy(), 0.0)
-        dumped = dump_costs.as_waste(answer)
+        revenue, cost = (answer.said[name].to_numpy()[rows] for name in ("revenue", "processing_cost"))
+        gain, dumped = np.where(is_ore, revenue - cost, 0.0), dump_costs.as_waste(answer)[rows]
+        columns = {"total_tonnes": answer.tonnes[rows], "feed_tonnes": np.where(is_ore, answer.feed[rows], 0.0)}
+        metals = {f"recovered_{name}": metal for name, metal in answer.quantities.items()}
+        columns |= {name: np.where(is_ore, metal[rows], 0.0) for name, metal in metals.items()}
+        columns |= {name: amounts[rows] for name, amounts in (answer.feeds | ore_costs.at_best(answer)).items()}
         columns |= {"gross": np.abs(cash) + dumped, "mining": cash - gain, "dumping": -dumped}
-        columns["cash_flow"] = cash - np.where(answer.ore, 0.0, dumped)
-        sums = {name: np.bincount(piece, column[rows]) for name, column in columns.items()}
+        columns["cash_flow"] = cash - np.where(is_ore, 0.0, dumped)
+        sums = {name: np.bincount(piece, column) for name, column in columns.items()}
         gross, mining, dumping = (sums.pop(name) for name in ("gross", "mining", "dumping"))
         kinds = None
         if has_choice(answer.project):
-            is_ore = answer.ore[rows]
             kinds = Ore(answer, rows[is_ore]).sums(piece[is_ore], len(there))
         levels = answer.shape[0]
         return Benches(answer, factors[there // levels], there % levels, sums, gross, mining, dumping, kinds)
@@ -98,21 +98,41 @@ class Benches:
         whole = np.bincount(parts.piece, parts.share, minlength=len(wait.uses)).min()
         return parts.life if whole > 1 - 1e-6 else MOST_YEARS + float(wait.uses.sum(axis=0).max())
 
-    def groups(self, case: str, factor: float) -> np.ndarray:
-        """Returns the pieces of a shell in the order of mining: shares of benches, shape (pieces, benches)."""
+    def groups(self, case: str, factor: float) -> Pieces:
+        """Returns the pieces of a shell in the order of mining."""
         inside = np.flatnonzero(self.factor <= factor)
         if case == BEST:
-            found = np.zeros((len(inside), len(self.factor)))
-            found[np.arange(len(inside)), inside] = 1.0
-            return found
+            return Pieces(inside, np.arange(len(inside)))
         pushback = np.zeros(len(inside), dtype=np.int64)
         rules = self.answer.project.shells.specified
         if case == SPECIFIED and rules is not None:
             pushback = (self.factor[inside][:, None] > np.array(rules.pushbacks) + 1e-9).sum(axis=1)
         turn = self.level[inside] + (rules.bench_lag if case == SPECIFIED and rules is not None else 0) * pushback
         _, piece = np.unique(np.column_stack([turn, pushback, self.level[inside]]), axis=0, return_inverse=True)
-        found = np.zeros((int(piece.max(initial=-1)) + 1, len(self.factor)))
-        found[piece.ravel(), inside] = 1.0
+        return Pieces(inside, piece.ravel())
+
+
+@dataclass(frozen=True)
+class Pieces:
+    """The benches of a shell by number, and for each the number of the piece with which it is mined."""
+
+    bench: np.ndarray
+    piece: np.ndarray
+
+    @property
+    def count(self) -> int:
+        return int(self.piece.max(initial=-1)) + 1
+
+    def sums(self, amounts: np.ndarray) -> np.ndarray:
+        """Returns the sums of amounts of benches, shape (benches, columns), by piece."""
+        found = np.zeros((self.count, amounts.shape[1]))
+        np.add.at(found, self.piece, amounts[self.bench])
+        return found
+
+    def of_benches(self, shares: np.ndarray, count: int) -> np.ndarray:
+        """Returns shares of pieces, shape (years, pieces), as shares of so many benches."""
+        found = np.zeros((len(shares), count))
+        found[:, self.bench] = shares[:, self.piece]
         return found
 
 
@@ -138,17 +158,17 @@ class Dug:
     life: float
 
 
-def dug_of(pieces: np.ndarray, wait: Wait) -> Dug:
-    """Returns what is dug when pieces, shares of benches, are mined one after the other."""
-    parts = parts_of((pieces @ wait.uses).tolist(), wait.shares.tolist())
-    return Dug(shares_of(parts, len(pieces)) @ pieces, parts.life)
+def dug_of(pieces: Pieces, wait: Wait) -> Dug:
+    """Returns what is dug when pieces are mined one after the other."""
+    parts = parts_of(pieces.sums(wait.uses).tolist(), wait.shares.tolist())
+    return Dug(pieces.of_benches(shares_of(parts, pieces.count), len(wait.uses)), parts.life)
 
 
 def pits_of(benches: Benches, case: str, factors: list[float]) -> list[Pit]:
     """Returns the years of each shell, with the wait that has the highest NPV; of equal ones the shortest life."""
     pieces = [benches.groups(case, factor) for factor in factors]
     slack = [CENT + 1e-12 * float(benches.gross[benches.factor <= factor].sum()) for factor in factors]
-    tonnes = [float((it @ benches.amounts["total_tonnes"]).sum()) for it in pieces]
+    tonnes = [float(benches.amounts["total_tonnes"][it.bench].sum()) for it in pieces]
     found: list[list[Pit]] = [[] for _ in factors]
     some = [place for place, amount in enumerate(tonnes) if amount]
     for wait in benches.waits:

@@ -18,10 +18,10 @@ UNITS, REL = 2.0, 1e-9
 
 
 def tonnes_in(answer: Answer, inside: np.ndarray, factor: float = BASE_PRICE) -> dict[str, float]:
-    """Returns the tonnes of such blocks among some, a mask of rows, at the cut-off of a revenue factor; nothing without classes."""
+    """Returns the tonnes of such blocks among some rows at the cut-off of a revenue factor; nothing without classes."""
     if answer.project.table.resource_class is None:
         return {}
-    rows = np.flatnonzero(inside & classes.treated_as("waste", answer.rows, answer.project))
+    rows = inside[classes.treated_as("waste", answer.rows, answer.project)[inside]]
     price = factor if answer.project.economics.cutoff == "per_revenue_factor" else BASE_PRICE
     pays = would_pay(answer, rows, price)
     return {NAME: float(answer.tonnes[rows[pays]].sum())}

@@ -11,8 +11,6 @@ from functools import cached_property
 from itertools import combinations
 
 import numpy as np
-from scipy.optimize import linprog
-from scipy.sparse import coo_matrix, vstack
 
 from planaudit.inputs.answer import Answer
 from planaudit.inputs.project import GRADE_UNITS, Project
@@ -220,6 +218,10 @@ def shipped(ore: Kinds, gain: np.ndarray, most: np.ndarray) -> np.ndarray:
 
 def of_programme(feed: np.ndarray, gain: np.ndarray, most: np.ndarray) -> np.ndarray:
     """Returns the shares of a linear programme over all these years; where nothing is gained they are 0."""
+    # Here, since it takes a tenth of a second and few projects have a choice of destinations.
+    from scipy.optimize import linprog
+    from scipy.sparse import coo_matrix, vstack
+
     year, kind, process = np.nonzero(gain > 0)
     size = len(year)
     unit = float(gain.max())

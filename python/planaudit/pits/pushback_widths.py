@@ -6,8 +6,6 @@ import math
 
 import numpy as np
 import pandas as pd
-from scipy.sparse import coo_matrix
-from scipy.sparse.csgraph import connected_components
 
 from planaudit.blocks import constraints as fixed
 from planaudit.ground import slopes as walls
@@ -141,5 +139,9 @@ def count_pieces(rock: np.ndarray) -> int:
     count = int(np.count_nonzero(rock))
     if not count:
         return 0
+    # Here, since it takes a tenth of a second and only pushbacks need it.
+    from scipy.sparse import coo_matrix
+    from scipy.sparse.csgraph import connected_components
+
     touching = coo_matrix((np.ones(len(first)), (first, second)), shape=(count, count))
     return int(connected_components(touching, directed=False)[0])

@@ -111,7 +111,9 @@ def verify_sums(answer: Answer) -> Rule:
         differences += unlike(where, said, due, lambda _, amount: 1e-9 * abs(amount) + CENT)
         own = sums.with_ratios({name: float(amounts[place]) for name, amounts in whole.items()})
         gross = own.pop(sums.GROSS)
-        differences += unlike(where, said, own | mineralised.tonnes_in(answer, mine), sums.slack_of(gross))
+        differences += unlike(
+            where, said, own | mineralised.tonnes_in(answer, np.flatnonzero(mine)), sums.slack_of(gross)
+        )
     return rule(
         "pushbacks",
         "blocks, tonnes, grades, strip ratios, metal and cash flow of each pushback are the sums over its blocks",

@@ -46,9 +46,10 @@ def smallest(name: str) -> float:
 
 
 def within(answer: Answer, factor: float) -> np.ndarray:
-    """Returns whether the shell of a revenue factor holds each block, shape (blocks,)."""
-    first = answer.said["revenue_factor"].to_numpy()
-    return (first > 0) & (first <= factor)
+    """Returns the rows of the blocks in the shell of a revenue factor."""
+    rows, first = answer.mined
+    found: np.ndarray = rows[first <= factor]
+    return found
 
 
 def of_shells(answer: Answer) -> list[dict[str, float]]:
@@ -69,24 +70,23 @@ def of_shells(answer: Answer) -> list[dict[str, float]]:
 
 def number_in(rising: np.ndarray, factor: np.ndarray) -> np.ndarray:
     """Returns for each block the number of the first of rising factors that is not below its own; for a factor of 0 their number."""
-    return np.where(factor > 0, np.searchsorted(rising, factor), len(rising))
+    found, some = np.full(len(factor), len(rising)), np.flatnonzero(factor > 0)
+    found[some] = np.searchsorted(rising, factor[some])
+    return found
 
 
 def added(answer: Answer, group: np.ndarray, count: int) -> dict[str, np.ndarray]:
     """Returns the sums over the blocks of each group, by the number of the group from 0; blocks of other numbers are passed over."""
-    ore, tonnes, worths = answer.ore, answer.tonnes, answer.worths
-
-    def summed(amounts: np.ndarray) -> np.ndarray:
-        return np.bincount(group, amounts, count + 1)[:count]
-
-    found = {"blocks": tonnes > 0, "tonnes": tonnes, "feed_tonnes": np.where(ore, answer.feed, 0.0)}
+    rows = np.flatnonzero(group < count)
+    ore, tonnes, worths = answer.ore[rows], answer.tonnes[rows], answer.worths[rows]
+    found = {"blocks": tonnes > 0, "tonnes": tonnes, "feed_tonnes": np.where(ore, answer.feed[rows], 0.0)}
     found |= {"in_situ_ore_tonnes": np.where(ore, tonnes, 0.0), "waste_tonnes": np.where(ore, 0.0, tonnes)}
-    found |= {CASH: worths, GROSS: np.abs(worths), **answer.feeds}
-    undiluted = np.where(ore, answer.undiluted, 0.0)
+    found |= {CASH: worths, GROSS: np.abs(worths)} | {name: amounts[rows] for name, amounts in answer.feeds.items()}
+    undiluted = np.where(ore, answer.undiluted[rows], 0.0)
     for metal in answer.project.metals:
-        found[f"head_grade_{metal.name}"] = undiluted * answer.rows[metal.column].to_numpy()
-        found[f"recovered_{metal.name}"] = np.where(ore, answer.quantities[metal.name], 0.0)
-    return {name: summed(amounts) for name, amounts in found.items()}
+        found[f"head_grade_{metal.name}"] = undiluted * answer.rows[metal.column].to_numpy()[rows]
+        found[f"recovered_{metal.name}"] = np.where(ore, answer.quantities[metal.name][rows], 0.0)
+    return {name: np.bincount(group[rows], amounts, count) for name, amounts in found.items()}
 
 
 def with_ratios(found: dict[str, float]) -> dict[str, float]:
@@ -109,7 +109,7 @@ def unlike_worth(answer: Answer) -> list[str]:
     """Returns differences between the solver's values and the sums of block values at each revenue factor."""
     mining, lost, differences = millionths(answer, "mining_cost"), lost_digits(answer), []
     for factor in answer.shells.index:
-        inside = np.flatnonzero(within(answer, float(factor)))
+        inside = within(answer, float(factor))
         revenue, processing = chosen(answer, float(factor), inside)
         gain, cost = per_mille(factor) * total(revenue), PER_MILLE * (total(processing) + total(mining[inside]))
         said = Decimal(answer.shells["value_at_revenue_factor"][factor]).scaleb(9)
@@ -169,7 +169,7 @@ def first_processed(answer: Answer) -> np.ndarray:
     expected = np.zeros(len(first))
     if answer.project.economics.cutoff == "per_revenue_factor":
         for factor in sorted(answer.factors, reverse=True):
-            inside = np.flatnonzero((first > 0) & (first <= factor))
+            inside = within(answer, factor)
             expected[inside[np.asarray(chosen(answer, factor, inside)[0] > 0, dtype=bool)]] = factor
         return expected
     every = np.arange(len(first))

@@ -5,8 +5,6 @@ from __future__ import annotations
 from dataclasses import dataclass
 
 import numpy as np
-from scipy.sparse import csr_matrix
-from scipy.sparse.csgraph import breadth_first_order, maximum_flow
 
 # The sum of all capacities as scipy takes them, whole numbers of 32 bits; and more than any flow.
 TOTAL, UNLIMITED = 2**30, 2**30 + 1
@@ -41,6 +39,10 @@ def maximum_closure(values: np.ndarray, nodes: np.ndarray, needed: np.ndarray) -
     nodes, needed : array of int, shape (arcs,)
         Each arc once: a node, and one that it needs.
     """
+    # Here, since it takes a tenth of a second and only the bounds of schedules need it.
+    from scipy.sparse import csr_matrix
+    from scipy.sparse.csgraph import breadth_first_order, maximum_flow
+
     count, gain = len(values), float(values[values > 0].sum())
     if not gain:
         return Closure(np.zeros(count, dtype=bool), 0.0, 0.0)

@@ -14,8 +14,6 @@ from typing import Any, Optional
 
 import numpy as np
 import pandas as pd
-from scipy.optimize import linprog
-from scipy.sparse import coo_matrix
 
 from planaudit.inputs.answer import Answer
 from planaudit.inputs.project import Stockpile
@@ -327,6 +325,10 @@ class Bound:
     @property
     def of_benches(self) -> float:
         """The greatest value of benches mined in order; unknowns are the shares that are mined by the end of each year."""
+        # Here, since it takes a tenth of a second and only the bounds of schedules need it.
+        from scipy.optimize import linprog
+        from scipy.sparse import coo_matrix
+
         count, years = len(self.benches), self.years
         at = np.arange(count * years).reshape(count, years)
         less = [at[:, :-1].ravel(), *(at[bench] for bench, _ in self.needs)]

@@ -12,7 +12,6 @@ from typing import Any, Iterator, Optional
 
 import numpy as np
 import pandas as pd
-from scipy.spatial import KDTree
 
 from planaudit.errors import AuditError
 from planaudit.inputs import block_table
@@ -158,7 +157,8 @@ class Simulated:
         columns = self.project.table
         if columns.id and columns.id in frame:
             numbers = {name: row for row, name in enumerate(self.named[columns.id])}
-            at = frame[columns.id].str.strip().map(numbers).fillna(-1).to_numpy(dtype=np.int64)
+            ids = [str(name).strip() for name in frame[columns.id]]
+            at = np.array([numbers.get(name, -1) for name in ids], dtype=np.int64)
         else:
             at = self.at_centres(frame[[columns.x, columns.y, columns.z]].to_numpy(dtype=np.float64))
         if (at < 0).any() and not self.project.table.rules.leaves_out:
@@ -175,6 +175,9 @@ class Simulated:
             row_of = np.full(int(np.prod(grid["shape"])), -1, dtype=np.int64)
             row_of[nearest_cells(own, grid)] = np.arange(len(own))
             return row_of[nearest_cells(centres, grid)]
+        # Here, since only reblocked tables need it.
+        from scipy.spatial import KDTree
+
         distance, at = KDTree(own).query(centres)
         return np.where(distance <= 2 * self.project.grid.tolerance, at, -1)
 
