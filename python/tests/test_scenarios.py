@@ -270,6 +270,18 @@ def test_a_changed_or_missing_folder_is_status_5(plan_folder):
     assert outcome.status == 5 and f"{needs}: has changed since scenarios.json was written" in outcome.why
 
 
+def test_a_worker_of_another_version_refuses_the_folder(plan_folder, monkeypatch):
+    shared = prepared(plan_folder(pillar(), COLUMNS))
+    monkeypatch.setattr(store, "release", lambda: "9.8.7")
+    worker.shared_of.cache_clear()
+    outcome = worker.solve(str(shared.folder), 1)
+    said = (
+        f"pitplan {pitplan.__version__} wrote it, and {os.uname().nodename} has 9.8.7: install one version on all hosts"
+    )
+    assert outcome.status == 5 and said in outcome.why
+    assert not shared.answer(shared.scenarios[0]).exists()
+
+
 def test_what_went_wrong_is_told_by_status(plan_folder, monkeypatch):
     ended = [
         worker.Outcome(1, 0, "", 1.0),

@@ -8,11 +8,13 @@ from __future__ import annotations
 
 import os
 from dataclasses import dataclass
+from importlib import import_module
 from pathlib import Path
 from typing import Any, Iterator, Optional
 
 from pitplan.core.optional_packages import load
 from pitplan.core.progress import Progress
+from pitplan.core.release import release
 from pitplan.errors import PlanError
 from pitplan.studies.scenarios import worker
 from pitplan.studies.scenarios.store import Scenario
@@ -23,6 +25,8 @@ RETRIES = 2
 DEATHS = 5
 # A server on this address can be reached from this machine only.
 LOOPBACK = "127.0.0.1"
+# The variables by which Dask takes a certificate for an address that begins with tls://.
+CERTIFICATE = tuple(f"DASK_DISTRIBUTED__COMM__TLS__{part}" for part in ("CA_FILE", "CLIENT__CERT", "CLIENT__KEY"))
 
 
 class Killed(Exception):
@@ -85,9 +89,42 @@ def client_of(distributed: Any, where: Where) -> Any:
         pages = {"dashboard_address": f"{LOOPBACK}:0", "worker_dashboard_address": f"{LOOPBACK}:0"}
         return distributed.Client(processes=True, **cluster, **pages)
     try:
-        return distributed.Client(where.address, timeout="10s")
+        client = distributed.Client(where.address, timeout="10s")
     except (OSError, ValueError) as error:
         raise PlanError(f"{where.address}: no Dask scheduler answers there: {error}") from error
+    except TypeError as error:
+        # Dask's answer to an address of TLS if its settings name no certificate.
+        raise PlanError(
+            f"{where.address}: this host has no certificate: set {', '.join(CERTIFICATE)} to the files of the certificate"
+        ) from error
+    try:
+        demand_same_version(client)
+    except BaseException:
+        client.close()
+        raise
+    return client
+
+
+def demand_same_version(client: Any) -> None:
+    """Raises PlanError if a worker that has joined has another version of pitplan, or none."""
+
+    def version() -> str:
+        # A function within a function goes to the worker as code, so an older pitplan there need not have it.
+        found: str = import_module("pitplan").__version__
+        return found
+
+    try:
+        found: dict[str, str] = client.run(version)
+    except ImportError as error:
+        raise PlanError(no_layer(error)) from error
+    for worker_address, theirs in sorted(found.items()):
+        if theirs != release():
+            why = f"its worker has pitplan {theirs}, and this host has {release()}: install one version on all hosts"
+            raise PlanError(f"{worker_address}: {why}")
+
+
+def no_layer(error: ImportError) -> str:
+    return f"Dask's workers cannot import pitplan ({error}): start them with PYTHONPATH=python of pitshell"
 
 
 def outcomes_of(distributed: Any, client: Any, folder: Path, scenarios: list[Scenario]) -> Iterator[worker.Outcome]:
@@ -108,8 +145,6 @@ def outcomes_of(distributed: Any, client: Any, folder: Path, scenarios: list[Sce
 def lost(error: BaseException, scenario: Scenario) -> worker.Outcome:
     """Returns the outcome of a scenario whose task failed. Raises PlanError if all tasks would fail."""
     if isinstance(error, ImportError):
-        raise PlanError(
-            f"Dask's workers cannot import pitplan ({error}): start them with PYTHONPATH=python of pitshell"
-        )
+        raise PlanError(no_layer(error))
     why = f"{error}" if isinstance(error, Killed) else f"{scenario.label}: its worker was lost: {error}"
     return worker.Outcome(scenario.number, worker.LOST, f"{why}: tried {RETRIES + 1} times", 0.0)

@@ -19,6 +19,7 @@ from pitplan.core import csv_writer, layout
 from pitplan.core.atomic_files import hashes, staged, write_json
 from pitplan.core.optional_packages import load_library
 from pitplan.core.progress import Progress
+from pitplan.core.release import release
 from pitplan.plan import Plan
 from pitplan.results.names import TABLE
 from pitplan.solver import mine_files
@@ -212,6 +213,7 @@ def write_record(laid: Laid, scenarios: list[Scenario], written: list[str], stag
     plan, solver = laid.plan, laid.solver
     record: dict[str, Any] = {
         "title": plan.project.title,
+        "pitplan": release(),
         "project": os.path.relpath(plan.project.path, stage.parent),
         "revenue_factors": list(plan.project.shells.revenue_factors),
         "solver": vars(solver),

@@ -68,7 +68,7 @@ class ScenarioResult:
 
     @property
     def schedules(self) -> pd.DataFrame:
-        """With --by block, one row per scenario: its own schedule and, with the prefix common_, the common schedule in it."""
+        """With --by block, one row per scenario: its own schedule and, with the prefix `common_`, the common schedule in it."""
         return self.frame(SCHEDULES, dtype={"realisation": str}, keep_default_na=False, na_values=[""])
 
     def likely(self, revenue_factor: float = BASE_PRICE) -> Likely:

@@ -18,6 +18,7 @@ from __future__ import annotations
 import hashlib
 import json
 import os
+import platform
 from dataclasses import asdict, dataclass, replace
 from decimal import Decimal
 from functools import cached_property
@@ -34,6 +35,7 @@ from pitplan.config.schedule import ScheduleRules
 from pitplan.constraints import Settled
 from pitplan.core.atomic_files import hash_of, staged_file, write_json
 from pitplan.core.layout import SOLVER
+from pitplan.core.release import release
 from pitplan.errors import PlanError
 from pitplan.precedences import Rows
 from pitplan.solver import mine_files
@@ -185,10 +187,26 @@ def demand_no_mine(folder: Path) -> None:
         raise PlanError(f"{folder / PROJECT}: scenarios would replace this project: give another folder by --out")
 
 
+def demand_same_version(folder: Path, wrote: str) -> None:
+    """Raises PlanError if another version of pitplan wrote the folder's record, as on a host where another one is installed."""
+    if wrote != release():
+        raise PlanError(
+            f"{folder / RECORD}: pitplan {wrote} wrote it, and {platform.node()} has {release()}: "
+            "install one version on all hosts, or run pitplan scenarios again"
+        )
+
+
 def read_shared(folder: Path) -> Shared:
-    """Reads the common input of a folder. Raises PlanError if pitplan scenarios has not written it, or a file has changed since."""
+    """Reads the common input of a folder.
+
+    Raises
+    ------
+    PlanError
+        If pitplan scenarios has not written it, another version has, or a file has changed since.
+    """
     try:
         record = json.loads((folder / RECORD).read_text(encoding="utf-8"))
+        demand_same_version(folder, record["pitplan"])
         for name, digest in record["files"].items():
             if hash_of(folder / name) != digest:
                 raise PlanError(f"{folder / name}: has changed since {RECORD} was written: run pitplan scenarios again")
