@@ -1,5 +1,5 @@
 # `make try` runs the program at once, unproved; `make` proves it, builds it and solves the small mine; `make test` runs the gate.
-.PHONY: all try build library dist demo docs install test style test-program test-plan thorough test-library mutants sweep storm bench setup
+.PHONY: all try build library dist demo docs site install test style test-program test-plan thorough test-library mutants sweep storm bench setup
 
 SMALL_MINE = examples/small_mine
 PROGRAM = build/pitshell
@@ -26,11 +26,11 @@ library:
 	tools/build.py pitshell_c
 
 # What others install, in build/dist: a Debian package, an archive, and wheels of the library and of the planner's layer.
-dist: build library
+dist: build library site
 	tools/dist.py
 
 # Renews what repeats a command line, the columns of tables or measurements: man pages, completions, FORMATS, stored words of
-# tests, tables of README and SPEED.
+# tests, tables of README and SPEED. Then builds the site.
 docs:
 	test -x $(PROGRAM) || $(MAKE) build
 	tools/make_docs.py
@@ -40,17 +40,24 @@ docs:
 	tools/pitplan completion bash > completions/pitplan.bash
 	tools/pitplan completion zsh > completions/_pitplan
 	tools/pitplan completion fish > completions/pitplan.fish
+	$(MAKE) site
+
+# Builds the pages of docs/ as HTML in build/site. It fails at a dead link or a missing picture.
+site: setup
+	rm -rf build/site
+	/usr/bin/python3 -m sphinx -E -q -W --keep-going -d build/doctrees docs build/site
+	@echo "open build/site/index.html"
 
 demo:
 	build/pitshell solve --model $(SMALL_MINE)/mine.upit --prec $(SMALL_MINE)/mine.prec > build/pit.txt
 	head -n 8 build/pit.txt
 	cmp build/pit.txt $(SMALL_MINE)/pit.txt
 
-# Program, library, planner's layer, manual pages, completions, documents, examples and what was built, below PREFIX; where the library was
-# not built, all but that. DESTDIR stands before it, for whoever makes a package.
+# Program, library, planner's layer, manual pages, completions, documents, examples and what was built, below PREFIX; where library or site
+# was not built, all but that. DESTDIR comes before it, for those who make a package.
 LAYER = $(DESTDIR)$(PREFIX)/lib/pitshell/python
 DOC = $(DESTDIR)$(PREFIX)/share/doc/pitshell
-DOCUMENTS = README.md CHANGELOG.md docs/*.md docs/*/* examples/*.ipynb examples/*/*.* examples/*/expected/* examples/*/realisations/*
+DOCUMENTS = README.md CHANGELOG.md docs/*.* docs/*/* examples/*.ipynb examples/*/*.* examples/*/expected/* examples/*/realisations/*
 install:
 	test -x $(PROGRAM) || $(MAKE) build
 	install -D -m 755 $(PROGRAM) $(DESTDIR)$(PREFIX)/bin/pitshell
@@ -58,6 +65,7 @@ install:
 	install -D -m 755 tools/pitplan $(DESTDIR)$(PREFIX)/bin/pitplan
 	install -D -m 644 LICENSE $(DOC)/LICENSE
 	for file in $(DOCUMENTS); do install -D -m 644 $$file $(DOC)/$$file || exit; done
+	test ! -e build/site || (cd build/site && find . -type f -exec install -D -m 644 {} $(DOC)/site/{} ";")
 	test ! -e $(PROGRAM).version || install -D -m 644 $(PROGRAM).version $(DOC)/version
 	install -D -m 644 -t $(DESTDIR)$(PREFIX)/share/man/man1 man/pitshell.1 man/pitschedule.1 man/pitplan.1
 	for name in pitshell pitschedule pitplan; do \
@@ -81,11 +89,12 @@ test: setup
 
 # Layout, imports, unused names and types of the Python code; nothing is changed. `black python && isort python` lays it out.
 style: setup
-	/usr/bin/python3 -m black --check --quiet python
-	/usr/bin/python3 -m isort --check-only --quiet python
-	/usr/bin/python3 -m pyflakes python/pitplan python/planaudit python/minelib python/tests
+	/usr/bin/python3 -m black --check --quiet python docs/conf.py
+	/usr/bin/python3 -m isort --check-only --quiet python docs/conf.py
+	/usr/bin/python3 -m pyflakes python/pitplan python/planaudit python/minelib python/tests docs/conf.py
 	/usr/bin/python3 -m mypy -p pitplan -p planaudit -p minelib -p pitshell
 	MYPYPATH=python/tests /usr/bin/python3 -m mypy -p oracle
+	/usr/bin/python3 -m mypy docs/conf.py
 
 # The tests of the built program and of the tools beside it alone.
 test-program: setup

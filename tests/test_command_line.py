@@ -132,7 +132,7 @@ def test_help_names_each_option(mine: Mine, subcommand: str, options: list[str])
 
 def test_version_is_the_release(mine: Mine) -> None:
     assert mine.run("--version") == (0, "pitshell 0.1.0\n", "")
-    assert "\n## 0.1.0" in (TOP / "CHANGELOG.md").read_text()
+    assert "\n## [0.1.0]" in (TOP / "CHANGELOG.md").read_text()
 
 
 @pytest.mark.skipif(not shutil.which("rt"), reason="no toolchain here")

@@ -2,8 +2,10 @@
 
 import pathlib
 import re
+import shutil
 import subprocess
 
+import pytest
 from conftest import PROGRAM, TOP
 
 
@@ -25,15 +27,35 @@ def test_the_first_example_of_readme(tmp_path: pathlib.Path) -> None:
         assert (tmp_path / name).read_text() == (TOP / "examples" / "first_pit" / name).read_text()
 
 
-def test_the_shells_of_the_guide() -> None:
-    command, shown = re.findall(r"^```\n(.*?)^```", (TOP / "docs" / "GUIDE.md").read_text(), re.MULTILINE | re.DOTALL)[:2]
-    assert told_by_shell(command.replace("build/pitshell", str(PROGRAM)), TOP).startswith(shown)
+def blocks_of_guide() -> list[str]:
+    """The blocks of the guide, as somebody types them who has the program and the checkers on the path."""
+    text = (TOP / "docs" / "GUIDE.md").read_text()
+    blocks = [block for _, block in re.findall(r"^```(\w*)\n(.*?)^```$", text, re.MULTILINE | re.DOTALL)]
+    as_here = {r"\bpitshell (?=solve|shells|check)": f"{PROGRAM} ", r"^(?=check_certificate)": f"{TOP / 'tools'}/"}
+    for pattern, words in as_here.items():
+        blocks = [re.sub(pattern, words, block, flags=re.MULTILINE) for block in blocks]
+    return blocks
 
 
-def test_the_other_runs_of_the_guide() -> None:
-    blocks = re.findall(r"^```\n(.*?)^```", (TOP / "docs" / "GUIDE.md").read_text(), re.MULTILINE | re.DOTALL)
-    runs = [run for block in blocks for run in runs_in(block)]
-    assert [told_by_shell(command.replace("build/pitshell", str(PROGRAM)), TOP) for command, _ in runs] == [shown for _, shown in runs]
+@pytest.fixture
+def with_examples(tmp_path: pathlib.Path) -> pathlib.Path:
+    shutil.copytree(TOP / "examples", tmp_path / "examples")
+    return tmp_path
+
+
+def test_the_shells_of_the_guide(with_examples: pathlib.Path) -> None:
+    _, command, shown = blocks_of_guide()[:3]
+    assert told_by_shell(command, with_examples).startswith(shown)
+
+
+def test_the_certificate_of_the_guide_is_confirmed_twice(with_examples: pathlib.Path) -> None:
+    (block,) = [it for it in blocks_of_guide() if "--certificate mine.cert >" in it]
+    assert told_by_shell(block, with_examples) == "yes\nyes\n"
+
+
+def test_the_other_runs_of_the_guide(with_examples: pathlib.Path) -> None:
+    runs = [run for block in blocks_of_guide() for run in runs_in(block)]
+    assert [told_by_shell(command, with_examples) for command, _ in runs] == [shown for _, shown in runs]
     assert len(runs) == 3
 
 

@@ -95,8 +95,10 @@ def test_install_puts_all_in_place(tmp_path: pathlib.Path) -> None:
         places |= {"include/pitshell.h": TOP / "include" / "pitshell.h"}
     named = ["git", "ls-files", "README.md", "CHANGELOG.md", "docs", "examples"]
     documents = subprocess.run(named, cwd=TOP, capture_output=True, text=True, check=True).stdout.split()
-    assert {"docs/PLANNING.md", "examples/plan/project.toml"} <= set(documents)
+    assert {"docs/planning/shells.md", "docs/reference/project-keys.md", "examples/plan/project.toml"} <= set(documents)
     places |= {f"share/doc/pitshell/{name}": TOP / name for name in documents}
+    site = TOP / "build" / "site"
+    places |= {f"share/doc/pitshell/site/{file.relative_to(site)}": file for file in site.rglob("*") if file.is_file()}
     layer = "lib/pitshell/python"
     packages = [TOP / "python" / name for name in ("pitplan", "planaudit", "minelib", "pitshell")]
     sources = [file for package in packages for file in package.rglob("*") if file.is_file() and file.suffix != ".pyc"]

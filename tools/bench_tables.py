@@ -41,6 +41,19 @@ def pit(section: str) -> Rows:
     return columns([rows[0], *chosen], names)
 
 
+def clock(section: str) -> Rows:
+    """Both kinds of seconds of the program and of the authors' own code, at the two largest sizes of each slope, and their ratios."""
+    ours, theirs = ({(row[0], row[1]): row for row in tables(section)[1] if row[3].startswith(name)} for name in ("pitshell, single", "Boykov"))
+    found = [["slopes", "blocks", "processor s", "clock s", "theirs, processor s", "clock s", "ratio", "clock"]]
+    for mine, row in ours.items():
+        other = theirs.get(mine)
+        if mine[1] in ("500,000", "1,000,000") and other and not other[4].startswith("more"):
+            seconds = [row[4], row[6], other[4], other[6]]
+            ratios = [float(seconds[place]) / float(seconds[place + 2]) for place in (0, 1)]
+            found.append([*mine, *(f"{float(it):.2f}" for it in seconds), *(f"{it:.2f}" for it in ratios)])
+    return found
+
+
 def peers(section: str) -> Rows:
     """By how much each peer takes longer than the strongest of each mine, at least and at most."""
     seconds: dict[str, dict[tuple[str, str], float]] = {}
@@ -79,6 +92,7 @@ def first(section: str) -> Rows:
 # What each mark is made of: the suite, and its table.
 MADE: dict[str, tuple[str, Callable[[str], Rows]]] = {
     "pit": ("table", pit),
+    "clock": ("table", clock),
     "peers": ("peers", peers),
     "shared": ("shared", shared),
     "fixed": ("fixed", first),

@@ -20,7 +20,7 @@ from typing import Iterator, NamedTuple
 from crates import TOP
 
 ALLOWED = TOP / "tools" / "prose.json"
-DOCUMENTS = ("README.md", "CONTRIBUTING.md", "docs/*.md", "crates/*/README.md", "man/*.in")
+DOCUMENTS = ("README.md", "CONTRIBUTING.md", "docs/**/*.md", "crates/*/README.md", "man/*.in")
 COMMENTS = "crates/*/src/**/*.rt"
 MOST_WORDS, MOST_CHARACTERS, README_WORDS = 40, 72, 120
 # Paraphrases, with what to write for each, as docs/GLOSSARY.md and the textbooks have it.

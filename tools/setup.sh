@@ -1,11 +1,12 @@
 #!/bin/sh
 # Installs from Debian, by name, what is missing of a group of packages. Where all is there it takes no time.
 #
-#     tools/setup.sh [core|tests|all|changes|bench]
+#     tools/setup.sh [core|tests|all|changes|hosts|bench]
 #     tools/setup.sh names GROUP                       names them and installs nothing
 #
 # core is what tools/pitplan needs. tests, the default, has core and what exports, pages, scenarios and packages need and the tests
-# try; all has tests and a browser; changes has all and what tools/planted_changes.py needs; bench stands alone.
+# try; all has tests and a browser; changes has all and what tools/planted_changes.py needs; hosts has tests and what the tests of several
+# hosts need, which make thorough runs as root; bench stands alone.
 set -eu
 packages="
 python3-numpy         core     arrays, everywhere
@@ -42,12 +43,18 @@ python3-venv          tests    the test that installs these wheels
 libreoffice-calc-nogui  tests    the test that recalculates the workbook
 dpkg-dev              tests    make dist: the Debian package
 man-db                tests    the test that the manual pages are shown
+python3-sphinx        tests    make site: the pages of docs/ as HTML
+python3-myst-parser   tests    the same: its reader of Markdown
+furo                  tests    the same: its theme
 chromium              all      the tests that open the 3D page, and print the report
 python3-tornado       all      the test that clicks in the 3D page
 poppler-utils         all      the test that reads the printed report
 python3-selenium      all      the tests that click in the browser application
 chromium-driver       all      the same
 python3-coverage      changes  tools/planted_changes.py
+iproute2              hosts    the tests of scenarios on several hosts
+slurm-wlm             hosts    the same
+munge                 hosts    the same
 g++                   bench    other people's maximum flows, beside which the program is timed
 libboost-graph-dev    bench    the same
 liblemon-dev          bench    the same
@@ -61,8 +68,9 @@ names() {
     tests) groups="core tests" ;;
     all) groups="core tests all" ;;
     changes) groups="core tests all changes" ;;
+    hosts) groups="core tests hosts" ;;
     bench) groups="bench" ;;
-    *) echo "usage: tools/setup.sh [names] [core|tests|all|changes|bench]" >&2; exit 2 ;;
+    *) echo "usage: tools/setup.sh [names] [core|tests|all|changes|hosts|bench]" >&2; exit 2 ;;
     esac
     echo "$packages" | awk -v groups=" $groups " 'index(groups, " " $2 " ") { print $1 }'
 }
