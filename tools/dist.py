@@ -42,20 +42,24 @@ Maintainer: pitshell maintainers
 Section: science
 Priority: optional
 Installed-Size: {kilobytes}
-Depends: libc6 (>= {c_library})
+Depends: libc6 (>= {c_library}), python3
 Recommends: {layer}
 Suggests: python3-vtk9, python3-ezdxf, python3-gdal, libjs-three, python3-dask, python3-distributed, python3-starlette, python3-uvicorn
-Description: ultimate pits of open mines, by a solver with a machine-checked proof
- The program pitshell finds the smallest closed set of blocks of greatest
- worth, and a machine-checked proof shows that what it writes is right. The
- command pitplan goes from a table of blocks, prices, costs and wall angles
- to shells, tables and pictures; it needs the recommended packages.
+Description: open-pit mine planning, with a proved solver for ultimate pits
+ pitplan goes from a block model, prices, costs and slope angles to pit
+ shells, pushbacks, schedules and reports. It needs the recommended packages.
+ Its solver, pitshell, finds the ultimate pit, and a machine-checked proof
+ covers it. A library serves Python and C.
+ .
+ Documentation: /usr/share/doc/pitshell/site/index.html.
 """
 
-# What Python has compiled there is in no list of the package's files, and would stay behind.
-BEFORE_REMOVAL = """#!/bin/sh
+# Python writes byte code there when root runs pitplan. It is in no list of the package's files, and would keep it and the folders of
+# removed modules: of this package when it goes or is upgraded (prerm), and of one without that script before it is upgraded (preinst).
+WITHOUT_BYTE_CODE = """#!/bin/sh
 set -e
-find /usr/lib/pitshell -name __pycache__ -type d -prune -exec rm -rf {} +
+layer="${DPKG_ROOT:-}/usr/lib/pitshell"
+test ! -d "$layer" || find "$layer" -name __pycache__ -type d -prune -exec rm -rf {} +
 """
 
 
@@ -112,8 +116,9 @@ def debian_package() -> pathlib.Path:
     words["layer"] = ", ".join(run("tools/setup.sh", "names", "core").split())
     (root / "DEBIAN").mkdir()
     (root / "DEBIAN" / "control").write_text(CONTROL.format(**words))
-    (root / "DEBIAN" / "prerm").write_text(BEFORE_REMOVAL)
-    (root / "DEBIAN" / "prerm").chmod(0o755)
+    for name in ("preinst", "prerm"):
+        (root / "DEBIAN" / name).write_text(WITHOUT_BYTE_CODE)
+        (root / "DEBIAN" / name).chmod(0o755)
     made = DIST / f"pitshell_{words['version']}_{words['architecture']}.deb"
     run("dpkg-deb", "--root-owner-group", "--build", root, made)
     return made

@@ -3,7 +3,6 @@
 from __future__ import annotations
 
 import json
-import sys
 from dataclasses import dataclass, field, replace
 from functools import cached_property
 from typing import Any, Optional, Union
@@ -21,6 +20,7 @@ from pitplan.config.project import Project
 from pitplan.config.shells import IN_WORDS
 from pitplan.core.keyed_arrays import hash_of_all
 from pitplan.core.progress import Progress, silent
+from pitplan.core.release import libraries
 from pitplan.core.revenue_factors import BASE_PRICE, factor_text
 from pitplan.economics import block_values, haulage, period_costs
 from pitplan.economics.block_values import Values
@@ -123,7 +123,7 @@ class Plan:
         """The name of the block of a cell in the planner's table."""
         return reader.called(self.table, self.project, int((self.grid.rows == cell).argmax()), self.source)
 
-    @property
+    @cached_property
     def key(self) -> str:
         """A hash of everything that the shells depend on: grid, values, slopes, constraints and revenue factors."""
         values, walls, grid = self.values, self.walls, self.grid
@@ -142,9 +142,11 @@ class Plan:
         With several processes these are those of the best process at the base price, followed by those of each process. With `[haulage]`
         there are `haul_distance` in metres, one way, and the haulage costs, which the other costs contain.
         """
-        ids = self.grid.rows
-        frame = self.table.drop(columns=depletion.MINED_SHARE, errors="ignore").rename(columns=shown_name)
-        frame.insert(0, "id", ids)
+        ids = self.grid.rows[order := np.argsort(self.grid.rows)]
+        own = [name for name in self.table if name != depletion.MINED_SHARE]
+        # Without a copy of all columns for each that is added, and with names that recur.
+        frame = pd.DataFrame(dict(enumerate([ids, *(self.table[name].array.take(order) for name in own)])), copy=False)
+        frame.columns = ["id", *map(shown_name, own)]
         for name in ("mining", "revenue", "processing"):
             frame[name if name == "revenue" else f"{name}_cost"] = getattr(self.values, name)[ids] / MILLION
         for way in self.values.by_process if self.project.processes else ():
@@ -152,11 +154,9 @@ class Plan:
             frame[f"processing_cost_{way.name}"] = way.cost[ids] / MILLION
         if hauled := self.values.hauled:
             frame["haul_distance"] = hauled.road[ids] / 10**haulage.LENGTH_PLACES
-            frame["haulage_cost"], frame["ore_haulage_cost"] = (
-                hauled.waste[ids] / MILLION,
-                hauled.ore_more[ids] / MILLION,
-            )
-        return frame.sort_values("id").reset_index(drop=True)
+            frame["haulage_cost"] = hauled.waste[ids] / MILLION
+            frame["ore_haulage_cost"] = hauled.ore_more[ids] / MILLION
+        return frame
 
     @cached_property
     def multiplied_amounts(self) -> dict[str, NDArray[np.float64]]:
@@ -215,7 +215,7 @@ class Plan:
             "codes": codes_of(project),
             "tonnes": shown_name(project.table.tonnes),
             "metals": [{"name": m.name, "column": shown_name(m.column), "sign": m.sign} for m in project.metals],
-            "libraries": {"python": sys.version.split()[0], "numpy": np.__version__, "pandas": pd.__version__},
+            "libraries": libraries(),
         }
 
     def record_of_grid(self) -> dict[str, Any]:
@@ -326,7 +326,6 @@ def notes_of(plan: Plan, price: str) -> list[str]:
         f"{len(plan.table):,} blocks lie on a grid of {columns} x {rows} x {levels} = {grid.count:,} cells",
         *missing_blocks.notes(plan.table, grid, project),
         *notes_of_cutoff(plan),
-        *([f"{plan.filled:,} empty fields were read as 0"] if plan.filled else []),
         *(pattern.sentence() for pattern in plan.walls.patterns),
         *plan.values.notes,
         *notes_of_classes(plan, price),

@@ -2,19 +2,19 @@
 
     import pitshell
     found = pitshell.solve(values, needs)
-    found.in_pit        which blocks are in the pit: bool, shape (blocks,)
-    found.worth         their summed value, exact
-    found.rounded       how many values changed by being rounded to millionths
+    found.in_pit        whether each block is in the pit: bool, shape (blocks,)
+    found.worth         the value of the pit, exact
+    found.rounded       how many values were rounded to millionths
 
     nested = pitshell.shells(revenues, costs, needs, factors=range(300, 1001, 50))
-    nested.first        for each block the number of the first factor whose pit holds it
-    nested.worths       what each pit is worth in its own factor's values, exact
+    nested.first        for each block the number of the first factor whose pit contains it
+    nested.worths       the value of each pit at its factor, exact
 
     shown = pitshell.certificate(values, needs)
-    pitshell.check(values, needs, shown.in_pit, shown.flow)      # whether the flow shows that this is the pit
+    pitshell.check(values, needs, shown.in_pit, shown.flow)      # whether the flow proves that this is the pit
 
-`LIBRARY` is the file of the library that is called. It is proved to mark exactly the pits of the mine that the arrays spell, and to judge flows exactly, by one thread
-(docs/LIBRARY.md); this package, which turns what it is given into arrays and refusals into exceptions, is tested.
+`LIBRARY` is the file of the library. The proof covers the library: it marks exactly the pits of the mine that the arrays encode, on one
+thread (docs/LIBRARY.md). This package, which converts arguments to arrays and refusals to exceptions, is tested.
 """
 
 from ._certifying import Certificate, certificate, check

@@ -22,9 +22,19 @@ MASK = 2**64 - 1
 
 @dataclass(frozen=True)
 class Certificate:
-    """in_pit: bool, shape (blocks,). worth: the summed value, exact. flow: an amount for each need, in the order in which the needs
-    were handed in, in whole millionths; int64, or Python's whole numbers where one does not fit; shape (pairs,). rounded: how many
-    values changed by being rounded to millionths."""
+    """A pit with a flow that proves it optimal.
+
+    Attributes
+    ----------
+    in_pit : ndarray of bool, shape (blocks,)
+        Whether each block is in the pit.
+    worth : Decimal
+        The value of the pit, exact.
+    flow : ndarray, shape (pairs,)
+        The flow on each pair, in the order of `needs`, in millionths: int64, or Python integers if one does not fit.
+    rounded : int
+        How many values were rounded to millionths.
+    """
 
     in_pit: NDArray[np.bool_]
     worth: Decimal
@@ -33,13 +43,21 @@ class Certificate:
 
 
 def certificate(values: ArrayLike, needs: Any, *, millionths: bool = False) -> Certificate:
-    """The ultimate pit, the smallest closed set of greatest worth, with a flow that shows it.
+    """Finds the ultimate pit, and a flow that proves it optimal.
 
-    The flow sends what blocks outside the pit are worth, and what blocks of the pit can spare, to what they need: no block outside has
-    any left, no block of the pit lacks any, nothing flows into the pit, and each block of it is reached from one that has some left.
-    That this shows the pit is proved of the definitions (Picard 1976); `check` looks whether a flow is such a one.
+    The flow goes from blocks to their predecessors. No block outside the pit has an excess above 0, no block of the pit has one below 0,
+    and nothing flows into the pit. Each block of the pit is reached from one with an excess above 0. A proof shows that these conditions
+    imply the pit (Picard 1976). `check` tests them.
 
-    values, needs, millionths: as of `solve`. Raises what `solve` raises.
+    Parameters
+    ----------
+    values, needs, millionths
+        As of `solve`.
+
+    Raises
+    ------
+    Refusal, OverflowError, ValueError, TypeError, NoMemory
+        As of `solve`.
     """
     amounts = millionths_of(values, "values", millionths)
     blocks = len(amounts.amounts)
@@ -60,11 +78,23 @@ def certificate(values: ArrayLike, needs: Any, *, millionths: bool = False) -> C
 def check(
     values: ArrayLike, needs: Any, in_pit: ArrayLike, flow: Sequence[int] | NDArray[Any], *, millionths: bool = False
 ) -> bool:
-    """Whether a flow shows that the blocks in the pit are the smallest closed set of greatest worth.
+    """Checks that a flow proves the marked blocks to be the ultimate pit, which any program may have made.
 
-    in_pit: truth for each block, or 0 and 1, shape (blocks,). flow: whole millionths for each need, in the order in which the needs are
-    handed in, shape (pairs,), from 0 to 10^30; an array, or a sequence of Python's integers.
-    values, needs, millionths: as of `solve`. Raises what `solve` raises, and Refusal by the first amount that is not as said.
+    Parameters
+    ----------
+    values, needs, millionths
+        As of `solve`.
+    in_pit : array_like, shape (blocks,)
+        Whether each block is in the pit: bool, or 0 and 1.
+    flow : sequence of int or ndarray, shape (pairs,)
+        The flow on each pair, in the order of `needs`, in whole millionths, 0 to 10^30.
+
+    Raises
+    ------
+    Refusal
+        As of `solve`; or if an amount of flow is outside its range, with the first one.
+    OverflowError, ValueError, TypeError, NoMemory
+        As of `solve`.
     """
     amounts = millionths_of(values, "values", millionths)
     blocks = len(amounts.amounts)

@@ -24,9 +24,17 @@ WORTH_PLACES = 9
 
 @dataclass(frozen=True)
 class Shells:
-    """first: for each block the number, from 0, of the first factor whose pit holds it, or how many factors there are where none
-    does; int32, shape (blocks,). worths: of each pit, in its own factor's values, exact. rounded: how many amounts changed by
-    being rounded to millionths."""
+    """Nested pits.
+
+    Attributes
+    ----------
+    first : ndarray of int32, shape (blocks,)
+        The number, from 0, of the first factor whose pit contains the block; the number of factors if no pit does.
+    worths : list of Decimal
+        The value of each pit at its factor, exact.
+    rounded : int
+        How many amounts were rounded to millionths.
+    """
 
     first: NDArray[np.int32]
     worths: list[Decimal]
@@ -36,15 +44,28 @@ class Shells:
 def shells(
     revenues: ArrayLike, costs: ArrayLike, needs: Any, factors: Iterable[int], *, millionths: bool = False
 ) -> Shells:
-    """Nested pits: at a factor, in per mille, a block is worth factor / 1000 * revenue - cost, and each pit lies within the next.
+    """Finds the ultimate pit at each revenue factor. Each pit contains those before it.
 
-    revenues, costs: of each block, shape (blocks,), from 0 to 10^12 of their unit; in the forms of `values` of `solve`.
-    needs: as there.
-    factors: whole numbers from 0 to 100,000, each greater than the one before, at most 1,000.
+    At a factor, in per mille, a block has the value factor / 1000 * revenue - cost. Other threads of Python run during the call. They must
+    not write to arrays that are not copied.
 
-    Other threads of Python go on meanwhile, and must not write to arrays that were not copied.
+    Parameters
+    ----------
+    revenues, costs : array_like, shape (blocks,)
+        From 0 to 10^12 of their unit, in the forms of `values` of `solve`.
+    needs : sparse matrix, pair of arrays, or array_like of shape (pairs, 2)
+        As of `solve`.
+    factors : iterable of int
+        Factors in per mille, 0 to 100,000, rising, 1,000 at most.
+    millionths : bool
+        Whether revenues and costs are whole numbers of millionths.
 
-    Raises Refusal where the arrays are no mine, by the first amount or factor that is not as said, and as `solve` does.
+    Raises
+    ------
+    Refusal
+        As of `solve`; or if an amount or a factor is outside its range, with the first one.
+    OverflowError, ValueError, TypeError, NoMemory
+        As of `solve`.
     """
     revenue, cost = millionths_of(revenues, "revenues", millionths), millionths_of(costs, "costs", millionths)
     blocks = len(revenue.amounts)

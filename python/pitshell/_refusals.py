@@ -37,10 +37,18 @@ OUTSIDE = "a number below 0, or above 2,147,483,647"
 
 
 class Refusal(ValueError):
-    """A mine that is none, or is over the limits.
+    """Arrays that encode no mine, or one above the limits.
 
-    number: that of docs/FORMATS.md. block, needed: the pair where it lies, or the block. need: the number of the need, from 0, where it
-    lies in an amount on one. cycle: the blocks of a cycle, each of which needs the next, and the last the first.
+    Attributes
+    ----------
+    number : int
+        The number of the fault in docs/FORMATS.md.
+    block, needed : int, optional
+        The block at fault, and its predecessor if a pair is at fault.
+    need : int, optional
+        The number of the pair, from 0, whose flow is at fault.
+    cycle : list of int, optional
+        The blocks of a cycle: each depends on the next, and the last on the first.
     """
 
     def __init__(

@@ -21,8 +21,17 @@ FREE, FORCED, BARRED = 0, 1, 2
 
 @dataclass(frozen=True)
 class Pit:
-    """in_pit: bool, shape (blocks,). worth: the summed value, exact. rounded: how many values are not whole millionths, as 0.1 is none as
-    a float, and so changed."""
+    """The pit of a mine.
+
+    Attributes
+    ----------
+    in_pit : ndarray of bool, shape (blocks,)
+        Whether each block is in the pit.
+    worth : Decimal
+        The value of the pit, exact.
+    rounded : int
+        How many values were rounded to millionths. The float 0.1 is one, since in binary it is no whole number of millionths.
+    """
 
     in_pit: NDArray[np.bool_]
     worth: Decimal
@@ -37,24 +46,37 @@ def solve(
     *,
     millionths: bool = False,
 ) -> Pit:
-    """The ultimate pit: the smallest closed set of greatest worth, or the greatest.
+    """Finds the ultimate pit: the smallest closed set of blocks of maximal value, or the largest.
 
-    values: what each block earns less what it costs, shape (blocks,): whole numbers, floats or Decimal, in one unit. Each is rounded
-    exactly to the nearest millionth, a tie to the even one, whatever the caller's decimal context. With `millionths` they are whole
-    numbers of millionths, and int64 is not copied.
-    needs: which blocks each block needs: a scipy CSR matrix of shape (blocks, blocks), of which the places count and not the
-    numbers there; or (indptr, indices) as such a matrix has them; or pairs (u, p) of "u needs p", shape (pairs, 2). int32 and
-    uint32 are taken as they stand, other whole numbers are copied.
-    fixed: FORCED (1), BARRED (2) or FREE (0) for each block, shape (blocks,): the best set that holds each forced block and none
-    that is barred.
-    pit: which of several sets of greatest worth.
+    Other threads of Python run during the call. They must not write to arrays that are not copied.
 
-    Other threads of Python go on meanwhile. They must not write to arrays that were not copied: the library tests what it reads,
-    and reads it again.
+    Parameters
+    ----------
+    values : array_like, shape (blocks,)
+        The value of each block: whole numbers, floats or Decimal, in one unit. Each is rounded exactly to the nearest millionth, ties to
+        even, in any decimal context.
+    needs : sparse matrix, pair of arrays, or array_like of shape (pairs, 2)
+        The predecessors of each block: a scipy CSR matrix of shape (blocks, blocks), whose values are ignored; (indptr, indices) of such
+        a matrix; or pairs (u, p) of "block u depends on p". int32 and uint32 are not copied.
+    fixed : array_like, shape (blocks,), optional
+        FORCED (1), BARRED (2) or FREE (0) for each block. The pit then contains each forced block and no barred one.
+    pit : {"least", "greatest"}
+        Which of several sets of maximal value.
+    millionths : bool
+        Whether the values are whole numbers of millionths. int64 is then not copied.
 
-    Raises Refusal where the arrays are no mine, or one over the limits of 4,194,304 blocks and 67,108,864 pairs, and where a
-    barred block must be dug; OverflowError where a value does not fit 64 bits of millionths; ValueError where an element is masked or is
-    not finite; TypeError where it is no number; NoMemory.
+    Raises
+    ------
+    Refusal
+        If the arrays encode no mine, or one above 4,194,304 blocks or 67,108,864 pairs, or a barred block must be mined.
+    OverflowError
+        If a value does not fit 64 bits of millionths.
+    ValueError
+        If an element is masked or not finite.
+    TypeError
+        If an element is not a number.
+    NoMemory
+        If memory is refused.
     """
     if pit not in ("least", "greatest"):
         raise ValueError(f"pit is {pit!r} and neither 'least' nor 'greatest'")

@@ -15,6 +15,10 @@ import pytest
 
 ROOT = Path(__file__).resolve().parents[2]
 sys.path.insert(0, str(ROOT / "python"))
+# Compiled modules are kept, even if the environment forbids it. Otherwise each process compiles hundreds of them, and each run the assertions of all tests.
+sys.pycache_prefix = os.environ["PYTHONPYCACHEPREFIX"] = str(ROOT / "build" / "pycache")
+sys.dont_write_bytecode = False
+os.environ.pop("PYTHONDONTWRITEBYTECODE", None)
 # A failed assertion of a helper is shown as one of a test is.
 pytest.register_assert_rewrite("helpers", "oracle")
 

@@ -382,7 +382,18 @@ def solved_by_library(plan_folder):
     return path.parent
 
 
-@pytest.mark.parametrize("name", ["project.toml", "blocks.csv", "mined.csv"])
+def test_an_audit_is_of_the_project_that_was_run(solved_by_library, tmp_path):
+    """A planner who goes on adds sections to the same file: the audit of the shells is what it was."""
+    path, folder = solved_by_library / "project.toml", solved_by_library / "plan"
+    first = pitplan.audit(folder, 1.0, out=tmp_path / "first")
+    text = path.read_text()
+    path.write_text(text.replace("[economics]", "[economics]\ncapex = 1000", 1) + "[pushbacks]\ncount = 2\n")
+    second = pitplan.audit(folder, 1.0, out=tmp_path / "second")
+    for name in ("shell.upit", "shell.prec", "shell.fixed", "pit.txt", "shell.cert", "audit.json"):
+        assert (first / name).read_bytes() == (second / name).read_bytes(), name
+
+
+@pytest.mark.parametrize("name", ["blocks.csv", "mined.csv"])
 def test_an_audit_is_refused_where_what_the_mine_was_made_of_has_changed(solved_by_library, name):
     with open(solved_by_library / name, "a") as file:
         file.write("\n")

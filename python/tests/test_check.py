@@ -64,3 +64,26 @@ def test_a_table_is_read_whole(mine):
     table.write_text(table.read_text() + "last,5,5,5,many,0,R,1\n")
     with pytest.raises(PlanError, match="blocks.csv"):
         pitplan.check(mine)
+
+
+SCHEDULE, PUSHBACKS = "[schedule]\nyears = 4\n", "[pushbacks]\ncount = 1\n"
+NOTE = (
+    "[schedule] is for pushbacks or blocks, and [pushbacks] is missing: "
+    "set its count, tonnes or revenue_factors, or schedule with --by block"
+)
+
+
+def test_a_schedule_without_pushbacks_is_noted(mine, capsys):
+    """As `pitplan schedule` refuses it."""
+    mine.write_text(mine.read_text() + SCHEDULE)
+    assert pitplan.check(mine)[-1] == NOTE
+    assert main(["check", str(mine), "--quiet"]) == 0
+    assert capsys.readouterr().err.splitlines()[-1] == NOTE
+    assert main(["schedule", str(mine), "--quiet"]) == 1
+    assert "[pushbacks] is missing: set its count, tonnes or revenue_factors" in capsys.readouterr().err
+
+
+@pytest.mark.parametrize("more", ["", PUSHBACKS, SCHEDULE + PUSHBACKS])
+def test_no_section_is_missed_that_no_command_asks_for(mine, more):
+    mine.write_text(mine.read_text() + more)
+    assert NOTE not in pitplan.check(mine)

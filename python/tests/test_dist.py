@@ -1,9 +1,13 @@
 """What others install: from a folder outside of the repository each package plans the example, and its audit is checked."""
 
+import compileall
 import os
+import re
 import shutil
 import subprocess
+import sys
 from pathlib import Path
+from typing import Optional
 
 import pandas as pd
 import pytest
@@ -71,7 +75,8 @@ def test_wheels_serve_in_an_environment_of_their_own(dist, tmp_path):
     options = ("--quiet", "--no-index", "--no-deps", "--no-compile", "--disable-pip-version-check")
     run(commands / "pip", "install", *options, *dist.glob("*.whl"), commands=commands)
     assert run(commands / "python", "-c", SOLVE, commands=commands) == "2.000000\n"
-    assert run("pitshell", "--version", commands=commands) == f"pitshell {VERSION}\n"
+    for name in ("pitshell", "pitschedule"):
+        assert run(commands / name, "--version", commands=commands) == f"{name} {VERSION}\n"
     plan_and_check(tmp_path, commands)
     assert (tmp_path / "out" / "figures" / "plans.png").is_file()
     found = "from pitplan.core import paths; print(paths.schedule_program(), (paths.PACKAGE / 'templates/web/base.html').is_file())"
@@ -87,8 +92,10 @@ def test_the_debian_package_serves_where_it_is_unpacked(dist, tmp_path):
     package = next(dist.glob("*.deb"))
     subprocess.run(["dpkg", "-x", package, tmp_path / "root"], check=True)
     plan_and_check(tmp_path, tmp_path / "root" / "usr" / "bin", "--no-figures")
-    said = run("dpkg", "--field", package, "Version", "Recommends", commands=tmp_path)
+    said = run("dpkg", "--field", package, "Version", "Depends", "Recommends", commands=tmp_path)
     assert f"Version: {VERSION}\n" in said and "python3-pandas" in said
+    # bin/pitplan begins with #!/usr/bin/python3, and serves at least to say what is missing.
+    assert "python3" in re.search("^Depends: (.*)$", said, re.MULTILINE)[1].split(", ")
     held = {line.split()[-1] for line in run("dpkg", "--contents", package, commands=tmp_path).splitlines()}
     wanted = {
         "bin/pitshell",
@@ -112,25 +119,89 @@ def test_the_debian_package_serves_where_it_is_unpacked(dist, tmp_path):
     documents = (
         "README.md",
         "docs/FORMATS.md",
-        "docs/PLANNING.md",
+        "docs/planning/getting-started.md",
+        "docs/reference/project-keys.md",
         "docs/pictures/plans.png",
         "examples/plan/project.toml",
     )
     wanted |= {f"share/doc/pitshell/{name}" for name in (*documents, "examples/scenarios/realisations/model_001.csv")}
+    site = BUILD / "site"
+    wanted |= {f"share/doc/pitshell/site/{file.relative_to(site)}" for file in site.rglob("*") if file.is_file()}
     assert {f"./usr/{name}" for name in wanted} <= held
 
 
-def test_nothing_of_the_debian_package_stays_behind(dist, tmp_path):
-    package, root = next(dist.glob("*.deb")), tmp_path / "root"
-    subprocess.run(["dpkg", "-x", package, root], check=True)
+def test_places_that_pages_and_manuals_name_are_in_the_package(dist):
+    """Those below /usr, as somebody who has the package alone types them."""
+    package = next(dist.glob("*.deb"))
+    said = subprocess.run(["dpkg", "--contents", package], check=True, capture_output=True, text=True).stdout
+    held = {line.split()[-1].removeprefix(".").rstrip("/") for line in said.splitlines()}
+    pages = [ROOT / "README.md", *ROOT.glob("docs/*.md"), *ROOT.glob("docs/*/*.md"), *ROOT.glob("man/*.1")]
+    named = {it for page in pages for it in re.findall(r"/usr/(?:lib|share|include)/[\w./-]*\w", page.read_text())}
+    assert len(named) > 2 and named <= held
+    started = (ROOT / "docs" / "planning" / "getting-started.md").read_text()
+    assert {"/usr/share/doc/pitshell/site/index.html", "/usr/share/doc/pitshell/examples"} <= named and all(
+        place in started for place in ("/usr/share/doc/pitshell/site/index.html", "pip install pitshell-*.whl")
+    )
+
+
+class Root:
+    """A folder in which dpkg installs, upgrades and removes, with a list of packages of its own. The machine is not changed."""
+
+    def __init__(self, folder: Path) -> None:
+        self.path = folder
+        (folder / "var/lib/dpkg/updates").mkdir(parents=True)
+        (folder / "var/lib/dpkg/status").touch()
+
+    def dpkg(self, *words: object) -> str:
+        options = [f"--root={self.path}", "--log=/dev/null", "--force-script-chrootless", "--force-depends"]
+        said = subprocess.run(["dpkg", *options, *words], check=True, capture_output=True, text=True)
+        return said.stdout
+
+    def found(self) -> set[str]:
+        """The files and folders in it, except those of dpkg itself."""
+        found = {f"/{it.relative_to(self.path)}" for it in self.path.rglob("*")}
+        return {it for it in found if not it.startswith("/var")}
+
+    def owned(self) -> set[str]:
+        return set(self.dpkg("--listfiles", "pitshell").splitlines()) - {"/."}
+
+
+def package_of_another_release(folder: Path, script: Optional[str]) -> Path:
+    """A Debian package 0.1.0 with modules and pages that later releases do not have, and with the script before removal, if any."""
+    layer, pages = folder / "tree/usr/lib/pitshell/python/pitplan", folder / "tree/usr/share/doc/pitshell"
+    for file in (layer / "__init__.py", layer / "money/__init__.py", layer / "money/costs.py", pages / "docs/MONEY.md"):
+        file.parent.mkdir(parents=True, exist_ok=True)
+        file.write_text("")
+    (folder / "tree/DEBIAN").mkdir()
+    fields = {"Package": "pitshell", "Version": "0.1.0", "Architecture": "all", "Maintainer": "a", "Description": "a"}
+    (folder / "tree/DEBIAN/control").write_text("".join(f"{key}: {value}\n" for key, value in fields.items()))
+    if script is not None:
+        (folder / "tree/DEBIAN/prerm").write_text(script)
+        (folder / "tree/DEBIAN/prerm").chmod(0o755)
+    subprocess.run(["dpkg-deb", "--build", folder / "tree", folder / "old.deb"], check=True, capture_output=True)
+    return folder / "old.deb"
+
+
+@pytest.mark.skipif(os.geteuid() != 0, reason="dpkg installs as root")
+@pytest.mark.parametrize("old_has_script", [True, False])
+def test_an_upgrade_and_a_removal_leave_nothing_behind(dist, tmp_path, monkeypatch, old_has_script):
+    """The byte code of modules that the later release lacks would keep their folders."""
+    # Elsewhere the tests keep byte code in one folder; here it lies next to the modules, as on a user's machine.
+    monkeypatch.setattr(sys, "pycache_prefix", None)
+    monkeypatch.delenv("PYTHONPYCACHEPREFIX", raising=False)
+    package, root = next(dist.glob("*.deb")), Root(tmp_path / "root")
     subprocess.run(["dpkg", "-e", package, tmp_path / "control"], check=True)
-    layer = root / "usr" / "lib" / "pitshell"
-    sources = set(layer.rglob("*"))
-    run(root / "usr" / "bin" / "pitplan", "--version", commands=tmp_path)
-    assert set(layer.rglob("*.pyc"))
-    script = (tmp_path / "control" / "prerm").read_text().replace("/usr/lib", f"{root}/usr/lib")
-    subprocess.run(["sh", "-c", script], check=True)
-    assert set(layer.rglob("*")) == sources
+    script = (tmp_path / "control" / "prerm").read_text() if old_has_script else None
+    (tmp_path / "old").mkdir()
+    root.dpkg("--install", package_of_another_release(tmp_path / "old", script))
+    compileall.compile_dir(root.path / "usr/lib/pitshell", quiet=1)
+    assert list(root.path.rglob("money/__pycache__/costs.*.pyc")) and root.found() > root.owned()
+    root.dpkg("--install", package)
+    assert root.found() == root.owned() and not (root.path / "usr/lib/pitshell/python/pitplan/money").exists()
+    run(root.path / "usr" / "bin" / "pitplan", "--version", commands=tmp_path)
+    assert list(root.path.rglob("*.pyc"))
+    root.dpkg("--purge", "pitshell")
+    assert root.found() == set()
 
 
 def test_the_archive_serves_where_it_is_unpacked(dist, tmp_path):

@@ -52,7 +52,8 @@ def test_a_missing_library_of_every_command_is_an_error(monkeypatch, capsys):
     monkeypatch.setitem(sys.modules, "openpyxl", None)
     assert main(["doctor"]) == 1
     said = capsys.readouterr().out
-    assert "  openpyxl: not installed: apt-get install python3-openpyxl\n" in said
+    required = said.partition("\nMissing or broken:\n")[2].partition("\n\n")[0]
+    assert required == "  openpyxl: not installed: apt-get install python3-openpyxl"
     assert said.endswith("\npitplan cannot run: openpyxl\n")
 
 
@@ -60,7 +61,9 @@ def test_a_missing_library_of_one_command_is_no_error(monkeypatch, capsys):
     monkeypatch.setitem(sys.modules, "ezdxf", None)
     assert main(["doctor"]) == 0
     said = capsys.readouterr().out
-    assert "  ezdxf: not installed: apt-get install python3-ezdxf (DXF files)\n" in said
+    optional = said.partition("\nMissing, and needed only by the commands in brackets:\n")[2]
+    assert "  ezdxf: not installed: apt-get install python3-ezdxf (DXF files)\n" in optional
+    assert "Missing or broken" not in said
     assert said.endswith("\npitplan can run\n")
 
 
@@ -99,3 +102,27 @@ def test_the_parts_as_json(capsys):
     found = {it["part"]: it for it in json.loads(capsys.readouterr().out)}
     assert found["Python"]["found"] == ".".join(map(str, sys.version_info[:3]))
     assert found["libpitshell.so"]["found"].startswith("0.1.0 in ") and found["program pitshell"]["remedy"] == ""
+
+
+def test_the_version_of_the_program_of_schedules_is_told_if_it_runs(monkeypatch, tmp_path):
+    assert re.match(r"\d+\.\d+\.\d+ in /", doctor.schedule_program().found)
+    broken = tmp_path / "pitschedule"
+    broken.write_text("#!/bin/sh\nexit 3\n")
+    broken.chmod(0o755)
+    monkeypatch.setenv("PITSCHEDULE", str(broken))
+    found = doctor.schedule_program()
+    assert "exit status 3" in found.remedy and found.found == "" and not found.is_wrong
+
+
+def test_the_remedy_is_one_that_serves_this_python(monkeypatch):
+    """Debian's pip refuses to install outside of a virtual environment, and one without Debian's packages needs pip for all."""
+    arrow, gdal = Library("pyarrow", ""), Library("osgeo.gdal", "python3-gdal")
+    assert [it.remedy for it in (arrow, gdal)] == [
+        "pip install pyarrow in a virtual environment",
+        "apt-get install python3-gdal",
+    ]
+    monkeypatch.setattr(sys, "prefix", "/home/planner/pitshell")
+    monkeypatch.setattr(sys, "path", ["/usr/lib/python3.11", "/usr/lib/python3/dist-packages"])
+    assert [it.remedy for it in (arrow, gdal)] == ["pip install pyarrow", "apt-get install python3-gdal"]
+    monkeypatch.setattr(sys, "path", ["/usr/lib/python3.11", "/home/planner/pitshell/lib/python3.11/site-packages"])
+    assert [it.remedy for it in (arrow, gdal)] == ["pip install pyarrow", "pip install gdal"]

@@ -87,10 +87,10 @@ def test_a_fixed_cutoff_digs_no_more_and_earns_no_more(solved_example):
 
 
 def test_the_large_example_prepares_a_table_of_its_own_command(tmp_path):
-    """By the command that its first lines and docs/PLANNING.md name, with fewer columns, rows and levels."""
+    """By the command that its first lines and docs/planning/getting-started.md name, with fewer columns, rows and levels."""
     text = (ROOT / "examples" / "large" / "project.toml").read_text()
     (command,) = re.findall(r"^# (tools/make_table\.py .*)$", text, re.MULTILINE)
-    assert command in (ROOT / "docs" / "PLANNING.md").read_text(encoding="utf-8")
+    assert command in (ROOT / "docs" / "planning" / "getting-started.md").read_text(encoding="utf-8")
     script, *words = command.split()
     smaller = {"155": "15", "130": "13", "60": "6"}
     subprocess.run(

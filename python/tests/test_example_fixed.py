@@ -87,7 +87,7 @@ def test_without_fixed_blocks_the_pit_is_that_of_the_plain_example_less_the_cut(
     for name, amount in gone.items():
         assert pits[name]["free"] == pytest.approx(plain[name] - amount, rel=1e-9), name
     cost = pits["undiscounted_cash_flow"]["free"] - pits["undiscounted_cash_flow"]["kept"]
-    page = (ROOT / "docs" / "PLANNING.md").read_text(encoding="utf-8")
+    page = (ROOT / "docs" / "planning" / "constraints.md").read_text(encoding="utf-8")
     assert (
         cost > 0
         and f"both constraints cost {cost / 1e6:.1f} of {pits['undiscounted_cash_flow']['free'] / 1e6:.1f} million USD"

@@ -133,7 +133,7 @@ def test_an_empty_field_of_each_dtype_is_one(plan_folder, dtype):
     assert "table row 3 column cu: is empty" in refused(plan_folder(rows(3, 2, 2)), table=table)
     path = plan_folder(rows(3, 2, 2), PROJECT, ('id = "name"', 'id = "name"\nempty = "zero"'))
     plan = pitplan.Plan.from_project(path, table=table)
-    assert sorted(plan.blocks["cu"])[:3] == [0.0, 0.0, 0.5] and any("2 empty fields" in note for note in plan.notes)
+    assert sorted(plan.blocks["cu"])[:3] == [0.0, 0.0, 0.5] and any("2 null or empty" in note for note in plan.notes)
 
 
 def test_columns_of_other_kinds_are_no_numbers(plan_folder):

@@ -135,6 +135,16 @@ def test_an_audit_is_confirmed_by_the_program_and_by_the_short_checker(solved, f
     )
 
 
+def test_an_auditor_without_the_program_is_told_so_and_has_the_short_checker(solved, tmp_path):
+    _, folder = solved
+    target = pitplan.audit(folder, 1.0, silent)
+    environment = {**os.environ, "PITSHELL": str(tmp_path / "pitshell"), "PYTHON": sys.executable}
+    ran = subprocess.run(["sh", str(target / "check.sh")], capture_output=True, text=True, env=environment)
+    lacking = f"pitshell check: not run: {tmp_path}/pitshell not found: install pitshell, or set PITSHELL"
+    assert ran.stdout.splitlines() == ["hashes: yes", lacking, "check_certificate.py: yes"]
+    assert (ran.returncode, ran.stderr) == (1, "")
+
+
 def test_a_bent_audit_is_not_confirmed(solved):
     _, folder = solved
     target = pitplan.audit(folder, 1.0, silent)
@@ -549,7 +559,7 @@ def test_the_version_is_the_release(capsys):
     with pytest.raises(SystemExit) as ended:
         main(["--version"])
     (version,) = capsys.readouterr().out.split()[1:]
-    assert ended.value.code == 0 and f"\n## {version}" in (ROOT / "CHANGELOG.md").read_text()
+    assert ended.value.code == 0 and f"\n## [{version}]" in (ROOT / "CHANGELOG.md").read_text()
 
 
 def test_a_plan_is_shown_in_a_few_lines(plan_folder):
@@ -566,3 +576,11 @@ def test_image_data_is_xml_with_raw_arrays(solved):
     text = pitplan.write_export(folder, "vti", 1.0, silent).read_bytes()
     assert text.startswith(b"<?xml") or text.startswith(b"<VTKFile")
     assert xml.fromstring(text.split(b"<AppendedData")[0] + b"</VTKFile>").attrib["type"] == "ImageData"
+
+
+def test_serve_names_all_packages_that_it_lacks(monkeypatch, capsys, tmp_path):
+    for name in ("starlette", "uvicorn"):
+        monkeypatch.setitem(sys.modules, name, None)
+    assert main(["serve", str(tmp_path), "--no-browser"]) == 1
+    packages = ("python3-starlette and python3-uvicorn", "apt-get install python3-starlette python3-uvicorn")
+    assert capsys.readouterr().err == f"pitplan: pitplan serve needs the Debian packages {packages[0]}: {packages[1]}\n"

@@ -379,6 +379,19 @@ def test_a_project_that_names_a_workbook_is_told_so(plan_folder, tmp_path):
         Plan.from_project(project)
 
 
+NO_CLASS = "WARNING: no column is a resource class, so that inferred blocks are ore like others: if one is, give it the role class"
+
+
+def test_a_model_without_resource_classes_is_warned_of(tmp_path, capsys):
+    """As an export of Leapfrog is; a column whose name says nothing becomes one by its role."""
+    table = rows(4, 4, 3, **{**ORE, "group": lambda i, j, k: 1 + i % 3}).rename(columns={"cu": "cu_pct"})
+    table.to_csv(tmp_path / "m.csv", index=False)
+    assert main(["init", str(tmp_path / "m.csv")]) == 0
+    assert capsys.readouterr().err.splitlines().count(NO_CLASS) == 1
+    assert main(["init", str(tmp_path / "m.csv"), "--replace", "--role", "group=class"]) == 0
+    assert NO_CLASS not in capsys.readouterr().err.splitlines()
+
+
 def test_classes_and_cost_factors_are_guessed(tmp_path, capsys):
     """Classes 1 to 3 are measured, indicated and inferred; MCAF and PCAF multiply costs; -1 is null in a class alone."""
     more = {
@@ -390,7 +403,7 @@ def test_classes_and_cost_factors_are_guessed(tmp_path, capsys):
     table.to_csv(tmp_path / "m.csv", index=False)
     assert main(["init", str(tmp_path / "m.csv")]) == 0
     lines = capsys.readouterr().err.splitlines()
-    assert any(line.split()[:4] == ["RESCAT", "resource", "class", "64"] for line in lines)
+    assert any(line.split()[:4] == ["RESCAT", "resource", "class", "64"] for line in lines) and NO_CLASS not in lines
     project = load(tmp_path / "project.toml")
     assert (project.economics.mcaf, project.economics.pcaf, project.table.resource_class) == ("MCAF", "PCAF", "RESCAT")
     assert project.table.rules.mapped == {"RESCAT": {"1": "measured", "2": "indicated", "3": "inferred"}}

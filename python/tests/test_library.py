@@ -1,7 +1,9 @@
 """The library on arrays: the same pits as by trying every set, and each refusal as an exception that names what is wrong."""
 
 import json
+import os
 import random
+import re
 import subprocess
 from decimal import Context, Decimal
 from pathlib import Path
@@ -237,11 +239,7 @@ def test_the_words_name_the_pair():
         pitshell.solve(TWO, np.array([[1, 1]]))
 
 
-@pytest.mark.parametrize("watch", [[], ["-fsanitize=address"]])
-def test_the_header_is_c(tmp_path, watch):
-    source = tmp_path / "main.c"
-    source.write_text(
-        """#include <pitshell.h>
+IN_C = """#include <pitshell.h>
 int main(void) {
     int64_t values[] = {-3000000, 5000000};
     uint32_t starts[] = {0, 0, 1}, needs[] = {0};
@@ -280,27 +278,53 @@ int main(void) {
     return 0;
 }
 """
-    )
-    program = tmp_path / "main"
-    build = TOP / "build"
-    subprocess.run(
-        [
-            "cc",
-            *watch,
-            "-Wall",
-            "-Wextra",
-            "-Werror",
-            "-I",
-            TOP / "include",
-            source,
-            build / "libpitshell.so",
-            f"-Wl,-rpath,{build}",
-            "-o",
-            program,
-        ],
-        check=True,
-    )
+
+
+def compiled(folder, text, *options):
+    """The program that `cc` makes of a text in C and the library, without a warning."""
+    (folder / "main.c").write_text(text)
+    build, program = TOP / "build", folder / "main"
+    library = [build / "libpitshell.so", f"-Wl,-rpath,{build}"]
+    command = ["cc", *options, "-Wall", "-Wextra", "-Werror", "-I", TOP / "include", folder / "main.c", *library]
+    subprocess.run([*command, "-o", program], check=True)
+    return program
+
+
+@pytest.mark.parametrize("watch", [[], ["-fsanitize=address"]])
+def test_the_header_is_c(tmp_path, watch):
+    program = compiled(tmp_path, IN_C, *watch)
     assert subprocess.run([program]).returncode == 0
+
+
+def test_the_lines_of_the_page_give_the_results_beside_them():
+    page = (TOP / "docs" / "LIBRARY.md").read_text()
+    (text,) = re.findall(r"^```python\n(.*?)^```", page, re.MULTILINE | re.DOTALL)
+    names: dict = {}
+    exec(text, names)
+    found, nested, shown = (names[name] for name in ("found", "nested", "shown"))
+    assert found.in_pit.tolist() == [True, True] and found.worth == Decimal("2.000000")
+    assert list(nested.first) == [1, 1] and [int(it) for it in nested.worths] == [0, 2]
+    assert pitshell.check([-3.0, 5.0], [[1, 0]], shown.in_pit, shown.flow) is True
+
+
+def test_the_program_of_the_page_prints_what_the_page_shows(tmp_path):
+    page = (TOP / "docs" / "LIBRARY.md").read_text()
+    (text,) = re.findall(r"^```c\n(.*?)^```", page, re.MULTILINE | re.DOTALL)
+    runs = re.findall(r"^\$ (cc [^\n]*)\n(.*?)^```", page, re.MULTILINE | re.DOTALL)
+    (installed, shown), (in_clone, nothing) = runs
+    assert len(text.splitlines()) <= 30 and nothing == ""
+    ran = subprocess.run([compiled(tmp_path, text)], capture_output=True, text=True, check=True)
+    assert ran.stdout == shown and shown.count("\n") == 3
+    # The commands of the page, for an installed library and in a clone.
+    (tmp_path / "pit.c").write_text(text)
+    for name in ("include", "build"):
+        (tmp_path / name).symlink_to(TOP / name)
+    places = {"CPATH": str(TOP / "include"), "LIBRARY_PATH": str(TOP / "build"), "LD_LIBRARY_PATH": str(TOP / "build")}
+    for command, added in ((installed, places), (in_clone, {})):
+        ran = subprocess.run(
+            ["sh", "-c", command], cwd=tmp_path, env={**os.environ, **added}, capture_output=True, text=True
+        )
+        assert (ran.stdout, ran.stderr) == (shown, ""), command
 
 
 def test_the_notebook_of_arrays_runs(capsys):

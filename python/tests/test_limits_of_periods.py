@@ -10,6 +10,7 @@ from helpers.verified import UNVERIFIED
 import pitplan
 from pitplan import PlanError, load, verify
 from pitplan.config.project import Project
+from planaudit.inputs.period_table import entries_of
 
 # 100 t of ore of 0.8 % with 50 ppm of arsenic beside 100 t with 150 ppm earn 20 a tonne each. The mill takes 80 t a year.
 HEAD = "[pushbacks]\ncount = 1\nultimate_pit = 1.0\n"
@@ -74,6 +75,15 @@ def test_the_same_limit_in_all_periods_is_that_of_the_feed(tmp_path):
     four, _ = scheduled(tmp_path / "four", words, 'periods = "periods.csv"\n' + FLAT)
     for other in (two, three, four):
         assert other[["npv", "upper_bound"]].tolist() == pytest.approx(one[["npv", "upper_bound"]].tolist(), rel=1e-9)
+
+
+def test_the_audit_reads_a_table_of_periods(tmp_path):
+    """A name after `feed` has parts of its own, a process has none; an empty field is no key."""
+    heads = "years,mining_capacity,capacity.mill.a,feed.arsenic.max,feed.arsenic.min,stockpiles.low.capacity"
+    (tmp_path / "periods.csv").write_text(f"{heads}\n2,400,80,90,,5\n,,,,60,\n")
+    first = {"years": 2, "mining_capacity": 400, "capacity": {"mill.a": 80}}
+    first |= {"feed": {"arsenic": {"max": 90}}, "stockpiles": {"low": {"capacity": 5}}}
+    assert entries_of("periods.csv", tmp_path.joinpath) == [first, {"feed": {"arsenic": {"min": 60}}}]
 
 
 PROCESSES = """[[processes]]

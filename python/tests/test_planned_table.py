@@ -2,7 +2,6 @@
 
 import csv
 import gzip
-import shutil
 
 import pandas as pd
 import pytest
@@ -120,17 +119,20 @@ def test_rows_that_are_put_together_have_the_numbers_of_their_block(plan_folder)
     assert after[after["process_revenue_factor"] > 0]["name"].tolist() == ["b5-5-1", "b4-5-1", "b5-4-1", "b4-4-1"]
 
 
-def test_a_project_or_a_table_that_has_changed_is_refused(solved, tmp_path, capsys):
+def test_a_table_that_has_changed_is_refused(solved, tmp_path, capsys):
+    """The project may have changed: its text of the run is in the folder."""
     project, folder = solved
-    for path in (project.path, project.table.file):
-        kept = shutil.copy(path, tmp_path / "kept")
-        path.write_text(path.read_text() + "\n")
-        assert main(["export", str(folder), "--to", "table", "--quiet"]) == 1
-        assert capsys.readouterr().err.startswith(
-            f"pitplan: {folder / '..' / path.name}: has changed since {folder} was written"
-        )
-        shutil.copy(kept, path)
-    project.table.file.unlink()
+    before = pitplan.write_export(folder, "table").read_bytes()
+    text = project.path.read_text()
+    project.path.write_text(text.replace("8000", "9000"))
+    assert text != project.path.read_text() and pitplan.write_export(folder, "table").read_bytes() == before
+    path = project.table.file
+    path.write_text(path.read_text() + "\n")
+    assert main(["export", str(folder), "--to", "table", "--quiet"]) == 1
+    said = f"pitplan: {folder.parent / path.name}: has changed since {folder} was written: run pitplan again into this folder\n"
+    assert capsys.readouterr().err == said
+    project.path.write_text(text)
+    path.unlink()
     with pytest.raises(PlanError, match="blocks.csv: cannot be read"):
         pitplan.write_export(folder, "table")
 

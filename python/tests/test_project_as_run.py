@@ -135,3 +135,15 @@ def test_scenarios_are_solved_of_the_project_that_was_run(mine):
         pitplan.write_scenarios(project, path.parent / "out", Request(where="parallel"))
         texts.append((path.parent / "out" / "project.toml").read_text())
     assert [re.search(r"price = (\d+)", text).group(1) for text in texts] == ["8000", "12000"]
+
+
+def test_verify_begins_with_the_project_that_has_changed(mine, capsys):
+    """Otherwise somebody who has edited it reads that the numbers of the run are wrong."""
+    path = mine()
+    pitplan.write_shells(path, writing=pitplan.Writing(figures=False))
+    path.write_text(path.read_text().replace("price = 8000", "price = 9000"))
+    assert main(["verify", str(path.parent / "plan")]) == 1
+    first, second, third = capsys.readouterr().err.splitlines()[:3]
+    assert first.startswith("pitplan: verification failed: ") and third.strip().startswith("money: ")
+    why = "has changed since the run, and the folder is compared with it as it is now"
+    assert second.strip() == f"inputs: {path}: {why}"

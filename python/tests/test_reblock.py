@@ -38,7 +38,24 @@ def test_four_blocks_in_one_by_hand(plan_folder):
         "400 of 1,000 t differ in rock from their block",
         "300 of 1,000 t differ in region from their block",
     ):
-        assert said in plan.summary
+        assert said in [*plan.summary, *plan.notes]
+
+
+def test_a_block_without_tonnes_has_the_codes_of_most_rows(plan_folder):
+    """Of the eastern one of two blocks, by both implementations; of equal ones it would be the first by name."""
+    table = rows(
+        4,
+        2,
+        1,
+        tonnes=lambda i, j, k: 100 if i < 2 else 0,
+        cu=lambda i, j, k: 2.0 if i < 2 else 0.0,
+        rock=lambda i, j, k: "AABB"[i] if j else "BAAB"[i],
+        region=lambda i, j, k: "1122"[i] if j else "1212"[i],
+    )
+    path = plan_folder(table, PROJECT, TWOS)
+    assert pitplan.Plan.from_project(path).table[["rock", "region"]].values.tolist() == [["A", "1"], ["B", "2"]]
+    pitplan.write_shells(path, path.parent / "out", UNVERIFIED)
+    assert [rule.differences for rule in verify(path.parent / "out") if rule.differences] == []
 
 
 def test_columns_that_a_schedule_sums(plan_folder):
@@ -93,8 +110,8 @@ def test_sub_blocks_by_hand(plan_folder):
     assert plan.table["x"].tolist() == [110, 130] and plan.table["tonnes"].tolist() == [4000, 2000.5]
     assert plan.table["cu"].tolist() == [0.3, round(1500 / 2000.5, 9)] and plan.table["rock"].tolist() == ["R", "R"]
     assert (
-        "500 of 6,000 t differ in rock from their block" in plan.summary
-        or "501 of 6,000 t differ in rock from their block" in plan.summary
+        "500 of 6,000 t differ in rock from their block" in plan.notes
+        or "501 of 6,000 t differ in rock from their block" in plan.notes
     )
 
 

@@ -10,6 +10,8 @@ import pitplan
 from pitplan import PlanError
 from pitplan.results import json_records
 from pitplan.results.folder import read_folder, read_record
+from planaudit import AuditError
+from planaudit.inputs.record import read_json
 
 
 def parts_of(value, place=()):
@@ -208,3 +210,12 @@ def test_a_bent_record_of_a_schedule_is_named(folder, text):
     )
     with pytest.raises(PlanError, match=f"schedule.json: {why}"):
         pitplan.verify(folder)
+
+
+@pytest.mark.parametrize(
+    "found, said", [([1, 2], "[1, 2]"), (["a" * 76], f'["{"a" * 76}"]'), ([7] * 40, f"{str([7] * 40)[:80]}..")]
+)
+def test_the_audit_shows_the_first_80_letters_of_what_it_found(tmp_path, found, said):
+    (tmp_path / "plan.json").write_text(json.dumps(found))
+    with pytest.raises(AuditError, match=f"plan.json: found {re.escape(said)}, expected a table: run pitplan again"):
+        read_json(tmp_path / "plan.json", "pitplan")

@@ -1,12 +1,14 @@
 """The report: its numbers read back and found in the tables that they come from, its order, and how it prints."""
 
 import csv
+import platform
 import re
 import shutil
 import subprocess
 import time
 from decimal import Decimal
 from html.parser import HTMLParser
+from importlib.metadata import version
 
 import pandas as pd
 import pytest
@@ -239,6 +241,12 @@ def test_ways_that_are_missing_or_others_are_found(copied):
         assert found == {"schedule value": (said,)}
 
 
+def test_the_report_names_the_versions_that_made_it(written):
+    page = (written / "plan" / "report.html").read_text()
+    said = f"Versions: pitplan {pitplan.__version__}, python {platform.python_version()}, numpy {version('numpy')}, pandas {version('pandas')}, scipy "
+    assert said in page
+
+
 def test_the_report_is_made_anew_with_a_sensitivity_of_the_same_inputs(copied, capsys):
     folder = copied / "plan"
     shutil.move(folder / "sensitivity", copied / "other")
@@ -280,10 +288,16 @@ def test_a_record_that_is_none_of_a_sensitivity_stops_no_report(copied, text):
     assert "and is left out here." in page and "<h2>Sensitivity</h2>" not in page
 
 
-def test_a_report_of_a_project_that_has_changed_is_refused(copied):
+def test_a_report_is_of_the_project_that_was_run(copied):
+    """Its file may have other numbers since; the block model may not."""
     project = copied / "project.toml"
-    project.write_text(project.read_text() + "\n# looked at\n")
-    with pytest.raises(PlanError, match="project.toml: has changed since .* was written: run pitplan again"):
+    before = pitplan.write_report(copied / "plan").read_text()
+    changed = re.sub(r"(?m)^price = \S+", "price = 1", project.read_text())
+    project.write_text(changed)
+    assert "price = 1\n" in changed and pitplan.write_report(copied / "plan").read_text() == before
+    table = pitplan.load(copied / "plan" / "project-as-run.toml").table.file
+    table.write_text(table.read_text() + "\n")
+    with pytest.raises(PlanError, match=f"{table.name}: has changed since .* was written: run pitplan again"):
         pitplan.write_report(copied / "plan")
 
 

@@ -9,6 +9,7 @@ from conftest import PROJECT, rows
 from helpers import worked_cash_flow
 
 import pitplan
+from pitplan.report.key_results import of_money
 from pitplan.report.physicals import physicals
 from pitplan.report.written import Written
 
@@ -135,6 +136,17 @@ def test_key_results_are_those_of_the_schedule(worked):
     assert found["Internal rate of return after tax"] == f"{100 * values['irr_after_tax']:,.1f} %"
     assert found["Payback after tax"] == f"{values['payback_after_tax']:.1f} years" and found["Capital"] == "5.60 k USD"
     assert "Unmined material" not in found
+
+
+@pytest.mark.parametrize(("payback", "count"), [(0.0, 1), (2.5, 3), (float("nan"), 3)])
+def test_a_schedule_that_pays_from_the_start_shows_no_return_and_no_payback(worked, payback, count):
+    """A card of 0.0 years would be read as a fast return; one without a payback in its life keeps its dash."""
+    project = pitplan.load(worked[0].parent.parent / "project.toml")
+    row = {"discount_rate": 0.1, "npv": 5.0, "npv_after_tax": 4.0, "irr_after_tax": float("nan")}
+    values = Written("valuation.csv", pd.DataFrame([row | {"payback_after_tax": payback}]))
+    found = of_money(Written("cash_flow.csv", pd.DataFrame({"year": [1]})), values, project)
+    labels = ["Net present value after tax", "Internal rate of return after tax", "Payback after tax"]
+    assert [it.name for it in found] == labels[:count]
 
 
 def test_valuation_has_npv_irr_and_payback(worked):

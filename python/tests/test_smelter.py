@@ -212,7 +212,7 @@ def test_gold_dore_is_sold_as_worked_out_by_hand(tmp_path):
 
 
 def test_terms_of_copper_in_pounds():
-    """The example of docs/PLANNING.md: a dry tonne of 26 % holds 573.2 lb, of which 25 units, 551.2 lb, are paid at 4 USD."""
+    """The example of docs/planning/smelters.md: a dry tonne of 26 % holds 573.2 lb, of which 25 units, 551.2 lb, are paid at 4 USD."""
     terms = Smelter(
         payable=Decimal("0.965"),
         concentrate_grade=Decimal(26),
@@ -231,7 +231,7 @@ def test_terms_of_copper_in_pounds():
     net = float(smelter_terms.net(metal, metal.price, Decimal(0))) * 0.26
     assert net == pytest.approx(pounds * 3.87 - 80 - 60 / 0.92)
     said = {round(amount, 2) for amount in (*charges.values(), 4 * pounds, net)}
-    page = (ROOT / "docs/PLANNING.md").read_text(encoding="utf-8").partition("## Net smelter return")[2]
+    page = (ROOT / "docs/planning/smelters.md").read_text(encoding="utf-8")
     assert said == {80, 44.09, 27.56, 65.22, 2204.62, 1987.75} and all(f"{it:,.10g}" in page for it in said)
     assert f"{net / (260 / 0.45359237):.2f} per recovered lb" in page and f"{pounds:.1f} lb" in page
     assert smelter_terms.payable_share(replace(metal, smelter=replace(terms, payable=Decimal("0.96")))) == Decimal(

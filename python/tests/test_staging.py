@@ -6,6 +6,7 @@ import subprocess
 import sys
 from pathlib import Path
 
+import numpy as np
 import pytest
 from conftest import PROJECT, files_in, rows
 
@@ -262,6 +263,14 @@ def test_a_failed_write_leaves_no_folder_that_it_made(tmp_path):
             path.write_text("half")
             raise PlanError("no more")
     assert list(tmp_path.iterdir()) == []
+
+
+def test_a_full_disk_is_named_where_numpy_names_no_reason(tmp_path):
+    full = "cannot be written: No space left on device: 9000 requested and [0-9]+ written"
+    with pytest.raises(PlanError, match=f"{tmp_path / 'new'}: {full}"):
+        with atomic_files.staged(tmp_path / "new"), open("/dev/full", "wb") as disk:
+            np.zeros(9000).tofile(disk)
+    assert not (tmp_path / "new").exists()
 
 
 def test_what_is_not_made_leaves_no_folder(mine):

@@ -130,7 +130,9 @@ def test_empty_fields_and_the_text_are_told(plan_folder):
     table.to_csv(path.parent / "blocks.csv", index=False, sep=";")
     lines = told(Plan.from_project(path))
     assert "the fields are separated by semicolons; [table] separator sets another separator" in lines
-    assert "WARNING: 6 empty tonnes or grades are read as 0" in lines
+    assert "WARNING: 6 null or empty tonnes or grades are read as 0" in lines
+    # Each once: not among the lines of the table and the notes.
+    assert len(lines) == len(set(lines))
 
 
 def test_a_table_without_tonnes_has_a_mean_of_nothing():

@@ -159,6 +159,14 @@ def test_strings_have_north_before_east(tmp_path):
     assert "1 polygons of the layer 7, read by pitplan" in areas(tmp_path / "topo.str").notes[0]
 
 
+def test_a_string_may_have_one_point(tmp_path):
+    """A height between two strings, as both readers have it."""
+    one = "3, 7.000, 600008.000, 9.000, spot\n0, 0.000, 0.000, 0.000,\n"
+    (tmp_path / "topo.str").write_text(STRINGS.replace("7, 0.000, 0.000, 1.000\n", f"{one}7, 0.000, 0.000, 1.000\n", 1))
+    assert read(tmp_path / "topo.str", "3").points.tolist() == [[600008, 7, 9]]
+    assert len(read(tmp_path / "topo.str", "*").points) == 7
+
+
 def test_strings_that_are_written_are_read(plan_folder, tmp_path):
     """The toes and crests of a pit, which the export has in two forms."""
     path = plan_folder(rows(7, 7, 3, cu=lambda i, j, k: 9 * ((i, j, k) == (3, 3, 1))), PROJECT)

@@ -441,6 +441,28 @@ def test_two_hundred_requests_at_a_time_while_a_job_runs(root, served):
     assert process.wait(20) in (0, 130)
 
 
+def test_a_client_that_first_sends_all_of_a_refused_file_reads_why(root, served):
+    """As a proxy does, over a connection of its own. The folder of unfinished files cannot be made; a server that answers and closes would reset the
+    connection in the middle of the file."""
+    _, address, token = served
+    host, size = address.removeprefix("http://"), 40_000_000
+    heads = [f"Host: {host}", f"Origin: {address}", f"Cookie: pitplan-serve-{host.rpartition(':')[2]}={token}"]
+    heads += [f"Content-Length: {size}", "Connection: close", "", ""]
+    unfinished = root / uploads.UNFINISHED
+    unfinished.parent.mkdir(exist_ok=True)
+    unfinished.write_text("")
+    with socket.create_connection(tuple(host.split(":")), timeout=20) as client:
+        client.sendall("\r\n".join(["PUT /import/file?folder=new&file=b.csv HTTP/1.1", *heads]).encode())
+        for _ in range(size // 1_000_000):
+            client.sendall(b"1,2,3\n" * 166_666 + b"\n\n\n\n")
+        answer = ""
+        while not answer.endswith("permissions"):
+            assert (part := client.recv(10_000)), answer
+            answer += part.decode()
+    assert answer.startswith("HTTP/1.1 400 ") and "new/b.csv: cannot be written: File exists: free space" in answer
+    assert not (root / "new").exists()
+
+
 def test_a_block_model_that_is_cut_off_leaves_nothing(root, served):
     """The browser goes away in the middle of a file."""
     _, address, token = served

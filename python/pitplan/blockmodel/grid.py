@@ -255,9 +255,10 @@ def most_common_lattice(values: np.ndarray, first: float, size: float, tolerance
 
 
 def demand_once(cells: np.ndarray, frame: pd.DataFrame, columns: TableColumns, source: str) -> None:
-    twice = pd.Series(cells).duplicated().to_numpy()
-    if twice.any():
-        row = int(twice.argmax())
+    filled = np.zeros(int(cells.max()) + 1, dtype=bool)
+    filled[cells] = True
+    if np.count_nonzero(filled) < len(cells):
+        row = int(pd.Series(cells).duplicated().to_numpy().argmax())
         first = int((cells == cells[row]).argmax())
         raise at_row(
             source,

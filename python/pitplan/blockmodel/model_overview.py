@@ -41,6 +41,9 @@ ROLES = {
 }
 # Codes of a column that are listed, and letters of each.
 MOST_CODES, MOST_LETTERS = 4, 12
+NO_CLASS = (
+    "no column is a resource class, so that inferred blocks are ore like others: if one is, give it the role class"
+)
 # Share of the box above which cells overlap.
 MOST_FILLED = 1.001
 
@@ -258,6 +261,8 @@ def warnings_of(model: Model, tonnes: np.ndarray) -> list[str]:
         said.append(
             f"{WARNING}cells have several sizes: parts of blocks are put together to blocks of the largest cell's size"
         )
+    if "class" not in model.columns.named:
+        said.append(WARNING + NO_CLASS)
     left_out = model.rows - len(model.frame)
     named = [model.columns.named[key].column for key in NEEDED if key in model.columns.named]
     needed = [name for name in named if name in model.nulls]

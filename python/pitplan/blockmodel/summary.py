@@ -85,7 +85,7 @@ def of_table(table: Table, grid: Grid, project: Project) -> list[str]:
 
 
 def of_ground(table: Table, grid: Grid, project: Project) -> list[str]:
-    """The lines that no grade alters: blocks, tonnes, extents, columns, and what was told by looking at the text."""
+    """Returns the lines that no grade alters: blocks, tonnes, extents and columns. The notes of the reader are among those of the plan."""
     columns, tonnes = project.table, table.frame[project.table.tonnes].to_numpy()
     lines = [
         f"{table.source}: {len(table.frame):,} blocks in {grid.count:,} cells, {tonnes.sum():,.0f} t, tonnes from {rock_of(columns)}"
@@ -95,8 +95,7 @@ def of_ground(table: Table, grid: Grid, project: Project) -> list[str]:
     lines += not_used(table.unused)
     missing = [name for name in OPTIONAL if getattr(columns, name) is None]
     lines += [f"no column in the project: {', '.join(missing)}"] if missing else []
-    lines += table.notes
-    return lines + ([f"WARNING: {table.filled:,} empty tonnes or grades are read as 0"] if table.filled else [])
+    return lines + ([f"WARNING: {table.filled:,} null or empty tonnes or grades are read as 0"] if table.filled else [])
 
 
 def of_grades(grades: Sequence[Grade]) -> list[str]:

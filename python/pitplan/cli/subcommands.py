@@ -293,6 +293,9 @@ def verify(options: Namespace) -> int:
 
 def serve(options: Namespace) -> int:
     from .. import __version__
+    from ..core.optional_packages import demand_modules
+
+    demand_modules({"starlette": "python3-starlette", "uvicorn": "python3-uvicorn"}, "pitplan serve")
     from ..web import passwords
     from ..web.server import Settings, serve
 

@@ -29,7 +29,7 @@ from ..plan import Plan
 from . import schedule_tables
 from .schedule_tables import ScheduleTables
 from .verification import verifying
-from .writing import Run, finish, write_table
+from .writing import Run, finish, hashed, write_table
 
 if TYPE_CHECKING:
     from pitplan.scheduling.blocks.tables import ScheduledBlocks
@@ -103,8 +103,9 @@ def write_answer(answered: Answered, run: Run) -> pd.DataFrame:
 
             with progress.step("writing the workbook"):
                 workbook.write(answered, tables, stage)
-    more = tables.schedule.price_tables if tables.schedule is not None else {}
-    finish(plan, run.record, [*mine_files.of_program(stage), *tables_of(answered), *more, *drawn], stage)
+        more = tables.schedule.price_tables if tables.schedule is not None else {}
+        found = hashed(plan, [*mine_files.of_program(stage), *tables_of(answered), *more, *drawn], stage)
+    finish(run.record, found, stage)
     html.write(stage / names.REPORT, stage, run.project)
     return tables.shells
 

@@ -3,6 +3,7 @@
 from __future__ import annotations
 
 from pitplan.blockmodel.figure_bounds import demand_within
+from pitplan.config.project import Project
 from pitplan.core.progress import Progress, silent
 from pitplan.core.warned import warn
 from pitplan.errors import InputWarning
@@ -25,7 +26,8 @@ def check(project: Source, progress: Progress = silent) -> list[str]:
     Returns
     -------
     list of str
-        The notes that `pitplan prepare` prints: what was rounded, dropped and clipped, and warnings.
+        The notes that `pitplan prepare` prints: what was rounded, dropped and clipped, and warnings. A last one names a section without which
+        `pitplan schedule` refuses the project.
 
     Raises
     ------
@@ -37,6 +39,14 @@ def check(project: Source, progress: Progress = silent) -> list[str]:
     demand_within(project, plan.grid)
     with progress.step("counting the precedences"):
         _, pairs = counted_rows(plan.needs, plan)
-    notes = list(plan.record(pairs)["notes"])
+    notes = [*plan.record(pairs)["notes"], *missing_sections(project)]
     warn(notes, InputWarning)
     return notes
+
+
+def missing_sections(project: Project) -> list[str]:
+    """Returns notes on the sections that another command asks for, and the project lacks."""
+    if project.schedule is None or project.pushbacks is not None:
+        return []
+    remedy = "set its count, tonnes or revenue_factors, or schedule with --by block"
+    return [f"[schedule] is for pushbacks or blocks, and [pushbacks] is missing: {remedy}"]

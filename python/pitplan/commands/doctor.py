@@ -10,6 +10,7 @@ import os
 import platform
 import re
 import shutil
+import subprocess
 import tempfile
 from dataclasses import asdict, dataclass
 from importlib import metadata
@@ -25,6 +26,7 @@ LEAST_PYTHON = (3, 11)
 FONT = "DejaVu Sans"
 GIB = 1 << 30
 REINSTALL = "install the package pitshell, or make and make library"
+REQUIRED, OPTIONAL = "Missing or broken:", "Missing, and needed only by the commands in brackets:"
 
 
 @dataclass(frozen=True)
@@ -127,7 +129,11 @@ def schedule_program() -> Finding:
     place, purpose = paths.schedule_program(), "schedule --certificate"
     if place is None:
         return Finding("program pitschedule", "", False, purpose, f"not found: {REINSTALL}")
-    return Finding("program pitschedule", str(place), False, purpose)
+    try:
+        said = subprocess.run([place, "--version"], capture_output=True, text=True, check=True).stdout
+    except (OSError, subprocess.CalledProcessError) as error:
+        return Finding("program pitschedule", "", False, purpose, f"{on_one_line(str(error))}: {REINSTALL}")
+    return Finding("program pitschedule", f"{said.split()[-1]} in {place}", False, purpose)
 
 
 def of_library(wanted: Library) -> Finding:
@@ -196,10 +202,16 @@ def as_records(found: list[Finding]) -> list[dict[str, Any]]:
 
 
 def lines_of(found: list[Finding]) -> list[str]:
-    """Returns the lines of a report: what there is, then what is missing or broken."""
+    """Returns the lines of a report: what there is, then what every command lacks, then what some commands lack."""
     width = max(len(it.part) for it in found) + 2
-    there = [f"{it.part:<{width}}{it.found}" for it in found if it.found]
-    lacking = [f"  {it.part}: {it.remedy}{f' ({it.purpose})' if it.purpose else ''}" for it in found if it.remedy]
-    wrong = [it.part for it in found if it.is_wrong]
-    verdict = f"pitplan cannot run: {', '.join(wrong)}" if wrong else "pitplan can run"
-    return [*there, *(["", "Missing or broken:", *lacking] if lacking else []), "", verdict]
+    lines = [f"{it.part:<{width}}{it.found}" for it in found if it.found]
+    lacking = [it for it in found if it.remedy]
+    for heading, is_wrong in ((REQUIRED, True), (OPTIONAL, False)):
+        said = [f"  {it.part}: {it.remedy}{purpose_of(it)}" for it in lacking if it.is_wrong is is_wrong]
+        lines += ["", heading, *said] if said else []
+    wrong = [it.part for it in lacking if it.is_wrong]
+    return [*lines, "", f"pitplan cannot run: {', '.join(wrong)}" if wrong else "pitplan can run"]
+
+
+def purpose_of(finding: Finding) -> str:
+    return f" ({finding.purpose})" if finding.purpose else ""

@@ -19,7 +19,7 @@ from pitplan.solver import mine_files, problem
 from ..errors import PlanError
 from .answers import check_fixed
 from .verification import verifying
-from .writing import Place, Run, Source, Writing, begun, finish, read, write_table
+from .writing import Place, Run, Source, Writing, begun, finish, hashed, read, write_table
 
 
 def write_pit(
@@ -60,7 +60,8 @@ def write_pit(
         write_csv(shown(table), run.stage / names.PITS, project)
         with verifying(run.mine.plan, run):
             pass
-        finish(run.mine.plan, run.record, [*mine_files.of_program(run.stage), names.TABLE, names.PITS], run.stage)
+        files = [*mine_files.of_program(run.stage), names.TABLE, names.PITS]
+        finish(run.record, hashed(run.mine.plan, files, run.stage), run.stage)
     return table
 
 

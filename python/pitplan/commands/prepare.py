@@ -15,7 +15,7 @@ from pitplan.results import names
 from pitplan.solver import mine_files
 
 from ..plan import prepared
-from .writing import demand_apart, finish, of_earlier_run, read, write_table
+from .writing import demand_apart, finish, hashed, of_earlier_run, read, write_table
 
 
 def write_plan(project: Project, folder: Path, progress: Progress = silent) -> dict[str, Any]:
@@ -41,4 +41,5 @@ def write_plan(project: Project, folder: Path, progress: Progress = silent) -> d
                 pairs = mine_files.write(plan, stage / layout.SOLVER)
             project_writer.write(project, stage / project_writer.AS_RUN, folder)
             write_table(plan.blocks, stage)
-            return finish(plan, plan.record(pairs), [*mine_files.of_program(stage), names.TABLE], stage)
+            files = [*mine_files.of_program(stage), names.TABLE]
+            return finish(plan.record(pairs), hashed(plan, files, stage), stage)

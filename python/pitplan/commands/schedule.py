@@ -16,7 +16,7 @@ from pitplan.scheduling import certificate as certificates, pushback_certificate
 from pitplan.solver import problem
 
 from .answers import Answered, write_answer
-from .writing import Place, Run, Source, Writing, begun, read
+from .writing import Place, Run, Source, Writing, begun, drawing_imported, read
 
 if TYPE_CHECKING:
     from pitplan.scheduling.blocks.tables import ScheduledBlocks
@@ -121,7 +121,8 @@ def write_block_schedule(
     with begun(project, target, writing) as run:
         # First, since it refuses what is too large.
         planned = tables.collected(run.mine.plan, writing.progress)
-        solution = problem.solve(run.mine.plan, run.mine, writing.progress)
+        with drawing_imported(writing.draws):
+            solution = problem.solve(run.mine.plan, run.mine, writing.progress)
         made = tables.scheduled(planned, writing.progress)
         if certificate:
             made = certified(made, run)

@@ -10,7 +10,7 @@ import pandas as pd
 from pitplan.solver import problem
 
 from .answers import Answered, write_answer
-from .writing import Place, Source, Writing, begun, read
+from .writing import Place, Source, Writing, begun, drawing_imported, read
 
 
 def write_shells(project: Source, folder: Optional[Place] = None, writing: Writing = Writing()) -> pd.DataFrame:
@@ -38,5 +38,6 @@ def write_shells(project: Source, folder: Optional[Place] = None, writing: Writi
     project = read(project)
     target = project.folder if folder is None else Path(folder)
     with begun(project, target, writing) as run:
-        solution = problem.solve(run.mine.plan, run.mine, writing.progress)
+        with drawing_imported(writing.draws):
+            solution = problem.solve(run.mine.plan, run.mine, writing.progress)
         return write_answer(Answered(run.mine.plan, solution), run)

@@ -3,8 +3,10 @@
 from __future__ import annotations
 
 import os
-from contextlib import contextmanager
+import threading
+from contextlib import contextmanager, suppress
 from dataclasses import asdict, dataclass, replace
+from importlib import import_module
 from pathlib import Path
 from typing import Any, Iterable, Iterator, Optional, Union
 
@@ -203,9 +205,32 @@ def write_table(blocks: pd.DataFrame, stage: Path) -> None:
     csv_writer.write(stage / names.TABLE, blocks)
 
 
-def finish(plan: Plan, record: dict[str, Any], files: list[str], stage: Path) -> dict[str, Any]:
-    """Writes the record with the hashes of the inputs, by their place relative to the project, and of the written files; returns it."""
-    record["inputs"] = hashes_of({name: staged_input(path, stage) for name, path in plan.project.named_inputs.items()})
-    record["files"] = hashes(stage, [project_writer.AS_RUN, *files])
+def hashed(plan: Plan, files: list[str], stage: Path) -> dict[str, dict[str, str]]:
+    """Returns the hashes of the inputs, by their place relative to the project, and of the written files, as parts of the record."""
+    inputs = {name: staged_input(path, stage) for name, path in plan.project.named_inputs.items()}
+    return {"inputs": hashes_of(inputs), "files": hashes(stage, [project_writer.AS_RUN, *files])}
+
+
+def finish(record: dict[str, Any], found: dict[str, dict[str, str]], stage: Path) -> dict[str, Any]:
+    """Writes the record with the hashes that `hashed` has found; returns it."""
+    record.update(found)
     write_json(stage / names.RECORD, record)
     return record
+
+
+@contextmanager
+def drawing_imported(is_wanted: bool) -> Iterator[None]:
+    """Imports what draws, if figures are wanted, while the body waits for the solver, which holds no lock of Python's."""
+
+    def run() -> None:
+        # Who draws imports it again, and raises what is wrong.
+        with suppress(Exception):
+            import_module("pitplan.commands.drawing")
+
+    thread = threading.Thread(target=run, daemon=True)
+    if is_wanted:
+        thread.start()
+    yield
+    if is_wanted:
+        # No fork may find a module half imported.
+        thread.join()

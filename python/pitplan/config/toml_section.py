@@ -9,6 +9,7 @@ from typing import Any, Optional, Union
 from pitplan.core.revenue_factors import GREATEST_FACTOR, PER_MILLE, factor_text, of_decimal, of_per_mille, per_mille
 from pitplan.errors import PlanError
 
+from .renamed import new_name, old_name
 from .toml_text import LEAST_POWER, Absurd
 
 Number = Union[int, Decimal]
@@ -53,6 +54,9 @@ class Section:
 
     def get(self, key: str) -> Any:
         if not self.has(key):
+            old = old_name(key, self.data)
+            if old:
+                raise self.wrong(key, f"is missing: rename {old}, as an earlier release called it")
             near = difflib.get_close_matches(key, [it for it in self.data if it not in self.asked], 1, MISTYPED)
             raise self.wrong(key, "is missing" + (f": did you misspell it as {near[0]}?" if near else ""))
         return self.data[key]
@@ -61,6 +65,9 @@ class Section:
         """Raises PlanError if the section has an unknown key, with the known one that is most like it."""
         for key in self.data:
             if key not in self.asked:
+                new = new_name(key, self.asked)
+                if new:
+                    raise self.wrong(key, f"unknown key: rename it to {new}, as it is called now")
                 near = difflib.get_close_matches(key, self.asked, 1)
                 raise self.wrong(key, "unknown key: " + (f"did you mean {near[0]}?" if near else "remove it"))
 

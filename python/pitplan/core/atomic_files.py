@@ -2,6 +2,7 @@
 
 from __future__ import annotations
 
+import errno
 import hashlib
 import json
 import os
@@ -43,7 +44,14 @@ def staged(
             yield stage
             move(stage, folder, last, whole)
     except OSError as error:
-        raise PlanError(f"{error.filename or folder}: cannot be written: {error.strerror or error}") from error
+        raise PlanError(f"{error.filename or folder}: cannot be written: {reason(error)}") from error
+
+
+def reason(error: OSError) -> str:
+    """Returns why a file was not written. On a full disk numpy says only how much it wrote."""
+    if error.errno is None and "requested and" in str(error):
+        return f"{os.strerror(errno.ENOSPC)}: {error}"
+    return error.strerror or str(error)
 
 
 def move(stage: Path, folder: Path, last: str, whole: tuple[str, ...]) -> None:

@@ -4,23 +4,49 @@ grades recur."""
 from __future__ import annotations
 
 import re
+import shutil
+from functools import partial
 from pathlib import Path
 from typing import Optional, TextIO
 
 import numpy as np
 import pandas as pd
 
+from .processes import cores, run_all
+
 # Rows that are in memory as texts at once.
 ROWS = 100_000
+# A second process writes tables of this many rows or more; each further multiple adds a process.
+APART = 200_000
+# Whole numbers, such as ids, are taken not to recur if most of this many differ.
+SAMPLE = 1_000
 QUOTED = re.compile('[,"\r\n]')
 
 
 def write(path: Path, table: pd.DataFrame) -> None:
-    """The bytes of `table.to_csv(path, index=False)`."""
+    """Writes the bytes of `table.to_csv(path, index=False)`, those of a large table by several processes."""
+    shares = min(cores(), 1 + len(table) // APART)
+    bounds = np.linspace(0, len(table), shares + 1).astype(int).tolist()
+    parts = [path, *(path.with_name(f"{path.name}.{number}") for number in range(1, shares))]
+    try:
+        run_all([partial(write_part, part, table, rows) for part, rows in zip(parts, zip(bounds, bounds[1:]))])
+        with open(path, "ab") as file:
+            for part in parts[1:]:
+                with open(part, "rb") as more:
+                    shutil.copyfileobj(more, file, 1 << 20)
+    finally:
+        for part in parts[1:]:
+            part.unlink(missing_ok=True)
+
+
+def write_part(path: Path, table: pd.DataFrame, rows: tuple[int, int]) -> None:
+    """Writes rows from one to before another, the first ones below the heading."""
+    begin, end = rows
     with open(path, "w", encoding="utf-8", newline="") as file:
-        table.iloc[:0].to_csv(file, index=False)
-        for start in range(0, len(table), ROWS):
-            write_rows(file, table.iloc[start : start + ROWS])
+        if begin == 0:
+            table.iloc[:0].to_csv(file, index=False)
+        for start in range(begin, end, ROWS):
+            write_rows(file, table.iloc[start : min(start + ROWS, end)])
 
 
 def write_rows(file: TextIO, rows: pd.DataFrame) -> None:
@@ -41,6 +67,8 @@ def texts_of(values: np.ndarray) -> Optional[list[str]]:
         return values.tolist() if is_plain else None
     if values.dtype not in (np.float64, np.int64, np.int32, np.int16):
         return None
+    if values.dtype != np.float64 and 2 * len(np.unique(values[:SAMPLE])) > SAMPLE:
+        return [*map(repr, values.tolist())]
     # By the bits of floats, which tell 0 from -0.
     place, distinct = pd.factorize(values.view(np.int64) if values.dtype == np.float64 else values)
     words = [("" if it != it else repr(it)) for it in distinct.view(values.dtype).tolist()]

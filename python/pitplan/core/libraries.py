@@ -2,6 +2,7 @@
 
 from __future__ import annotations
 
+import sys
 from dataclasses import dataclass
 
 
@@ -28,7 +29,20 @@ class Library:
 
     @property
     def remedy(self) -> str:
-        return f"apt-get install {self.package}" if self.package else f"pip install {self.module}"
+        if self.package and not is_apart():
+            return f"apt-get install {self.package}"
+        # Debian's pip refuses to install outside of a virtual environment.
+        return f"pip install {self.module.rpartition('.')[2]}{'' if in_environment() else ' in a virtual environment'}"
+
+
+def in_environment() -> bool:
+    """Returns whether Python runs in a virtual environment."""
+    return sys.prefix != sys.base_prefix
+
+
+def is_apart() -> bool:
+    """Returns whether Python runs in a virtual environment without the packages of Debian."""
+    return in_environment() and not any(place.endswith("dist-packages") for place in sys.path)
 
 
 LIBRARIES = (

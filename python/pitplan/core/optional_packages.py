@@ -3,8 +3,10 @@
 from __future__ import annotations
 
 import importlib
+from importlib.util import find_spec
 from pathlib import Path
 from types import ModuleType
+from typing import Mapping
 
 from pitplan.errors import MissingPackage
 
@@ -23,6 +25,14 @@ def load(module: str, package: str, purpose: str) -> ModuleType:
             raise MissingPackage(f"{purpose} needs the Debian package {package}: apt-get install {package}") from error
         why = f"{purpose} needs the Debian package {package}, which is there and cannot be imported: {error}"
         raise MissingPackage(f"{why}: apt-get install --reinstall {package}") from error
+
+
+def demand_modules(packages: Mapping[str, str], purpose: str) -> None:
+    """Raises MissingPackage if a module is not installed, with the Debian packages of all that are missing; `packages` has them by module."""
+    missing = [package for module, package in packages.items() if find_spec(module) is None]
+    if missing:
+        which = f"the Debian package{'s' if len(missing) > 1 else ''} {' and '.join(missing)}"
+        raise MissingPackage(f"{purpose} needs {which}: apt-get install {' '.join(missing)}")
 
 
 def load_library(purpose: str) -> ModuleType:

@@ -3,8 +3,8 @@
 The shell of revenue factor f is the pit of the mine whose values are `f * revenue - cost`. In money these have up to nine decimals, but a model
 has six, so they are written times 1,000, exactly.
 
-A folder that the program solved has the files of the mine. If the library solved, they are written here from the project and its table, which
-must be unchanged. In both cases the program finds the audited pit, which must be the shell of the folder.
+A folder that the program solved has the files of the mine. If the library solved, they are written here from the project that was run and its
+table, which must be unchanged. In both cases the program finds the audited pit, which must be the shell of the folder.
 """
 
 from __future__ import annotations
@@ -50,10 +50,17 @@ cd "$(dirname "$0")"
 sha256sum --check --quiet {hashes}
 echo "hashes: yes"
 printf 'pitshell check: '
-"$program" check --model {model} --prec {prec} --certificate {certificate}{fixed}
+missing=0
+if command -v "$program" > /dev/null; then
+    "$program" check --model {model} --prec {prec} --certificate {certificate}{fixed}
+else
+    echo "not run: $program not found: install pitshell, or set PITSHELL"
+    missing=1
+fi
 printf 'check_certificate.py: '
 # As python -P, which Python before 3.11 does not know: no module is taken from this folder.
 PYTHONSAFEPATH=1 "${{PYTHON:-python3}}" check_certificate.py {model} {prec} {certificate}{fixed}
+exit $missing
 """
 
 

@@ -2,6 +2,7 @@
 
 from __future__ import annotations
 
+import os
 from pathlib import Path
 
 import numpy as np
@@ -70,16 +71,28 @@ def cells_of(frame: pd.DataFrame, project: Project, grid: Grid) -> np.ndarray:
 
 
 def project_of(folder: Folder) -> Project:
-    """Returns the project of the folder. Raises PlanError if it or one of its inputs has changed since the run."""
+    """Returns the project that was run. Its file may have changed since: project-as-run.toml has what was run, and its hash is in the record.
+
+    Raises PlanError if another input has changed since the run.
+    """
     project = project_writer.as_run(folder.path, folder.record["project"])
+    has_text = project_writer.AS_RUN in folder.record["files"]
     for name, path in project.named_inputs.items():
         try:
-            is_same = folder.record["inputs"].get(name) == hash_of(path)
+            is_same = has_text and path == project.path or folder.record["inputs"].get(name) == hash_of(path)
         except OSError as error:
-            raise PlanError(f"{path}: cannot be read: {error.strerror}") from error
+            raise PlanError(f"{plain(path)}: cannot be read: {error.strerror}") from error
         if not is_same:
-            raise PlanError(f"{path}: has changed since {folder.path} was written: run pitplan again")
+            raise PlanError(
+                f"{plain(path)}: has changed since {folder.path} was written: run pitplan again into this folder"
+            )
     return project
+
+
+def plain(path: Path) -> Path:
+    """Returns a path without the folders that it leaves again, unless a symbolic link makes that another file."""
+    short = Path(os.path.normpath(path))
+    return short if short.resolve() == path.resolve() else path
 
 
 def as_text(file: Path, project: Project) -> tuple[pd.DataFrame, TableFormat]:

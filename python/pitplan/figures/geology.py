@@ -8,6 +8,7 @@ from typing import Any, Optional
 
 import matplotlib
 import numpy as np
+import pandas as pd
 from matplotlib.axes import Axes
 from matplotlib.colors import BoundaryNorm, ListedColormap
 from matplotlib.patches import Patch
@@ -58,7 +59,10 @@ def kinds_of(plan: Plan) -> list[Kind]:
 def kind_of(plan: Plan, title: str, column: str) -> Kind:
     """Returns the codes of a column. Of more codes than colours the rarest are together."""
     tonnes = plan.values.tonnes[plan.grid.rows]
-    codes, number, count = np.unique(plan.table[column].astype(str), return_inverse=True, return_counts=True)
+    place, found = pd.factorize(plan.table[column], use_na_sentinel=False)
+    codes, number_of = np.unique([str(code) for code in found], return_inverse=True)
+    number = number_of[place]
+    count = np.bincount(number)
     order = codes[np.argsort(-count, kind="stable")].tolist()
     is_class = column == plan.project.table.resource_class
     if is_class:

@@ -140,6 +140,7 @@ def write(path: Path, folder: Path, project: Project, sensitivity: Optional[Path
         not_verified=NOT_VERIFIED,
         inputs=record["inputs"],
         outputs=record["files"],
+        versions=", ".join(f"{name} {version}" for name, version in record["libraries"].items()),
         **{name: record["shells"][name] for name in ("selected", "solver")},
         **{name: record[name] for name in ("summary", "verified")},
     )

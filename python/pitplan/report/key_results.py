@@ -80,7 +80,10 @@ def of_schedule(folder: Path, project: Project, shown: str) -> list[Figure]:
 
 
 def of_money(lines: Written, values: Written, project: Project) -> list[Figure]:
-    """Returns NPV after tax if there is closure cost or tax, the internal rate of return, payback and capital."""
+    """Returns NPV after tax if there is closure cost or tax, the internal rate of return, payback and capital.
+
+    If nothing has to be paid back there is no rate of return, and a payback of 0 years would say nothing: both are left out.
+    """
     rules, rate = project.cash_flow, project.shells.discount_rate
     row = int((values.frame["discount_rate"] - rate).abs().idxmin())
     is_taxed = bool(rules.closure_cost or rules.tax_rate)
@@ -88,8 +91,9 @@ def of_money(lines: Written, values: Written, project: Project) -> list[Figure]:
     size, sign = scaled(abs(float(values.frame.at[row, "npv"])))
     money = f"{sign} {project.economics.currency}".strip()
     shown = [("npv_after_tax", "Net present value after tax", size, 2, money)] if is_taxed else []
-    shown += [(f"irr{kind}", f"Internal rate of return{after}", 0.01, 1, "%")]
-    shown += [(f"payback{kind}", f"Payback{after}", 1.0, 1, "years")]
+    if float(values.frame.at[row, f"payback{kind}"]) != 0:
+        shown += [(f"irr{kind}", f"Internal rate of return{after}", 0.01, 1, "%")]
+        shown += [(f"payback{kind}", f"Payback{after}", 1.0, 1, "years")]
     found = []
     for name, label, unit, places, sign in shown:
         text = number(float(values.frame.at[row, name]), unit, places)
