@@ -131,13 +131,13 @@ def test_help_names_each_option(mine: Mine, subcommand: str, options: list[str])
 
 
 def test_version_is_the_release(mine: Mine) -> None:
-    assert mine.run("--version") == (0, "pitshell 0.1.0\n", "")
-    assert "\n## [0.1.0]" in (TOP / "CHANGELOG.md").read_text()
+    assert mine.run("--version") == (0, "pitshell 0.2.0\n", "")
+    assert "\n## [0.2.0]" in (TOP / "CHANGELOG.md").read_text()
 
 
 @pytest.mark.skipif(not shutil.which("rt"), reason="no toolchain here")
 def test_what_was_built_names_the_toolchain() -> None:
     told = (TOP / "build" / "pitshell.version").read_text().splitlines()
     toolchain = subprocess.run(["rt", "version"], capture_output=True, text=True, check=True).stdout.strip()
-    assert told[0] == "pitshell 0.1.0"
+    assert told[0] == "pitshell 0.2.0"
     assert told[-1] == f"proved with {toolchain}"

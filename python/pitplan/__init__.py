@@ -97,7 +97,7 @@ else:
         return found
 
 
-__version__ = "0.1.0"
+__version__ = "0.2.0"
 
 # The public names by their modules, which are imported on first use: `import pitplan` alone takes neither pandas nor matplotlib.
 MODULES = {

@@ -23,7 +23,7 @@ from ._nesting import Shells, shells
 from ._refusals import NoMemory, Refusal
 from ._solving import BARRED, FORCED, FREE, Pit, solve
 
-__version__ = "0.1.0"
+__version__ = "0.2.0"
 
 __all__ = [
     "BARRED",

@@ -24,6 +24,7 @@ SOLVE = "import pitshell; print(pitshell.solve([-3.0, 5.0], [[1, 0]]).worth)"
 def dist() -> Path:
     if not (BUILD / "pitshell").is_file() or not (BUILD / "libpitshell.so").is_file():
         pytest.skip("make and make library build what is packed")
+    subprocess.run(["make", "-C", ROOT, "site"], check=True, capture_output=True)
     subprocess.run([ROOT / "tools" / "dist.py"], check=True, capture_output=True)
     return BUILD / "dist"
 

@@ -9,6 +9,7 @@ import pytest
 import tomllib
 from conftest import ROOT
 
+import pitplan
 from pitplan.cli import main
 from pitplan.commands import doctor
 from pitplan.core.libraries import LIBRARIES, Library
@@ -24,7 +25,7 @@ def test_versions_are_those_of_the_installed_packages():
     packages = [it.package for it in LIBRARIES if it.package]
     said = subprocess.run([*words, *packages], capture_output=True, text=True, check=True).stdout
     versions = dict(line.split() for line in said.splitlines())
-    found = by_part(doctor.findings("0.1.0"))
+    found = by_part(doctor.findings(pitplan.__version__))
     for it in LIBRARIES:
         if it.package:
             debian = versions[it.package].partition(":")[2] or versions[it.package]
@@ -101,7 +102,7 @@ def test_the_parts_as_json(capsys):
     assert main(["doctor", "--json"]) == 0
     found = {it["part"]: it for it in json.loads(capsys.readouterr().out)}
     assert found["Python"]["found"] == ".".join(map(str, sys.version_info[:3]))
-    assert found["libpitshell.so"]["found"].startswith("0.1.0 in ") and found["program pitshell"]["remedy"] == ""
+    assert found["libpitshell.so"]["found"].startswith(f"{pitplan.__version__} in ") and found["program pitshell"]["remedy"] == ""
 
 
 def test_the_version_of_the_program_of_schedules_is_told_if_it_runs(monkeypatch, tmp_path):

@@ -324,7 +324,7 @@ pub fn command<'a>(alloc: Global) -> Result<Command<'a>, AllocError>
     ensures { IfOk result (λ made. subcommands_in made ≡ (codes "solve", solve_options) ∷ (codes "shells", shells_options) ∷ (codes "check", check_options) ∷ (codes "replay", replay_options) ∷ []) }
 {
     let command = Command::new(alloc, "pitshell")
-        .version("0.1.0")
+        .version("0.2.0")
         .about("Find the ultimate pit of a mine with a proved solver")
         .after_help(STATUSES)
         .subcommand_required(true)

@@ -70,7 +70,7 @@ fn bound_command<'a>(alloc: Global) -> Result<Command<'a>, AllocError> {
 /// Returns the command line.
 pub fn command<'a>(alloc: Global) -> Result<Command<'a>, AllocError> {
     Command::new(alloc, "pitschedule")
-        .version("0.1.0")
+        .version("0.2.0")
         .about(
             "Check open-pit production schedules, and bound what any schedule is worth, with proofs",
         )
