@@ -102,7 +102,10 @@ def test_the_parts_as_json(capsys):
     assert main(["doctor", "--json"]) == 0
     found = {it["part"]: it for it in json.loads(capsys.readouterr().out)}
     assert found["Python"]["found"] == ".".join(map(str, sys.version_info[:3]))
-    assert found["libpitshell.so"]["found"].startswith(f"{pitplan.__version__} in ") and found["program pitshell"]["remedy"] == ""
+    assert (
+        found["libpitshell.so"]["found"].startswith(f"{pitplan.__version__} in ")
+        and found["program pitshell"]["remedy"] == ""
+    )
 
 
 def test_the_version_of_the_program_of_schedules_is_told_if_it_runs(monkeypatch, tmp_path):
