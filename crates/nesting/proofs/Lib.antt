@@ -8,3 +8,4 @@ pub mod Amounts
 pub mod Refusing
 pub mod Outer
 pub mod Parametric
+pub mod Turns

@@ -1,32 +1,34 @@
--- A mine whose values rise outside the pit of a factor to those of a greater one has the pit of the greater factor: that pit holds
--- the one before, and sets that hold it differ by the same sum in both mines.
-use Rattle.std.proofs.Common.{◌≡◌, ℕ, ◌+◌, ◌<◌, ◌≤◌, ◌&&◌, ◌||◌, Bool, true, false, refl, sym, ap, subst, ◌∙◌, arith, ⊎_elim, List, get_or, length}
+-- A mine whose values rise outside its pit, up to those of another mine, has the pit of that other mine: that pit holds the one
+-- before, and sets that hold it differ by the same sum in both mines. The values rise with the factor; negated ones as it falls.
+use Rattle.std.proofs.Common.{◌≡◌, ℕ, ◌+◌, ◌<◌, ◌^◌, ◌&&◌, ◌||◌, Bool, true, false, refl, sym, ap, subst, ◌∙◌, arith, ⊎_elim, List, get_or, length}
 use Rattle.std.specs.Prelude.{ℤ, pos, ◌+ℤ◌, ◌-ℤ◌, ◌≤ℤ◌}
 use Rattle.std.specs.List.{All, range_with_len}
 use Rattle.std.proofs.lemmas.List.Elements.{All-from_get_or}
 use Rattle.std.proofs.lemmas.List.FromFn.{get_or-range_with_len, length-range_with_len}
 use Rattle.std.proofs.lemmas.Bool.{and_from, and_parts, cases_Bool, cases_eq, or_left, true≢false}
 use Rattle.std.proofs.lemmas.Int.{ints}
-use Rattle.std.proofs.lemmas.List.{get_or-set_same, get_or-set_other, length-set}
+use Rattle.std.proofs.lemmas.List.{ext_get_or, get_or-map, get_or-set_same, get_or-set_other, length-map, length-set}
 use Rattle.pit_model.specs.Sum.{total, when}
-use Rattle.pit_model.specs.Graph.{Graph}
-use Rattle.pit_model.specs.Mine.{Instance, IsClosed, IsPit, instance_of, members, source, value, worth}
+use Rattle.pit_model.specs.Graph.{Graph, first_of}
+use Rattle.pit_model.specs.Mine.{Instance, IsClosed, IsPit, instance_of, members, value, worth}
 use Rattle.pit_model.specs.Deposit.{Deposit, IsPriced, mine_at, value_at}
-use Rattle.pit_model.specs.declared.direction.Direction.TheVariants.{Least}
+use Rattle.pit_model.specs.declared.direction.Direction.{Direction}
+use Rattle.pit_model.specs.declared.direction.Direction.TheVariants.{Least, Greatest}
 use Rattle.pit_model.specs.declared.shell.Shell.{Shell}
 use Rattle.pit_model.specs.Shells.{IsShell}
-use Rattle.pit_model.specs.Direction.{no_blocks_fixed}
+use Rattle.pit_model.specs.Direction.{IsDual, IsPitToward, no_blocks_fixed}
 use Rattle.pit_model.proofs.Fixed.{none_fixes_nothing}
 use Rattle.pit_model.proofs.MemberSums.{summed-members}
 use Rattle.pit_model.proofs.Rest.{union_closed}
-use Rattle.pit_model.proofs.Shells.{gains, holds, no_loss, value_at_is, values_rise}
+use Rattle.pit_model.proofs.Shells.{gains, value_at_is, values_rise}
 use Rattle.pit_model.proofs.Sums.{total-same, total-sub}
-use Rattle.pit_model.proofs.Dual.{nothing_fixed}
+use Rattle.pit_model.proofs.Dual.{complement_is_greatest, nothing_fixed}
 use Rattle.mine_graph.specs.Raised.{raised_at}
 use Rattle.nesting.specs.Prices.{Prices, deposit_of, price_of}
 use Rattle.nesting.specs.Grown.{marked}
 use Rattle.nesting.specs.declared.parametric_shells.ParametricState.{ParametricState}
-use Rattle.nesting.specs.Parametric.{IsHeld, HasIncreased, IsSolvedAt}
+use Rattle.nesting.proofs.PriceBounds.{IsSmall}
+use Rattle.nesting.specs.Parametric.{ArePairsToward, Follows, IsHeld, HasIncreased, IsSearchedAt, IsSolvedAt, searched_mine, set_toward, toward}
 
 -- the numbers of all blocks
 pub range_below : (n : ℕ) → All (λ u. u < n) (range_with_len 0 n)
@@ -37,8 +39,8 @@ range_below n =
     omega arith)
 
 -- ---- one block more
-pub risen_marked : (prices : Prices) (marks : List Bool) (factor i : ℕ) (before mine : Instance) → HasIncreased prices marks factor i before mine → marked marks i ≡ true → HasIncreased prices marks factor (i + 1) before mine
-risen_marked prices marks factor i before mine is on = record {
+pub risen_marked : (direction : Direction) (prices : Prices) (marks : List Bool) (factor i : ℕ) (before mine : Instance) → HasIncreased direction prices marks factor i before mine → marked marks i ≡ true → HasIncreased direction prices marks factor (i + 1) before mine
+risen_marked direction prices marks factor i before mine is on = record {
   blocks = is.blocks;
   pairs = is.pairs;
   size = is.size;
@@ -50,31 +52,31 @@ risen_marked prices marks factor i before mine is on = record {
   later = λ u l. is.later u (omega arith);
 }
 
-pub risen_same : (prices : Prices) (marks : List Bool) (factor i : ℕ) (before mine : Instance) → HasIncreased prices marks factor i before mine → value before i ≡ price_of prices factor i → HasIncreased prices marks factor (i + 1) before mine
-risen_same prices marks factor i before mine is same = record {
+pub risen_same : (direction : Direction) (prices : Prices) (marks : List Bool) (factor i : ℕ) (before mine : Instance) → HasIncreased direction prices marks factor i before mine → value before i ≡ toward direction (price_of prices factor i) → HasIncreased direction prices marks factor (i + 1) before mine
+risen_same direction prices marks factor i before mine is same = record {
   blocks = is.blocks;
   pairs = is.pairs;
   size = is.size;
   risen = λ u l off. ⊎_elim
-      (λ (e : u ≡ i). subst (λ v. value mine v ≡ price_of prices factor v) (sym e) (is.later i (omega arith) ∙ same))
+      (λ (e : u ≡ i). subst (λ v. value mine v ≡ toward direction (price_of prices factor v)) (sym e) (is.later i (omega arith) ∙ same))
       (λ (ne : u ≡ i → ⊥). is.risen u (omega arith) off)
       (cases_eq u i);
   kept = is.kept;
   later = λ u l. is.later u (omega arith);
 }
 
-pub risen_raised : (prices : Prices) (marks : List Bool) (factor i : ℕ) (before mine : Instance) (amount : ℤ) → HasIncreased prices marks factor i before mine → i < length mine.values → marked marks i ≡ false
-    → (value before i +ℤ amount) ≡ price_of prices factor i → HasIncreased prices marks factor (i + 1) before (raised_at mine i amount)
-risen_raised prices marks factor i before mine amount is inside off same =
+pub risen_raised : (direction : Direction) (prices : Prices) (marks : List Bool) (factor i : ℕ) (before mine : Instance) (amount : ℤ) → HasIncreased direction prices marks factor i before mine → i < length mine.values → marked marks i ≡ false
+    → (value before i +ℤ amount) ≡ toward direction (price_of prices factor i) → HasIncreased direction prices marks factor (i + 1) before (raised_at mine i amount)
+risen_raised direction prices marks factor i before mine amount is inside off same =
     let other : (u : ℕ) → (u ≡ i → ⊥) → value (raised_at mine i amount) u ≡ value mine u = λ u ne. get_or-set_other mine.values i u (value mine i +ℤ amount) (pos 0) ne in
-    let here : value (raised_at mine i amount) i ≡ price_of prices factor i =
+    let here : value (raised_at mine i amount) i ≡ toward direction (price_of prices factor i) =
     get_or-set_same mine.values i (value mine i +ℤ amount) (pos 0) inside ∙ ap (λ x. x +ℤ amount) (is.later i (omega arith)) ∙ same in
     record {
       blocks = is.blocks;
       pairs = is.pairs;
       size = length-set mine.values i (value mine i +ℤ amount) ∙ is.size;
       risen = λ u l h. ⊎_elim
-          (λ (e : u ≡ i). subst (λ v. value (raised_at mine i amount) v ≡ price_of prices factor v) (sym e) here)
+          (λ (e : u ≡ i). subst (λ v. value (raised_at mine i amount) v ≡ toward direction (price_of prices factor v)) (sym e) here)
           (λ (ne : u ≡ i → ⊥). other u ne ∙ is.risen u (omega arith) h)
           (cases_eq u i);
       kept = λ u on. other u (λ (e : u ≡ i). true≢false (sym on ∙ ap (marked marks) e ∙ off)) ∙ is.kept u on;
@@ -89,61 +91,72 @@ cut false true x y over same = absurd (true≢false (sym (over refl)))
 cut true false x y over same = let e = same refl in omega (arith, ints)
 cut false false x y over same = refl
 
--- values before and after the rise, and the pit S of the lesser factor, which is that of the mine before
-module _ (deposit : Deposit) (lesser greater : ℕ) (priced : IsPriced deposit) (le : lesser ≤ greater) (vs ws : List ℤ) (S P : ℕ → Bool)
-    (outside : (u : ℕ) → u < deposit.blocks → S u ≡ false → get_or vs u (pos 0) ≡ value_at deposit lesser u)
-    (risen : (u : ℕ) → u < deposit.blocks → S u ≡ false → get_or ws u (pos 0) ≡ value_at deposit greater u)
-    (kept : (u : ℕ) → u < deposit.blocks → S u ≡ true → get_or ws u (pos 0) ≡ get_or vs u (pos 0))
-    (here : IsPit (instance_of deposit.blocks vs deposit.pairs) S) (there : IsPit (mine_at deposit lesser) S)
-    (pit : IsPit (instance_of deposit.blocks ws deposit.pairs) P) where
-  rise : (u : ℕ) → u < deposit.blocks → get_or vs u (pos 0) ≤ℤ get_or ws u (pos 0)
+-- the pit of a mine, and a closed set of one whose values are not lower
+module _ (n : ℕ) (pairs : List (ℕ × ℕ)) (low high : List ℤ) (more : (u : ℕ) → u < n → get_or low u (pos 0) ≤ℤ get_or high u (pos 0)) (A C : ℕ → Bool)
+    (pit : IsPit (instance_of n low pairs) A) (closed : IsClosed (instance_of n high pairs) C) where
+  met : IsClosed (instance_of n low pairs) (λ u. A u && C u)
+  met k l h =
+      let held = and_parts (A (first_of pairs k)) (C (first_of pairs k)) h in
+      and_from _ _ (pit.closed k l held.0) (closed k l held.1)
+
+  gained : (worth (instance_of n low pairs) A -ℤ worth (instance_of n low pairs) (λ u. A u && C u)) ≤ℤ (worth (instance_of n high pairs) (λ u. A u || C u) -ℤ worth (instance_of n high pairs) C)
+  gained = gains n (value (instance_of n low pairs)) (value (instance_of n high pairs)) A C more
+
+  -- the closed set gains by joining the pit
+  joins : worth (instance_of n high pairs) C ≤ℤ worth (instance_of n high pairs) (λ u. A u || C u)
+  joins =
+      let best = pit.best (λ u. A u && C u) met in
+      let rises = gained in
+      omega (arith, ints)
+
+  -- and where it gains nothing, it holds the pit
+  holds : worth (instance_of n high pairs) (λ u. A u || C u) ≤ℤ worth (instance_of n high pairs) C → (u : ℕ) → u < n → A u ≡ true → C u ≡ true
+  holds none u below h =
+      let best = pit.best (λ u. A u && C u) met in
+      let rises = gained in
+      let same : worth (instance_of n low pairs) (λ u. A u && C u) ≡ worth (instance_of n low pairs) A = omega (arith, ints) in
+      (and_parts (A u) (C u) (pit.smallest (λ u. A u && C u) met same u below h)).1
+
+-- values before and after the rise, and the pit S of the lower mine, which is that of the mine before
+module _ (n : ℕ) (pairs : List (ℕ × ℕ)) (low high vs ws : List ℤ) (S P : ℕ → Bool) (more : (u : ℕ) → u < n → get_or low u (pos 0) ≤ℤ get_or high u (pos 0))
+    (outside : (u : ℕ) → u < n → S u ≡ false → get_or vs u (pos 0) ≡ get_or low u (pos 0))
+    (risen : (u : ℕ) → u < n → S u ≡ false → get_or ws u (pos 0) ≡ get_or high u (pos 0))
+    (kept : (u : ℕ) → u < n → S u ≡ true → get_or ws u (pos 0) ≡ get_or vs u (pos 0))
+    (here : IsPit (instance_of n vs pairs) S) (there : IsPit (instance_of n low pairs) S)
+    (pit : IsPit (instance_of n ws pairs) P) where
+  rise : (u : ℕ) → u < n → get_or vs u (pos 0) ≤ℤ get_or ws u (pos 0)
   rise u l = ⊎_elim
       (λ (on : S u ≡ true). let same = kept u l on in omega (arith, ints))
       (λ (off : S u ≡ false).
-      let low = outside u l off in
-      let high = risen u l off in
-      let one = value_at_is deposit lesser u l in
-      let two = value_at_is deposit greater u l in
-      let more = values_rise deposit lesser greater u priced le l in
+      let before = outside u l off in
+      let after = risen u l off in
+      let rises = more u l in
       omega (arith, ints))
       (cases_Bool (S u))
 
-  meet_closed : IsClosed (instance_of deposit.blocks vs deposit.pairs) (λ u. S u && P u)
-  meet_closed k l h =
-      let held = and_parts (S (source (instance_of deposit.blocks vs deposit.pairs) k)) (P (source (instance_of deposit.blocks vs deposit.pairs) k)) h in
-      and_from _ _ (here.closed k l held.0) (pit.closed k l held.1)
-
   -- the pit after the rise holds the one before
-  pub grown : (u : ℕ) → u < deposit.blocks → S u ≡ true → P u ≡ true
-  grown u l h =
-      let B = instance_of deposit.blocks vs deposit.pairs in
-      let M = instance_of deposit.blocks ws deposit.pairs in
-      let best = here.best (λ v. S v && P v) meet_closed in
-      let up = pit.best (λ v. S v || P v) (union_closed M S P here.closed pit.closed) in
-      let more = gains deposit.blocks (value B) (value M) S P rise in
-      let same : worth B (λ v. S v && P v) ≡ worth B S = omega (arith, ints) in
-      (and_parts (S u) (P u) (here.smallest (λ v. S v && P v) meet_closed same u l h)).1
+  pub grown : (u : ℕ) → u < n → S u ≡ true → P u ≡ true
+  grown = holds n pairs vs ws rise S P here pit.closed (pit.best (λ v. S v || P v) (union_closed (instance_of n ws pairs) S P here.closed pit.closed))
 
-  shift : (C : ℕ → Bool) → ((u : ℕ) → u < deposit.blocks → S u ≡ true → C u ≡ true)
-      → (worth (mine_at deposit greater) C -ℤ worth (instance_of deposit.blocks ws deposit.pairs) C) ≡ (worth (mine_at deposit greater) S -ℤ worth (instance_of deposit.blocks ws deposit.pairs) S)
+  shift : (C : ℕ → Bool) → ((u : ℕ) → u < n → S u ≡ true → C u ≡ true)
+      → (worth (instance_of n high pairs) C -ℤ worth (instance_of n ws pairs) C) ≡ (worth (instance_of n high pairs) S -ℤ worth (instance_of n ws pairs) S)
   shift C over =
-      let n = deposit.blocks in
-      let v = value (mine_at deposit greater) in
-      let w = value (instance_of deposit.blocks ws deposit.pairs) in
+      let v = value (instance_of n high pairs) in
+      let w = value (instance_of n ws pairs) in
       sym (total-sub n (λ u. when (C u) (v u)) (λ u. when (C u) (w u)))
       ∙ total-same n (λ u. when (C u) (v u) -ℤ when (C u) (w u)) (λ u. when (S u) (v u) -ℤ when (S u) (w u))
-      (λ u l. cut (C u) (S u) (v u) (w u) (over u l) (λ off. value_at_is deposit greater u l ∙ sym (risen u l off)))
+      (λ u l. cut (C u) (S u) (v u) (w u) (over u l) (λ off. sym (risen u l off)))
       ∙ total-sub n (λ u. when (S u) (v u)) (λ u. when (S u) (w u))
 
-  pub pit_there : IsPit (mine_at deposit greater) P
+  pub pit_there : IsPit (instance_of n high pairs) P
   pit_there =
-      let A = mine_at deposit greater in
-      let M = instance_of deposit.blocks ws deposit.pairs in
+      let A = instance_of n high pairs in
+      let M = instance_of n ws pairs in
       let own = shift P grown in
       record {
         closed = pit.closed;
         best = λ other closed.
-            let gain = no_loss deposit lesser greater priced le S other there.closed there.best closed in
+            let gain = joins n pairs low high more S other there closed in
             let up = pit.best (λ u. S u || other u) (union_closed M S other here.closed closed) in
             let wide = shift (λ u. S u || other u) (λ u l h. or_left (S u) (other u) h) in
             omega (arith, ints);
@@ -151,40 +164,132 @@ module _ (deposit : Deposit) (lesser greater : ℕ) (priced : IsPriced deposit) 
             let up = pit.best (λ v. S v || other v) (union_closed M S other here.closed closed) in
             let wide = shift (λ v. S v || other v) (λ v m on. or_left (S v) (other v) on) in
             let none : worth A (λ v. S v || other v) ≤ℤ worth A other = omega (arith, ints) in
-            let narrow = shift other (holds deposit lesser greater priced le S other there.closed there.best closed there.smallest none) in
+            let narrow = shift other (holds n pairs low high more S other there closed none) in
             let level : worth M other ≡ worth M P = omega (arith, ints) in
             pit.smallest other closed level u l h;
       }
 
--- a mine by its values, over the blocks and pairs of a deposit
-over : (deposit : Deposit) (mine : Instance) → mine.blocks ≡ deposit.blocks → mine.pairs ≡ deposit.pairs → mine ≡ instance_of deposit.blocks mine.values deposit.pairs
-over deposit mine blocks pairs = ap (λ n. instance_of n mine.values mine.pairs) blocks ∙ ap (λ ps. instance_of deposit.blocks mine.values ps) pairs
+-- ---- the mine that is searched
+-- its values, block by block
+value_toward : (direction : Direction) (deposit : Deposit) (factor : ℕ) (pairs : List (ℕ × ℕ)) (u : ℕ) → u < deposit.blocks
+    → value (searched_mine direction deposit factor pairs) u ≡ toward direction (value_at deposit factor u)
+value_toward direction deposit factor pairs u below =
+    let size = length-range_with_len 0 deposit.blocks in
+    let from_zero = get_or-range_with_len 0 deposit.blocks u 0 below in
+    let at : get_or (range_with_len 0 deposit.blocks) u 0 ≡ u = omega (arith, from_zero) in
+    get_or-map (λ v. toward direction (value_at deposit factor v)) (range_with_len 0 deposit.blocks) u 0 (pos 0) (omega (arith, size, below))
+    ∙ ap (λ v. toward direction (value_at deposit factor v)) at
 
--- the mine that has risen: its pit holds the one before, and is that of the greater factor
-module _ (prices : Prices) (graph : Graph) (lesser greater : ℕ) (marks : List Bool) (before mine : Instance) (P : ℕ → Bool) (priced : IsPriced (deposit_of prices graph)) (le : lesser ≤ greater)
-    (held : IsHeld (deposit_of prices graph) lesser marks before) (is : HasIncreased prices marks greater before.blocks before mine) (pit : IsPit mine P) where
+-- each is within the limit
+pub toward_most : (direction : Direction) (v : ℤ) → IsSmall v → toward direction v ≤ℤ pos (10 ^ 23)
+toward_most Least v small = small.1
+toward_most Greatest v small = let low = small.0 in omega (arith, ints)
+
+-- they do not fall from turn to turn
+values_toward_rise : (direction : Direction) (deposit : Deposit) (from to u : ℕ) → IsPriced deposit → Follows direction from to → u < deposit.blocks
+    → toward direction (value_at deposit from u) ≤ℤ toward direction (value_at deposit to u)
+values_toward_rise Least deposit from to u priced le l =
+    let one = value_at_is deposit from u l in
+    let two = value_at_is deposit to u l in
+    let more = values_rise deposit from to u priced le l in
+    omega (arith, ints)
+values_toward_rise Greatest deposit from to u priced le l =
+    let one = value_at_is deposit from u l in
+    let two = value_at_is deposit to u l in
+    let more = values_rise deposit to from u priced le l in
+    omega (arith, ints)
+
+-- toward the greatest pit it is the dual mine
+dual_of : (deposit : Deposit) (factor : ℕ) (pairs : List (ℕ × ℕ)) → ArePairsToward Greatest deposit pairs → IsDual (mine_at deposit factor) (searched_mine Greatest deposit factor pairs)
+dual_of deposit factor pairs are = record {
+  reversed = record { same_blocks = refl; pairs_are = are };
+  counted = length-map (range_with_len 0 deposit.blocks) (λ u. toward Greatest (value_at deposit factor u)) ∙ length-range_with_len 0 deposit.blocks;
+  negated = λ u l. value_toward Greatest deposit factor pairs u l ∙ ap (λ v. pos 0 -ℤ v) (sym (value_at_is deposit factor u l));
+}
+
+-- its pit gives the pit toward the direction
+pit_toward_is : (direction : Direction) (deposit : Deposit) (factor : ℕ) (pairs : List (ℕ × ℕ)) (P : ℕ → Bool) → ArePairsToward direction deposit pairs
+    → IsPit (searched_mine direction deposit factor pairs) P → IsPitToward direction (mine_at deposit factor) no_blocks_fixed (set_toward direction P)
+pit_toward_is Least deposit factor pairs P are pit =
+    (none_fixes_nothing (mine_at deposit factor) no_blocks_fixed P nothing_fixed).1 (subst (λ ps. IsPit (searched_mine Least deposit factor ps) P) are pit)
+pit_toward_is Greatest deposit factor pairs P are pit =
+    complement_is_greatest (mine_at deposit factor) (searched_mine Greatest deposit factor pairs) P (dual_of deposit factor pairs are) pit
+
+-- a mine in memory that is searched at a factor
+blocks_toward : (direction : Direction) (deposit : Deposit) (factor : ℕ) (mine : Instance) → IsSearchedAt direction deposit factor mine → mine.blocks ≡ deposit.blocks
+blocks_toward Least deposit factor mine is = ap (λ (m : Instance). m.blocks) is
+blocks_toward Greatest deposit factor mine is = is.reversed.same_blocks
+
+-- it has a row for each block, and so has a copy of it
+pub rows_searched : (direction : Direction) (prices : Prices) (graph : Graph) (factor : ℕ) (mine copy : Instance) → length prices.revenues ≡ graph.blocks
+    → IsSearchedAt direction (deposit_of prices graph) factor mine → copy ≡ mine → length prices.revenues ≡ copy.blocks
+rows_searched direction prices graph factor mine copy rows is same =
+    rows ∙ sym (blocks_toward direction (deposit_of prices graph) factor mine is) ∙ sym (ap (λ (m : Instance). m.blocks) same)
+
+pairs_toward : (direction : Direction) (deposit : Deposit) (factor : ℕ) (mine : Instance) → IsSearchedAt direction deposit factor mine → ArePairsToward direction deposit mine.pairs
+pairs_toward Least deposit factor mine is = ap (λ (m : Instance). m.pairs) is
+pairs_toward Greatest deposit factor mine is = is.reversed.pairs_are
+
+searched_is : (direction : Direction) (deposit : Deposit) (factor : ℕ) (mine : Instance) → IsSearchedAt direction deposit factor mine → mine ≡ searched_mine direction deposit factor mine.pairs
+searched_is Least deposit factor mine is = is ∙ ap (λ ps. searched_mine Least deposit factor ps) (sym (ap (λ (m : Instance). m.pairs) is))
+searched_is Greatest deposit factor mine is =
+    let values = (searched_mine Greatest deposit factor mine.pairs).values in
+    let blocks : mine.blocks ≡ deposit.blocks = is.reversed.same_blocks in
+    let count = (dual_of deposit factor mine.pairs is.reversed.pairs_are).counted in
+    let counted = is.counted in
+    let same : mine.values ≡ values = ext_get_or (pos 0) mine.values values (omega arith)
+    (λ u l. let below : u < deposit.blocks = omega arith in
+    is.negated u below ∙ ap (λ v. pos 0 -ℤ v) (value_at_is deposit factor u below) ∙ sym (value_toward Greatest deposit factor mine.pairs u below)) in
+    ap (λ n. instance_of n mine.values mine.pairs) blocks ∙ ap (λ vs. instance_of deposit.blocks vs mine.pairs) same
+
+-- the mine that has risen: its pit holds the one before, and is that of the next factor
+module _ (direction : Direction) (prices : Prices) (graph : Graph) (from to : ℕ) (marks : List Bool) (before mine : Instance) (P : ℕ → Bool) (priced : IsPriced (deposit_of prices graph)) (follows : Follows direction from to)
+    (held : IsHeld direction (deposit_of prices graph) from marks before) (is : HasIncreased direction prices marks to before.blocks before mine) (pit : IsPit mine P) where
+  abbrev low : List ℤ
+  low = (searched_mine direction (deposit_of prices graph) from before.pairs).values
+
+  abbrev high : List ℤ
+  high = (searched_mine direction (deposit_of prices graph) to before.pairs).values
+
   same_blocks : mine.blocks ≡ graph.blocks
   same_blocks = is.blocks ∙ held.blocks
 
-  same_pairs : mine.pairs ≡ graph.pairs
-  same_pairs = is.pairs ∙ held.pairs
+  more : (u : ℕ) → u < graph.blocks → get_or low u (pos 0) ≤ℤ get_or high u (pos 0)
+  more u l =
+      let deposit = deposit_of prices graph in
+      let one = value_toward direction deposit from before.pairs u l in
+      let two = value_toward direction deposit to before.pairs u l in
+      let rises = values_toward_rise direction deposit from to u priced follows l in
+      omega (arith, ints)
 
-  new_values : (u : ℕ) → u < graph.blocks → held.set u ≡ false → value mine u ≡ value_at (deposit_of prices graph) greater u
-  new_values u l off = let all = held.blocks in is.risen u (omega arith) (held.marks_are u l ∙ off)
+  old_outside : (u : ℕ) → u < graph.blocks → held.set u ≡ false → value before u ≡ get_or low u (pos 0)
+  old_outside u l off = held.outside u l off ∙ sym (value_toward direction (deposit_of prices graph) from before.pairs u l)
+
+  new_outside : (u : ℕ) → u < graph.blocks → held.set u ≡ false → value mine u ≡ toward direction (value_at (deposit_of prices graph) to u)
+  new_outside u l off = let all = held.blocks in is.risen u (omega arith) (held.marks_are u l ∙ off)
+
+  new_values : (u : ℕ) → u < graph.blocks → held.set u ≡ false → value mine u ≡ get_or high u (pos 0)
+  new_values u l off = new_outside u l off ∙ sym (value_toward direction (deposit_of prices graph) to before.pairs u l)
 
   old_values : (u : ℕ) → u < graph.blocks → held.set u ≡ true → value mine u ≡ value before u
   old_values u l on = is.kept u (held.marks_are u l ∙ on)
 
-  pit_before : IsPit (instance_of graph.blocks before.values graph.pairs) held.set
-  pit_before = subst (λ (m : Instance). IsPit m held.set) (over (deposit_of prices graph) before held.blocks held.pairs) held.here
+  pit_before : IsPit (instance_of graph.blocks before.values before.pairs) held.set
+  pit_before = subst (λ (m : Instance). IsPit m held.set) (ap (λ n. instance_of n before.values before.pairs) held.blocks) held.here
 
-  pit_now : IsPit (instance_of graph.blocks mine.values graph.pairs) P
-  pit_now = subst (λ (m : Instance). IsPit m P) (over (deposit_of prices graph) mine same_blocks same_pairs) pit
+  pit_now : IsPit (instance_of graph.blocks mine.values before.pairs) P
+  pit_now = subst (λ (m : Instance). IsPit m P) (ap (λ n. instance_of n mine.values mine.pairs) same_blocks ∙ ap (λ ps. instance_of graph.blocks mine.values ps) is.pairs) pit
 
-  pub pit_next : IsPit (mine_at (deposit_of prices graph) greater) P
-  pit_next = pit_there (deposit_of prices graph) lesser greater priced le before.values mine.values held.set P held.outside new_values old_values pit_before held.there pit_now
+  pit_high : IsPit (searched_mine direction (deposit_of prices graph) to before.pairs) P
+  pit_high = pit_there graph.blocks before.pairs low high before.values mine.values held.set P more old_outside new_values old_values pit_before held.there pit_now
 
-  pub held_next : (new : List Bool) → length new ≡ mine.blocks → ((u : ℕ) → u < mine.blocks → marked new u ≡ P u) → IsHeld (deposit_of prices graph) greater new mine
+  same_pairs : ArePairsToward direction (deposit_of prices graph) mine.pairs
+  same_pairs = subst (λ ps. ArePairsToward direction (deposit_of prices graph) ps) (sym is.pairs) held.pairs
+
+  pub pit_next : IsPit (searched_mine direction (deposit_of prices graph) to mine.pairs) P
+  pit_next = subst (λ ps. IsPit (searched_mine direction (deposit_of prices graph) to ps) P) (sym is.pairs) pit_high
+
+  pub held_next : (new : List Bool) → length new ≡ mine.blocks → ((u : ℕ) → u < mine.blocks → marked new u ≡ P u) → IsHeld direction (deposit_of prices graph) to new mine
   held_next new size marks_are =
       let all = same_blocks in
       record {
@@ -195,65 +300,77 @@ module _ (prices : Prices) (graph : Graph) (lesser greater : ℕ) (marks : List 
         pairs = same_pairs;
         outside = λ u l off. ⊎_elim
             (λ (on : held.set u ≡ true).
-            absurd (true≢false (sym (grown (deposit_of prices graph) lesser greater priced le before.values mine.values held.set P held.outside new_values old_values pit_before held.there pit_now u l on) ∙ off)))
-            (λ (out : held.set u ≡ false). new_values u l out)
+            absurd (true≢false (sym (grown graph.blocks before.pairs low high before.values mine.values held.set P more old_outside new_values old_values pit_before held.there pit_now u l on) ∙ off)))
+            (λ (out : held.set u ≡ false). new_outside u l out)
             (cases_Bool (held.set u));
         here = pit;
         there = pit_next;
       }
 
--- the mine at a factor, solved
-pub held_first : (prices : Prices) (graph : Graph) (factor : ℕ) (new : List Bool) (mine : Instance) (P : ℕ → Bool) → mine ≡ mine_at (deposit_of prices graph) factor → IsPit mine P
-    → length new ≡ mine.blocks → ((u : ℕ) → u < mine.blocks → marked new u ≡ P u) → IsHeld (deposit_of prices graph) factor new mine
-held_first prices graph factor new mine P is pit size marks_are =
+-- the mine that is searched at a factor, solved
+outside_toward : (direction : Direction) (deposit : Deposit) (factor : ℕ) (mine : Instance) → IsSearchedAt direction deposit factor mine
+    → (u : ℕ) → u < deposit.blocks → value mine u ≡ toward direction (value_at deposit factor u)
+outside_toward direction deposit factor mine is u l =
+    ap (λ (m : Instance). value m u) (searched_is direction deposit factor mine is) ∙ value_toward direction deposit factor mine.pairs u l
+
+pub held_first : (direction : Direction) (prices : Prices) (graph : Graph) (factor : ℕ) (new : List Bool) (mine : Instance) (P : ℕ → Bool) → IsSearchedAt direction (deposit_of prices graph) factor mine → IsPit mine P
+    → length new ≡ mine.blocks → ((u : ℕ) → u < mine.blocks → marked new u ≡ P u) → IsHeld direction (deposit_of prices graph) factor new mine
+held_first direction prices graph factor new mine P is pit size marks_are =
     let deposit = deposit_of prices graph in
-    let blocks : mine.blocks ≡ graph.blocks = ap (λ (m : Instance). m.blocks) is in
+    let blocks : mine.blocks ≡ graph.blocks = blocks_toward direction deposit factor mine is in
     record {
       set = P;
       size = size ∙ blocks;
       marks_are = λ u l. marks_are u (omega arith);
       blocks = blocks;
-      pairs = ap (λ (m : Instance). m.pairs) is;
-      outside = λ u l off. ap (λ (m : Instance). value m u) is ∙ value_at_is deposit factor u l;
+      pairs = pairs_toward direction deposit factor mine is;
+      outside = λ u l off. outside_toward direction deposit factor mine is u l;
       here = pit;
-      there = subst (λ (m : Instance). IsPit m P) is pit;
+      there = subst (λ (m : Instance). IsPit m P) (searched_is direction deposit factor mine is) pit;
     }
 
 -- the pit of a factor, listed, is its shell
-pub is_least_shell : (prices : Prices) (graph : Graph) (factor : ℕ) (P : ℕ → Bool) (shell : Shell) → IsPit (mine_at (deposit_of prices graph) factor) P → shell.pit.items ≡ members graph.blocks P
-    → shell.factor ≡ factor → shell.worth ≡ total (length shell.pit.items) (λ i. price_of prices factor (get_or shell.pit.items i 0)) → IsShell Least (deposit_of prices graph) shell
-is_least_shell prices graph factor P shell pit listed named sum =
+pub is_shell : (direction : Direction) (prices : Prices) (graph : Graph) (factor : ℕ) (pairs : List (ℕ × ℕ)) (P : ℕ → Bool) (shell : Shell) → ArePairsToward direction (deposit_of prices graph) pairs
+    → IsPit (searched_mine direction (deposit_of prices graph) factor pairs) P → shell.pit.items ≡ members graph.blocks (set_toward direction P)
+    → shell.factor ≡ factor → shell.worth ≡ total (length shell.pit.items) (λ i. price_of prices factor (get_or shell.pit.items i 0)) → IsShell direction (deposit_of prices graph) shell
+is_shell direction prices graph factor pairs P shell are pit listed named sum =
     let deposit = deposit_of prices graph in
-    let worth_is : shell.worth ≡ worth (mine_at deposit factor) P =
+    let set = set_toward direction P in
+    let worth_is : shell.worth ≡ worth (mine_at deposit factor) set =
     sum ∙ ap (λ (xs : List ℕ). total (length xs) (λ i. price_of prices factor (get_or xs i 0))) listed
-    ∙ summed-members graph.blocks P (price_of prices factor)
-    ∙ total-same graph.blocks (λ u. when (P u) (price_of prices factor u)) (λ u. when (P u) (value (mine_at deposit factor) u))
-    (λ u l. ap (when (P u)) (sym (value_at_is deposit factor u l))) in
+    ∙ summed-members graph.blocks set (price_of prices factor)
+    ∙ total-same graph.blocks (λ u. when (set u) (price_of prices factor u)) (λ u. when (set u) (value (mine_at deposit factor) u))
+    (λ u l. ap (when (set u)) (sym (value_at_is deposit factor u l))) in
     record {
-      set = P;
+      set = set;
       listed = listed;
-      is_pit = (none_fixes_nothing (mine_at deposit shell.factor) no_blocks_fixed P nothing_fixed).1 (subst (λ f. IsPit (mine_at deposit f) P) (sym named) pit);
-      worth_is = worth_is ∙ ap (λ f. worth (mine_at deposit f) P) (sym named);
+      is_pit = subst (λ f. IsPitToward direction (mine_at deposit f) no_blocks_fixed set) (sym named) (pit_toward_is direction deposit factor pairs P are pit);
+      worth_is = worth_is ∙ ap (λ f. worth (mine_at deposit f) set) (sym named);
     }
 
 -- ---- what a solve gives
-pub first_held : (prices : Prices) (graph : Graph) (factor : ℕ) (mine : Instance) (risen : ParametricState) (shell : Shell) → mine ≡ mine_at (deposit_of prices graph) factor → IsSolvedAt prices factor mine risen shell
-    → IsHeld (deposit_of prices graph) factor risen.marks.items risen.mine
-first_held prices graph factor mine risen shell is solved =
-    subst (λ (m : Instance). IsHeld (deposit_of prices graph) factor risen.marks.items m) (sym solved.same)
-    (held_first prices graph factor risen.marks.items mine solved.set is solved.is_pit solved.size solved.marks_are)
+pub first_held : (direction : Direction) (prices : Prices) (graph : Graph) (factor : ℕ) (mine : Instance) (risen : ParametricState) (shell : Shell) → IsSearchedAt direction (deposit_of prices graph) factor mine
+    → IsSolvedAt direction prices factor mine risen shell → IsHeld direction (deposit_of prices graph) factor risen.marks.items risen.mine
+first_held direction prices graph factor mine risen shell is solved =
+    subst (λ (m : Instance). IsHeld direction (deposit_of prices graph) factor risen.marks.items m) (sym solved.same)
+    (held_first direction prices graph factor risen.marks.items mine solved.set is solved.is_pit solved.size solved.marks_are)
 
-pub first_is_shell : (prices : Prices) (graph : Graph) (factor : ℕ) (mine : Instance) (risen : ParametricState) (shell : Shell) → mine ≡ mine_at (deposit_of prices graph) factor → IsSolvedAt prices factor mine risen shell
-    → IsShell Least (deposit_of prices graph) shell
-first_is_shell prices graph factor mine risen shell is solved =
-    is_least_shell prices graph factor solved.set shell (subst (λ (m : Instance). IsPit m solved.set) is solved.is_pit) (solved.listed ∙ ap (λ (m : Instance). members m.blocks solved.set) is) solved.factor_is solved.worth_is
+pub first_is_shell : (direction : Direction) (prices : Prices) (graph : Graph) (factor : ℕ) (mine : Instance) (risen : ParametricState) (shell : Shell) → IsSearchedAt direction (deposit_of prices graph) factor mine
+    → IsSolvedAt direction prices factor mine risen shell → IsShell direction (deposit_of prices graph) shell
+first_is_shell direction prices graph factor mine risen shell is solved =
+    let deposit = deposit_of prices graph in
+    is_shell direction prices graph factor mine.pairs solved.set shell (pairs_toward direction deposit factor mine is)
+    (subst (λ (m : Instance). IsPit m solved.set) (searched_is direction deposit factor mine is) solved.is_pit)
+    (solved.listed ∙ ap (λ n. members n (set_toward direction solved.set)) (blocks_toward direction deposit factor mine is)) solved.factor_is solved.worth_is
 
-module _ (prices : Prices) (graph : Graph) (lesser greater : ℕ) (marks : List Bool) (before mine : Instance) (risen : ParametricState) (shell : Shell) (priced : IsPriced (deposit_of prices graph)) (le : lesser ≤ greater)
-    (held : IsHeld (deposit_of prices graph) lesser marks before) (is : HasIncreased prices marks greater before.blocks before mine) (solved : IsSolvedAt prices greater mine risen shell) where
-  pub next_held : IsHeld (deposit_of prices graph) greater risen.marks.items risen.mine
-  next_held = subst (λ (m : Instance). IsHeld (deposit_of prices graph) greater risen.marks.items m) (sym solved.same)
-      (held_next prices graph lesser greater marks before mine solved.set priced le held is solved.is_pit risen.marks.items solved.size solved.marks_are)
+module _ (direction : Direction) (prices : Prices) (graph : Graph) (from to : ℕ) (marks : List Bool) (before mine : Instance) (risen : ParametricState) (shell : Shell) (priced : IsPriced (deposit_of prices graph))
+    (follows : Follows direction from to) (held : IsHeld direction (deposit_of prices graph) from marks before) (is : HasIncreased direction prices marks to before.blocks before mine)
+    (solved : IsSolvedAt direction prices to mine risen shell) where
+  pub next_held : IsHeld direction (deposit_of prices graph) to risen.marks.items risen.mine
+  next_held = subst (λ (m : Instance). IsHeld direction (deposit_of prices graph) to risen.marks.items m) (sym solved.same)
+      (held_next direction prices graph from to marks before mine solved.set priced follows held is solved.is_pit risen.marks.items solved.size solved.marks_are)
 
-  pub next_is_shell : IsShell Least (deposit_of prices graph) shell
-  next_is_shell = is_least_shell prices graph greater solved.set shell (pit_next prices graph lesser greater marks before mine solved.set priced le held is solved.is_pit)
-      (solved.listed ∙ ap (λ n. members n solved.set) (is.blocks ∙ held.blocks)) solved.factor_is solved.worth_is
+  pub next_is_shell : IsShell direction (deposit_of prices graph) shell
+  next_is_shell = is_shell direction prices graph to mine.pairs solved.set shell (same_pairs direction prices graph from to marks before mine solved.set priced follows held is solved.is_pit)
+      (pit_next direction prices graph from to marks before mine solved.set priced follows held is solved.is_pit)
+      (solved.listed ∙ ap (λ n. members n (set_toward direction solved.set)) (is.blocks ∙ held.blocks)) solved.factor_is solved.worth_is

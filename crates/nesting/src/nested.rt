@@ -10,7 +10,7 @@ use crate::outermost::{lift_shells, outermost_shell};
 use crate::parametric_shells::parametric_shells;
 use crate::plan::ShellPlan;
 use faults::Fault;
-use pit_model::{Direction, Shell};
+use pit_model::Shell;
 use pit_search::PitSolver;
 use std::alloc::Global;
 
@@ -46,7 +46,7 @@ pub fn shells_by_rests<S: PitSolver>(
     Ok(list)
 }
 
-/// Returns the shell of each factor, in order; if asked for, the minimal shells come from one tree.
+/// Returns the shell of each factor, in order; if asked for, they come from one tree.
 ///
 /// # Errors
 ///
@@ -64,10 +64,10 @@ fn inner_shells<S: PitSolver>(
     ensures shells { IfOk result (λ list. AreShells plan.now.direction (deposit_in plan.now) plan.now.factors.now list.items) }
     ensures refused { IfErr result (λ e. e ≡ no_memory) }
 {
-    match (one_tree, plan.direction) {
-        (true, Direction::Least) => parametric_shells(alloc, plan),
-        _ => shells_by_rests(solver, alloc, plan),
+    if one_tree {
+        return parametric_shells(alloc, plan);
     }
+    shells_by_rests(solver, alloc, plan)
 }
 
 /// Returns the shell of each factor, in order. Finds the last first, and the others among its blocks.
@@ -99,7 +99,7 @@ fn shells_within_last<S: PitSolver>(
 }
 
 /// Returns the shell of each factor, in order, by a solver without a budget. Finds the last first, and the others among its blocks.
-/// If `one_tree` is set, this thread takes the other minimal shells from one tree, without the solver.
+/// If `one_tree` is set, this thread takes the other shells from one tree, without the solver.
 ///
 /// # Errors
 ///

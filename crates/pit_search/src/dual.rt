@@ -22,7 +22,11 @@ fn negated(alloc: Global, mine: &Instance) -> Result<Vec<i128>, AllocError>
 }
 
 /// Returns the dual instance: each pair reversed and each value negated.
-pub(crate) fn dual(alloc: Global, mine: &Instance) -> Result<Instance, Fault>
+///
+/// # Errors
+///
+/// If memory runs out.
+pub fn dual_instance(alloc: Global, mine: &Instance) -> Result<Instance, Fault>
     ensures dual { IfOk result (IsDual mine.now) }
     ensures refused { IfErr result (λ e. e ≡ no_memory) }
 {
@@ -44,8 +48,12 @@ fn unmarked(alloc: Global, marks: &[bool]) -> Result<Vec<u32>, AllocError>
     (0..n).filter(|&u| !marks[u as usize]).collect(alloc)
 }
 
-/// The numbers below n that are not on a rising list, rising.
-pub(crate) fn outside(alloc: Global, n: u32, found: &[u32]) -> Result<Vec<u32>, AllocError>
+/// Returns the numbers below n that are not on a rising list, rising.
+///
+/// # Errors
+///
+/// If memory runs out.
+pub fn outside(alloc: Global, n: u32, found: &[u32]) -> Result<Vec<u32>, AllocError>
     requires { (i : ℕ) → i < length found.now → get_or found.now i 0 < n }
     ensures { IfOk result (λ list. (set : ℕ → Bool) → found.now ≡ members n set → list.items ≡ members n (λ u. not (set u))) }
 {

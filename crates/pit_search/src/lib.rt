@@ -9,6 +9,7 @@ mod pit_solver;
 mod searched;
 mod sequential;
 
+pub use dual::{dual_instance, outside};
 pub use find::{find_pit, find_pit_without_fixed_blocks};
 pub use found_pit::FoundPit;
 pub use pit_solver::{FnSolver, PitSolver};

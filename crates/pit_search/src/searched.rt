@@ -10,7 +10,7 @@ ghost use Rattle.optimality.specs.Check.{ShowsPit};
 ghost use Rattle.mine_graph.specs.FixedBlocks.{IsFixedOf};
 ghost use Rattle.pit_search.specs.Searched.{IsFound, IsOpenPart, IsSearch, IsSearchOf, IsToward, ListsRestPit, own_values};
 
-use crate::dual::{dual, outside};
+use crate::dual::{dual_instance, outside};
 use crate::found_pit::FoundPit;
 use faults::Fault;
 use merging::{ReducedMine, join_pit};
@@ -64,7 +64,7 @@ fn toward(
     match direction {
         Direction::Least => Ok((rest, values)),
         Direction::Greatest => {
-            let other = dual(alloc, &rest)?;
+            let other = dual_instance(alloc, &rest)?;
             other.law();
             match values {
                 Some(values) => Ok((other, Some(values))),

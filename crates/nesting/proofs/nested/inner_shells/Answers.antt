@@ -8,8 +8,8 @@ use Rattle.nesting.specs.Planned.{deposit_in}
 use Rattle.nesting.proofs.Refusing.{rests_lack_memory}
 use Rattle.nesting.proofs.nested.inner_shells.Goals as goal
 
-pub returns-in_default-clause-refused : goal.returns-in_default-clause-refused
-returns-in_default-clause-refused g c =
+pub returns-clause-refused : goal.returns-clause-refused
+returns-clause-refused g c =
     let Refuses = g.S.PitSolver.Refuses c.args.solver.now in
     let plan = c.args.plan.now in
     IfErr-weaker c.shells_by_rests.result

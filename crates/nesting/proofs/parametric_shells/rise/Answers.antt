@@ -8,9 +8,9 @@ use Rattle.pit_model.specs.Mine.{Instance, value}
 use Rattle.mine_graph.specs.Raised.{raised_at}
 use Rattle.nesting.specs.Prices.{price_of}
 use Rattle.nesting.specs.Grown.{marked}
-use Rattle.nesting.specs.Parametric.{HasIncreased}
+use Rattle.nesting.specs.Parametric.{HasIncreased, toward}
 use Rattle.nesting.proofs.PriceBounds.{each_small}
-use Rattle.nesting.proofs.Parametric.{risen_marked, risen_raised, risen_same}
+use Rattle.nesting.proofs.Parametric.{risen_marked, risen_raised, risen_same, toward_most}
 use Rattle.nesting.proofs.parametric_shells.rise.Goals as goal
 use Rattle.nesting.proofs.parametric_shells.rise.Goals.{then-not-marks-block+then-amount-gt0, then-not-marks-block+else-amount-gt0, else-not-marks-block}
 
@@ -28,7 +28,7 @@ increase_value-requires-clause-limit c =
     let least = c.gain-amount.ensures.least in
     let most = c.gain-amount.ensures.most in
     let fits : SFits w128 amount = omega (arith, ints) in
-    let small = (each_small columns c.args.to block c.law-2.ensures c.requires.limit (omega arith)).1 in
+    let small = toward_most c.args.step.direction (price_of columns c.args.step.to block) (each_small columns c.args.step.to block c.law-2.ensures c.requires.limits.1 (omega arith)) in
     rw (to_z-of_z w128 amount fits) (omega (arith, ints))
 
 pub loop-block-preserved : goal.loop-block-preserved
@@ -52,18 +52,18 @@ loop-block-preserved c =
           let fits : SFits w128 amount = omega (arith, ints) in
           let size = is.size in
           let count = subst (λ (m : Instance). length m.values ≡ m.blocks) c.instance.ensures c.law.ensures.limits.value_count in
-          let sum : (value old block +ℤ amount) ≡ price_of columns c.args.to block = omega (arith, ints) in
-          subst (λ (m : Instance). HasIncreased columns marks c.args.to (block + 1) old m) (sym (w.mine-is ∙ w.increase_value.ensures ∙ ap (raised_at mine block) (to_z-of_z w128 amount fits)))
-          (risen_raised columns marks c.args.to block old mine amount is (omega arith) off sum)
+          let sum : (value old block +ℤ amount) ≡ toward c.args.step.direction (price_of columns c.args.step.to block) = omega (arith, ints) in
+          subst (λ (m : Instance). HasIncreased c.args.step.direction columns marks c.args.step.to (block + 1) old m) (sym (w.mine-is ∙ w.increase_value.ensures ∙ ap (raised_at mine block) (to_z-of_z w128 amount fits)))
+          (risen_raised c.args.step.direction columns marks c.args.step.to block old mine amount is (omega arith) off sum)
       | then-not-marks-block+else-amount-gt0 w ↦
           let amount = w.gain-amount.result in
           let off : marked marks block ≡ false = search rules in
           let before = c.requires.before block below off in
           let gained = w.gain-amount.ensures.gain in
           let least = w.gain-amount.ensures.least in
-          let same : value old block ≡ price_of columns c.args.to block = omega (arith, ints) in
-          subst (λ (m : Instance). HasIncreased columns marks c.args.to (block + 1) old m) (sym w.mine-is) (risen_same columns marks c.args.to block old mine is same)
+          let same : value old block ≡ toward c.args.step.direction (price_of columns c.args.step.to block) = omega (arith, ints) in
+          subst (λ (m : Instance). HasIncreased c.args.step.direction columns marks c.args.step.to (block + 1) old m) (sym w.mine-is) (risen_same c.args.step.direction columns marks c.args.step.to block old mine is same)
       | else-not-marks-block w ↦
           let on : marked marks block ≡ true = search rules in
-          subst (λ (m : Instance). HasIncreased columns marks c.args.to (block + 1) old m) (sym w.mine-is) (risen_marked columns marks c.args.to block old mine is on)
+          subst (λ (m : Instance). HasIncreased c.args.step.direction columns marks c.args.step.to (block + 1) old m) (sym w.mine-is) (risen_marked c.args.step.direction columns marks c.args.step.to block old mine is on)
     ]

@@ -2,7 +2,7 @@
 use Rattle.std.proofs.Common.{◌<◌, arith, ap}
 use Rattle.std.proofs.lemmas.Int.{ints}
 use Rattle.pit_model.specs.Graph.{Graph}
-use Rattle.pit_search.proofs.dual.dual.Goals as goal
+use Rattle.pit_search.proofs.dual.dual_instance.Goals as goal
 
 pub with_counters-requires-clause-high : goal.with_counters-requires-clause-high
 with_counters-requires-clause-high c u l =
