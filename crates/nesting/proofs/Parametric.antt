@@ -28,7 +28,7 @@ use Rattle.nesting.specs.Prices.{Prices, deposit_of, price_of}
 use Rattle.nesting.specs.Grown.{marked}
 use Rattle.nesting.specs.declared.parametric_shells.ParametricState.{ParametricState}
 use Rattle.nesting.proofs.PriceBounds.{IsSmall}
-use Rattle.nesting.specs.Parametric.{ArePairsToward, Follows, IsHeld, HasIncreased, IsSearchedAt, IsSolvedAt, searched_mine, set_toward, toward}
+use Rattle.nesting.specs.Parametric.{ArePairsToward, Follows, IsHeld, HasIncreased, IsSearchedAt, IsSolvedAt, searched_mine, set_toward, searched_value}
 
 -- the numbers of all blocks
 pub range_below : (n : ℕ) → All (λ u. u < n) (range_with_len 0 n)
@@ -52,13 +52,13 @@ risen_marked direction prices marks factor i before mine is on = record {
   later = λ u l. is.later u (omega arith);
 }
 
-pub risen_same : (direction : Direction) (prices : Prices) (marks : List Bool) (factor i : ℕ) (before mine : Instance) → HasIncreased direction prices marks factor i before mine → value before i ≡ toward direction (price_of prices factor i) → HasIncreased direction prices marks factor (i + 1) before mine
+pub risen_same : (direction : Direction) (prices : Prices) (marks : List Bool) (factor i : ℕ) (before mine : Instance) → HasIncreased direction prices marks factor i before mine → value before i ≡ searched_value direction (price_of prices factor i) → HasIncreased direction prices marks factor (i + 1) before mine
 risen_same direction prices marks factor i before mine is same = record {
   blocks = is.blocks;
   pairs = is.pairs;
   size = is.size;
   risen = λ u l off. ⊎_elim
-      (λ (e : u ≡ i). subst (λ v. value mine v ≡ toward direction (price_of prices factor v)) (sym e) (is.later i (omega arith) ∙ same))
+      (λ (e : u ≡ i). subst (λ v. value mine v ≡ searched_value direction (price_of prices factor v)) (sym e) (is.later i (omega arith) ∙ same))
       (λ (ne : u ≡ i → ⊥). is.risen u (omega arith) off)
       (cases_eq u i);
   kept = is.kept;
@@ -66,17 +66,17 @@ risen_same direction prices marks factor i before mine is same = record {
 }
 
 pub risen_raised : (direction : Direction) (prices : Prices) (marks : List Bool) (factor i : ℕ) (before mine : Instance) (amount : ℤ) → HasIncreased direction prices marks factor i before mine → i < length mine.values → marked marks i ≡ false
-    → (value before i +ℤ amount) ≡ toward direction (price_of prices factor i) → HasIncreased direction prices marks factor (i + 1) before (raised_at mine i amount)
+    → (value before i +ℤ amount) ≡ searched_value direction (price_of prices factor i) → HasIncreased direction prices marks factor (i + 1) before (raised_at mine i amount)
 risen_raised direction prices marks factor i before mine amount is inside off same =
     let other : (u : ℕ) → (u ≡ i → ⊥) → value (raised_at mine i amount) u ≡ value mine u = λ u ne. get_or-set_other mine.values i u (value mine i +ℤ amount) (pos 0) ne in
-    let here : value (raised_at mine i amount) i ≡ toward direction (price_of prices factor i) =
+    let here : value (raised_at mine i amount) i ≡ searched_value direction (price_of prices factor i) =
     get_or-set_same mine.values i (value mine i +ℤ amount) (pos 0) inside ∙ ap (λ x. x +ℤ amount) (is.later i (omega arith)) ∙ same in
     record {
       blocks = is.blocks;
       pairs = is.pairs;
       size = length-set mine.values i (value mine i +ℤ amount) ∙ is.size;
       risen = λ u l h. ⊎_elim
-          (λ (e : u ≡ i). subst (λ v. value (raised_at mine i amount) v ≡ toward direction (price_of prices factor v)) (sym e) here)
+          (λ (e : u ≡ i). subst (λ v. value (raised_at mine i amount) v ≡ searched_value direction (price_of prices factor v)) (sym e) here)
           (λ (ne : u ≡ i → ⊥). other u ne ∙ is.risen u (omega arith) h)
           (cases_eq u i);
       kept = λ u on. other u (λ (e : u ≡ i). true≢false (sym on ∙ ap (marked marks) e ∙ off)) ∙ is.kept u on;
@@ -172,22 +172,22 @@ module _ (n : ℕ) (pairs : List (ℕ × ℕ)) (low high vs ws : List ℤ) (S P 
 -- ---- the mine that is searched
 -- its values, block by block
 value_toward : (direction : Direction) (deposit : Deposit) (factor : ℕ) (pairs : List (ℕ × ℕ)) (u : ℕ) → u < deposit.blocks
-    → value (searched_mine direction deposit factor pairs) u ≡ toward direction (value_at deposit factor u)
+    → value (searched_mine direction deposit factor pairs) u ≡ searched_value direction (value_at deposit factor u)
 value_toward direction deposit factor pairs u below =
     let size = length-range_with_len 0 deposit.blocks in
     let from_zero = get_or-range_with_len 0 deposit.blocks u 0 below in
     let at : get_or (range_with_len 0 deposit.blocks) u 0 ≡ u = omega (arith, from_zero) in
-    get_or-map (λ v. toward direction (value_at deposit factor v)) (range_with_len 0 deposit.blocks) u 0 (pos 0) (omega (arith, size, below))
-    ∙ ap (λ v. toward direction (value_at deposit factor v)) at
+    get_or-map (λ v. searched_value direction (value_at deposit factor v)) (range_with_len 0 deposit.blocks) u 0 (pos 0) (omega (arith, size, below))
+    ∙ ap (λ v. searched_value direction (value_at deposit factor v)) at
 
 -- each is within the limit
-pub toward_most : (direction : Direction) (v : ℤ) → IsSmall v → toward direction v ≤ℤ pos (10 ^ 23)
+pub toward_most : (direction : Direction) (v : ℤ) → IsSmall v → searched_value direction v ≤ℤ pos (10 ^ 23)
 toward_most Least v small = small.1
 toward_most Greatest v small = let low = small.0 in omega (arith, ints)
 
 -- they do not fall from turn to turn
 values_toward_rise : (direction : Direction) (deposit : Deposit) (from to u : ℕ) → IsPriced deposit → Follows direction from to → u < deposit.blocks
-    → toward direction (value_at deposit from u) ≤ℤ toward direction (value_at deposit to u)
+    → searched_value direction (value_at deposit from u) ≤ℤ searched_value direction (value_at deposit to u)
 values_toward_rise Least deposit from to u priced le l =
     let one = value_at_is deposit from u l in
     let two = value_at_is deposit to u l in
@@ -203,7 +203,7 @@ values_toward_rise Greatest deposit from to u priced le l =
 dual_of : (deposit : Deposit) (factor : ℕ) (pairs : List (ℕ × ℕ)) → ArePairsToward Greatest deposit pairs → IsDual (mine_at deposit factor) (searched_mine Greatest deposit factor pairs)
 dual_of deposit factor pairs are = record {
   reversed = record { same_blocks = refl; pairs_are = are };
-  counted = length-map (range_with_len 0 deposit.blocks) (λ u. toward Greatest (value_at deposit factor u)) ∙ length-range_with_len 0 deposit.blocks;
+  counted = length-map (range_with_len 0 deposit.blocks) (λ u. searched_value Greatest (value_at deposit factor u)) ∙ length-range_with_len 0 deposit.blocks;
   negated = λ u l. value_toward Greatest deposit factor pairs u l ∙ ap (λ v. pos 0 -ℤ v) (sym (value_at_is deposit factor u l));
 }
 
@@ -265,7 +265,7 @@ module _ (direction : Direction) (prices : Prices) (graph : Graph) (from to : �
   old_outside : (u : ℕ) → u < graph.blocks → held.set u ≡ false → value before u ≡ get_or low u (pos 0)
   old_outside u l off = held.outside u l off ∙ sym (value_toward direction (deposit_of prices graph) from before.pairs u l)
 
-  new_outside : (u : ℕ) → u < graph.blocks → held.set u ≡ false → value mine u ≡ toward direction (value_at (deposit_of prices graph) to u)
+  new_outside : (u : ℕ) → u < graph.blocks → held.set u ≡ false → value mine u ≡ searched_value direction (value_at (deposit_of prices graph) to u)
   new_outside u l off = let all = held.blocks in is.risen u (omega arith) (held.marks_are u l ∙ off)
 
   new_values : (u : ℕ) → u < graph.blocks → held.set u ≡ false → value mine u ≡ get_or high u (pos 0)
@@ -309,7 +309,7 @@ module _ (direction : Direction) (prices : Prices) (graph : Graph) (from to : �
 
 -- the mine that is searched at a factor, solved
 outside_toward : (direction : Direction) (deposit : Deposit) (factor : ℕ) (mine : Instance) → IsSearchedAt direction deposit factor mine
-    → (u : ℕ) → u < deposit.blocks → value mine u ≡ toward direction (value_at deposit factor u)
+    → (u : ℕ) → u < deposit.blocks → value mine u ≡ searched_value direction (value_at deposit factor u)
 outside_toward direction deposit factor mine is u l =
     ap (λ (m : Instance). value m u) (searched_is direction deposit factor mine is) ∙ value_toward direction deposit factor mine.pairs u l
 

@@ -26,9 +26,9 @@ Follows Least from to = from ≤ to
 Follows Greatest from to = to ≤ from
 
 -- a value in the mine that is searched: that of the mine, or in its dual the negated one
-abbrev pub toward : Direction → ℤ → ℤ
-toward Least v = v
-toward Greatest v = pos 0 -ℤ v
+abbrev pub searched_value : Direction → ℤ → ℤ
+searched_value Least v = v
+searched_value Greatest v = pos 0 -ℤ v
 
 -- the pit toward a direction, by the pit of the mine that is searched
 abbrev pub set_toward : Direction → (ℕ → Bool) → (ℕ → Bool)
@@ -48,14 +48,14 @@ ArePairsToward Greatest deposit pairs = AreSamePairs (transposed deposit.pairs) 
 -- the mine with such pairs and the values that are searched at a factor
 abbrev pub searched_mine : Direction → Deposit → ℕ → List (ℕ × ℕ) → Instance
 searched_mine direction deposit factor pairs =
-    instance_of deposit.blocks (map (λ u. toward direction (value_at deposit factor u)) (range_with_len 0 deposit.blocks)) pairs
+    instance_of deposit.blocks (map (λ u. searched_value direction (value_at deposit factor u)) (range_with_len 0 deposit.blocks)) pairs
 
 -- of the first blocks, those outside the marks have their values at a factor; all other values are those of another mine
 pub record HasIncreased (direction : Direction) (prices : Prices) (marks : List Bool) (factor count : ℕ) (before mine : Instance) : Type 0 where
   pub blocks : mine.blocks ≡ before.blocks
   pub pairs : mine.pairs ≡ before.pairs
   pub size : length mine.values ≡ length before.values
-  pub risen : (u : ℕ) → u < count → marked marks u ≡ false → value mine u ≡ toward direction (price_of prices factor u)
+  pub risen : (u : ℕ) → u < count → marked marks u ≡ false → value mine u ≡ searched_value direction (price_of prices factor u)
   pub kept : (u : ℕ) → marked marks u ≡ true → value mine u ≡ value before u
   pub later : (u : ℕ) → count ≤ u → value mine u ≡ value before u
 
@@ -66,7 +66,7 @@ pub record IsHeld (direction : Direction) (deposit : Deposit) (factor : ℕ) (ma
   pub marks_are : (u : ℕ) → u < deposit.blocks → marked marks u ≡ set u
   pub blocks : mine.blocks ≡ deposit.blocks
   pub pairs : ArePairsToward direction deposit mine.pairs
-  pub outside : (u : ℕ) → u < deposit.blocks → set u ≡ false → value mine u ≡ toward direction (value_at deposit factor u)
+  pub outside : (u : ℕ) → u < deposit.blocks → set u ≡ false → value mine u ≡ searched_value direction (value_at deposit factor u)
   pub here : IsPit mine set
   pub there : IsPit (searched_mine direction deposit factor mine.pairs) set
 

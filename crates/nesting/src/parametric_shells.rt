@@ -9,7 +9,7 @@ ghost use Rattle.pit_model.specs.Mine.{members, value};
 ghost use Rattle.pit_model.specs.Shells.{AreShells, IsShell, factor_of};
 ghost use Rattle.nesting.specs.Prices.{price_of};
 ghost use Rattle.nesting.specs.Grown.{marked};
-ghost use Rattle.nesting.specs.Parametric.{Follows, IsHeld, HasIncreased, IsSearchedAt, IsSolvedAt, in_turns, set_toward, toward};
+ghost use Rattle.nesting.specs.Parametric.{Follows, IsHeld, HasIncreased, IsSearchedAt, IsSolvedAt, in_turns, set_toward, searched_value};
 ghost use Rattle.nesting.specs.Planned.{deposit_in, HasRows};
 
 use crate::columns::Columns;
@@ -68,7 +68,7 @@ fn gain(columns: &Columns, block: u32, step: Step) -> i128
     requires block { block < length columns.now.revenues }
     requires order { Follows step.direction step.from step.to }
     requires limits { (step.from ≤ 100000) × (step.to ≤ 100000) }
-    ensures gain { result ≡ toward step.direction (price_of columns.now step.to block) -ℤ toward step.direction (price_of columns.now step.from block) }
+    ensures gain { result ≡ searched_value step.direction (price_of columns.now step.to block) -ℤ searched_value step.direction (price_of columns.now step.from block) }
     ensures least { pos 0 ≤ℤ result }
     ensures most { result ≤ℤ pos (10 ^ 23) }
 {
@@ -84,7 +84,7 @@ fn rise(mine: &mut ParametricSolver, columns: &Columns, marks: &[bool], step: St
     requires marks { length marks.now ≡ mine.old.blocks }
     requires order { Follows step.direction step.from step.to }
     requires limits { (step.from ≤ 100000) × (step.to ≤ 100000) }
-    requires before { (u : ℕ) → u < mine.old.blocks → marked marks.now u ≡ false → value mine.old u ≡ toward step.direction (price_of columns.now step.from u) }
+    requires before { (u : ℕ) → u < mine.old.blocks → marked marks.now u ≡ false → value mine.old u ≡ searched_value step.direction (price_of columns.now step.from u) }
     ensures { HasIncreased step.direction columns.now marks.now step.to mine.old.blocks mine.old mine.new }
 {
     mine.instance().law();

@@ -5,7 +5,7 @@ use Rattle.std.specs.Int.{w128}
 use Rattle.std.proofs.lemmas.Int.{ints, to_z-of_z}
 use mir.Val.{SFits}
 use Rattle.nesting.specs.Prices.{price_of}
-use Rattle.nesting.specs.Parametric.{toward}
+use Rattle.nesting.specs.Parametric.{searched_value}
 use Rattle.nesting.proofs.parametric_shells.gain.Goals as goal
 
 pub returns-in-Greatest-clause-gain : goal.returns-in-Greatest-clause-gain
@@ -16,4 +16,4 @@ returns-in-Greatest-clause-gain c =
     let rise = c.price_rise-in-Greatest.ensures.rise in
     let fits : SFits w128 result = search rules in
     let same : result ≡ (pos 0 -ℤ to) -ℤ (pos 0 -ℤ from) = omega (arith, ints) in
-    to_z-of_z w128 result fits ∙ subst (λ d. result ≡ toward d to -ℤ toward d from) (sym c.in-Greatest.is) same
+    to_z-of_z w128 result fits ∙ subst (λ d. result ≡ searched_value d to -ℤ searched_value d from) (sym c.in-Greatest.is) same

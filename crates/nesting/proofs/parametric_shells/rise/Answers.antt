@@ -8,7 +8,7 @@ use Rattle.pit_model.specs.Mine.{Instance, value}
 use Rattle.mine_graph.specs.Raised.{raised_at}
 use Rattle.nesting.specs.Prices.{price_of}
 use Rattle.nesting.specs.Grown.{marked}
-use Rattle.nesting.specs.Parametric.{HasIncreased, toward}
+use Rattle.nesting.specs.Parametric.{HasIncreased, searched_value}
 use Rattle.nesting.proofs.PriceBounds.{each_small}
 use Rattle.nesting.proofs.Parametric.{risen_marked, risen_raised, risen_same, toward_most}
 use Rattle.nesting.proofs.parametric_shells.rise.Goals as goal
@@ -52,7 +52,7 @@ loop-block-preserved c =
           let fits : SFits w128 amount = omega (arith, ints) in
           let size = is.size in
           let count = subst (λ (m : Instance). length m.values ≡ m.blocks) c.instance.ensures c.law.ensures.limits.value_count in
-          let sum : (value old block +ℤ amount) ≡ toward c.args.step.direction (price_of columns c.args.step.to block) = omega (arith, ints) in
+          let sum : (value old block +ℤ amount) ≡ searched_value c.args.step.direction (price_of columns c.args.step.to block) = omega (arith, ints) in
           subst (λ (m : Instance). HasIncreased c.args.step.direction columns marks c.args.step.to (block + 1) old m) (sym (w.mine-is ∙ w.increase_value.ensures ∙ ap (raised_at mine block) (to_z-of_z w128 amount fits)))
           (risen_raised c.args.step.direction columns marks c.args.step.to block old mine amount is (omega arith) off sum)
       | then-not-marks-block+else-amount-gt0 w ↦
@@ -61,7 +61,7 @@ loop-block-preserved c =
           let before = c.requires.before block below off in
           let gained = w.gain-amount.ensures.gain in
           let least = w.gain-amount.ensures.least in
-          let same : value old block ≡ toward c.args.step.direction (price_of columns c.args.step.to block) = omega (arith, ints) in
+          let same : value old block ≡ searched_value c.args.step.direction (price_of columns c.args.step.to block) = omega (arith, ints) in
           subst (λ (m : Instance). HasIncreased c.args.step.direction columns marks c.args.step.to (block + 1) old m) (sym w.mine-is) (risen_same c.args.step.direction columns marks c.args.step.to block old mine is same)
       | else-not-marks-block w ↦
           let on : marked marks block ≡ true = search rules in
