@@ -57,11 +57,11 @@ def unlike_grid(parts: pd.DataFrame, project: Project, grid: dict[str, Any]) -> 
     levels, axes = grid["shape"][0], [columns.x, columns.y, columns.z]
     # Metres: of a rotated grid along its own axes from its first block, otherwise the planner's.
     first = np.array([0.0, 0.0, grid["origin"][2]]) if grid.get("azimuth") else np.array(grid["origin"])
-    along = (
-        steps_of(parts[axes].to_numpy(), grid) * grid["size"] + first if grid.get("azimuth") else parts[axes].to_numpy()
-    )
+    along = [parts[name].to_numpy() for name in axes]
+    if grid.get("azimuth"):
+        along = [*(steps_of(np.stack(along, axis=1), grid) * grid["size"] + first).T]
     for k, name in enumerate(axes):
-        centres, size = np.unique(along[:, k]), grid["size"][k]
+        centres, size = np.sort(pd.unique(along[k])), grid["size"][k]
         edge = first[k] - size / 2 - (size * (levels - 1) if k == 2 else 0.0)
         if rules.counts is not None:
             own = size / rules.counts[k]

@@ -2,6 +2,7 @@
 
 from __future__ import annotations
 
+from dataclasses import dataclass
 from fractions import Fraction
 from typing import Any, Optional
 
@@ -14,48 +15,97 @@ from planaudit.inputs.rotated_grid import centroids, places_of, steps_of
 
 # Decimals of grades; and the distance from a half, in their last place, within which a mean is computed exactly.
 GRADE_PLACES, NEAR = 9, 1e-3
+# Rows whose places are computed at the same time.
+PIECE = 1 << 20
 
 
 def together(parts: pd.DataFrame, project: Project, grid: dict[str, Any]) -> pd.DataFrame:
     """Returns one row per cell with rows, from the floor up, from the south, from the west."""
     columns, fixed = project.table, project.constraints
-    steps = steps_of(parts[[columns.x, columns.y, columns.z]].to_numpy(), grid)
-    east, north, up = np.floor(steps + 0.5).astype(np.int64).T
-    frame = parts.assign(east_=east, north_=north, up_=up + grid["shape"][0] - 1)
+    cells = Cells.of_rows(parts, (columns.x, columns.y, columns.z), grid)
     sums = project.schedule.limits if project.schedule else ()
     of_a_tonne = {*(metal.column for metal in project.metals), *(it.column for it in sums if it.per_tonne)}
     of_a_tonne |= {*project.economics.adjusting, *(it.column for it in project.feed_grades if it.code is None)}
     of_a_tonne |= {*project.penalised, *project.of_dumps}
+    tonnes = parts[columns.tonnes].to_numpy()
+    whole = cells.sums(tonnes)
+    found = {columns.tonnes: whole}
     for name in of_a_tonne:
-        frame[f"content_{name}"] = frame[name] * frame[columns.tonnes]
-    by = frame.groupby(["up_", "north_", "east_"], sort=True)
-    found = pd.DataFrame({columns.tonnes: by[columns.tonnes].sum()})
-    for name in of_a_tonne:
-        found[name] = (by[f"content_{name}"].sum() / found[columns.tonnes]).fillna(0.0)
+        content = cells.sums(parts[name].to_numpy() * tonnes)
+        found[name] = np.divide(content, whole, out=np.zeros(len(whole)), where=whole != 0)
     for name in {it.column for it in sums if not it.per_tonne}:
-        found[name] = by[name].sum()
+        found[name] = cells.sums(parts[name].to_numpy())
     for code in filter(None, (columns.rock_type, columns.domain, columns.resource_class)):
-        found[code] = of_most(frame, code, columns)
+        found[code] = of_most(parts[code], tonnes, cells)
     for mark in filter(None, (fixed.must_mine, fixed.exclude) if fixed else ()):
-        found[mark] = by[mark].max()
-    up, north, east = (found.index.get_level_values(name).to_numpy() for name in found.index.names)
+        found[mark] = parts[mark].groupby(cells.of_row).max().to_numpy()
+    east, north, up = cells.places
     found[columns.x], found[columns.y] = places_of(np.stack([east, north], axis=1), grid).T
-    found[columns.z] = grid["origin"][2] + grid["size"][2] * (up - (grid["shape"][0] - 1))
+    found[columns.z] = grid["origin"][2] + grid["size"][2] * up
     if columns.id:
         # From the west, the south and the floor of the whole table, of which blocks may be removed.
-        first = [found.index.get_level_values(name).min() - 1 for name in ("up_", "north_", "east_")]
-        found[columns.id] = [f"{east - first[2]}-{north - first[1]}-{up - first[0]}" for up, north, east in found.index]
-    return found
+        from_one = [(axis - axis.min() + 1).tolist() for axis in cells.places]
+        found[columns.id] = np.array([f"{east}-{north}-{up}" for east, north, up in zip(*from_one)], dtype=object)
+    return pd.DataFrame(found, copy=False)
 
 
-def of_most(frame: pd.DataFrame, name: str, columns: TableColumns) -> pd.Series:
+@dataclass(frozen=True)
+class Cells:
+    """The cells of rows.
+
+    Attributes
+    ----------
+    of_row : int array, shape (rows,)
+        The number of the cell of each row.
+    places : int array, shape (3, cells)
+        Blocks east, north and up from the first centroid, ordered by up, north and east.
+    """
+
+    of_row: np.ndarray
+    places: np.ndarray
+
+    @staticmethod
+    def of_rows(frame: pd.DataFrame, axes: tuple[str, str, str], grid: dict[str, Any]) -> Cells:
+        """Returns the cells in which the centroids of rows lie."""
+        steps = np.empty((3, len(frame)), dtype=np.int64)
+        for start in range(0, len(frame), PIECE):
+            rows = slice(start, start + PIECE)
+            centres = np.stack([frame[name].to_numpy()[rows] for name in axes], axis=1)
+            steps[:, rows] = np.floor(steps_of(centres, grid) + 0.5).T
+        least = steps.min(axis=1)
+        wide, deep, _ = (int(it) for it in steps.max(axis=1) - least + 1)
+        steps[2] -= least[2]
+        for axis, length in ((1, deep), (0, wide)):
+            steps[2] *= length
+            steps[2] += steps[axis] - least[axis]
+        key = steps[2]
+        of_row, used = pd.factorize(key, sort=True)
+        rest, east = np.divmod(used, wide)
+        up, north = np.divmod(rest, deep)
+        return Cells(of_row, np.stack([east, north, up]) + least[:, None])
+
+    def sums(self, amounts: np.ndarray) -> np.ndarray:
+        """Returns the sum of the rows of each cell."""
+        return np.bincount(self.of_row, amounts, minlength=self.places.shape[1])
+
+
+def of_most(codes: pd.Series, tonnes: np.ndarray, cells: Cells) -> np.ndarray:
     """Returns the code with most tonnes of each cell, of equal ones the first by name; without tonnes that of most rows."""
-    cell = ["up_", "north_", "east_"]
-    sums = frame.groupby([*cell, name])[columns.tonnes].agg(["sum", "size"]).reset_index()
-    weighs = sums.groupby(cell)["sum"].transform("sum") > 0
-    sums["most"] = sums["sum"].where(weighs, sums["size"]).round(6)
-    sums = sums.sort_values([*cell, "most", name], ascending=[True, True, True, False, True], kind="stable")
-    return sums.drop_duplicates(cell).set_index(cell)[name]
+    place, names = pd.factorize(codes)
+    order = np.argsort(names.to_numpy(), kind="stable")
+    rank = np.empty(len(order), dtype=np.int64)
+    rank[order] = np.arange(len(order))
+    # Cells with their codes, in the order of both.
+    of_row, pairs = pd.factorize(cells.of_row * len(order) + rank[place], sort=True)
+    cell, code = np.divmod(pairs, len(order))
+    sums = np.bincount(of_row, tonnes)
+    weighs = (np.bincount(cell, sums) > 0)[cell]
+    most = np.where(weighs, sums, np.bincount(of_row)).round(6)
+    starts = np.flatnonzero(np.diff(cell, prepend=-1))
+    greatest = np.flatnonzero(most == np.maximum.reduceat(most, starts)[cell])
+    first = greatest[np.diff(cell[greatest], prepend=-1) > 0]
+    found: np.ndarray = names.to_numpy()[order][code[first]]
+    return found
 
 
 def mean_grades(
