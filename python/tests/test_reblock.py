@@ -11,6 +11,7 @@ from helpers.verified import UNVERIFIED
 import pitplan
 from pitplan import PlanError, verify
 from pitplan.blockmodel import reblock
+from planaudit.inputs import block_table, project_file, reblocking
 
 TWOS = ('file = "blocks.csv"', 'file = "blocks.csv"\nreblock = [2, 2, 1]')
 # Of these four blocks of 10 m 100, 300, 200 and 400 t are of copper 1, 0, 2 and 0.5 %: 7 t in 1000, 0.7 %.
@@ -219,6 +220,32 @@ def test_blocks_that_lie_elsewhere_are_found(solved_hill, monkeypatch, metres):
         return
     with pytest.raises(PlanError, match="18 blocks of the table are not in it"):
         verify(folder)
+
+
+def test_cells_that_lie_far_apart_are_numbered_by_sorting(plan_folder, monkeypatch):
+    path = plan_folder(hill(), PROJECT, ('file = "blocks.csv"', 'file = "blocks.csv"\nreblock = [2, 3, 2]'))
+    due = pitplan.Plan.from_project(path).table
+    monkeypatch.setattr(reblock, "MOST_SPREAD", 0)
+    pd.testing.assert_frame_equal(pitplan.Plan.from_project(path).table, due)
+
+
+def test_the_audit_groups_rows_as_pandas_does(plan_folder, monkeypatch):
+    """Sums, means and codes of most tonnes; places are computed for a few rows at a time."""
+    monkeypatch.setattr(reblocking, "PIECE", 7)
+    words = ('file = "blocks.csv"', 'file = "blocks.csv"\nreblock = [2, 2, 2]')
+    project = project_file.load(plan_folder(hill().sample(frac=1, random_state=3), PROJECT + FIXED, words))
+    rows_read = block_table.read(project)
+    grid = {"shape": [3, 6, 7], "size": [20, 20, 20], "origin": [10, 10, 50]}
+    found = reblocking.together(rows_read, project, grid)
+    place = [(rows_read[axis] // 20 * 20 + 10).rename(axis) for axis in "zyx"]
+    by = rows_read.assign(content=rows_read["cu"] * rows_read["tonnes"]).groupby(place)
+    assert found[["z", "y", "x"]].values.tolist() == [list(it) for it in by["tonnes"].sum().index]
+    assert found["tonnes"].tolist() == pytest.approx(by["tonnes"].sum().tolist(), rel=1e-14)
+    assert found["cu"].tolist() == pytest.approx((by["content"].sum() / by["tonnes"].sum()).tolist(), rel=1e-14)
+    assert found["must"].tolist() == by["must"].max().tolist() and found["never"].tolist() == by["never"].max().tolist()
+    for code in ("rock", "region"):
+        weights = rows_read.groupby([*place, code])["tonnes"].sum().round(6).unstack(fill_value=0.0)
+        assert found[code].tolist() == weights.idxmax(axis=1).tolist() and len(set(found[code])) == 2
 
 
 def test_a_table_that_is_too_large_by_itself(plan_folder, monkeypatch):

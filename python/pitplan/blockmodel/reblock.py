@@ -28,6 +28,9 @@ from pitplan.errors import PlanError
 from . import grid as grids
 from .axes import Frame
 
+# Cells that are numbered by an array of all of them, for each row.
+MOST_SPREAD = 8
+
 
 @dataclass(frozen=True)
 class Lattice:
@@ -163,9 +166,32 @@ def parts_of(tonnes: np.ndarray, lattice: Lattice) -> tuple[np.ndarray, Parts]:
     """Returns column, row and level of each block with rows, shape (blocks, 3), and the rows as parts of the blocks."""
     column, row, level = lattice.places
     shape = [int(place.max()) + 1 for place in lattice.places]
-    used, block = np.unique((level * shape[1] + row) * shape[0] + column, return_inverse=True)
+    used, block = numbered_cells((level * shape[1] + row) * shape[0] + column, shape[0] * shape[1] * shape[2])
     places = np.stack([used % shape[0], used // shape[0] % shape[1], used // (shape[0] * shape[1])], axis=1)
     return places, Parts(block, len(used), tonnes)
+
+
+def numbered_cells(cells: np.ndarray, count: int) -> tuple[np.ndarray, np.ndarray]:
+    """Returns the cells that rows lie in, in order, and the number of each row's cell among them; `count` cells are possible."""
+    if count > MOST_SPREAD * len(cells):
+        used, number = np.unique(cells, return_inverse=True)
+        return used, number
+    # Without sorting the rows.
+    is_used = np.zeros(count, dtype=bool)
+    is_used[cells] = True
+    used = np.flatnonzero(is_used)
+    number_of = np.zeros(count, dtype=np.int64)
+    number_of[used] = np.arange(len(used))
+    return used, number_of[cells]
+
+
+def numbered_codes(codes: np.ndarray) -> tuple[np.ndarray, np.ndarray]:
+    """Returns the distinct codes in order, and the number of each row's code among them, without sorting the rows."""
+    place, found = pd.factorize(codes)
+    order = np.argsort(found, kind="stable")
+    number_of = np.empty(len(order), dtype=np.int64)
+    number_of[order] = np.arange(len(order))
+    return found[order], number_of[place]
 
 
 def put_together(
@@ -223,11 +249,16 @@ class Parts:
         """The rows, block by block."""
         return np.argsort(self.block, kind="stable")
 
+    @cached_property
+    def starts(self) -> np.ndarray:
+        """The place of the first row of each block in `order`. Every block has a row."""
+        return np.append(0, np.cumsum(np.bincount(self.block, minlength=self.count))[:-1])
+
     def total(self, values: Exact) -> Exact:
-        """Returns the exact sum over the rows of each block. Every block has a row."""
-        rows, starts = values.whole[self.order], np.searchsorted(self.block[self.order], np.arange(self.count))
+        """Returns the exact sum over the rows of each block."""
+        rows = values.whole[self.order]
         rows = rows if greatest(rows) * len(rows) <= MOST_WHOLE else rows.astype(object)
-        return Exact(np.add.reduceat(rows, starts), values.places)
+        return Exact(np.add.reduceat(rows, self.starts), values.places)
 
     def sums(self, values: np.ndarray, places: int) -> np.ndarray:
         """Returns the sum of each block, rounded once to `places` decimals."""
@@ -250,7 +281,7 @@ class Parts:
         """Returns the code with the most tonnes in each block, of several the first by name, and the tonnes of other codes. In a block without tonnes
         all rows count alike.
         """
-        names, code = np.unique(codes, return_inverse=True)
+        names, code = numbered_codes(codes)
         weights = np.where(self.whole[self.block] > 0, self.tonnes, 1.0)
         sums = np.bincount(self.block * len(names) + code, weights, minlength=self.count * len(names)).reshape(
             self.count, -1

@@ -92,8 +92,14 @@ def several(numbers: np.ndarray, rows: np.ndarray, source: str) -> str:
     return f"{found}: {values[most]:g} occurs {counts[most]:,} times: if it is a null code, set [table] null_values = [{values[most]:g}]"
 
 
+def have_distinct_hashes(texts: pd.Series) -> bool:
+    """Returns whether the hashes of texts differ, and so the texts: in a fraction of the time that a table of texts takes."""
+    hashes = np.fromiter(map(hash, texts.to_numpy()), dtype=np.int64, count=len(texts))
+    return len(pd.unique(hashes)) == len(hashes)
+
+
 def demand_ids(frame: pd.DataFrame, name: Optional[str], source: str) -> None:
-    if name is None:
+    if name is None or have_distinct_hashes(frame[name]):
         return
     twice = frame[name].duplicated().to_numpy()
     if twice.any():
