@@ -173,6 +173,8 @@ def begun(project: Project, folder: Path, writing: Writing, planned: Optional[Pr
     with staging.alone(folder):
         solver = chosen(project.solver)
         plan = prepared(planned or project, progress=writing.progress)
+        # With reblocking these are many times the rows of the blocks, and no command uses them.
+        plan.read = None
         with staged_run(project, plan, solver, folder, writing) as run:
             is_wanted = writing.verifies and is_apart(len(plan.table))
             with reading_ahead(run.stage, is_wanted) as audit:
