@@ -2,9 +2,11 @@
 
 from __future__ import annotations
 
+import ctypes
 import re
 import warnings
 from collections.abc import Mapping, Sequence
+from contextlib import suppress
 from dataclasses import dataclass, field
 from pathlib import Path
 from typing import Any
@@ -14,11 +16,14 @@ from pandas.api.types import union_categoricals
 
 from pitplan.errors import PlanError
 
+from . import table_parts
 from .numeric_fields import header_row_of, without_truths
 from .text_format import UNREADABLE, NulByte, TableFormat, WholeText, nul_byte, opened, unreadable, wrong_encoding
 
 # Rows that are read at a time: the reader holds several times what it has read.
 PIECE = 500_000
+# From this number of parts on memory is given back after each column, otherwise after the last.
+MANY = 32
 
 
 @dataclass(frozen=True)
@@ -51,20 +56,13 @@ def read_columns(file: Path, form: TableFormat, fields: Fields = Fields()) -> pd
             warnings.simplefilter("error", pd.errors.ParserWarning)
             # A column may have numbers in one piece and texts in another.
             warnings.simplefilter("ignore", pd.errors.DtypeWarning)
+            options = options_of(form, fields)
+            pieces = table_parts.read(file, form, options)
+            if pieces is not None:
+                return joined(pieces)
             with opened(file) as data, WholeText(data, encoding=form.encoding, errors=form.errors, newline="") as text:
-                pieces = pd.read_csv(
-                    text,
-                    sep=pandas_separator(form),
-                    skiprows=form.skipped,
-                    decimal=form.decimal,
-                    index_col=False,
-                    dtype={**dict.fromkeys(fields.codes, "str"), **dict.fromkeys(fields.shared, "category")},
-                    keep_default_na=False,
-                    na_values={name: ["", *nulls] for name, nulls in fields.numbers.items()},
-                    float_precision="round_trip",
-                    chunksize=PIECE,
-                )
-                return joined([without_truths(piece) for piece in pieces])
+                options |= {"float_precision": "round_trip", "chunksize": PIECE}
+                return joined([without_truths(piece) for piece in pd.read_csv(text, **options)])
     except NulByte as error:
         raise nul_byte(file, form) from error
     except UnicodeError as error:
@@ -73,6 +71,19 @@ def read_columns(file: Path, form: TableFormat, fields: Fields = Fields()) -> pd
         raise no_table(file, form, str(error)) from error
     except UNREADABLE as error:
         raise unreadable(file, error) from error
+
+
+def options_of(form: TableFormat, fields: Fields) -> dict[str, Any]:
+    """Returns the options of `pandas.read_csv`."""
+    return {
+        "sep": pandas_separator(form),
+        "skiprows": form.skipped,
+        "decimal": form.decimal,
+        "index_col": False,
+        "dtype": {**dict.fromkeys(fields.codes, "str"), **dict.fromkeys(fields.shared, "category")},
+        "keep_default_na": False,
+        "na_values": {name: ["", *nulls] for name, nulls in fields.numbers.items()},
+    }
 
 
 def no_table(file: Path, form: TableFormat, why: str) -> PlanError:
@@ -100,8 +111,18 @@ def joined(pieces: list[pd.DataFrame]) -> pd.DataFrame:
     if len(pieces) == 1:
         return pieces[0]
     names = list(pieces[0].columns)
-    columns = {name: stacked([piece.pop(name) for piece in pieces]) for name in names}
+    columns = {}
+    for name in names:
+        columns[name] = stacked([piece.pop(name) for piece in pieces])
+        if len(pieces) >= MANY or name == names[-1]:
+            give_back_memory()
     return pd.DataFrame(columns, copy=False)
+
+
+def give_back_memory() -> None:
+    """Gives freed memory back to the system: what threads have freed is lost to others otherwise. Only glibc has the call."""
+    with suppress(AttributeError, OSError):
+        ctypes.CDLL(None).malloc_trim(0)
 
 
 def stacked(columns: list[pd.Series]) -> Any:
