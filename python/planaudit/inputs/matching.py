@@ -13,7 +13,7 @@ from planaudit.errors import AuditError
 from planaudit.inputs import block_table, plain_tables
 from planaudit.inputs.project import MissingRock, Project
 from planaudit.inputs.reblocking import divided, together, written_rows
-from planaudit.inputs.rotated_grid import centroids, steps_of
+from planaudit.inputs.rotated_grid import centroids, nearest_cells
 from planaudit.inputs.tables import PERIOD, YEAR, demand_numbers
 from planaudit.inputs.text_layout import TextLayout
 
@@ -182,9 +182,3 @@ def beside(
         )
         rows = rows.assign(**{UNCUT: uncut, columns.tonnes: written[own_name(columns.tonnes)].to_numpy()[order]})
     return rows, known, order
-
-
-def nearest_cells(centres: np.ndarray, grid: dict[str, Any]) -> np.ndarray:
-    """Returns the cells with the nearest centres to rows x, y, z in metres."""
-    east, north, up = np.rint(steps_of(centres, grid)).astype(np.int64).T
-    return np.ravel_multi_index((-up, north, east), grid["shape"], mode="clip")

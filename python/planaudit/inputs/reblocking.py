@@ -10,8 +10,9 @@ import numpy as np
 import pandas as pd
 
 from planaudit.errors import AuditError
+from planaudit.inputs.block_table import columns_of
 from planaudit.inputs.project import Project, TableColumns
-from planaudit.inputs.rotated_grid import centroids, places_of, steps_of
+from planaudit.inputs.rotated_grid import centroids, nearest_cells, places_of, steps_of
 
 # Decimals of grades; and the distance from a half, in their last place, within which a mean is computed exactly.
 GRADE_PLACES, NEAR = 9, 1e-3
@@ -151,18 +152,15 @@ def written_rows(
 ) -> pd.DataFrame:
     """Returns the rows of results for cells with rows of the table, in the order of `together`. Raises AuditError if one is missing from the file
     `source`."""
-    axes = [project.table.x, project.table.y, project.table.z]
-
-    def places(frame: pd.DataFrame) -> pd.MultiIndex:
-        steps = np.rint(steps_of(frame[axes].to_numpy(), grid)).astype(np.int64)
-        return pd.MultiIndex.from_arrays(steps.T)
-
-    at = places(written).get_indexer(places(expected))
+    axes = (project.table.x, project.table.y, project.table.z)
+    row_of = np.full(int(np.prod(grid["shape"])), -1, dtype=np.int64)
+    row_of[nearest_cells(centroids(written, axes), grid)] = np.arange(len(written))
+    at = row_of[nearest_cells(centroids(expected, axes), grid)]
     if (at < 0).any():
         raise AuditError(
             f"{source}: {np.count_nonzero(at < 0):,} blocks of the table's rows are not in it: has the table changed since?"
         )
-    return written.iloc[at][list(expected.columns)].reset_index(drop=True)
+    return columns_of(written, expected.columns, at)
 
 
 def divided(frame: pd.DataFrame, project: Project, grid: dict[str, Any]) -> tuple[pd.DataFrame, Optional[pd.DataFrame]]:

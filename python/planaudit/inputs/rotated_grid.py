@@ -36,3 +36,9 @@ def centroids(frame: pd.DataFrame, names: Sequence[str]) -> np.ndarray:
 def places_of(steps: np.ndarray, grid: dict[str, Any]) -> np.ndarray:
     """Returns the planner's x and y of rows of blocks east and north from the first centroid."""
     return steps * np.array(grid["size"])[:2] @ axes_of(grid)[:2, :2] + np.array(grid["origin"])[:2]
+
+
+def nearest_cells(centres: np.ndarray, grid: dict[str, Any]) -> np.ndarray:
+    """Returns the cells with the nearest centres to rows x, y, z in metres."""
+    east, north, up = np.rint(steps_of(centres, grid)).astype(np.int64).T
+    return np.ravel_multi_index((-up, north, east), grid["shape"], mode="clip")

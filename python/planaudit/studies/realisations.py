@@ -16,11 +16,12 @@ import pandas as pd
 from planaudit.errors import AuditError
 from planaudit.inputs import block_table
 from planaudit.inputs.kept_arrays import read_arrays
-from planaudit.inputs.matching import beside, nearest_cells, read_blocks, rows_of
+from planaudit.inputs.matching import beside, read_blocks, rows_of
 from planaudit.inputs.project import Project, Scenarios
 from planaudit.inputs.project_file import load
 from planaudit.inputs.reblocking import mean_grades
 from planaudit.inputs.record import read_json
+from planaudit.inputs.rotated_grid import nearest_cells
 from planaudit.inputs.tables import TABLES
 
 PROBABILITY, SCENARIOS, QUANTILES = "probability.csv", "scenarios.csv", "quantiles.csv"
