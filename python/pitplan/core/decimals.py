@@ -86,7 +86,9 @@ class Exact:
         """The nearest floats, for pictures and reports."""
         if self.places <= EXACT_POWER and greatest(self.whole) <= EXACT_WHOLE:
             return self.whole.astype(np.float64) / 10.0**self.places
-        return np.array([int(number) / 10**self.places for number in self.whole], dtype=np.float64)
+        found, unit, some = np.zeros(len(self.whole)), 10**self.places, np.flatnonzero(self.whole != 0)
+        found[some] = [int(number) / unit for number in self.whole[some]]
+        return found
 
     def rounded(self, places: int) -> tuple[np.ndarray, Rounding]:
         """Whole numbers of 10**-places, halves to the even one, and what the rounding did."""
@@ -125,6 +127,11 @@ def nearest(whole: np.ndarray, unit: Union[int, np.ndarray]) -> np.ndarray:
     """The whole numbers nearest to these parts of a unit above 0, one for all or one each; halves to the even one."""
     if 2 * greatest(unit) > MOST_WHOLE:
         whole = whole.astype(object)
+    if whole.dtype == object and not (whole != 0).all():
+        # Most blocks hold no metal, and Python's numbers take their time.
+        some, found = np.flatnonzero(whole != 0), np.zeros(len(whole), dtype=object)
+        found[some] = nearest(whole[some], unit if isinstance(unit, int) else unit[some])
+        return found
     below, over = whole // unit, whole % unit
     up = (2 * over > unit) | ((2 * over == unit) & (below % 2 == 1))
     return below + up.astype(bool).astype(np.int64).astype(whole.dtype)
