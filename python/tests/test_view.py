@@ -213,6 +213,43 @@ def test_the_picture_is_the_one_that_was_kept(page, tmp_path_factory):
     assert (abs(kept - now).max(axis=2) > 0.1).mean() < 0.02
 
 
+def drawn(browser):
+    """The pixels that were drawn last, as a PNG in base64."""
+    return browser.ask("renderer.domElement.toDataURL()")
+
+
+@needs_chromium
+def test_a_slider_that_moves_and_returns_draws_the_same_picture(page, browser):
+    """Buffers grow with larger pits and sections, and what they held before must not be drawn."""
+    browser.open(page[0], "rf=0.5&show=pit")
+    first = drawn(browser)
+    for name, value, back in (
+        ("dug", "3", "1"),
+        ("dug", "0", "1"),
+        ("show", "ground", "pit"),
+        ("colour", "pit", "revenue_factor"),
+    ):
+        browser.choose(name, value)
+        assert drawn(browser) != first
+        browser.choose(name, back)
+        assert drawn(browser) == first
+
+
+@needs_chromium
+@pytest.mark.parametrize("x", [-180, 40, 280])
+@pytest.mark.parametrize("y", [-180, 50, 280])
+@pytest.mark.parametrize("z", [-180, 30, 280])
+def test_sides_that_face_away_from_the_camera_change_no_pixel(page, browser, x, y, z):
+    """The model is 100, 90 and 50 m long from 0: from outside of it a camera sees one side of each two, from within both."""
+    browser.open(page[0], "rf=1.5")
+    browser.ask(f"camera.position.set({x}, {y}, {z}); camera.lookAt(middle); draw()")
+    seen = sum(1 if outside else 2 for outside in (x != 40, y != 50, z != 30))
+    assert browser.ask("sides.filter(it => it.mesh.visible).length") == seen
+    found = drawn(browser)
+    browser.ask("sides.forEach(it => { it.mesh.visible = true; }); renderer.render(scene, camera)")
+    assert drawn(browser) == found
+
+
 @needs_chromium
 def test_a_folder_of_shells_alone_has_no_choice_of_stages(page, browser):
     browser.open(page[0])
