@@ -157,7 +157,10 @@ def test_the_schedule_of_the_page_is_that_of_the_example():
     cutoff = cutoffs(plain.flows["lp"], [""])[""][1]
     assert f"In year 2 its cut-off is {cutoff:.2f} USD per tonne of feed" in PAGES["schedules"]
     value, bound = stocked.value("lp") / 1e6, stocked.upper_bound / 1e6
-    assert f"With a stockpile that costs 1 USD per tonne it earns {value:.2f}, below {bound:.2f}" in PAGES["schedules"]
+    assert (
+        f"With a stockpile that costs 1 USD per tonne it earns {value:.2f}, below a bound of {bound:.2f}"
+        in PAGES["schedules"]
+    )
 
 
 def test_the_schedule_by_block_of_the_page_is_that_of_the_example():
@@ -187,12 +190,12 @@ def test_the_widths_of_the_page_are_those_of_the_example():
     (note,) = [note for note in wide.notes if "blocks moved" in note]
     later, more = (int(re.search(rf"([\d,]+) {word}", note)[1]) for word in ("later", "additionally"))
     assert (
-        f"are {' and '.join(map(str, after['blocks']))} blocks: of the {' and '.join(map(str, before['blocks']))} that the shells add"
+        f"are {' and '.join(map(str, after['blocks']))} blocks. Without widths they are {' and '.join(map(str, before['blocks']))}:"
         in PAGES["pushbacks"]
     )
-    assert f"{later} of the first come in the second, and {more} more blocks are mined" in PAGES["pushbacks"]
+    assert f"{later} blocks move to the second pushback, and {more} more blocks are mined" in PAGES["pushbacks"]
     cost, worth = after["value_lost_to_width"].iloc[-1], before["undiscounted_cash_flow"].sum() / 1e6
-    assert f"worth {cost:,.0f} USD less by it, of {worth:.1f} million" in PAGES["pushbacks"]
+    assert f"This costs {cost:,.0f} USD of {worth:.1f} million" in PAGES["pushbacks"]
     assert many["blocks"][2] == 3 and "0 earlier" in note and "0 never" in note
 
 

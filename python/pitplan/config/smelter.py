@@ -63,7 +63,7 @@ class Smelter:
     concentrate_grade : Decimal, optional
         Its grade in the dry concentrate or the dore, in the unit of its column.
     minimum_deduction : Decimal
-        Units of that grade that are not paid at least.
+        The least deduction, in units of that grade.
     treatment_charge : Decimal
         Per dry tonne of concentrate.
     refining_charge : Decimal
