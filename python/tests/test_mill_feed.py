@@ -74,6 +74,8 @@ def test_amounts_are_exact_in_decimals(plan_folder):
             'blocks.csv row 2 column region: [economics] mining_recovery names no domain "1"',
         ),
         ("dilution = { domain = { 1 = 0.1 }, rock = 1 }", "[economics.dilution] rock: unknown key"),
+        ("dilution = { domain = 0.1, R = { 1 = 0.1 } }", "[economics.dilution] R: unknown key"),
+        ("dilution = { region = { 1 = 0.1 } }", "[economics.dilution] domain: is missing: rename region"),
     ],
 )
 def test_what_is_wrong_is_named(plan_folder, text, said):

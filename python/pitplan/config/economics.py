@@ -199,7 +199,7 @@ def read_by_code(section: Section, key: str, default: Decimal, most: Optional[in
     if not section.has(key):
         return default
     value = section.get(key)
-    if not isinstance(value, dict) or not isinstance(value.get("domain"), dict):
+    if not isinstance(value, dict) or not any(isinstance(it, dict) for it in value.values()):
         return section.by_rock(key, most)
     inner = section.section(key)
     by_region = inner.by_rock("domain", most)

@@ -37,7 +37,7 @@ class PushbackRules:
 
 def read_pushbacks(section: Section) -> PushbackRules:
     """The section's rules. Raises PlanError, with the key, where one is missing or wrong."""
-    given = [key for key in WAYS if section.has(key)]
+    given = section.given(WAYS)
     if len(given) != 1:
         raise section.wrong(given[1] if given else WAYS[0], f"give exactly one of {', '.join(WAYS)}")
     if section.has("ultimate_pit") and given == ["revenue_factors"]:

@@ -25,7 +25,7 @@ class Scenarios:
 
 
 def read_scenarios(section: Section, folder: Path) -> Scenarios:
-    given = [key for key in ("realisations", "columns") if section.has(key)]
+    given = section.given(("realisations", "columns"))
     if len(given) != 1:
         raise section.wrong("realisations", "give exactly one of realisations, a folder, and columns, by metal")
     columns: dict[str, tuple[str, ...]] = {}

@@ -83,7 +83,7 @@ def read_slopes(section: Section) -> Slopes:
 
 
 def read_wall(section: Section) -> Wall:
-    given = [key for key in ("pattern", "angle", "azimuths", "offsets", "bench") if section.has(key)]
+    given = section.given(("pattern", "angle", "azimuths", "offsets", "bench"))
     if len(given) != 1:
         raise section.wrong("angle", "give exactly one of angle, azimuths, bench, pattern and offsets")
     angles: tuple[tuple[float, float], ...] = ()

@@ -52,6 +52,13 @@ class Section:
         self.asked.add(key)
         return key in self.data
 
+    def given(self, keys: tuple[str, ...]) -> list[str]:
+        """Returns those of several keys that the section has. Raises PlanError if it has one by the name of an earlier release."""
+        for key in keys:
+            if old := old_name(key, self.data):
+                raise self.wrong(old, f"unknown key: rename it to {key}, as it is called now")
+        return [key for key in keys if self.has(key)]
+
     def get(self, key: str) -> Any:
         if not self.has(key):
             old = old_name(key, self.data)
