@@ -72,6 +72,12 @@ def value_of(argument: Argument) -> str:
     return "{" + words + "}" if words else argument.name
 
 
+def on_the_line(argument: Argument) -> str:
+    """An argument as command lines have it: in brackets if it may be left out, with dots if several may follow."""
+    value = f"[{value_of(argument)}]" if argument.is_optional else value_of(argument)
+    return f"{value} ..." if argument.repeats else value
+
+
 def described(part: Union[Argument, Option]) -> str:
     """What an argument or option is for, and whether it is required."""
     return sentence(part.help) + (" Required." if isinstance(part, Option) and part.required else "")
@@ -94,7 +100,7 @@ def synopsis(known: Parts) -> list[str]:
                 spelling = max(option.spellings, key=len)
                 value = f" {value_of(option.value)}" if option.value else ""
                 lines.append(f'.BI {roff(spelling)} "{value}"' if option.required else f".OP {roff(spelling)}{value}")
-        lines += [f".I {value_of(argument)}{' ...' if argument.repeats else ''}" for argument in sub.arguments]
+        lines += [f".I {on_the_line(argument)}" for argument in sub.arguments]
     return [*lines, ".SY pitplan", '.BR \\-\\-version " | " \\-\\-help', ".YS"]
 
 
@@ -103,7 +109,7 @@ def subcommand_lines(known: Parts, more: dict[str, list[str]]) -> list[str]:
     for title, subs in known.groups.items():
         lines.append(f".SS {title.capitalize()}")
         for sub in subs:
-            arguments = " ".join(f"{value_of(it)}{' ...' if it.repeats else ''}" for it in sub.arguments)
+            arguments = " ".join(map(on_the_line, sub.arguments))
             lines += [".TP", f'.BI {sub.name} " {arguments}"', sentence(known.descriptions[sub.name])]
             lines += more.pop(sub.name, [])
     return lines

@@ -59,6 +59,12 @@ def test_the_page_has_words_of_the_help_and_of_the_template(manual):
     assert re.search(r"^\\fB\\-\\-to\\fR \\fIFORMAT\\fR\n.* Required\.\n", page, re.MULTILINE)
 
 
+def test_an_argument_that_may_be_left_out_is_in_brackets(manual):
+    lines = manual("@synopsis\n@subcommands\n@end\n").splitlines()
+    assert lines.count(".I [FOLDER]") == 1 and '.BI serve " [FOLDER]"' in lines
+    assert ".I FOLDER ..." in lines and '.BI verify " FOLDER"' in lines
+
+
 def test_the_template_cannot_add_to_an_option_that_the_parser_lacks(manual):
     with pytest.raises(SystemExit, match="@options has no @more smoth"):
         manual("@options\n@more smoth\nIt is slow.\n@end\n")

@@ -30,6 +30,8 @@ class Argument:
         Those that it may be, if it has WORDS.
     repeats : bool
         Whether several may follow each other.
+    is_optional : bool
+        Whether it may be left out.
     """
 
     name: str
@@ -37,6 +39,7 @@ class Argument:
     kind: str
     words: tuple[str, ...] = ()
     repeats: bool = False
+    is_optional: bool = False
 
 
 @dataclass(frozen=True)
@@ -118,7 +121,8 @@ def argument_of(action: argparse.Action) -> Argument:
     repeats = action.nargs in ("+", "*")
     if action.choices is not None:
         return Argument(name, help_of(action), WORDS, tuple(action.choices), repeats)
-    return Argument(name, help_of(action), PATHS[name] if action.type is Path else NOTHING, (), repeats)
+    kind = PATHS[name] if action.type is Path else NOTHING
+    return Argument(name, help_of(action), kind, (), repeats, action.nargs == "?")
 
 
 def help_of(action: argparse.Action) -> str:

@@ -121,7 +121,8 @@ def add_serve(subs: Subparsers) -> None:
     more = "Only this machine reaches it, by the address with the token that is printed, unless you name it for a team. Jobs go on after Ctrl-C."
     does = "show and run the projects of a folder in the browser"
     sub = subs.add("serve", does, subcommands.serve, more)
-    sub.add_argument("folder", nargs="?", type=Path, default=Path("."), help="folder with projects (default: this one)")
+    words = "folder with projects (default: this one)"
+    sub.add_argument("folder", nargs="?", type=Path, default=Path("."), metavar="FOLDER", help=words)
     sub.add_argument("--port", type=port_of, default=0, metavar="N", help="port, 0 to 65535 (default: 0, any free one)")
     sub.add_argument("--no-browser", action="store_true", help="print the address only")
     text = "let a team reach this machine by this name or address, over TLS; requires a password file, a certificate and its key"
