@@ -1,6 +1,6 @@
 """`python3 -m planaudit FOLDER`: verifies an output folder without pitplan.
 
-Prints a line for each rule that holds, or the differences. With `--json` it prints all rules, or the error, as JSON.
+Prints a line for each rule and the verdict if all hold, otherwise the differences. With `--json` it prints all rules, or the error, as JSON.
 """
 
 from __future__ import annotations
@@ -15,6 +15,7 @@ from typing import Any, Optional
 
 import planaudit
 from planaudit.errors import AuditError, PackageError
+from planaudit.rules import as_lines
 
 
 def parser() -> argparse.ArgumentParser:
@@ -60,7 +61,7 @@ def main(words: Optional[Sequence[str]] = None) -> int:
     except AuditError as error:
         print(f"planaudit: {error}", file=sys.stderr)
         return 1
-    print(*(f"{rule.name}: {rule.holds}" for rule in rules), sep="\n")
+    print(*as_lines(rules), sep="\n")
     return 0
 
 

@@ -55,3 +55,8 @@ def unlike(
         if not (abs(there - amount) <= slack(name, amount) or math.isnan(there) and math.isnan(amount)):
             found.append(f"{where}: {name} {there:.12g} for {amount:.12g}")
     return found
+
+
+def as_lines(rules: list[Rule]) -> list[str]:
+    """Returns the lines that a command prints if all rules hold: each rule, then the verdict."""
+    return [*(f"{rule.name}: {rule.holds}" for rule in rules), f"verified: all {len(rules)} rules hold"]

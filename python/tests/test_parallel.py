@@ -263,7 +263,8 @@ def test_the_audit_runs_without_pitplan(plan_folder, capsys):
     folder = project.folder
     pitplan.write_shells(project, folder)
     assert main([str(folder)]) == 0
-    found = capsys.readouterr().out.splitlines()
+    *found, verdict = capsys.readouterr().out.splitlines()
+    assert verdict == f"verified: all {len(found)} rules hold"
     assert [it for it in found if not it.startswith("inputs: ")] == recorded(folder) and len(found) > len(
         recorded(folder)
     )

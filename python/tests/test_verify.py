@@ -50,7 +50,9 @@ def copied(answered, tmp_path):
 def test_what_is_right_is_told_rule_by_rule(answered, copied, capsys):
     assert wrong(copied) == set()
     assert main(["verify", str(copied)]) == 0
-    assert [line.split(":")[0] for line in capsys.readouterr().out.splitlines()] == [
+    *lines, verdict = capsys.readouterr().out.splitlines()
+    assert verdict == "verified: all 12 rules hold"
+    assert [line.split(":")[0] for line in lines] == [
         "blocks",
         "absent",
         "walls",

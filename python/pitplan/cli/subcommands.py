@@ -280,14 +280,15 @@ def audit(options: Namespace) -> int:
 
 
 def verify(options: Namespace) -> int:
-    """Prints a line for each rule that holds. Raises PlanError if one does not."""
+    """Prints a line for each rule that holds, and the verdict. Raises PlanError if one does not."""
+    from planaudit.rules import as_lines
+
     from ..commands.audited import demand
     from ..commands.verify import verify as recalculate
 
     rules = recalculate(options.folder)
     demand(rules)
-    for rule in rules:
-        print(f"{rule.name}: {rule.holds}")
+    print(*as_lines(rules), sep="\n")
     return 0
 
 
