@@ -1,14 +1,17 @@
 """Settings of the site that `make site` builds from these pages, in build/site.
 
-Links to files outside docs/ work in a browser of the repository as they are; in the site they lead to copies of these files.
+Links to files outside docs/ work in a browser of the repository as they are; in the site they lead to copies of these files. A page of
+docs/notebooks names a notebook of examples/, whose cells and outputs the site shows.
 """
 
 from __future__ import annotations
 
+import json
+import re
 import shutil
 import sys
 from pathlib import Path
-from typing import Iterator
+from typing import Any, Iterator
 
 from docutils import nodes  # type: ignore[import]
 from sphinx import addnodes
@@ -20,6 +23,8 @@ TOP = DOCS.parent
 COPIES = "files"
 # Files that browsers show or open by their own names; to all others .txt is added, so that they are shown as text.
 SHOWN = (".png", ".ipynb", ".csv")
+# A block of Markdown that names a notebook, relative to the page.
+NOTEBOOK = re.compile(r"^```\{notebook\} (\S+)\n```$", re.MULTILINE)
 
 project = "pitshell"
 html_title = "pitplan and pitshell"
@@ -70,7 +75,41 @@ def link_copies(app: Sphinx, document: nodes.document) -> None:
         link.replace_self(nodes.reference("", "", *link.children, internal=True, refuri=f"{up}{copy_name(file)}"))
 
 
+def fenced(text: str, language: str) -> str:
+    """A block of code in Markdown, whose fence is longer than those in the text."""
+    fence = "`" * (1 + max([2, *map(len, re.findall("`+", text))]))
+    return f"{fence}{language}\n{text.rstrip()}\n{fence}"
+
+
+def output_as_markdown(output: dict[str, Any]) -> str:
+    """An output of a cell: its picture, otherwise its HTML or its text."""
+    data = output.get("data", {})
+    if "image/png" in data:
+        picture = "".join(data["image/png"]).replace("\n", "")
+        return f"![A picture that the cell draws](data:image/png;base64,{picture})"
+    if "text/html" in data:
+        return fenced('<div class="output">' + "".join(data["text/html"]) + "</div>", "{raw} html")
+    return fenced(":class: output\n\n" + "".join(output.get("text") or data["text/plain"]), "{code-block} text")
+
+
+def notebook_as_markdown(file: Path) -> str:
+    """The cells of a notebook and their outputs."""
+    parts: list[str] = []
+    for cell in json.loads(file.read_text(encoding="utf-8"))["cells"]:
+        source = "".join(cell["source"])
+        parts += [source] if cell["cell_type"] == "markdown" else [fenced(source, "python")]
+        parts += map(output_as_markdown, cell.get("outputs", []))
+    return "\n\n".join(parts)
+
+
+def expand_notebooks(app: Sphinx, name: str, source: list[str]) -> None:
+    """Replaces the names of notebooks in a page by their cells."""
+    folder = Path(app.env.doc2path(name)).parent
+    source[0] = NOTEBOOK.sub(lambda found: notebook_as_markdown((folder / found[1]).resolve()), source[0])
+
+
 def setup(app: Sphinx) -> dict[str, bool]:
+    app.connect("source-read", expand_notebooks)
     # Before Sphinx collects downloads at its priority of 500.
     app.connect("doctree-read", link_copies, priority=400)
     return {"parallel_read_safe": True}

@@ -1,7 +1,9 @@
 """Pages of documentation: links, pictures, lengths, blocks of code, and the site that is made of them."""
 
 import contextlib
+import copy
 import io
+import json
 import re
 import subprocess
 import sys
@@ -22,6 +24,7 @@ NAMES = [str(page.relative_to(ROOT)) for page in PAGES]
 OTHERS = [ROOT / "CHANGELOG.md", *sorted(ROOT.glob("crates/*/README.md")), *sorted(ROOT.glob("bench/results/*.md"))]
 LINKED = [*PAGES, *OTHERS]
 MANUALS = sorted((ROOT / "man").glob("*.in"))
+NOTEBOOKS = sorted((ROOT / "examples").glob("*.ipynb"))
 # Pages that a planner reads from top to bottom, and README.
 MOST_WORDS, MOST_WORDS_OF_SENTENCES = 900, 25
 SHORT = [page for page in PAGES if page.parent.name == "planning" or page.name == "README.md" and page.parent == ROOT]
@@ -43,6 +46,29 @@ def test_the_site_has_every_page_and_no_dead_link(site):
     due = {page.relative_to(ROOT / "docs").with_suffix(".html") for page in PAGES if ROOT / "docs" in page.parents}
     assert due <= {page.relative_to(site) for page in site.rglob("*.html")} and len(due) > 30
     assert documentation.dead_in_site(site) == []
+
+
+@pytest.mark.parametrize("notebook", NOTEBOOKS, ids=[notebook.stem for notebook in NOTEBOOKS])
+def test_the_page_of_a_notebook_has_its_cells_outputs_and_pictures(site, notebook):
+    cells = json.loads(notebook.read_text(encoding="utf-8"))["cells"]
+    page = documentation.Html((site / "notebooks" / f"{notebook.stem}.html").read_text(encoding="utf-8"))
+    assert documentation.missing_of_notebook(cells, page) == []
+    outputs = [(number, output) for number, cell in enumerate(cells) for output in cell.get("outputs", [])]
+    assert len(outputs) >= 4
+    # What the page does not have is found: each source and output with a letter or a picture changed.
+    for number in range(len(cells)):
+        other = copy.deepcopy(cells)
+        other[number]["source"] = [*other[number]["source"], "x = 1"]
+        assert len(documentation.missing_of_notebook(other, page)) == 1
+    for number, output in outputs:
+        changed = documentation.missing_of_notebook([{**cells[number], "outputs": [other_output(output)]}], page)
+        assert len(changed) == 1
+
+
+def other_output(output):
+    """The output with one character more in each of its forms."""
+    data = {kind: "".join(value) + "7" for kind, value in output.get("data", {}).items()}
+    return {**output, "data": data, **({"text": [*output["text"], "7"]} if "text" in output else {})}
 
 
 def test_the_site_loads_nothing_from_elsewhere(site):

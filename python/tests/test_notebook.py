@@ -1,23 +1,31 @@
 """What import pitplan gives: each subcommand as a function, with paths, frames and rules, of a small mine."""
 
+import base64
 import importlib.util
 import inspect
+import io
 import json
 import re
+import sys
 import typing
 from decimal import Decimal
 
+import numpy as np
 import pandas as pd
 import pytest
 from conftest import ROOT
 from helpers.constraints import FIXED_SECTION, ores_and_fixed, with_section
 from helpers.scenarios import COLUMNS, PRICES, UPRIGHT, pillar
 from helpers.verified import UNVERIFIED
+from matplotlib import image
 from matplotlib.figure import Figure
 
 import pitplan
 import pitplan.figures.scenarios  # as help(pitplan) says
 from pitplan import PlanError, Request
+
+sys.path.insert(0, str(ROOT / "tools"))
+import run_notebooks  # after the line above
 
 # The lines that the package's own help shows.
 LINES = "\n".join(re.findall(r"^    (.+)$", pitplan.__doc__ or "", re.MULTILINE))
@@ -176,6 +184,31 @@ def test_the_notebook_from_a_frame_to_a_schedule_runs(monkeypatch):
         years["total_tonnes"] <= 2_000_000 * (1 + 1e-9)
     ).all()
     assert (ways["optimality_gap"] >= 0).all() and len(names["figure"].axes) == len(ways) >= 1
+
+
+def texts_and_pictures(outputs):
+    """The outputs of a cell as texts by their types, and its pictures as arrays."""
+    texts, pictures = [], []
+    for output in outputs:
+        data = {kind: "".join(value) for kind, value in output.get("data", {}).items()}
+        if png := data.pop("image/png", None):
+            pictures.append(image.imread(io.BytesIO(base64.b64decode(png))))
+        texts.append((output["output_type"], data, "".join(output.get("text", []))))
+    return texts, pictures
+
+
+@pytest.mark.parametrize("name", ["arrays", "schedule"])
+def test_the_outputs_in_a_notebook_are_those_of_a_run(monkeypatch, name):
+    monkeypatch.chdir(ROOT / "examples")
+    cells = json.loads((ROOT / "examples" / f"{name}.ipynb").read_text(encoding="utf-8"))["cells"]
+    count = 0
+    for cell, outputs in zip(cells, run_notebooks.outputs_of(cells)):
+        (texts, pictures), (stored, drawn) = texts_and_pictures(outputs), texts_and_pictures(cell.get("outputs", []))
+        assert stored == texts, "run tools/run_notebooks.py"
+        assert [it.shape for it in drawn] == [it.shape for it in pictures]
+        assert all(np.abs(one - other).mean() < 0.01 for one, other in zip(drawn, pictures))
+        count += len(stored)
+    assert count >= 4 and bool(pictures) == (name == "schedule")
 
 
 def test_lists_of_jobs_are_told_by_what_to_start(plan_folder):

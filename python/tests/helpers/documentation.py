@@ -8,7 +8,7 @@ import shlex
 import unicodedata
 from html.parser import HTMLParser
 from pathlib import Path
-from typing import Iterator, NamedTuple, Optional
+from typing import Any, Iterator, NamedTuple, Optional
 from urllib.parse import unquote
 
 import tomllib
@@ -80,13 +80,17 @@ def dead_links(page: Path, text: str) -> Iterator[str]:
 
 
 class Html(HTMLParser):
-    """The links, pictures and anchors of a page of the site."""
+    """The links, pictures, anchors and text of a page of the site."""
 
     def __init__(self, text: str) -> None:
         super().__init__()
         self.links: list[str] = []
         self.anchors: set[str] = {""}
+        self.text = ""
         self.feed(text)
+
+    def handle_data(self, data: str) -> None:
+        self.text += data
 
     def handle_starttag(self, tag: str, attributes: list[tuple[str, Optional[str]]]) -> None:
         for name, value in attributes:
@@ -109,6 +113,28 @@ def dead_in_site(site: Path) -> list[str]:
             if not file.exists() or file in read and anchor not in read[file].anchors:
                 dead.append(f"{page.relative_to(site)}: {link}")
     return dead
+
+
+def missing_of_notebook(cells: list[dict[str, Any]], html: Html) -> list[str]:
+    """The sources and outputs of a notebook's cells that a page of the site lacks: texts as they are, headings and tables word by word."""
+    seen, lacks = "".join(html.text.split()), []
+    for cell in cells:
+        source = "".join(cell["source"])
+        if cell["cell_type"] == "code" and source not in html.text:
+            lacks.append(source)
+        if cell["cell_type"] == "markdown":
+            lacks += [line for line in source.splitlines() if "".join(re.sub(r"^#+ |`", "", line).split()) not in seen]
+        for output in cell.get("outputs", []):
+            data = output.get("data", {})
+            if "image/png" in data:
+                lacks += [it for it in ["data:image/png;base64," + data["image/png"]] if it not in html.links]
+            elif "text/html" in data:
+                text = "".join(Html("".join(data["text/html"])).text.split())
+                lacks += [text] if text not in seen else []
+            else:
+                text = "".join(output.get("text") or data["text/plain"]).rstrip()
+                lacks += [text] if text not in html.text else []
+    return lacks
 
 
 def commands(text: str, name: str = "pitplan") -> list[list[str]]:
