@@ -145,5 +145,5 @@ def test_verify_begins_with_the_project_that_has_changed(mine, capsys):
     assert main(["verify", str(path.parent / "plan")]) == 1
     first, second, third = capsys.readouterr().err.splitlines()[:3]
     assert first.startswith("pitplan: verification failed: ") and third.strip().startswith("money: ")
-    why = "has changed since the run, and the folder is compared with it as it is now"
+    why = "has changed since the run, and the folder is compared with it as it is now: run the command again"
     assert second.strip() == f"inputs: {path}: {why}"

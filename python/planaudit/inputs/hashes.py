@@ -26,7 +26,7 @@ def verify(answer: Answer) -> Rule:
             differences.append(f"plan.json has no hash of {name}")
         elif recorded[name] != hash_of(path):
             differences.append(
-                f"{plain(path)}: has changed since the run, and the folder is compared with it as it is now"
+                f"{plain(path)}: has changed since the run, and the folder is compared with it as it is now: run the command again"
             )
     return rule(NAME, HOLDS, [*differences, *unlike_report(answer)])
 
