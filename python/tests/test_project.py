@@ -159,6 +159,16 @@ def test_a_byte_order_mark_is_passed_over_and_another_encoding_is_refused(plan_f
             "{ from = 1.3, to = 0.3, step = 0.05 }",
             "[shells] revenue_factors: found none from 1.30 to 0.30: from may not be above to",
         ),
+        (
+            "[0.5, 1.0, 1.5]",
+            "{ from = 0.3, to = 1.2, step = 50 }",
+            "[shells.revenue_factors] step: found 50, expected at most 0.90, from `from` to `to` (did you mean 0.05?)",
+        ),
+        (
+            "[0.5, 1.0, 1.5]",
+            "{ from = 0.3, to = 1.2, step = 0.95 }",
+            "[shells.revenue_factors] step: found 0.95, expected at most 0.90, from `from` to `to`",
+        ),
         ("[0.5, 1.0, 1.5]", "{ from = 0.3, step = 0.05 }", "[shells.revenue_factors] to: is missing"),
         (
             "[0.5, 1.0, 1.5]",

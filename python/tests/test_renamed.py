@@ -73,7 +73,7 @@ bench = { height = 10, face = 70, berm = 5 }
 [[slopes.walls]]
 steps = [[0, 0, 1]]
 [shells]
-factors = [500, 1000, 1500]
+factors = { from = 500, to = 1500, step = 50 }
 rate = 0.1
 ore_per_year = 100
 rock_per_year = 200
@@ -133,7 +133,7 @@ bench = { height = 10, face_angle = 70, berm_width = 5 }
 [[slopes.domains]]
 offsets = [[0, 0, 1]]
 [shells]
-revenue_factors = [0.5, 1.0, 1.5]
+revenue_factors = { from = 0.50, to = 1.50, step = 0.05 }
 discount_rate = 0.1
 processing_capacity = 100
 mining_capacity = 200
@@ -169,8 +169,8 @@ RENAMES = [r"(\w+): unknown key: rename it to (\w+),", r"(\w+): is missing: rena
 
 def followed(text, said):
     """The project after the change that an error names, in the section that it names."""
-    if factor := re.search(r"found (\d+), expected a revenue factor .* \(did you mean ([\d.]+)\?\)", said):
-        return re.sub(rf"\b{factor[1]}\b", factor[2], text, count=1)
+    if factor := re.search(r"found ([\d.]+), expected .* \(did you mean ([\d.]+)\?\)", said):
+        return re.sub(rf"(?<![\d.]){factor[1]}\b", factor[2], text, count=1)
     if 'cutoff: found "fixed", expected one of per_revenue_factor, base_price' in said:
         return text.replace('"fixed"', '"base_price"')
     found = [match.groups() for match in (re.search(form, said) for form in RENAMES) if match]

@@ -229,6 +229,10 @@ class Section:
             raise self.wrong(
                 key, f"found none from {factor_text(first)} to {factor_text(last)}: from may not be above to"
             )
+        if first < last and per_mille(step) > per_mille(last) - per_mille(first):
+            meant = f" (did you mean {factor_text(step / PER_MILLE)}?)" if step % 1 == 0 else ""
+            said = f"found {shown(value['step'])}, expected at most {factor_text(last - first)}, from `from` to `to`"
+            raise inner.wrong("step", f"{said}{meant}")
         return list(map(of_per_mille, range(per_mille(first), per_mille(last) + 1, per_mille(step))))
 
 
