@@ -206,6 +206,6 @@ def test_an_upgrade_and_a_removal_leave_nothing_behind(dist, tmp_path, monkeypat
 
 
 def test_the_archive_serves_where_it_is_unpacked(dist, tmp_path):
-    archive = next(dist.glob("*.tar.gz"))
+    (archive,) = dist.glob("*-linux-*.tar.gz")
     subprocess.run(["tar", "xf", archive, "-C", tmp_path], check=True)
     plan_and_check(tmp_path, tmp_path / archive.name.removesuffix(".tar.gz") / "bin", "--no-figures")
