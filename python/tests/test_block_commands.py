@@ -243,7 +243,7 @@ def test_what_is_right_passes(copied, capsys):
     assert wrong(copied) == set()
     assert main(["verify", str(copied)]) == 0
     told = [line.split(":")[0] for line in capsys.readouterr().out.splitlines()]
-    assert told[-7:] == RULES
+    assert told[-8:] == [*RULES, "verified"]
     record = read_record(copied)
     assert "block_schedule.json" in record["files"] and any(
         line.startswith("block order") for line in record["verified"]

@@ -270,7 +270,8 @@ def copied(divided, tmp_path):
 def test_what_is_right_passes(copied, capsys):
     assert wrong(copied) == {}
     assert main(["verify", str(copied)]) == 0
-    told = capsys.readouterr().out.splitlines()
+    *told, verdict = capsys.readouterr().out.splitlines()
+    assert verdict == f"verified: all {len(told)} rules hold"
     assert [line.split(":")[0] for line in told][-6:] == [
         "pushback of blocks",
         "pushback walls",

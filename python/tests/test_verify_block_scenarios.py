@@ -52,7 +52,8 @@ def one_of(folder):
 
 def test_what_is_right_is_told_rule_by_rule(copied, capsys):
     assert main(["verify", str(copied)]) == 0
-    lines = capsys.readouterr().out.splitlines()
+    *lines, verdict = capsys.readouterr().out.splitlines()
+    assert verdict == f"verified: all {len(RULES)} rules hold"
     assert [line.split(":")[0] for line in lines] == RULES
     said = json.loads((copied / "gathered.json").read_text())
     assert said["answers"] == [1, 2, 3, 4, 5, 6] and said["verified"] == lines

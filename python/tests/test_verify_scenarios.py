@@ -60,7 +60,8 @@ RULES = [
 
 def test_what_is_right_is_told_rule_by_rule(copied, capsys):
     assert main(["verify", str(copied)]) == 0
-    lines = capsys.readouterr().out.splitlines()
+    *lines, verdict = capsys.readouterr().out.splitlines()
+    assert verdict == f"verified: all {len(RULES)} rules hold"
     assert [line.split(":")[0] for line in lines] == RULES
     assert (
         "values: in 6 of 6 solved scenarios: the solver's value of each shell equals the sum over its blocks"

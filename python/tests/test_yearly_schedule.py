@@ -189,7 +189,8 @@ RULES = [
 def test_what_is_right_passes(copied, capsys):
     assert wrong(copied) == set()
     assert main(["verify", str(copied)]) == 0
-    told = capsys.readouterr().out.splitlines()
+    *told, verdict = capsys.readouterr().out.splitlines()
+    assert verdict == f"verified: all {len(told)} rules hold"
     assert [line.split(":")[0] for line in told][-len(RULES) :] == RULES
     record = read_record(copied)
     named = ["tables/schedule.csv", "tables/methods.csv", "schedule.json", "tables/schedule.xlsx"]
