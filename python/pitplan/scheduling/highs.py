@@ -72,7 +72,7 @@ def optimum_of(programme: Programme, gap: float, seconds: Optional[float]) -> Op
         bounds = np.column_stack([np.zeros(len(programme.upper)), programme.upper])
         answer = linprog(-programme.gain, A_ub=programme.matrix, b_ub=programme.most, bounds=bounds, method="highs-ds")
         if answer.status != DONE:
-            raise RuntimeError(f"the linear programme: {answer.message}")
+            raise RuntimeError(f"the linear programme: status {answer.status}: {answer.message}")
         return Optimum(answer.x, -float(answer.fun), np.maximum(-answer.ineqlin.marginals, 0.0))
     options = {"mip_rel_gap": gap} | ({} if seconds is None else {"time_limit": seconds})
     answer = milp(
@@ -83,7 +83,7 @@ def optimum_of(programme: Programme, gap: float, seconds: Optional[float]) -> Op
         options=options,
     )
     if answer.status not in (DONE, OUT_OF_TIME):
-        raise RuntimeError(f"the integer programme: {answer.message}")
+        raise RuntimeError(f"the integer programme: status {answer.status}: {answer.message}")
     bound = answer.mip_dual_bound
     return Optimum(answer.x, np.inf if bound is None else -float(bound))
 

@@ -62,6 +62,13 @@ def at_a_time(solve_case: Callable[[Case], Found], cases: Iterable[Case]) -> lis
             raise
 
 
+def demand_solved(answer: Any, what: str) -> Any:
+    """Returns what scipy says of a linear programme. Raises PlanError, with the status of HiGHS, if it found no optimum."""
+    if answer.status != highs.DONE:
+        raise PlanError(f"HiGHS found no {what}: status {answer.status}: {answer.message}")
+    return answer
+
+
 def here(programme: Programme, effort: Effort = Effort()) -> Optimum:
     """The optimum, in this process. Raises PlanError where HiGHS finds nothing although its time is not up."""
     try:

@@ -17,6 +17,8 @@ from numpy.typing import NDArray
 from scipy.optimize import linprog
 from scipy.sparse import vstack
 
+from pitplan.scheduling.highs_process import demand_solved
+
 from .limit_names import ADVANCE, MAX, MIN, RUNNING, STOCK, Prices
 from .model import FlowModel
 from .ore import FEED, Ore
@@ -135,7 +137,7 @@ class Lagrangian:
         most = np.zeros(matrix.shape[0])
         bounds = np.column_stack([np.zeros(len(gain)), self.programme.reachable.ravel()])
         found = linprog(-gain / unit, A_ub=matrix, b_ub=most, bounds=bounds, method="highs-ds")
-        return -float(found.fun) * unit
+        return -float(demand_solved(found, "upper bound").fun) * unit
 
     @property
     def of_opening(self) -> float:

@@ -15,6 +15,7 @@ from scipy.optimize import linprog
 from scipy.sparse import csr_matrix, eye, hstack, kron, vstack
 
 from pitplan.config.dumps import Dump
+from pitplan.scheduling.highs_process import demand_solved
 
 from .limit_names import DUMP, DUMPED, MAX, MIN, Prices
 
@@ -138,7 +139,7 @@ class Waste:
         solved = linprog(
             price, A_ub=rows, b_ub=most[held] / unit, A_eq=goes, b_eq=waste.ravel() / unit, method="highs-ds"
         )
-        assert solved.status == 0, solved.message
+        demand_solved(solved, "dump for the waste")
         tonnes = np.zeros((self.sets, len(self.dumps), self.years))
         tonnes[found, dump] = solved.x[:size].reshape(-1, self.years) * unit
         return self.shares(tonnes), solved.x[size:].reshape(self.sets, self.years).sum(axis=0) * unit

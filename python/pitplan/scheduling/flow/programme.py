@@ -159,7 +159,9 @@ class FlowProgramme:
         leaves = kron(incidence(place[stockpile, parcel], count), self.each_year)
         each, before = eye(count), eye(self.years, k=-1)
         nothing = np.zeros(count * self.years)
-        yield self.row(None, None, -kron(each, self.each_year), kron(each, self.step), leaves), nothing
+        balance = self.row(None, None, -kron(each, self.each_year), kron(each, self.step), leaves)
+        yield balance, nothing
+        yield -balance, nothing
         yield self.row(None, None, None, -kron(each, before), leaves), nothing
 
     def opening_rows(self) -> Iterator[tuple[csr_matrix, NDArray[np.float64]]]:
@@ -262,8 +264,22 @@ class FlowProgramme:
         return self.with_running_years(programme) if self.costs[1:].any() else programme
 
     @property
+    def keeps_stock(self) -> bool:
+        """Whether ore may lie on a stockpile at the end: if a dump is saved or a minimum is met by that. Otherwise such ore goes to waste, which
+        earns no less."""
+        return bool(self.model.waste.sets) or any(least.any() for least, _ in self.model.rooms)
+
+    @property
     def upper(self) -> NDArray[np.float64]:
-        """The greatest value of each unknown: of benches what can be reached, and 0 of what cannot flow since its bench is not mined by then."""
+        """The greatest value of each unknown."""
+        found = self.able_to_flow
+        if self.sizes[3] and not self.keeps_stock:
+            found[sum(self.sizes[:3]) : sum(self.sizes[:4])].reshape(-1, self.years)[:, -1] = 0.0
+        return found
+
+    @property
+    def able_to_flow(self) -> NDArray[np.float64]:
+        """The share of each bench that can be reached, and 1 for each flow, or 0 if its bench is not mined by then."""
         model, (mined, *_, opened, wasted) = self.model, self.sizes
         near = self.near if self.dug is None else self.dug > 0
         if self.between is not None:
@@ -350,7 +366,6 @@ class FlowProgramme:
         by_end_of_years, direct, stocked, _, reclaimed, opened, dumped = (
             part.reshape(-1, self.years) for part in np.split(unknowns[: ends[-1]], ends[:-1])
         )
-        stocked = self.placed(stocked, reclaimed)
         running = unknowns[ends[-1] :] if len(unknowns) > ends[-1] else np.ones(self.years)
         cumulative = np.maximum.accumulate(np.clip(by_end_of_years, 0.0, 1.0), axis=1)
         fed = (self.gain[ends[0] :] * unknowns[ends[0] : ends[-1]]).reshape(-1, self.years).sum(axis=0)
@@ -360,22 +375,6 @@ class FlowProgramme:
         cash = (mined + fed - self.costs * running) / self.model.discounts
         tonnes = dumped * self.of_pairs[:, None]
         return FlowOptimum(cumulative, direct, stocked, reclaimed, opened, running, value, cash, prices, tonnes)
-
-    def placed(self, stocked: NDArray[np.float64], reclaimed: NDArray[np.float64]) -> NDArray[np.float64]:
-        """Returns the shares that go to stockpiles without those that are never reclaimed, which would lie there although the programme does not count
-        them. The rest is waste, unless a dump would have to take it, or some of it must lie there."""
-        model = self.model
-        if model.waste.sets or any(least.any() for least, _ in model.rooms):
-            return stocked
-        place = np.full((len(model.stockpiles), len(model.ore)), -1)
-        place[model.stocked.index] = np.arange(len(stocked))
-        leaves = np.zeros_like(stocked)
-        np.add.at(leaves, place[model.reclaimed.index[0], model.reclaimed.parcel], reclaimed)
-        found, due = np.zeros_like(stocked), np.zeros(len(stocked))
-        for year in range(self.years - 1, -1, -1):
-            found[:, year] = np.minimum(stocked[:, year], due)
-            due += leaves[:, year] - found[:, year]
-        return found
 
     def prices(self, of_rows: NDArray[np.float64]) -> Prices:
         """Returns the prices of the limits, from the dual value of each row."""

@@ -9,6 +9,7 @@ from scipy.sparse import coo_matrix, csr_matrix
 
 from pitplan.pushbacks.bench_table import PushbackBenches
 from pitplan.scheduling.bench_sequencing import HAIR, Limits
+from pitplan.scheduling.highs_process import demand_solved
 
 # Over so many years a limit of mining keeps a bench behind another one.
 SPAN = 3
@@ -136,4 +137,5 @@ def paying(earned: NDArray[np.float64], benches: PushbackBenches) -> NDArray[np.
     programme has whole numbers."""
     unit = float(np.abs(earned).max(initial=0.0)) or 1.0
     matrix, most = order_rows(benches, 1)
-    return np.asarray(linprog(-earned / unit, A_ub=matrix, b_ub=most, bounds=(0, 1), method="highs-ds").x > 0.5)
+    found = linprog(-earned / unit, A_ub=matrix, b_ub=most, bounds=(0, 1), method="highs-ds")
+    return np.asarray(demand_solved(found, "closure of benches that pay").x > 0.5)

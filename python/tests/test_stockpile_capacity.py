@@ -1,0 +1,38 @@
+"""The capacity of a stockpile is kept if waste costs something elsewhere, or if something must lie there."""
+
+import pandas as pd
+import pytest
+from helpers.six_blocks import POOR, six_blocks
+from helpers.verified import UNVERIFIED, wrong
+
+import pitplan
+
+PILE = '[[schedule.stockpiles]]\nname = "s"\nreclaim_cost = 1\ncapacity = 500\n'
+DUMP = '[[dumps]]\nname = "d"\ncost = 0.5\n'
+
+
+def scheduled(tmp_path, more):
+    path = six_blocks(tmp_path, POOR, more)
+    methods = pitplan.write_schedule(path, writing=UNVERIFIED).set_index("method")
+    assert wrong(path.parent / "plan/schedule") == set()
+    tables = path.parent / "plan/schedule/tables"
+    piles = pd.read_csv(tables / "stockpiles.csv").query("method == 'lp'")
+    return methods.loc["lp"], piles["closing_tonnes"].tolist()
+
+
+def test_ore_that_would_cost_a_dump_fills_the_stockpile_to_its_capacity(tmp_path):
+    """The mine moves 2,000 t of its bench a year, of which a sixth has 2 %, and mills 1,000 t. A tonne of 2 % earns 190, one of 0.3 % earns 20, and each
+    costs 1 to mine. In year 1 500 t of 0.3 % lie on the stockpile, which saves their dump, and 500 t go there; in each later year 1,000 t.
+    """
+    lp, closing = scheduled(tmp_path, PILE + DUMP)
+    assert closing == pytest.approx([500, 500, 500])
+    milled = 2000 / 6 * 190 + (1000 - 2000 / 6) * 20 - 2000
+    cash = [milled - 250, milled - 500, milled - 500]
+    assert lp["npv"] == pytest.approx(sum(it / 1.1**year for year, it in enumerate(cash, 1)), abs=0.01)
+    assert lp["npv"] == pytest.approx(lp["upper_bound"], abs=0.01)
+
+
+def test_a_stockpile_with_a_minimum_keeps_its_capacity(tmp_path):
+    limited = "[[periods]]\nstockpiles = { s = { min = 300, max = 500 } }\n"
+    _, closing = scheduled(tmp_path, PILE + limited)
+    assert all(300 - 1e-6 <= it <= 500 + 1e-6 for it in closing)
