@@ -26,8 +26,6 @@ from pitplan.economics.value_bins import edges_of
 from pitplan.scheduling.bench_sequencing import Limits
 from pitplan.scheduling.flow import scheduler
 from pitplan.scheduling.flow.bound import Lagrangian, upper_bound
-from pitplan.scheduling.flow.cutoffs import cutoffs
-from pitplan.scheduling.flow.flows import best
 from pitplan.scheduling.flow.ore import Ore
 from pitplan.scheduling.flow.parcels import Material, by_choice
 from pitplan.scheduling.flow.programme import FlowProgramme
@@ -66,16 +64,6 @@ def test_two_benches_by_hand(cost, years, value, reclaimed):
     assert of_benches[:, 1].tolist() == [[0, 0, 0, 0], [100, 100, 1, 900]]
     if reclaimed:
         assert of_benches[0, 2].tolist() == pytest.approx([0, 100, 1, 50])
-
-
-def test_the_cutoff_is_the_price_of_capacity():
-    """A tonne more of the mill in year 1 would take ore of 1 a tonne, in year 2 nothing: all that is mined then is milled."""
-    model = two_benches(Limits({"feed_tonnes": 100}, vertical_advance_rate=1.0), 2)
-    flows = best(model, np.array([[1.0, 0], [0, 1]]))
-    found = cutoffs(flows, [""])[""]
-    # Between the ore of 1, which is waste, and that of 10, which is milled.
-    assert 1 - 1e-9 <= found[0] <= 10 + 1e-9 and 0 <= found[1] <= 10 + 1e-9
-    assert cutoffs(replace(flows, prices=None), [""]) is None
 
 
 def test_a_limit_on_metal_is_one_on_feed():

@@ -154,7 +154,7 @@ def test_the_schedule_of_the_page_is_that_of_the_example():
         f"{said}{100 * ways['optimality_gap']['lp']:.1f} % below the upper bound of {plain.upper_bound / 1e6:.2f}"
         in PAGES["schedules"]
     )
-    cutoff = cutoffs(plain.flows["lp"], [""])[""][1]
+    cutoff = cutoffs(plain)[""][1]
     assert f"In year 2 its cut-off is {cutoff:.2f} USD per tonne of feed" in PAGES["schedules"]
     value, bound = stocked.value("lp") / 1e6, stocked.upper_bound / 1e6
     assert (

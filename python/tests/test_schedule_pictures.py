@@ -38,7 +38,7 @@ def schedule():
     }
     grid = SimpleNamespace(elevations=lambda: np.array([15.0, 5.0]))
     project = SimpleNamespace(economics=SimpleNamespace(currency="USD"), metals=(METAL,))
-    project.processes = ()
+    project.processes, project.schedule = (), None
     pushbacks = SimpleNamespace(plan=SimpleNamespace(grid=grid, project=project), factors=(0.5, 1.0))
     model, nothing = without_flows(problem, 3), np.zeros((0, 3))
     cumulative, cash = np.array([[1.0, 1, 1], [0.5, 1, 1], [0, 0.5, 1]]), np.array([300.0, 700, 300])
@@ -57,8 +57,9 @@ def rows_of(method, feed, shares):
     """The flows of a method: ore to the mill, of 2 % copper, and all else to waste."""
     ore = pd.DataFrame({"year": [1, 2, 3], "source": "pit", "destination": "mill", "total_tonnes": feed})
     ore = ore.assign(feed_tonnes=feed, contained_copper=np.array(feed) / 50, recovered_copper=np.array(feed) / 100)
+    ore["cash_flow"] = 8.0 * ore["feed_tonnes"]
     waste = ore.assign(destination="waste", total_tonnes=100 * shares.sum(axis=0) - feed, feed_tonnes=0.0)
-    waste = waste.assign(contained_copper=0.0, recovered_copper=0.0)
+    waste = waste.assign(contained_copper=0.0, recovered_copper=0.0, cash_flow=0.0)
     return pd.concat([ore, waste]).assign(method=method, pushback=1, bench=15.0, bin=1)
 
 
@@ -262,6 +263,7 @@ def test_a_way_that_mines_nothing_is_drawn_with_a_sentence(schedule, way):
     axes = gantt.plot_gantt(empty, Figure().subplots(1, 2))
     assert "nothing is mined" in [text.get_text() for text in axes[place].texts]
     (note,) = [note for note in pushback_record.notes(empty) if "mines nothing" in note]
-    assert note.startswith(
-        f"{ {'rule': 'rule', 'lp': 'linear programme'}[way] } mines nothing: at these prices and costs"
-    )
+    named = {"rule": "rule", "lp": "linear programme"}[way]
+    # The bound is above 0.
+    warns = "WARNING: " if empty.shown == way else ""
+    assert note.startswith(f"{warns}{named} mines nothing: at these prices and costs")

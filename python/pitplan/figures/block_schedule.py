@@ -109,9 +109,10 @@ def plot_tonnes(made: ScheduledBlocks, ax: Axes) -> None:
         ("feed_tonnes", "processing capacity", MILL),
         ("total_tonnes", "mining capacity", SHOVELS),
     ):
-        if name in limits.most and limits.most[name] <= FAR_ABOVE * top:
-            most = limits.of_years(len(edges) - 1)[:, list(limits.most).index(name)] / size
-            label = f"{label}: {round(limits.most[name] / size, 3):,.12g} {sign}t a year"
+        per_year = sum(limits.most[it] for it in limits.parts(name))
+        if limits.parts(name) and per_year <= FAR_ABOVE * top:
+            most = limits.sum_of_years(name, len(edges) - 1) / size
+            label = f"{label}: {round(per_year / size, 3):,.12g} {sign}t a year"
             ax.plot(
                 edges,
                 np.append(most, most[-1]),

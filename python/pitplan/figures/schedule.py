@@ -177,13 +177,11 @@ def draw_limits(ax: Axes, schedule: YearlySchedule, count: int, unit: tuple[floa
     size, sign = unit
     limits = schedule.problem.limits
     edges = np.arange(max(count, 1) + 1) + 0.5
-    is_split = any(name.startswith("feed_tonnes_") for name in limits.most)
-    mill = "processing capacity (all processes)" if is_split else "processing capacity"
+    mill = "processing capacity (all processes)" if len(limits.parts("feed_tonnes")) > 1 else "processing capacity"
     for name, label, colour in (("feed_tonnes", mill, MILL_COLOUR), ("total_tonnes", "mining capacity", SHOVELS)):
-        if name in limits.most:
-            most = limits.of_years(max(count, 1))[:, list(limits.most).index(name)] / size
-            by_year = limits.most_by_year.get(name, (limits.most[name],))
-            label = f"{label}: {in_words(by_year, size)} {sign}t a year"
+        if limits.parts(name):
+            most = limits.sum_of_years(name, max(count, 1)) / size
+            label = f"{label}: {in_words(limits.sums_per_year(name), size)} {sign}t a year"
             ax.plot(
                 edges,
                 np.append(most, most[-1]),

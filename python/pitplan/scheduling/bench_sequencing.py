@@ -88,6 +88,18 @@ class Limits:
         """An array of years, from the first, and limited amounts."""
         return np.stack([self.of_year(number) for number in range(1, count + 1)])
 
+    def parts(self, name: str) -> list[str]:
+        """The limits whose sum limits an amount: its own, or of the feed of several processes that of each; none without a limit."""
+        return [name] if name in self.most else [it for it in self.most if it.startswith(f"{name}_")]
+
+    def sum_of_years(self, name: str, count: int) -> np.ndarray:
+        """The most of an amount in years, from the first, by the sum of its parts."""
+        return np.sum([[self.most_of(it, year) for year in range(1, count + 1)] for it in self.parts(name)], axis=0)
+
+    def sums_per_year(self, name: str) -> tuple[float, ...]:
+        """The most of an amount per year in periods that differ, from the first, without ramp-up, by the sum of its parts."""
+        return tuple(map(sum, zip(*(self.most_by_year.get(it, (self.most[it],)) for it in self.parts(name)))))
+
     def amounts(self, benches: PushbackBenches) -> np.ndarray:
         """What each bench takes of each limit: an array of benches and limited amounts."""
         return np.array([benches.of(name) for name in self.most]).reshape(len(self.most), len(benches)).T
@@ -96,9 +108,9 @@ class Limits:
 def limits_of(project: Project, rules: ScheduleRules) -> Limits:
     """The limits of `[schedule]`, and of `[shells]` where it gives none."""
     rock = rules.mining_capacity or project.shells.mining_capacity
-    most = {ORE: rules.processing_capacity or project.shells.processing_capacity}
+    most = {f"{ORE}_{process.name}": process.capacity for process in project.processes}
+    most = most or {ORE: rules.processing_capacity or project.shells.processing_capacity}
     most |= {} if rock is None else {ROCK: rock}
-    most |= {f"{ORE}_{process.name}": process.capacity for process in project.processes}
     most |= {f"recovered_{name}": amount for name, amount in rules.max_metal_per_year.items()}
     rate = np.inf if rules.vertical_advance_rate is None else rules.vertical_advance_rate
     return Limits(
@@ -119,7 +131,6 @@ def capacities_by_year(project: Project, most: dict[str, float]) -> dict[str, tu
         found[ORE] = calendar.by_year(lambda it: it.processing_capacity, most[ORE])
     if calendar.has(lambda it: it.capacity):
         by_process = project.shells.capacities_by_year
-        found[ORE] = tuple(sum(of_year) for of_year in by_process)
         found |= {f"{ORE}_{name}": amounts for name, amounts in zip(project.shells.names, zip(*by_process))}
     return found
 

@@ -84,17 +84,19 @@ def differences(answer: Answer, feed: pd.DataFrame) -> Iterator[str]:
         yield f"{FILE}: {len(keys)} rows for {len(due)} processes, rock types and years, or others"
         return
     alone = {name or MILL: project for name, project in zip(blocks.processes, answer.project.by_process)}
-    cutoffs = feed.set_index(["method", "year", "process"])["cutoff"]
+    of_feed = feed.set_index(["method", "year", "process"])
     for (method, year, process, code), row in zip(keys, said.to_dict("records")):
-        found = unlike(Material(alone[str(process)], code), row, float(cutoffs.loc[method, year, process]))
+        for name in ("cutoff", "realised_cutoff"):
+            value = float(of_feed.loc[(method, year, process), name])
+            if not same(row[name], value, MONEY):
+                yield f"{FILE}: {method}, year {year}, {process} {code}: {name} {row[name]:.10g} for {value:.10g}"
+        found = unlike(Material(alone[str(process)], code), row)
         yield from (f"{FILE}: {method}, year {year}, {process} {code}: {text}" for text in found)
 
 
-def unlike(material: Material, row: dict[str, Any], cutoff: float) -> Iterator[str]:
-    """Yields differences of a row; `cutoff` is that of feed.csv."""
-    if not same(row["cutoff"], cutoff, MONEY):
-        yield f"cutoff {row['cutoff']:.10g} for {cutoff:.10g}"
-    first = material.metals[0]
+def unlike(material: Material, row: dict[str, Any]) -> Iterator[str]:
+    """Yields differences of the grades of a row."""
+    first, cutoff = material.metals[0], float(row["cutoff"])
     if row["metal"] != first.name:
         yield f"metal {row['metal']} for {first.name}"
         return

@@ -15,7 +15,7 @@ from planaudit.inputs.tables import read_table
 from planaudit.schedules import dumps
 from planaudit.schedules.discounts import discount
 from planaudit.schedules.grade_limits import GradeLimit, grade_limits, most_of
-from planaudit.schedules.lots import BlockAmounts
+from planaudit.schedules.lots import MILL, BlockAmounts
 from planaudit.schedules.periods import stock_limits
 
 FILE, ADVANCE, STOCK = "limits.csv", "vertical_advance_", "stockpile_"
@@ -55,11 +55,16 @@ class LimitTable:
         return found
 
     def price(self, name: str, year: int) -> float:
-        """The shadow price of a limit in a year, in the money of the year."""
+        """The shadow price of a limit in a year, in the money of the year: with what a unit more of it saves of the costs of running years."""
         if self.prices is None:
             return np.nan
-        most, least = (self.by_side.get((name, year, side), 0.0) for side in ("max", "min"))
-        return (most - least) / discount(self.answer, year)
+        most, running, least = (self.by_side.get((name, year, side), 0.0) for side in ("max", "running", "min"))
+        return (most + running - least) / discount(self.answer, year)
+
+    def cutoff(self, process: str, year: int) -> float:
+        """The cut-off of a process, "" for the only one, in a year: the price of a tonne of its feed."""
+        found = self.price("feed_tonnes", year)
+        return found + self.price(f"feed_tonnes_{process}", year) if process else found
 
     @cached_property
     def by_side(self) -> dict[tuple[str, int, str], float]:
@@ -67,6 +72,14 @@ class LimitTable:
         assert self.prices is not None
         keys = zip(*(self.prices[name].tolist() for name in ("limit", "year", "side")))
         return dict(zip(keys, self.prices["price"].tolist()))
+
+    def unlike_cutoffs(self, feed: pd.DataFrame) -> Iterator[str]:
+        """Yields the rows of feed.csv whose cut-off is not the price of a tonne of the process's capacity."""
+        names = {name or MILL: name for name in BlockAmounts(self.answer).processes}
+        for row in feed.itertuples():
+            due, said = self.cutoff(names[row.process], int(row.year)), float(row.cutoff)
+            if not (abs(said - due) <= PRICE + 1e-6 * abs(due) or np.isnan(said) and np.isnan(due)):
+                yield f"feed.csv: {row.method}, year {row.year}, {row.process}: cutoff {said:.10g} for {due:.10g}"
 
     def unlike(self, method: str, rows: pd.DataFrame, used: Used, last: int) -> Iterator[str]:
         """Yields differences of the rows of a method, whose last year is given."""

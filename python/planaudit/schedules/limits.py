@@ -11,7 +11,7 @@ from planaudit.inputs.answer import Answer
 from planaudit.inputs.matching import SHARE
 from planaudit.inputs.project import GRADE_UNITS, Project, Sum
 from planaudit.money.feed import recovered
-from planaudit.schedules.periods import maxima_of_periods, minima_of_periods
+from planaudit.schedules.periods import capacities_of_feed, maxima_of_periods, minima_of_periods
 
 # The share of each block that goes to a process, by process.
 Shares = list[tuple[str, np.ndarray]]
@@ -79,12 +79,10 @@ def capacities_of(answer: Answer) -> Iterator[tuple[str, tuple[float, ...], floa
     """Yields the name of an amount, its ramp-up, and its limit, without periods."""
     rules, shells = answer.project.schedule, answer.project.shells
     of_mill = rules.ramp_up if rules else (1.0,)
-    yield "feed_tonnes", of_mill, (rules and rules.processing_capacity) or shells.processing_capacity
+    yield from ((name, of_mill, most) for name, most in capacities_of_feed(answer.project).items())
     rock = (rules and rules.mining_capacity) or shells.mining_capacity
     if rock:
         yield "total_tonnes", (1.0,), rock
-    for process in answer.project.processes:
-        yield f"feed_tonnes_{process.name}", of_mill, process.capacity
     for name, most in (rules.max_metal_per_year if rules else {}).items():
         yield f"recovered_{name}", (1.0,), most
     for it in sums_asked(answer):

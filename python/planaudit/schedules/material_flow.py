@@ -24,6 +24,8 @@ PIT, WASTE = "pit", "waste"
 AMOUNT, SHARE = 0.6e-3, 1e-6
 # Tolerance of the elevation of a bench, as a share of its height, and of sums.
 SLIGHT = 1e-6
+# The last decimal place of values per tonne.
+MONEY = 1e-6
 # The level of a row of no bench and no stockpile.
 UNKNOWN = -1e6
 
@@ -153,6 +155,13 @@ class MaterialFlow:
         cost = np.where(self.process >= 0, self.of_stockpile(lambda it: it.reclaim_cost, 0.0), placed)
         return gain, cost * self.whole["feed_tonnes"].to_numpy() + self.dumping * self.whole["total_tonnes"].to_numpy()
 
+    @cached_property
+    def per_tonne(self) -> np.ndarray:
+        """What a tonne of feed of each row earns net of the costs of its process, and of reclaiming it."""
+        cash, handled = self.cash
+        feed = self.whole["feed_tonnes"].to_numpy()
+        return np.divide(cash - handled, feed, out=np.full(len(feed), np.nan), where=feed > 0)
+
     @property
     def dumping(self) -> np.ndarray:
         """What a tonne of each row costs in its dump; 0 elsewhere."""
@@ -255,6 +264,7 @@ def verify(flow: MaterialFlow, schedule: pd.DataFrame, misplaced: list[str]) -> 
         *stockpiles.differences(flow),
         *dumps.differences(flow),
         *unlike_feed(flow, said),
+        *unlike_realised(flow, said),
         *cutoff_table.differences(flow.answer, said),
     ]
     holds = "each tonne that is mined goes to a process, to a stockpile, to a dump or to waste once, with the metal and cash flow of its blocks"
@@ -286,6 +296,25 @@ def unlike_mined(flow: MaterialFlow, schedule: pd.DataFrame) -> Iterator[str]:
     off = (both["sum"] - both["due"]).abs() > AMOUNT * (both["count"] + 1) + SHARE * whole
     for at, row in both[off].iterrows() if off.any() else ():
         yield f"flows.csv: {', '.join(map(str, at))}: {row['sum']:.10g} t leave the pit for {row['due']:.10g} mined"
+
+
+def unlike_realised(flow: MaterialFlow, said: pd.DataFrame) -> Iterator[str]:
+    """Yields rows of feed.csv whose `realised_cutoff` is not the lowest value per tonne among their flows of more than a millionth of the feed. Flows
+    of about that size may count or not, since their tonnes are rounded."""
+    keys = ["method", "year", "process"]
+    fed = flow.rows[keys[:2]].assign(
+        process=flow.rows["destination"], value=flow.per_tonne, feed=flow.rows["feed_tonnes"]
+    )
+    fed = fed[flow.process >= 0]
+    groups = fed.groupby(keys)["feed"]
+    least, slack = SHARE * groups.transform("sum"), AMOUNT * (groups.transform("size") + 1)
+    at = pd.MultiIndex.from_frame(said[keys])
+    low, high = (fed[fed["feed"] > least + by].groupby(keys)["value"].min().reindex(at) for by in (-slack, slack))
+    for row, least_value, greatest in zip(said.itertuples(), low, high):
+        value = float(row.realised_cutoff)
+        is_none = np.isnan(value) and np.isnan(greatest)
+        if not (is_none or least_value - MONEY <= value and not value > greatest + MONEY):
+            yield f"feed.csv: {row.method}, year {row.year}, {row.process}: realised_cutoff {value:.10g} for {greatest:.10g}"
 
 
 def unlike_feed(flow: MaterialFlow, said: pd.DataFrame) -> Iterator[str]:

@@ -41,8 +41,16 @@ def maxima_of_periods(project: Project, years: int) -> dict[str, np.ndarray]:
             )
             for it in project.processes
         }
-        found |= of_processes | {"feed_tonnes": np.sum(list(of_processes.values()), axis=0)}
+        found |= of_processes
     return found
+
+
+def capacities_of_feed(project: Project) -> dict[str, float]:
+    """Returns the full capacity of each process by its limit, in tonnes per year."""
+    if project.processes:
+        return {f"feed_tonnes_{it.name}": it.capacity for it in project.processes}
+    rules = project.schedule
+    return {"feed_tonnes": (rules and rules.processing_capacity) or project.shells.processing_capacity}
 
 
 def minima_of_periods(project: Project, years: int) -> dict[str, np.ndarray]:

@@ -134,11 +134,15 @@ class Bound:
 
     def unlike_limits(self) -> Iterator[str]:
         """Yields prices of no limit, of other years or below 0."""
+        due = list(range(1, self.years + 1))
+        for (name, side), years in self.prices.groupby(["limit", "side"], sort=False)["year"]:
+            if sorted(years) != due:
+                yield f"{FILE}: {name} {side} has the years {sorted(years)} for 1 to {self.years}"
         for (name, side), prices in self.by_price.items():
             if (name, MAX if side == RUNNING else side) not in self.limits:
                 yield f"{FILE}: {name} {side} is no limit of the project"
             elif len(prices) != self.years:
-                yield f"{FILE}: {name} {side} has {len(prices)} years for {self.years}"
+                continue
             elif not (prices >= 0).all():
                 yield f"{FILE}: {name} {side} has a price below 0"
             elif prices[~np.isfinite(self.limits[name, MAX if side == RUNNING else side])].any():

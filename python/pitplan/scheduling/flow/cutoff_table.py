@@ -5,7 +5,6 @@ from __future__ import annotations
 from collections.abc import Iterator
 from typing import TYPE_CHECKING, Any
 
-import numpy as np
 import pandas as pd
 
 from pitplan.config.places import MILL
@@ -13,7 +12,7 @@ from pitplan.economics.cutoff_grades import RockCosts
 from pitplan.economics.period_costs import PROCESSING_COST, SELLING_COST, SMELTED
 from pitplan.plan import shown_name
 
-from .cutoffs import cutoffs
+from .cutoffs import KEYS, cutoffs, realised
 
 if TYPE_CHECKING:
     from pitplan.scheduling.pushback_schedule import YearlySchedule
@@ -22,8 +21,8 @@ if TYPE_CHECKING:
 def cutoff_table(schedule: YearlySchedule) -> pd.DataFrame:
     """Returns one row per method, year, process and rock type that the process takes.
 
-    Columns: `cutoff`, the net value per tonne of feed from which on ore is processed, empty for the rule; `metal`, the first one that is
-    recovered, or with several the metal whose equivalent grade the cut-off is; `cutoff_grade`, the head grade that earns processing cost
+    Columns: `cutoff`, the net value per tonne of feed from which on ore is processed at the prices of the limits; `realised_cutoff`, the lowest one
+    that is processed; `metal`, the first one that is recovered, or with several the metal whose equivalent grade the cut-off is; `cutoff_grade`, the head grade that earns processing cost
     and cut-off at the prices and costs of the year; `marginal_grade` and `break_even_grade`, the head grades that earn the processing cost, and that and the
     mining cost, at the base price; `equivalent_METAL`, what a unit of a metal's grade is worth in units of the first, in the year.
     """
@@ -35,12 +34,15 @@ def cutoff_table(schedule: YearlySchedule) -> pd.DataFrame:
     ]
     process = [k for k in range(len(names)) for _ in rocks_of(schedule, k)]
     rows = [
-        row
+        {"method": method, **row}
         for method, flows in schedule.flows.items()
         for year in range(flows.years)
-        for row in rows_of(schedule, (method, year), list(zip(process, rocks)))
+        for row in rows_of(schedule, year, list(zip(process, rocks)))
     ]
-    return pd.DataFrame(rows, columns=columns_of(schedule))
+    table = pd.DataFrame(rows, columns=[it for it in columns_of(schedule) if it != "realised_cutoff"])
+    at = pd.MultiIndex.from_frame(table[KEYS])
+    table.insert(table.columns.get_loc("cutoff") + 1, "realised_cutoff", realised(schedule).reindex(at).to_numpy())
+    return table
 
 
 def columns_of(schedule: YearlySchedule) -> list[str]:
@@ -48,7 +50,7 @@ def columns_of(schedule: YearlySchedule) -> list[str]:
     rock = [shown_name(project.table.rock_type)] if project.table.rock_type else []
     grades = ["cutoff_grade", "marginal_grade", "break_even_grade"]
     equivalents = [f"equivalent_{metal.name}" for metal in project.metals] if len(project.metals) > 1 else []
-    return ["method", "year", "process", *rock, "cutoff", "metal", *grades, *equivalents]
+    return [*KEYS, *rock, "cutoff", "realised_cutoff", "metal", *grades, *equivalents]
 
 
 def rocks_of(schedule: YearlySchedule, process: int) -> list[str]:
@@ -61,18 +63,15 @@ def rocks_of(schedule: YearlySchedule, process: int) -> list[str]:
     return sorted(plan.table[plan.project.table.rock_type].astype(str)[taken[plan.grid.rows]].unique())
 
 
-def rows_of(
-    schedule: YearlySchedule, at: tuple[str, int], rocks: list[tuple[int, RockCosts]]
-) -> Iterator[dict[str, Any]]:
-    """Yields the rows of a method and a year, numbered from 0."""
-    (method, year), project = at, schedule.pushbacks.plan.project
-    found, money = cutoffs(schedule.flows[method], schedule.names), schedule.problem.money
+def rows_of(schedule: YearlySchedule, year: int, rocks: list[tuple[int, RockCosts]]) -> Iterator[dict[str, Any]]:
+    """Yields the rows of a year, numbered from 0, without what differs by method."""
+    project, money, found = schedule.pushbacks.plan.project, schedule.problem.money, cutoffs(schedule)
     factor = money.factors(PROCESSING_COST, year + 1)[year]
     for process, costs in rocks:
         premiums = premiums_in(schedule, year, process)
         name, first = schedule.names[process], costs.metals[0]
-        cutoff = np.nan if found is None else float(found[name][year])
-        row = {"method": method, "year": year + 1, "process": name or MILL, "cutoff": cutoff, "metal": first.name}
+        cutoff = float(found[name][year])
+        row = {"year": year + 1, "process": name or MILL, "cutoff": cutoff, "metal": first.name}
         if project.table.rock_type:
             row[shown_name(project.table.rock_type)] = costs.rock
         row["cutoff_grade"] = costs.head_grade(first, costs.processing_at(factor) + cutoff, premiums[first.name])

@@ -1,29 +1,54 @@
-"""Cut-offs of a schedule by process and year, as Lane has them (The Economic Definition of Ore, 1988), from the prices of capacities."""
+"""Cut-offs of a schedule by process and year: those of the prices of capacities, as Lane has them (The Economic Definition of Ore, 1988), and those
+that were realised."""
 
 from __future__ import annotations
 
-from typing import Optional
+from typing import TYPE_CHECKING
 
 import numpy as np
+import pandas as pd
 from numpy.typing import NDArray
 
-from .flows import Flows
-from .limit_names import MAX
+from pitplan.config.places import MILL
+
+from .limit_table import shadow_prices
 from .ore import FEED
 
+if TYPE_CHECKING:
+    from pitplan.scheduling.pushback_schedule import YearlySchedule
 
-def cutoffs(flows: Flows, names: list[str]) -> Optional[dict[str, NDArray[np.float64]]]:
-    """Returns by process the net value per tonne of feed from which on ore is processed, shape (years,), in the currency of the year.
+# A flow of a smaller share of the feed of a year may be the solver's tolerance alone.
+SLIGHT = 1e-6
+# What a row of feed.csv or cutoffs.csv is of.
+KEYS = ["method", "year", "process"]
 
-    It is the price of a tonne of the process's capacity: 0 while the capacity is not used up. None if no linear programme chose the flows.
-    `names` are the processes, "" for the only one.
+
+def cutoffs(schedule: YearlySchedule) -> dict[str, NDArray[np.float64]]:
+    """Returns by process, "" for the only one, the net value per tonne of feed from which on ore is processed at the prices of the limits.
+
+    It is the shadow price of a tonne of the process's capacity, in the currency of the year: 0 while capacity is left. Each array has the shape
+    (years,); nan without a linear programme.
     """
-    if flows.prices is None:
-        return None
-    nothing = np.zeros(flows.model.years)
-    discounts, found = flows.model.discounts, {}
-    for name in names:
-        limited = [FEED, *([f"{FEED}_{name}"] if name else [])]
-        price = sum((flows.prices.get((it, MAX), nothing) for it in limited), nothing)
-        found[name] = (price / discounts)[: flows.years]
-    return found
+    return {name: price_of(schedule, name) for name in schedule.names}
+
+
+def price_of(schedule: YearlySchedule, process: str) -> NDArray[np.float64]:
+    """Returns the shadow price of a tonne of feed of a process: of its limits, and with several processes of those of the feed of all."""
+    price = shadow_prices(schedule, FEED)
+    return price + shadow_prices(schedule, f"{FEED}_{process}") if process else price
+
+
+def realised(schedule: YearlySchedule) -> pd.Series:
+    """Returns the lowest net value per tonne of feed that each process takes, by method, year and process."""
+    flows = schedule.material_flows.rename(columns={"destination": "process"})
+    fed = flows[flows["process"].isin([name or MILL for name in schedule.names])]
+    some = fed[fed["feed_tonnes"] > SLIGHT * fed.groupby(KEYS)["feed_tonnes"].transform("sum")]
+    return (some["cash_flow"] / some["feed_tonnes"]).groupby([some[key] for key in KEYS]).min()
+
+
+def cutoff_columns(schedule: YearlySchedule, keys: pd.MultiIndex) -> pd.DataFrame:
+    """Returns the columns `cutoff` and `realised_cutoff` of rows by method, year and process."""
+    found = cutoffs(schedule)
+    by_process = {name or MILL: found[name] for name in schedule.names}
+    priced = [float(by_process[process][year - 1]) for _, year, process in keys]
+    return pd.DataFrame({"cutoff": priced, "realised_cutoff": realised(schedule).reindex(keys)}, index=keys)

@@ -39,8 +39,6 @@ class Flows:
         Shares of what lies on stockpiles at the start that processes take.
     dumped : array, shape (sets, dumps, years)
         Shares of the waste of each set that go to its dumps.
-    prices : dict
-        The price of each limit, if a linear programme chose the flows.
     """
 
     model: FlowModel
@@ -50,7 +48,6 @@ class Flows:
     reclaimed: NDArray[np.float64]
     opened: NDArray[np.float64]
     dumped: NDArray[np.float64]
-    prices: Optional[Prices] = None
 
     @property
     def fed(self) -> NDArray[np.float64]:
@@ -195,7 +192,7 @@ def best(model: FlowModel, dug: NDArray[np.float64]) -> Flows:
     empty.opened[model.opened.index] = found.opened
     tonnes = np.zeros_like(empty.dumped)
     tonnes[model.waste.pairs[0], model.waste.pairs[1]] = np.maximum(found.dumped, 0.0)
-    return replace(within(empty), dumped=model.waste.shares(tonnes), prices=found.prices)
+    return replace(within(empty), dumped=model.waste.shares(tonnes))
 
 
 def within(flows: Flows) -> Flows:

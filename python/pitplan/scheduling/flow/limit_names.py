@@ -11,3 +11,10 @@ MAX, MIN, RUNNING = "max", "min", "running"
 ADVANCE, STOCK, DUMP, DUMPED = "vertical_advance_", "stockpile_", "dump_", "dumped_"
 # By name of the limit and side the price of a unit in each year, discounted: shape (years,).
 Prices = dict[tuple[str, str], NDArray[np.float64]]
+
+
+def whole_price(prices: Prices, name: str, years: int) -> NDArray[np.float64]:
+    """Returns what a unit more of a limit earns in each year, discounted, shape (years,): as a maximum, and as one that shows how far the mine runs in the
+    year, less its price as a minimum."""
+    most, runs, least = (prices.get((name, side), np.zeros(years)) for side in (MAX, RUNNING, MIN))
+    return most + runs - least

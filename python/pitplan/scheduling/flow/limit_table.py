@@ -11,7 +11,7 @@ from numpy.typing import NDArray
 from pitplan.scheduling.grade_limits import GradeLimit, grade_limits
 
 from .flows import Flows
-from .limit_names import ADVANCE, DUMP, DUMPED, MAX, MIN, STOCK
+from .limit_names import ADVANCE, DUMP, DUMPED, STOCK, whole_price
 from .ore import FEED
 
 if TYPE_CHECKING:
@@ -131,9 +131,10 @@ def grades_of(schedule: YearlySchedule) -> dict[str, list[GradeLimit]]:
 
 
 def shadow_prices(schedule: YearlySchedule, name: str) -> Floats:
-    """Returns what a unit more of a limit would earn in each year of the linear programme, in the money of the year; nan without one."""
+    """Returns the money of the year that a unit more of a limit would earn in each year of the linear programme; nan without one.
+
+    If years have costs, a limit also shows how far the mine runs in a year, so that a unit more of it saves a part of these costs.
+    """
     if schedule.optimum is None:
         return np.full(schedule.years, np.nan)
-    nothing = np.zeros(schedule.years)
-    price = schedule.prices.get((name, MAX), nothing) - schedule.prices.get((name, MIN), nothing)
-    return np.asarray(price / schedule.discounts(schedule.years))
+    return whole_price(schedule.prices, name, schedule.years) / schedule.discounts(schedule.years)
