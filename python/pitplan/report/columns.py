@@ -136,7 +136,7 @@ OF_PUSHBACKS = Display(
     + ("pieces", "min_width"),
     EARNED[:1],
 )
-OF_METHODS = Display(schema.METHODS, ("method", *BOUNDED, "optimality_gap", *AMOUNTS), ("npv",))
+OF_METHODS = Display(schema.METHODS, ("method", *BOUNDED, "optimality_gap", "npv_at_mean_grade", *AMOUNTS), ("npv",))
 OF_BLOCKS = Display(schema.METHODS, (*BOUNDED, "optimality_gap", *AMOUNTS), BOUNDED)
 SPENT, FLOWS = ("fixed_cost", "capex"), ("cash_flow", "discounted_cash_flow")
 OF_YEARS = Display(

@@ -169,7 +169,12 @@ VALUATION = Table(
         Column("discount_rate", RATE, "that of `[shells]`, and `[cash_flow] discount_rates`", "discount rate"),
         replace(NPV, holds="of `cash_flow`"),
         Column("npv_after_tax", MONEY, f"of `free_cash_flow`: {AFTER}", "NPV after tax"),
-        Column("irr", RETURN, "rate at which the NPV of `cash_flow` is 0; empty without one above 0", "IRR"),
+        Column(
+            "irr",
+            RETURN,
+            "lowest rate from which on the NPV of `cash_flow` is not above 0; empty without one above 0 and up to 1,000 %",
+            "IRR",
+        ),
         Column("irr_after_tax", RETURN, f"the same {AFTER}", "IRR after tax"),
         Column(
             "payback",

@@ -142,7 +142,14 @@ SCHEDULE = Table(
     (METHOD, YEAR, OF_PUSHBACK, OF_BENCH, Column("share", SHARE, "of the bench"), MINED, FEED, FEED_OF, RECOVERED)
     + (*FLOWS, DISCOUNTS),
 )
-METHODS = Table("methods.csv", "a row per method", (METHOD, NPV, BOUND, GAP, *SCHEDULED, DISCOUNTS))
+NPV_AT_MEAN_GRADE = replace(
+    NPV,
+    name="npv_at_mean_grade",
+    holds="of the same schedule if each stockpile gives back the mean of what lies there",
+    heading="NPV at mean-grade reclaim",
+    when="with `[[schedule.stockpiles]]`",
+)
+METHODS = Table("methods.csv", "a row per method", (METHOD, NPV, BOUND, GAP, NPV_AT_MEAN_GRADE, *SCHEDULED, DISCOUNTS))
 MULTIPLIERS = Table(
     "bound.csv",
     "of a schedule: a row per limit and year; the upper bound follows from these",

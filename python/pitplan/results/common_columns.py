@@ -91,7 +91,7 @@ HEADS = (
     Column("price_METAL", PRICE, "price in the deck", when="if a deck names the metal"),
 )
 SCHEDULED = (
-    replace(LIFE, unit=WHOLE_YEARS, holds="until the last block is mined"),
+    replace(LIFE, unit=WHOLE_YEARS, holds="until the last block is mined or the last ore is reclaimed"),
     replace(BLOCKS, when="by block"),
     TOTAL,
     FEED,

@@ -90,8 +90,14 @@ PROCESS = Column("process", TEXT, "`mill` if the project names none", "process")
 CUTOFF = Column(
     "cutoff",
     Unit("currency per t", 6, 2),
-    "net value per tonne of feed from which on ore is processed; empty for the rule",
+    "net value per tonne of feed from which on ore is processed: the shadow price of the process's capacity",
     "cut-off",
+)
+REALISED_CUTOFF = Column(
+    "realised_cutoff",
+    CUTOFF.unit,
+    "lowest net value per tonne of feed that the process takes; empty without feed",
+    "realised cut-off",
 )
 FEEDS = Table(
     "feed.csv",
@@ -102,7 +108,7 @@ FEEDS = Table(
         FEED,
         Column("reclaimed_tonnes", TONNES, "of these from stockpiles", "from stockpile"),
         *(HEAD_GRADE, CONTAINED, RECOVERED),
-        CUTOFF,
+        *(CUTOFF, REALISED_CUTOFF),
     ),
 )
 STOCKPILES = Table(
@@ -117,6 +123,9 @@ STOCKPILES = Table(
         Column("out_tonnes", TONNES, "reclaimed in the year", "out"),
         Column("closing_tonnes", TONNES, "at the end of the year", "closing"),
         Column("grade_METAL", GRADE, "mean of what lies there at the end of the year; empty if nothing does", "METAL"),
+        Column(
+            "reclaimed_grade_METAL", GRADE, "of what is reclaimed in the year; empty if nothing is", "METAL reclaimed"
+        ),
     ),
 )
 DUMPS = Table(
@@ -137,7 +146,7 @@ CUTOFFS = Table(
     (
         *(METHOD, YEAR),
         PROCESS,
-        CUTOFF,
+        *(CUTOFF, REALISED_CUTOFF),
         Column("metal", TEXT, "the first metal that is recovered; the grades are its equivalent grades", "metal"),
         Column(
             "cutoff_grade",

@@ -21,6 +21,8 @@ MAY_LACK = (
         "head_grade_",
         "grade_",
         "cutoff",
+        "realised_cutoff",
+        "reclaimed_grade_",
         "marginal_grade",
         "break_even_grade",
         "equivalent_",

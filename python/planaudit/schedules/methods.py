@@ -2,7 +2,7 @@
 
 from __future__ import annotations
 
-from typing import Any
+from typing import Any, Optional
 
 import pandas as pd
 
@@ -15,8 +15,17 @@ AMOUNT, SHARE = 0.6e-3, 0.6e-9
 SUMS = {"tonnes": "total_tonnes", "feed_tonnes": "feed_tonnes"}
 
 
-def differences(answer: Answer, told: dict[str, dict[str, Any]]) -> list[str]:
-    """Returns the differences of methods.csv; `told` has the columns of the record for each method."""
+def differences(answer: Answer, told: dict[str, dict[str, Any]], loose: Optional[dict[str, float]] = None) -> list[str]:
+    """Returns the differences of methods.csv.
+
+    Parameters
+    ----------
+    answer : Answer
+    told : dict
+        The columns of the record for each method.
+    loose : dict, optional
+        The tolerance of `npv_at_mean_grade` for each method.
+    """
     assert answer.years is not None
     if not (answer.folder / TABLES / FILE).is_file():
         return [f"{FILE} is missing"]
@@ -35,6 +44,8 @@ def differences(answer: Answer, told: dict[str, dict[str, Any]]) -> list[str]:
             continue
         for name, amount in expected.items():
             slack = AMOUNT * (len(years) + 2) + 1e-9 * abs(amount or 0)
+            if name == "npv_at_mean_grade" and loose:
+                slack += loose[way]
             if name == "optimality_gap":
                 slack = SHARE + 2 * AMOUNT / abs(record["upper_bound"] or 1.0)
             if unlike(said.at[way, name], amount, slack):

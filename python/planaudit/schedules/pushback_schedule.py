@@ -15,7 +15,7 @@ import pandas as pd
 from pandas.core.groupby import DataFrameGroupBy
 
 from planaudit.inputs.answer import Answer
-from planaudit.inputs.tables import some
+from planaudit.inputs.tables import read_table, some
 from planaudit.money.period_costs import capex, fixed_cost, mining_factor
 from planaudit.revenue_factors import factor_texts
 from planaudit.rules import TOLD, Checks, Rule, rule
@@ -35,8 +35,9 @@ from planaudit.schedules.discounts import discount, present_costs
 from planaudit.schedules.grade_limits import grade_limits, most_of
 from planaudit.schedules.limits import least_of
 from planaudit.schedules.material_flow import UNKNOWN, MaterialFlow
+from planaudit.schedules.mixed_reclaim import npv_at_mean_grade
 from planaudit.schedules.opening import FIRST
-from planaudit.schedules.periods import counted, maxima_of_periods, minima_of_periods
+from planaudit.schedules.periods import capacities_of_feed, counted, maxima_of_periods, minima_of_periods
 
 FILE = "schedule.json"
 CENT, SLIGHT = 0.01, 1e-6
@@ -92,7 +93,7 @@ def checks_of(answer: Answer) -> Checks:
         "material flow": lambda: [material_flow.verify(flow, rows, strange)],
         "schedule order": lambda: [verify_order(ways, sums)],
         "schedule limits": lambda: [verify_limits(ways, told, flow)],
-        "schedule value": lambda: [verify_value(ways, told, sums)],
+        "schedule value": lambda: [verify_value(ways, told, sums, flow)],
         "cash flow": lambda: [cash_flow.verify(flow, list(told["methods"]))],
         "inventory": lambda: [inventory.verify(flow, told["shown"])],
         "grade tonnage": lambda: [grade_tonnage.verify(answer)],
@@ -167,9 +168,8 @@ def by_year(answer: Answer, years: int) -> dict[str, tuple[np.ndarray, np.ndarra
 def maxima_of(answer: Answer) -> dict[str, float]:
     """Returns the annual maximum of each limited amount, with the full capacity of processes; 0 of head grades."""
     rules, shells = answer.project.schedule, answer.project.shells
-    found = {"feed_tonnes": (rules and rules.processing_capacity) or shells.processing_capacity}
+    found = capacities_of_feed(answer.project)
     found |= {"total_tonnes": (rules and rules.mining_capacity) or shells.mining_capacity or math.inf}
-    found |= {f"feed_tonnes_{process.name}": process.capacity for process in answer.project.processes}
     found |= {f"recovered_{name}": most for name, most in (rules.max_metal_per_year if rules else {}).items()}
     found |= {f"sum_{it.name}": it.max for it in (rules.limits if rules else ()) if it.max is not None}
     found |= {it.name: 0.0 for it in grade_limits(answer.project)}
@@ -297,16 +297,18 @@ def verify_limits(ways: list[Way], told: dict[str, Any], flow: MaterialFlow) -> 
 
 
 def unlike_limit_table(ways: list[Way], told: dict[str, Any], flow: MaterialFlow) -> Iterator[str]:
-    """Yields differences of limits.csv."""
+    """Yields differences of limits.csv, and of the cut-offs of feed.csv, from the prices of the limits."""
     if not ways:
         return
     rows, prices = limit_table.read(ways[0].answer)
+    feed = read_table(ways[0].answer.folder / "tables/feed.csv", ["method", "process"])
     for way in ways:
         limits = by_year(way.answer, max(way.last, 1))
         mine = rows[rows["method"] == way.name]
         used = functools.partial(used_rounded, way, flow)
         table = limit_table.LimitTable(way.answer, limits, prices, int(told["years"]))
         yield from table.unlike(way.name, mine, used, way.last)
+        yield from table.unlike_cutoffs(feed[feed["method"] == way.name])
 
 
 def used_of(way: Way, flow: MaterialFlow, name: str) -> tuple[pd.Series, pd.Series]:
@@ -333,7 +335,7 @@ def used_rounded(way: Way, flow: MaterialFlow, name: str) -> tuple[pd.Series, pd
     return used, AMOUNT * way.by_year.size() if name in way.rows else slack
 
 
-def verify_value(ways: list[Way], told: dict[str, Any], sums: pd.DataFrame) -> Rule:
+def verify_value(ways: list[Way], told: dict[str, Any], sums: pd.DataFrame, flow: MaterialFlow) -> Rule:
     """Verifies discounting, the sums of values and years.csv, and that no NPV exceeds the bound."""
     differences = []
     for way in ways:
@@ -369,7 +371,10 @@ def verify_value(ways: list[Way], told: dict[str, Any], sums: pd.DataFrame) -> R
             }
             for way in ways
         }
-        differences += ways_table.differences(ways[0].answer, of_record)
+        loose: dict[str, float] = {}
+        for name, of_way in of_record.items() if flow.blocks.stockpiles else ():
+            of_way["npv_at_mean_grade"], loose[name] = npv_at_mean_grade(flow, name, of_way["npv"])
+        differences += ways_table.differences(ways[0].answer, of_record, loose)
     holds = "cash flows are discounted as in the project, NPVs and years are their sums, and no NPV exceeds its bound"
     return rule("schedule value", holds, differences[:TOLD], len(differences))
 

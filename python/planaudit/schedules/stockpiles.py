@@ -3,6 +3,7 @@
 from __future__ import annotations
 
 from collections.abc import Iterator
+from itertools import product
 from typing import TYPE_CHECKING
 
 import numpy as np
@@ -108,14 +109,13 @@ def unlike_balance(flow: MaterialFlow, method: str, name: str, rows: pd.DataFram
         "opening_tonnes": np.append(start["feed_tonnes"], closing)[: len(closing)],
     }
     off = {key: np.abs(rows[key].to_numpy() - due) > slack + 1e-9 * np.abs(due) for key, due in expected.items()}
-    # Of less than the rounding of its flows the grade is not known.
-    known = closing > 1e3 * slack
-    for metal in metals:
-        key, unit = f"grade_{metal.name}", float(GRADE_UNITS[metal.unit])
-        grade = np.divide(
-            lies[f"contained_{metal.name}"].to_numpy() / unit, closing, out=np.zeros(len(years)), where=known
-        )
-        open_to = GRADE + np.divide(slack / unit + grade * slack, closing, out=np.zeros(len(years)), where=known)
+    for metal, (prefix, amounts_of) in product(metals, (("", lies), ("reclaimed_", out))):
+        key, unit, feed = f"{prefix}grade_{metal.name}", float(GRADE_UNITS[metal.unit]), amounts_of["feed_tonnes"]
+        # Of less than the rounding of its flows the grade is not known.
+        known, tonnes = feed.to_numpy() > 1e3 * slack, feed.to_numpy()
+        content = amounts_of[f"contained_{metal.name}"].to_numpy() / unit
+        grade = np.divide(content, tonnes, out=np.zeros(len(years)), where=known)
+        open_to = GRADE + np.divide(slack / unit + grade * slack, tonnes, out=np.zeros(len(years)), where=known)
         off[key] = known & ~(np.abs(rows[key].to_numpy(dtype=float) - grade) <= open_to)
     for key, wrong in off.items():
         yield from (

@@ -21,7 +21,7 @@ from pitplan.plan import Plan, shown_name
 from pitplan.pushbacks.bench_table import benches_of_cells
 from pitplan.scheduling.limits import SUM
 
-from .cutoffs import cutoffs
+from .cutoffs import KEYS, cutoff_columns
 from .dumping import SET
 from .flows import Flows
 from .opening_table import balance_at_start, of_opening
@@ -238,7 +238,7 @@ def feed_table(schedule: YearlySchedule) -> pd.DataFrame:
     """Returns one row per method, year and process.
 
     Columns: method, year, process, feed_tonnes, reclaimed_tonnes (of these from stockpiles), head_grade_METAL, contained_METAL,
-    recovered_METAL, and cutoff: the net value per tonne of feed from which on ore is processed; empty for the rule.
+    recovered_METAL, cutoff and realised_cutoff; see `cutoffs.cutoff_columns`.
     """
     metals, flows = schedule.pushbacks.plan.project.metals, schedule.material_flows
     amounts = ["feed_tonnes", *(f"{kind}_{metal.name}" for kind in ("contained", "recovered") for metal in metals)]
@@ -257,22 +257,15 @@ def feed_table(schedule: YearlySchedule) -> pd.DataFrame:
         unit = float(GRADE_UNITS[metal.unit])
         grade = shell_tables.ratio(sums[f"contained_{metal.name}"].to_numpy() / unit, sums["feed_tonnes"].to_numpy())
         sums.insert(2 + place, f"head_grade_{metal.name}", grade)
-    sums["cutoff"] = cutoff_column(schedule, keys)
-    return sums.reset_index().rename(columns={"destination": "process"})
-
-
-def cutoff_column(schedule: YearlySchedule, keys: list[tuple[str, int, str]]) -> list[float]:
-    found = {method: cutoffs(flows, schedule.names) for method, flows in schedule.flows.items()}
-    named = {name or MILL: name for name in schedule.names}
-    cases = ((found[method], year, named[process]) for method, year, process in keys)
-    return [np.nan if case is None else float(case[name][year - 1]) for case, year, name in cases]
+    sums.index.names = KEYS
+    return sums.join(cutoff_columns(schedule, sums.index)).reset_index()
 
 
 def stockpile_table(schedule: YearlySchedule) -> pd.DataFrame:
     """Returns one row per method, stockpile and year.
 
     Columns: method, stockpile, year; opening_tonnes, in_tonnes, out_tonnes and closing_tonnes of feed; and of what lies there at the end of the
-    year grade_METAL, in the unit of the metal's column, empty if nothing does.
+    year grade_METAL, in the unit of the metal's column, empty if nothing does; and reclaimed_grade_METAL of what is reclaimed in the year.
     """
     flows = schedule.material_flows
     found = [
@@ -305,6 +298,9 @@ def balance_of(schedule: YearlySchedule, method: str, name: str, flows: pd.DataF
     for metal in metals:
         content = lies[f"contained_{metal.name}"].to_numpy() / float(GRADE_UNITS[metal.unit])
         columns[f"grade_{metal.name}"] = shell_tables.ratio(content, closing.to_numpy())
+    for metal in metals:
+        content = out[f"contained_{metal.name}"].to_numpy() / float(GRADE_UNITS[metal.unit])
+        columns[f"reclaimed_grade_{metal.name}"] = shell_tables.ratio(content, out["feed_tonnes"].to_numpy())
     table = pd.DataFrame(columns, index=years)
     table.insert(0, "stockpile", name)
     table.insert(0, "method", method)
