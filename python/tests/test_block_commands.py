@@ -142,7 +142,7 @@ def test_rock_without_metal_is_waste(plan_folder):
     ("words", "said"),
     [
         ("[schedule]\nstockpile = { reclaim_cost = 1 }", "[schedule] stockpile: found one, expected none by block"),
-        ("[schedule]\nprocessing_capacity = 1", "holds 100 of feed_tonnes, and a year takes at most 1"),
+        ("[schedule]\nmining_capacity = 90", "holds 100 of total_tonnes, and a year takes at most 90"),
     ],
 )
 def test_what_is_refused(plan_folder, words, said):
@@ -400,25 +400,11 @@ def test_a_pit_of_too_many_years_is_refused(plan_folder, monkeypatch):
         scheduled(plan_folder)
 
 
-@pytest.mark.parametrize(
-    ("change", "said"),
-    [
-        ("processing_capacity = 99", "100 of feed_tonnes, and a year takes at most 99"),
-        ("mining_capacity = 90", "100 of total_tonnes, and a year takes at most 90"),
-    ],
-)
-def test_a_block_that_a_year_cannot_hold_is_refused(plan_folder, change, said):
+def test_a_block_with_more_rock_than_a_year_moves_is_refused(plan_folder):
     """Each block has 100 t. It would never be mined whole, and what lies below it neither."""
-    text = (
-        YEARLY.replace("processing_capacity = 100", change)
-        if "processing" in change
-        else YEARLY.replace("mining_capacity = 200", change)
-    )
-    with pytest.raises(
-        PlanError,
-        match=rf"by block each block is mined in one year: give smaller blocks .*: block b\d-0-\d \(row \d\) holds {said}",
-    ):
-        scheduled(plan_folder, text=text)
+    said = r"by block each block is mined in one year: give smaller blocks .*: block b\d-0-\d \(row \d\) holds 100 of total_tonnes"
+    with pytest.raises(PlanError, match=f"{said}, and a year takes at most 90"):
+        scheduled(plan_folder, text=YEARLY.replace("mining_capacity = 200", "mining_capacity = 90"))
 
 
 def test_both_notations_of_one_mine_have_the_same_value_and_bound(plan_folder):

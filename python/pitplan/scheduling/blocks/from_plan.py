@@ -113,9 +113,8 @@ def pit_of(cash: NDArray[np.float64], needs: Needs, forced: NDArray[np.bool_]) -
 
 
 def demand_small(plan: Plan, cells: NDArray[np.int64], held: dict[str, NDArray[np.float64]], limits: Limits) -> None:
-    """Raises PlanError where a cell holds more than a year may, where it goes to what is best for it: it is mined in one year, so it never
-    could be, or part of its ore would go to waste."""
-    for name, most in [(name, limits.greatest(name)) for name in limits.most if name.startswith((ORE, ROCK))]:
+    """Raises PlanError where a cell holds more material than a year may: it is mined in one year, so it never could be."""
+    for name, most in [(name, limits.greatest(name)) for name in limits.most if name == ROCK]:
         if (held[name] > most * (1 + HAIR)).any():
             row = int(held[name].argmax())
             block = f"{plan.source}: {plan.called(int(cells[row]))} holds {held[name][row]:,.10g} of {name}, and a year takes at most {most:,.10g}"

@@ -3,6 +3,7 @@
 from __future__ import annotations
 
 import time
+from collections.abc import Iterator
 from dataclasses import dataclass, field, replace
 from functools import cached_property
 from typing import Optional
@@ -17,13 +18,14 @@ from pitplan.errors import PlanError
 from .bienstock_zuckerberg import Relaxation, Round
 from .blending import blended
 from .destinations import with_best_shares
-from .greedy import Filling, preferences
+from .divided import Divided, divided
+from .greedy import Filling
 from .local_search import moved
 from .nodes import demand_room
 from .problem import BlockProblem, demand_sound
 from .reduction import Reduced, first_required, reduced, relaxed_as_required
 from .schedule import HAIR, BlockSchedule, nothing
-from .toposort import sequences
+from .toposort import ALL, LEAST, Sequence, sequences
 from .window_milp import Window, sizes_of, window_of
 
 # The relaxation is solved to this share of its bound.
@@ -127,11 +129,27 @@ class Search:
         return self.part.problem
 
     @cached_property
+    def divided(self) -> Divided:
+        """The problem in whose destinations blocks go whole or in the parts that fit."""
+        return divided(self.problem)
+
+    @property
+    def sequences(self) -> Iterator[Sequence]:
+        """The orders in which years are filled. If only parts of some blocks fit, a year may have room for blocks that the relaxation leaves."""
+        shares = LEAST if self.divided.shares is None else (*LEAST, ALL)
+        return sequences(self.problem, self.part.ranks, self.relaxation.cumulative, shares)
+
+    @cached_property
     def fillings(self) -> list[Filling]:
         """How years are filled: each block as soon as there is room for it, and of several destinations also as soon as there is where
-        it is worth most."""
-        soon = Filling(self.problem, preferences(self.problem, self.relaxation.prices))
-        return [soon, *([replace(soon, waits=True)] if self.problem.destinations > 1 else [])]
+        it is worth most. If only parts of some blocks fit, years are also filled without the prices of limits, at which such parts may lose.
+        """
+        problem, prices = self.divided.problem, self.relaxation.prices
+        soon = Filling(problem, self.divided.preferences(prices))
+        found = [soon, *([replace(soon, waits=True)] if problem.destinations > 1 else [])]
+        if self.divided.shares is not None:
+            found += [replace(it, preference=self.divided.preferences(np.zeros_like(prices))) for it in found]
+        return found
 
     def offer(self, schedule: BlockSchedule) -> None:
         """Takes a schedule that is better, without last years that cost more than they earn."""
@@ -141,9 +159,9 @@ class Search:
 
     def fill(self) -> None:
         """Fills years in the orders that the relaxation gives, and keeps the best of each way to fill them."""
-        self.filled = [nothing(self.problem) for _ in self.fillings]
+        self.filled = [nothing(self.divided.problem) for _ in self.fillings]
         with self.progress.step("scheduling blocks in the order of the relaxation"):
-            for sequence in sequences(self.problem, self.part.ranks, self.relaxation.cumulative):
+            for sequence in self.sequences:
                 for number, filling in enumerate(self.fillings):
                     self.offer_filled(number, filling.without_loss(sequence))
                 if self.problem.owes:
@@ -154,22 +172,21 @@ class Search:
 
     def blend(self) -> None:
         """Takes the best of the schedules that are made at the prices of signed limits and then keep them by where blocks go."""
-        ranks, relaxation = self.part.ranks, self.relaxation
-        found = sequences(self.problem, ranks, relaxation.cumulative)
-        for schedule in blended(self.problem, ranks, found, relaxation.prices):
-            self.offer(schedule)
+        ranks, prices = self.part.ranks, self.relaxation.prices
+        for schedule in blended(self.divided.problem, ranks, self.sequences, prices):
+            self.offer(self.divided.merged(schedule))
 
     def offer_filled(self, number: int, schedule: BlockSchedule) -> None:
-        """Takes a schedule that is better, also than those that were filled in the same way."""
-        if schedule.is_better(self.filled[number], self.problem):
+        """Takes a schedule of parts that is better, also than those that were filled in the same way."""
+        if schedule.is_better(self.filled[number], self.divided.problem):
             self.filled[number] = schedule
-        self.offer(schedule)
+        self.offer(self.divided.merged(schedule))
 
     def move(self) -> None:
         """Moves blocks of what was filled, and chooses where they go."""
         with self.progress.step("moving blocks to better years"):
             for schedule in self.filled:
-                better = moved(self.fillings[0], self.part.ranks, schedule)
+                better = self.divided.merged(moved(self.fillings[0], self.part.ranks, schedule))
                 self.offer(better)
                 self.offer(with_best_shares(self.problem, better))
 

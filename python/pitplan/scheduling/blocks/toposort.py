@@ -19,6 +19,8 @@ PARTS = (0.1, 0.5, 0.9)
 EARLIER = (0, 1, None)
 # A share that may be the solver's tolerance alone, and one below which the relaxation leaves a block.
 SLIGHT, LEFT = 1e-6, 0.5
+# A schedule digs the blocks of which the relaxation digs one of these shares at least.
+LEAST, ALL = (LEFT, SLIGHT), 0.0
 
 
 @dataclass(frozen=True)
@@ -33,17 +35,20 @@ class Sequence:
     earliest: NDArray[np.int64]
 
 
-def sequences(problem: BlockProblem, ranks: Ranks, cumulative: NDArray[np.float64]) -> Iterator[Sequence]:
+def sequences(
+    problem: BlockProblem, ranks: Ranks, cumulative: NDArray[np.float64], shares: tuple[float, ...] = LEAST
+) -> Iterator[Sequence]:
     """Orders by the expected year, and by that in which a part of a block is dug, with years from which on blocks may be dug.
 
     cumulative  the share of each block that the relaxation has dug by the end of each year: shape (blocks, years)
+    shares      the least share that the relaxation digs of the blocks of an order
     """
     years = problem.years
     begun = np.where(cumulative[:, -1] > SLIGHT, (cumulative > SLIGHT).argmax(axis=1), years)
     expected = years - cumulative.sum(axis=1)
     keys = (expected, *((cumulative < part - SLIGHT).sum(axis=1) for part in PARTS))
     orders = [in_order(problem, ranks, key, expected) for key in keys]
-    for order, least, earlier in product(orders, (LEFT, SLIGHT), EARLIER):
+    for order, least, earlier in product(orders, shares, EARLIER):
         earliest = np.zeros_like(begun) if earlier is None else np.maximum(begun - earlier, 0)
         yield Sequence(order[cumulative[order, -1] >= least], earliest)
 
