@@ -48,7 +48,7 @@ def test_value_and_bound_are_as_worked_out_by_hand(plan_folder):
     )
     assert "Proved by pitschedule: the schedule keeps" in (folder / "report.html").read_text()
     assert lines(folder, "problem", "DISCOUNTS") == [[0.909091, 0.826446, 0.751315]]
-    assert sorted(share for *_, share in lines(folder, "shares", "SHARE"))[:2] == [0.222222, 0.777778]
+    assert sorted(share for *_, share in lines(folder, "shares", "SHARE"))[:2] == [0.222223, 0.777777]
 
 
 def test_the_texts_are_the_mine(plan_folder):
@@ -136,7 +136,11 @@ def test_altered_texts_are_not_proved(plan_folder):
 def test_without_the_program_the_texts_are_written_and_a_note_says_so(plan_folder, monkeypatch):
     monkeypatch.setattr(paths, "schedule_program", lambda: None)
     record, notes, folder = certified(plan_folder)
-    assert record["certificate"] == {"value": None, "bound": None}
+    named = {
+        "destinations": [["", "", 0], ["", "mill", 0]],
+        "limits": [["feed_tonnes", "max"], ["total_tonnes", "max"]],
+    }
+    assert record["certificate"] == {"value": None, "bound": None, **named}
     assert "the certificate of the schedule is not checked: pitschedule is not installed" in notes
     assert (folder / "certificate/schedule.problem").is_file()
 

@@ -232,12 +232,14 @@ def test_what_no_certificate_can_state_is_refused(tmp_path, words, text, why):
     assert not (project.folder / "schedule" / "schedule.json").exists()
 
 
-def test_too_many_destinations_are_refused(tmp_path):
+def test_too_many_destinations_keep_the_schedule_without_a_certificate(tmp_path):
     """A stockpile with a lag of each of 70 years."""
     words = "[schedule]\nyears = 70\nstockpile = { reclaim_cost = 0.5 }\n"
     project = project_of(tmp_path / "mine", words)
-    with pytest.raises(PlanError, match="found 72 destinations, pitschedule reads 64 at most: use fewer years"):
-        pitplan.write_schedule(project, writing=UNVERIFIED, certificate=True)
+    pitplan.write_schedule(project, writing=UNVERIFIED, certificate=True)
+    notes = json.loads((project.folder / "schedule/plan.json").read_text())["notes"]
+    (note,) = [it for it in notes if "no certificate" in it]
+    assert "found 72 destinations, pitschedule reads 64 at most: use fewer years" in note
 
 
 def test_without_the_program_the_texts_are_written_and_a_note_says_so(tmp_path, monkeypatch):

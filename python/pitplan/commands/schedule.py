@@ -2,14 +2,18 @@
 
 from __future__ import annotations
 
+from collections.abc import Iterator
+from contextlib import contextmanager
 from dataclasses import replace
 from pathlib import Path
 from typing import TYPE_CHECKING, Optional
 
 import pandas as pd
 
+from pitplan.config.places import WASTE
 from pitplan.core import paths
 from pitplan.core.optional_packages import load_library
+from pitplan.errors import WARNING, PlanError
 from pitplan.export import xlsx
 from pitplan.pushbacks import nested
 from pitplan.scheduling import certificate as certificates, pushback_certificate, pushback_record, pushback_schedule
@@ -62,13 +66,16 @@ def write_schedule(
     project = read(project)
     target = project.folder / "schedule" if folder is None else Path(folder)
     xlsx.demand_library()
+    if certificate:
+        certificates.demand_statable(project)
     with begun(project, target, writing, nested.ending(project)) as run:
         pushbacks = nested.divide(run.mine.plan, run.mine, writing.progress)
         schedule = pushback_schedule.make(pushbacks, writing.progress)
+        without = list[str]()
         if certificate:
-            with writing.progress.step("certifying the schedule"):
+            with writing.progress.step("certifying the schedule"), noting(without):
                 schedule = pushback_certificate.certified(schedule, run.stage, paths.schedule_program())
-        run.record["notes"] += [*pushbacks.notes, *pushback_record.notes(schedule)]
+        run.record["notes"] += [*pushbacks.notes, *pushback_record.notes(schedule), *without]
         write_answer(Answered(pushbacks.plan, pushbacks.solution, pushbacks, schedule), run)
     return pushback_schedule.methods(schedule)
 
@@ -113,26 +120,48 @@ def write_block_schedule(
     xlsx.demand_library()
     # Its modules import the library themselves.
     from pitplan.scheduling.blocks import tables
+    from pitplan.scheduling.blocks.certificate import demand_free
     from pitplan.scheduling.blocks.keys import demand_of_blocks
 
     project = read(project)
     demand_of_blocks(project)
+    if certificate:
+        certificates.demand_statable(project)
     target = project.folder / "block_schedule" if folder is None else Path(folder)
     with begun(project, target, writing) as run:
         # First, since it refuses what is too large.
         planned = tables.collected(run.mine.plan, writing.progress)
+        if certificate:
+            demand_free(planned.problem)
         with drawing_imported(writing.draws):
             solution = problem.solve(run.mine.plan, run.mine, writing.progress)
-        made = tables.scheduled(planned, writing.progress)
+        made, without = tables.scheduled(planned, writing.progress), list[str]()
         if certificate:
-            made = certified(made, run)
-        run.record["notes"] += made.notes
+            with noting(without):
+                made = certified(made, run)
+        run.record["notes"] += [*made.notes, *without]
         write_answer(Answered(run.mine.plan, solution, blocks=made), run)
     return made.table
 
 
+@contextmanager
+def noting(notes: list[str]) -> Iterator[None]:
+    """Notes why there is no certificate, if the texts cannot state one. The schedule is kept."""
+    try:
+        yield
+    except PlanError as error:
+        notes.append(f"{WARNING}{error}")
+
+
 def certified(made: ScheduledBlocks, run: Run) -> ScheduledBlocks:
     """Writes the certificate of a schedule by block, and returns the schedule with what is proved of it."""
+    from pitplan.scheduling.blocks.certificate import sides_of
+
     with run.writing.progress.step("certifying the schedule"):
-        certificates.write(made.certificate, made.planned.cells.tolist(), run.stage)
-        return replace(made, certified=certificates.checked(run.stage, paths.schedule_program()))
+        certificate = made.certificate
+        certificates.write(certificate, made.planned.cells.tolist(), run.stage)
+        proved = certificates.checked(run.stage, paths.schedule_program(), certificate.unit)
+        destinations = tuple(("", "" if it == WASTE else it, 0) for it in made.planned.destinations)
+        return replace(
+            made, certified=replace(proved, destinations=destinations, limits=sides_of(made.planned.problem))
+        )

@@ -2,8 +2,9 @@
 
 from __future__ import annotations
 
+import math
 import subprocess
-from collections.abc import Sequence
+from collections.abc import Iterable, Sequence
 from dataclasses import dataclass
 from pathlib import Path
 from typing import Any, Optional
@@ -11,7 +12,9 @@ from typing import Any, Optional
 import numpy as np
 from numpy.typing import NDArray
 
+from pitplan.config.project import Project
 from pitplan.core import layout
+from pitplan.economics.period_costs import of_project
 from pitplan.errors import PlanError, ProgramError
 
 from .methods import PROVED
@@ -21,9 +24,13 @@ UNIT = 10**6
 # The greatest amount, capacity and price that the program reads, and how many nodes, destinations, columns, terms and capacities.
 MOST_AMOUNT, MOST_CAPACITY, MOST_PRICE = 10**16, 10**18, 10**15
 MOST_NODES, MOST_DESTINATIONS, MOST_COLUMNS, MOST_TERMS, MOST_CAPACITIES = 4_194_304, 64, 1_024, 1_024, 65_536
-# Shares may exceed a capacity by this share of all amounts in the sum, and by this part of each block for rounding; the text then has what is used.
+# The sum of a minimum may lack this share of all amounts in it, and this part of each block for rounding; the text then has what is used.
 HAIR, ROUNDING = 1e-6, 2e-6
+# So often shares are rounded down at most, each by a millionth at a time.
+ROUNDS = 50
 WHOLE = "the schedule has no certificate"
+# The destination of waste.
+WASTE = 0
 
 
 @dataclass(frozen=True)
@@ -79,6 +86,23 @@ class Shares:
     destination: NDArray[np.int64]
     share: NDArray[np.int64]
 
+    def wasting(self, places: NDArray[np.int64]) -> Shares:
+        """Returns the shares with a millionth of each of these places in the waste of its block and period."""
+        share = self.share.copy()
+        share[places] -= 1
+        waste, ones = np.full(len(places), WASTE), np.ones(len(places), dtype=np.int64)
+        parts = (
+            (self.block, self.block[places]),
+            (self.period, self.period[places]),
+            (self.destination, waste),
+            (share, ones),
+        )
+        keys, values = np.stack([np.append(*it) for it in parts[:3]]), np.append(*parts[3])
+        (block, period, destination), at = np.unique(keys, axis=1, return_inverse=True)
+        sums = np.bincount(at.ravel(), values).astype(np.int64)
+        some = sums > 0
+        return Shares(block[some], period[some], destination[some], sums[some])
+
     def of(self, destination: int) -> Shares:
         """Returns the shares of a destination."""
         some = self.destination == destination
@@ -109,6 +133,8 @@ class Certificate:
         The limits.
     predecessors : Predecessors
     shares : Shares
+    unit : int
+        How many units of the currency one of the texts is; a power of ten.
     """
 
     destinations: int
@@ -117,23 +143,37 @@ class Certificate:
     rows: tuple[Row, ...]
     predecessors: Predecessors
     shares: Shares
+    unit: int = 1
 
 
 @dataclass(frozen=True)
 class Certified:
-    """What the program has proved: the value of the schedule, rounded down, and the most that any schedule is worth, rounded up; None if it is not
-    installed."""
+    """What the program has proved.
+
+    Attributes
+    ----------
+    value, bound : float, optional
+        The value of the schedule, rounded down, and the most that any schedule is worth, rounded up; None if the program is not installed.
+    destinations : tuple
+        Of the texts, in their order: stockpile, process, and the years until the process takes the ore.
+    limits : tuple
+        Of the texts, in their order: name and side.
+    unit : int
+        How many units of the currency one of the texts is.
+    """
 
     value: Optional[float]
     bound: Optional[float]
     destinations: tuple[tuple[str, str, int], ...] = ()
     limits: tuple[tuple[str, str], ...] = ()
+    unit: int = 1
 
     @property
     def record(self) -> dict[str, Any]:
-        """What the record of the schedule says; of schedules of pushbacks with the destinations and the limits of the texts."""
+        """What the record of the schedule says."""
         named = {"destinations": [list(it) for it in self.destinations], "limits": [list(it) for it in self.limits]}
-        return {"value": self.value, "bound": self.bound, **(named if self.destinations else {})}
+        unit = {} if self.unit == 1 else {"money_unit": self.unit}
+        return {"value": self.value, "bound": self.bound, **named, **unit}
 
     @property
     def note(self) -> str:
@@ -146,12 +186,32 @@ class Certified:
         )
 
 
-def millionths(numbers: NDArray[np.float64]) -> NDArray[np.int64]:
-    """Returns numbers in millionths. Raises PlanError if one is out of range."""
-    scaled = np.rint(np.asarray(numbers, dtype=float) * UNIT)
+def millionths(numbers: NDArray[np.float64], down: bool = False) -> NDArray[np.int64]:
+    """Returns numbers in millionths, to the nearest or rounded down. Raises PlanError if one is out of range."""
+    scaled = np.asarray(numbers, dtype=float) * UNIT
+    scaled = np.floor(scaled) if down else np.rint(scaled)
     if (np.abs(scaled) > MOST_AMOUNT).any():
         raise PlanError(f"{WHOLE}: {np.abs(numbers).max():.6g} is above {MOST_AMOUNT / UNIT:.0e}")
     return scaled.astype(np.int64)
+
+
+def money_unit(amounts: Iterable[NDArray[np.float64]], prices: Iterable[NDArray[np.float64]]) -> int:
+    """Returns the power of ten of the currency in which the texts have money, so that amounts and prices are in range."""
+    parts = [(it, MOST_AMOUNT) for it in amounts] + [(it, MOST_PRICE) for it in prices]
+    greatest = max((float(np.abs(it).max(initial=0.0)) * UNIT / most for it, most in parts), default=0.0)
+    return 10 ** max(0, math.ceil(math.log10(greatest))) if greatest > 1 else 1
+
+
+def demand_statable(project: Project) -> None:
+    """Raises PlanError if no certificate can state the money of a project."""
+    money = of_project(project)
+    for is_found, what in (
+        (bool(project.dumps), "dumps"),
+        (bool(money.columns), "costs of years"),
+        (any(len(set(by_year)) > 1 for by_year in money.premiums.values()), "prices or costs that differ by year"),
+    ):
+        if is_found:
+            raise PlanError(f"{project.path}: {WHOLE}: it cannot state {what}: schedule without a certificate")
 
 
 @dataclass(frozen=True)
@@ -170,27 +230,92 @@ class LimitOfYears:
     most: NDArray[np.float64]
     price: NDArray[np.float64]
 
+    @property
+    def capacity(self) -> NDArray[np.float64]:
+        """The limit in millionths, infinite where there is none, shape (periods,)."""
+        return np.rint(self.most * UNIT)
 
-def row_of(limit: LimitOfYears, terms: Sequence[Term], shares: Shares) -> Row:
-    """Returns a limit of the texts, whose capacities are not below what the schedule uses by more than rounding.
+
+@dataclass(frozen=True)
+class StatedLimit:
+    """A limit with what blocks use of it.
+
+    Attributes
+    ----------
+    limit : LimitOfYears
+    terms : tuple of Term
+    is_least : bool
+        Whether it is a minimum, with turned signs.
+    """
+
+    limit: LimitOfYears
+    terms: tuple[Term, ...]
+    is_least: bool = False
+
+    def row(self, shares: Shares) -> Row:
+        """Returns the limit of the texts. The capacity of a minimum is not below what the schedule uses by more than rounding.
+
+        Raises
+        ------
+        PlanError
+            If the schedule uses more, or if a capacity or a price is out of range.
+        """
+        limit, terms = self.limit, self.terms
+        used, price = usage(terms, shares, len(limit.most)), np.maximum(limit.price, 0)
+        loose = slack(terms, shares, len(limit.most)) + 1 if self.is_least else 0.0
+        greatest = sum(int(np.maximum(term.amounts, 0).sum()) for term in terms)
+        capacity = np.where(np.isfinite(limit.most), limit.capacity, greatest)
+        if (used > capacity + loose).any():
+            place = int((used - capacity).argmax())
+            why = f"{limit.name} uses {used[place] / UNIT:.10g} of {capacity[place] / UNIT:.10g} in year {place + 1}"
+            raise PlanError(f"{WHOLE}: {why}")
+        if (np.abs(capacity) > MOST_CAPACITY).any() or (price * UNIT > MOST_PRICE).any():
+            raise PlanError(f"{WHOLE}: a limit or a price of {limit.name} is out of range")
+        capacity = np.maximum(capacity.astype(np.int64), used)
+        return Row(tuple(terms), capacity, np.rint(price * UNIT).astype(np.int64))
+
+    def kept(self, shares: Shares) -> Shares:
+        """Returns shares that use less of the limit in each year in which they exceed it: a millionth of each block goes to waste, of those that use most
+        first."""
+        if self.is_least:
+            return shares
+        most = np.where(np.isfinite(self.limit.most), self.limit.capacity, np.inf)
+        over = usage(self.terms, shares, len(most)) - most
+        for period in np.flatnonzero(over > 0).tolist():
+            saved = self.saved(shares, period)
+            some = np.flatnonzero((saved > 0) & (shares.share > 0) & (shares.destination != WASTE))
+            some = some[np.argsort(-saved[some], kind="stable")]
+            count = int(np.searchsorted(saved[some].cumsum(), over[period] * UNIT)) + 1
+            shares = shares.wasting(some[:count])
+        return shares
+
+    def saved(self, shares: Shares, period: int) -> NDArray[np.float64]:
+        """Returns what a share uses of the limit in a period, less what it uses as waste, shape (places,)."""
+        found = np.zeros(len(shares.block))
+        for term in self.terms:
+            uses = (shares.destination == term.destination) & (shares.period + term.lag == period)
+            found[uses] += term.amounts[shares.block[uses]]
+            if term.destination == WASTE:
+                uses = (shares.destination != WASTE) & (shares.period + term.lag == period)
+                found[uses] -= term.amounts[shares.block[uses]]
+        return found
+
+
+def rows_of(limits: Sequence[StatedLimit], shares: Shares) -> tuple[tuple[Row, ...], Shares]:
+    """Returns the limits of the texts, and shares that keep them: rounded down where the schedule is above one by rounding.
 
     Raises
     ------
     PlanError
-        If the schedule uses more, or if a capacity or a price is out of range.
+        If the schedule uses more, or if a number is out of range.
     """
-    most, price = limit.most, np.maximum(limit.price, 0)
-    used, loose = usage(terms, shares, len(most)), slack(terms, shares, len(most))
-    greatest = [int(np.maximum(term.amounts, 0).sum()) for term in terms]
-    capacity = np.where(np.isfinite(most), np.rint(np.where(np.isfinite(most), most, 0) * UNIT), sum(greatest))
-    if (used > capacity + loose + 1).any():
-        place = int((used - capacity).argmax())
-        why = f"{limit.name} uses {used[place] / UNIT:.10g} of {capacity[place] / UNIT:.10g} in year {place + 1}"
-        raise PlanError(f"{WHOLE}: {why}")
-    if (np.abs(capacity) > MOST_CAPACITY).any() or (price * UNIT > MOST_PRICE).any():
-        raise PlanError(f"{WHOLE}: a limit or a price of {limit.name} is out of range")
-    capacity = np.maximum(capacity.astype(np.int64), used)
-    return Row(tuple(terms), capacity, np.rint(price * UNIT).astype(np.int64))
+    for _ in range(ROUNDS):
+        before = shares
+        for limit in limits:
+            shares = limit.kept(shares)
+        if shares is before:
+            break
+    return tuple(limit.row(shares) for limit in limits), shares
 
 
 def usage(terms: Sequence[Term], shares: Shares, periods: int) -> NDArray[np.int64]:
@@ -326,14 +451,15 @@ def write(certificate: Certificate, names: Sequence[Any], stage: Path) -> None:
     (stage / layout.CERTIFIED_BLOCKS).write_text("".join(f"{name}\n" for name in names), encoding="utf-8")
 
 
-def checked(stage: Path, program: Optional[Path]) -> Certified:
-    """Returns what the program proves of the texts in a folder. Raises ProgramError if they are no schedule."""
+def checked(stage: Path, program: Optional[Path], unit: int = 1) -> Certified:
+    """Returns what the program proves of the texts in a folder, whose money has a unit. Raises ProgramError if they are no schedule."""
     if program is None:
-        return Certified(None, None)
+        return Certified(None, None, unit=unit)
     words = [word for kind, name in layout.CERTIFIED.items() for word in (f"--{kind}", str(stage / name))]
     ran = subprocess.run([str(program), "check", *words], capture_output=True, text=True)
     lines = ran.stdout.splitlines()
     if ran.returncode != 0 or len(lines) != 3 or lines[0] != "SCHEDULE":
         said = (ran.stdout + ran.stderr).strip().replace("\n", "; ")
         raise ProgramError(f"{program}: the certificate is not that of a schedule: {said}")
-    return Certified(float(lines[1].removeprefix("VALUE: ")), float(lines[2].removeprefix("BOUND: ")))
+    value, bound = (unit * float(line.partition(": ")[2]) for line in lines[1:])
+    return Certified(value, bound, unit=unit)

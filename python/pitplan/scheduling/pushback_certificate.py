@@ -9,7 +9,7 @@ from typing import Optional
 import numpy as np
 from numpy.typing import NDArray
 
-from .certificate import Certified, checked, write
+from .certificate import checked, write
 from .flow.certificate import FlowCertificate
 from .flow.limit_names import Prices
 from .flow.model import FlowModel
@@ -45,14 +45,9 @@ def certified(schedule: YearlySchedule, stage: Path, program: Optional[Path]) ->
     """
     model = replace(schedule.model, ore=schedule.material.blocks)
     found = FlowCertificate(model, schedule.material.parcel, schedule.flows[schedule.shown], prices_of(schedule))
-    elevations = schedule.pushbacks.plan.grid.elevations()
-    write(found.made, found.names(elevations, schedule.material.cells), stage)
+    elevations, made = schedule.pushbacks.plan.grid.elevations(), found.made
+    write(made, found.names(elevations, schedule.material.cells), stage)
     processes, stockpiles = [it or "mill" for it in schedule.names], [it.name for it in model.stockpiles]
-    proved = checked(stage, program)
-    proved = Certified(
-        proved.value,
-        proved.bound,
-        tuple(it.named(processes, stockpiles) for it in found.destinations),
-        tuple(found.amounts),
-    )
-    return replace(schedule, certified=proved)
+    destinations = tuple(it.named(processes, stockpiles) for it in found.destinations)
+    proved = checked(stage, program, made.unit)
+    return replace(schedule, certified=replace(proved, destinations=destinations, limits=tuple(found.amounts)))

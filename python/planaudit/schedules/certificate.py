@@ -18,9 +18,11 @@ from planaudit.inputs.matching import SHARE
 from planaudit.inputs.tables import TABLES, YEAR, read_table
 from planaudit.rules import TOLD, Rule, rule
 from planaudit.schedules.bounds import MIN, MUST_MINE, Bound
-from planaudit.schedules.certificate_texts import FOLDER, KEY, NAME, ROUNDING, UNFIT, UNIT, Texts
+from planaudit.schedules.certificate_texts import FOLDER, KEY, MONEY, NAME, ROUNDING, UNFIT, UNIT, Texts
 from planaudit.schedules.discounts import discount
 
+# By so many millionths a share may differ, since shares are rounded and then reduced until they keep the limits.
+MOVED = 5
 HOLDS = "the certificate has the block values, limits, discount factors, multipliers and years of the run, and its value and bound are those of the schedule"
 
 
@@ -28,11 +30,12 @@ def verify(answer: Answer, told: dict[str, Any]) -> list[Rule]:
     """Verifies the certificate, if block_schedule.json names one."""
     if KEY not in told:
         return []
-    texts = Texts(answer.folder / FOLDER)
+    texts = Texts(answer.folder / FOLDER, told[KEY].get(MONEY, 1))
     if not texts.fit:
         return [rule(NAME, HOLDS, [UNFIT])]
     found = BlockCertificate(answer, texts)
-    differences = [*found.unlike_values(), *found.unlike_shares(), *found.unlike_periods(), *found.unlike_results(told)]
+    parts = (found.unlike_values(), found.unlike_shares(), found.unlike_periods(told), found.unlike_results(told))
+    differences = [it for part in parts for it in part]
     return [rule(NAME, HOLDS, differences[:TOLD], len(differences))]
 
 
@@ -70,7 +73,7 @@ class BlockCertificate:
         if own.shape != self.values.shape:
             yield f"values of {self.values.shape[1]} destinations for {own.shape[1]}"
             return
-        for block in np.flatnonzero((np.abs(own - self.values) > UNIT).any(axis=1)):
+        for block in np.flatnonzero((np.abs(own - self.values) > self.texts.cent).any(axis=1)):
             yield f"block {self.written.index[block]}: values {self.values[block].tolist()} for {own[block].tolist()}"
 
     def unlike_shares(self) -> Iterator[str]:
@@ -82,30 +85,37 @@ class BlockCertificate:
         for number, name in enumerate(names, 1):
             own[mined, year[mined] - 1, number] = self.written[SHARE + name].to_numpy()[mined]
         own[mined, year[mined] - 1, 0] = 1 - own[mined, year[mined] - 1].sum(axis=1)
-        for block in np.flatnonzero((np.abs(own - self.shares) > 2 * UNIT).any(axis=(1, 2))):
+        for block in np.flatnonzero((np.abs(own - self.shares) > MOVED * UNIT).any(axis=(1, 2))):
             yield f"block {self.written.index[block]}: shares differ from those of year {year[block]} in blocks.csv"
 
-    def unlike_periods(self) -> Iterator[str]:
-        """Yields what differs in discount factors, limits and multipliers."""
+    def unlike_periods(self, told: dict[str, Any]) -> Iterator[str]:
+        """Yields what differs in discount factors, limits, multipliers, and the names of limits and destinations in block_schedule.json."""
         bound = Bound(
             self.answer, read_table(self.answer.folder / TABLES / "bound.csv", ["limit", "side"]), self.texts.periods
         )
         factors = [discount(self.answer, year) for year in bound.every_year]
         if np.abs(self.texts.discounts - factors).max() > UNIT:
             yield "discount factors differ"
-        capacities, prices = self.texts.lines("problem", "CAPACITIES"), self.texts.lines("prices", "PRICE")
+        capacities, prices = self.texts.lines("problem", "CAPACITIES"), self.texts.prices
         sides = [key for key in dict.fromkeys(zip(bound.prices["limit"], bound.prices["side"])) if key[0] != MUST_MINE]
+        names = ["", *([process.name for process in self.answer.project.processes] or ["mill"])]
+        record = {"limits": [list(it) for it in sides], "destinations": [["", name, 0] for name in names]}
+        yield from (f"{name} {told[KEY][name]} for {due}" for name, due in record.items() if told[KEY][name] != due)
         if len(sides) != len(capacities) or len(sides) != len(prices):
             yield f"{len(capacities)} limits and {len(prices)} rows of prices for {len(sides)}"
             return
         for number, ((name, side), of_years, paid) in enumerate(zip(sides, capacities, prices)):
             sign = -1 if side == MIN else 1
             own = np.array([sign * bound.limits[name, side, year] for year in bound.every_year])
-            told = bound.prices[(bound.prices["limit"] == name) & (bound.prices["side"] == side)]["price"].to_numpy()
-            if (np.abs(of_years - own) > ROUNDING * self.texts.sizes(number) + UNIT).any():
+            own_prices = bound.prices[(bound.prices["limit"] == name) & (bound.prices["side"] == side)][
+                "price"
+            ].to_numpy()
+            # What the texts have of a minimum may be less by rounding.
+            loose = ROUNDING * self.texts.sizes(number) * (side == MIN)
+            if (np.abs(of_years - own) > loose + UNIT).any():
                 yield f"{name} {side}: capacities {of_years.tolist()} for {own.tolist()}"
-            if (np.abs(paid - np.maximum(sign * told, 0)) > UNIT).any():
-                yield f"{name} {side}: prices {paid.tolist()} for {told.tolist()}"
+            if (np.abs(paid - np.maximum(sign * own_prices, 0)) > self.texts.cent).any():
+                yield f"{name} {side}: prices {paid.tolist()} for {own_prices.tolist()}"
 
     def unlike_results(self, told: dict[str, Any]) -> Iterator[str]:
         """Yields value and bound of the certificate if they are not those of the schedule."""

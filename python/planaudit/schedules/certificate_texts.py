@@ -14,20 +14,30 @@ NAME, KEY, FOLDER = "certificate", "certificate", "certificate"
 UNFIT = "a share is of no block, period or destination of the problem"
 # Numbers of the texts have six decimals.
 UNIT = 1e-6
+# How texts with another unit of money than the currency are recorded.
+MONEY = "money_unit"
 # Of all discounted cash, costs and revenue, by which rounded discount factors and shares may change a sum.
 ROUNDING = 2e-6
 
 
 @dataclass(frozen=True)
 class Texts:
-    """The texts of a folder."""
+    """The texts of a folder.
+
+    Attributes
+    ----------
+    folder : Path
+    money : float
+        How many units of the currency one of the texts is.
+    """
 
     folder: Path
+    money: float = 1.0
 
     def lines(self, name: str, word: str) -> np.ndarray:
         """Returns the numbers of the lines that begin with a word, shape (lines, numbers)."""
         found = [words[1:] for words in self.words(name) if words[:1] == [word]]
-        return np.array(found, dtype=float).reshape(len(found), -1)
+        return np.array(found, dtype=float) if found else np.zeros((0, 0))
 
     def words(self, name: str) -> list[list[str]]:
         """Returns the words of each line of a text."""
@@ -75,10 +85,21 @@ class Texts:
         """Returns the value of each block, or what it uses of a limit, by destination and lag, each of shape (blocks,)."""
         rows = self.lines("problem", "VALUE").astype(int) if limit is None else self.uses[self.uses[:, 1] == limit]
         found: dict[tuple[int, int], np.ndarray] = {}
+        unit = self.money if limit is None else 1.0
         for row in rows:
             key = int(row[0]), int(row[-1])
-            found[key] = found.get(key, 0.0) + self.amounts[:, row[-2]]
+            found[key] = found.get(key, 0.0) + self.amounts[:, row[-2]] * unit
         return found
+
+    @property
+    def prices(self) -> np.ndarray:
+        """The price of each limit in each period, shape (limits, periods)."""
+        return self.lines("prices", "PRICE") * self.money
+
+    @property
+    def cent(self) -> float:
+        """The last decimal of money."""
+        return UNIT * self.money
 
     def sizes(self, limit: int) -> np.ndarray:
         """Returns the sum of the amounts of a limit without their signs, by period, shape (periods,)."""

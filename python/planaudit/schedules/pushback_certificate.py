@@ -17,7 +17,7 @@ import pandas as pd
 from planaudit.inputs.answer import Answer
 from planaudit.inputs.project import Stockpile
 from planaudit.rules import TOLD, Rule, rule
-from planaudit.schedules.certificate_texts import FOLDER, KEY, NAME, ROUNDING, UNFIT, UNIT, Texts
+from planaudit.schedules.certificate_texts import FOLDER, KEY, MONEY, NAME, ROUNDING, UNFIT, UNIT, Texts
 from planaudit.schedules.certified_benches import CertifiedBenches
 from planaudit.schedules.lots import MILL
 from planaudit.schedules.material_flow import AMOUNT, PIT, MaterialFlow
@@ -26,6 +26,8 @@ from planaudit.schedules.pushback_bounds import ADVANCE, MIN, STOCK, Bound
 
 HOLDS = "the certificate has the benches, ore, precedences, limits, discount factors and flows of the run, and its value is that of the schedule"
 SLIGHT = 1e-8
+# By so many millionths the share of a block may differ, since shares are rounded and then reduced until they keep the limits.
+MOVED = 5
 # Where ore goes: the stockpile, the process, and the years until the process takes it.
 Way = tuple[str, str, int]
 
@@ -44,7 +46,7 @@ def verify(bound: Bound, told: dict[str, Any], flow: MaterialFlow) -> list[Rule]
     """
     if KEY not in told:
         return []
-    texts = Texts(bound.answer.folder / FOLDER)
+    texts = Texts(bound.answer.folder / FOLDER, told[KEY].get(MONEY, 1))
     if not texts.fit:
         return [rule(NAME, HOLDS, [UNFIT])]
     benches = CertifiedBenches(bound, texts)
@@ -186,7 +188,8 @@ class PushbackCertificate:
 
     def unlike_amounts(self) -> Iterator[str]:
         """Yields blocks whose values or uses differ, and limits whose capacities do."""
-        yield from self.unlike_terms("values", self.texts.terms(), {way: self.values(way) for way in set(self.ways)})
+        own_values = {way: self.values(way) for way in set(self.ways)}
+        yield from self.unlike_terms("values", self.texts.terms(), own_values, self.texts.cent)
         capacities = self.texts.lines("problem", "CAPACITIES")
         for number, (name, side) in enumerate(self.told[KEY]["limits"]):
             sign = -1.0 if side == MIN else 1.0
@@ -197,7 +200,9 @@ class PushbackCertificate:
                 due = due - sign * sum(
                     it.lying for it in self.bound.blocks.stockpiles if it.name == name.removeprefix(STOCK)
                 )
-            off = np.abs(capacities[number] - due) > ROUNDING * self.texts.sizes(number) + UNIT + SLIGHT * np.abs(due)
+            # What the texts have of a minimum may be less by rounding.
+            loose = ROUNDING * self.texts.sizes(number) * (side == MIN)
+            off = np.abs(capacities[number] - due) > loose + UNIT
             endless = np.isinf(due)
             off[endless] = capacities[number][endless] < self.greatest(number)
             if off.any():
@@ -208,14 +213,18 @@ class PushbackCertificate:
         return float(sum(np.maximum(it, 0).max(initial=0.0) for it in self.texts.terms(limit).values()))
 
     def unlike_terms(
-        self, what: str, told: dict[tuple[int, int], np.ndarray], own: dict[Way, dict[int, np.ndarray]]
+        self,
+        what: str,
+        told: dict[tuple[int, int], np.ndarray],
+        own: dict[Way, dict[int, np.ndarray]],
+        last: float = UNIT,
     ) -> Iterator[str]:
-        """Yields the blocks whose amounts differ, by destination and lag."""
+        """Yields the blocks whose amounts differ by more than their last decimal, by destination and lag."""
         expected = {(number, lag): it for number, way in enumerate(self.ways) for lag, it in own[way].items()}
         nothing = np.zeros(len(self.texts.amounts))
         for key in sorted({*told, *expected}):
             found, due = told.get(key, nothing), expected.get(key, nothing)
-            off = np.flatnonzero(np.abs(found - due) > UNIT + SLIGHT * np.abs(due))
+            off = np.flatnonzero(np.abs(found - due) > last + SLIGHT * np.abs(due))
             if len(off):
                 block, place = self.benches.names[off[0]], f"{' '.join(map(str, self.ways[key[0]]))} after {key[1]}"
                 yield f"{what}, {place}: {block}: {found[off[0]]:.12g} for {due[off[0]]:.12g}, and {len(off) - 1} more"
@@ -240,7 +249,7 @@ class PushbackCertificate:
         block = place.reindex(pd.MultiIndex.from_arrays([shown["pushback"], level])).to_numpy()
         due = shown.groupby([block, shown["year"].to_numpy() - 1])["share"].sum()
         both = pd.concat([due, self.by_block[self.by_block.index.get_level_values(0).isin(place)]], axis=1).fillna(0.0)
-        for (at, year), (own, told) in both[np.abs(both.iloc[:, 0] - both.iloc[:, 1]) > 2 * UNIT].iterrows():
+        for (at, year), (own, told) in both[np.abs(both.iloc[:, 0] - both.iloc[:, 1]) > MOVED * UNIT].iterrows():
             yield f"{self.benches.names[int(at)]}, year {int(year) + 1}: share {told:.6f} for {own:.6f}"
         of_bench = pd.DataFrame({"block": self.benches.ore_places, "bench": self.benches.bench_of_ore})
         own = of_bench.merge(self.by_block.rename_axis(["bench", "period"]).reset_index(), on="bench")
@@ -261,7 +270,7 @@ class PushbackCertificate:
         keys = ["year", "pushback", "level", "source", "destination"]
         own = rows.groupby(keys)["feed_tonnes"].agg(["sum", "count"])
         both = told.join(own, how="outer").fillna(0.0)
-        slack = AMOUNT * both["count"] + 2 * UNIT * both["size"] + SLIGHT * both["sum"]
+        slack = AMOUNT * both["count"] + MOVED * UNIT * both["size"] + SLIGHT * both["sum"]
         for at, row in both[(both["feed"] - both["sum"]).abs() > slack + UNIT * both["sum"] + 1e-3].iterrows():
             yield f"flow {', '.join(map(str, at))}: {row['feed']:.10g} t for {row['sum']:.10g}"
 

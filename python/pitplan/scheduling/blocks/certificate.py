@@ -12,11 +12,12 @@ from pitplan.scheduling.certificate import (
     Certificate,
     LimitOfYears,
     Predecessors,
-    Row,
     Shares,
+    StatedLimit,
     Term,
     millionths,
-    row_of,
+    money_unit,
+    rows_of,
 )
 
 from .problem import BlockProblem, Limit
@@ -45,19 +46,36 @@ def of_schedule(
     PlanError
         If values differ by year in more than the discount factor, if blocks must be mined, or if years have costs.
     """
-    if problem.dues:
-        raise PlanError(f"{WHOLE}: it cannot state that blocks must be mined")
+    demand_free(problem)
     if problem.running_costs.any():
         raise PlanError(f"{WHOLE}: it cannot state costs of years")
     values = problem.values[:, :, 0] / discounts[0]
     if not np.allclose(values[:, :, None] * discounts, problem.values, rtol=1e-9, atol=1e-6):
         raise PlanError(f"{WHOLE}: it cannot state prices or costs that differ by year")
-    shares = shares_of(schedule, problem.years)
-    prices_of = multipliers if multipliers.size else np.zeros((len(problem.limits), problem.years))
-    rows = tuple(row for limit, prices in zip(problem.limits, prices_of) for row in rows_of(limit, prices, shares))
+    prices = multipliers if multipliers.size else np.zeros((len(problem.limits), problem.years))
+    unit = money_unit([values], [np.abs(prices)])
+    limits = [it for limit, paid in zip(problem.limits, prices / unit) for it in stated(limit, paid)]
+    rows, shares = rows_of(limits, shares_of(schedule, problem.years))
     predecessors = Predecessors(problem.needs.starts, problem.needs.needed)
-    worth = millionths(values)
-    return Certificate(worth.shape[1], terms_of(worth), millionths(discounts), rows, predecessors, shares)
+    worth = millionths(values / unit)
+    return Certificate(worth.shape[1], terms_of(worth), millionths(discounts), rows, predecessors, shares, unit)
+
+
+def demand_free(problem: BlockProblem) -> None:
+    """Raises PlanError if blocks must be mined, which the texts cannot state."""
+    if problem.dues:
+        raise PlanError(f"{WHOLE}: it cannot state that blocks must be mined: schedule without a certificate")
+
+
+def sides_of(problem: BlockProblem) -> tuple[tuple[str, str], ...]:
+    """Returns name and side of the limits of the texts, in their order."""
+    return tuple((limit.name, side) for limit in problem.limits for side in sides(limit))
+
+
+def sides(limit: Limit) -> list[str]:
+    """Returns whether a limit is a maximum, a minimum, or both."""
+    found = ["max"] if np.isfinite(limit.most).any() else []
+    return found + (["min"] if not limit.signed and (limit.floor > 0).any() else [])
 
 
 def terms_of(amounts: NDArray[np.int64]) -> tuple[Term, ...]:
@@ -76,14 +94,14 @@ def shares_of(schedule: BlockSchedule, years: int) -> Shares:
     return Shares(block, schedule.year[block].astype(np.int64), destination, shares[block, destination])
 
 
-def rows_of(limit: Limit, prices: NDArray[np.float64], shares: Shares) -> list[Row]:
-    """Returns a limit as one on the most, and one with turned signs on the least, as far as there are such."""
+def stated(limit: Limit, prices: NDArray[np.float64]) -> list[StatedLimit]:
+    """Returns a limit as one on the most, and one with turned signs on the least, as far as there are such. Amounts are rounded down, so that no schedule
+    of the project exceeds a limit by rounding."""
     found = []
-    amounts = millionths(limit.amounts)
-    if np.isfinite(limit.most).any():
-        found.append(row_of(LimitOfYears(limit.name, limit.most, prices), used_terms(amounts), shares))
-    if not limit.signed and (limit.floor > 0).any():
-        found.append(row_of(LimitOfYears(limit.name, -limit.floor, -prices), used_terms(-amounts), shares))
+    for side in sides(limit):
+        sign, bound = (1.0, limit.most) if side == "max" else (-1.0, limit.floor)
+        terms = used_terms(millionths(sign * limit.amounts, down=True))
+        found.append(StatedLimit(LimitOfYears(limit.name, sign * bound, sign * prices), terms, side == "min"))
     return found
 
 

@@ -14,17 +14,16 @@ from functools import cached_property
 import numpy as np
 from numpy.typing import NDArray
 
-from pitplan.errors import PlanError
 from pitplan.scheduling.certificate import (
-    WHOLE,
     Certificate,
     LimitOfYears,
     Predecessors,
-    Row,
     Shares,
+    StatedLimit,
     Term,
     millionths,
-    row_of,
+    money_unit,
+    rows_of,
 )
 
 from .bound import Lagrangian
@@ -59,23 +58,17 @@ class FlowCertificate:
 
     @property
     def made(self) -> Certificate:
-        """The certificate. Raises PlanError if the texts cannot state the problem."""
-        self.demand_statable()
-        rows = tuple(self.row(*key) for key in self.amounts)
+        """The certificate. Raises PlanError if a number is out of range, or if the schedule exceeds a limit by more than rounding."""
+        rows, shares = rows_of([self.stated(*key) for key in self.amounts], self.shares)
         discounts = millionths(self.model.discounts)
-        return Certificate(len(self.destinations), self.values, discounts, rows, self.predecessors, self.shares)
+        return Certificate(len(self.destinations), self.values, discounts, rows, self.predecessors, shares, self.unit)
 
-    def demand_statable(self) -> None:
-        """Raises PlanError if the texts cannot state the problem."""
+    @cached_property
+    def unit(self) -> int:
+        """How many units of the currency one of the texts is."""
         model = self.model
         cash = (model.mining_cash / model.discounts, model.gains, model.reclaim_gains, model.opening_gains)
-        for is_found, what in (
-            (bool(model.dumps), "dumps"),
-            (bool(model.problem.costs_of_years(model.years).any()), "costs of years"),
-            (any(differs(it) for it in cash), "prices or costs that differ by year"),
-        ):
-            if is_found:
-                raise PlanError(f"{WHOLE}: it cannot state {what}")
+        return money_unit((*cash, model.stacking), (np.abs(it) for it in self.prices.values()))
 
     @cached_property
     def destinations(self) -> tuple[Destination, ...]:
@@ -88,11 +81,20 @@ class FlowCertificate:
         benches: NDArray[np.float64] | float = 0.0,
         units: NDArray[np.float64] | float = 0.0,
         lots: NDArray[np.float64] | float = 0.0,
-    ) -> NDArray[np.int64]:
-        """Returns the amounts of all blocks of the texts, in millionths."""
+    ) -> NDArray[np.float64]:
+        """Returns the amounts of all blocks of the texts."""
         model, parts = self.model, (benches, units, lots)
         counts = (len(model.benches), len(model.ore), len(model.opening.ore))
-        return millionths(np.concatenate([np.broadcast_to(it, count) for it, count in zip(parts, counts)]))
+        return np.concatenate([np.broadcast_to(it, count) for it, count in zip(parts, counts)]).astype(float)
+
+    def worth(
+        self,
+        benches: NDArray[np.float64] | float,
+        units: NDArray[np.float64] | float,
+        lots: NDArray[np.float64] | float = 0.0,
+    ) -> NDArray[np.int64]:
+        """Returns the money of all blocks of the texts, in millionths of its unit."""
+        return millionths(self.column(benches, units, lots) / self.unit)
 
     @cached_property
     def chain(self) -> NDArray[np.int64]:
@@ -135,10 +137,10 @@ class FlowCertificate:
         for number, to in enumerate(self.destinations):
             gain = to.gain(self.model)
             if to.lag == 0:
-                found.append(Term(number, self.column(cash, gain, 0.0 if to.process is None else lots[to.process])))
+                found.append(Term(number, self.worth(cash, gain, 0.0 if to.process is None else lots[to.process])))
                 continue
-            found.append(Term(number, self.column(cash, -to.stacking(self.model))))
-            found += [] if to.process is None else [Term(number, self.column(0.0, gain), to.lag)]
+            found.append(Term(number, self.worth(cash, -to.stacking(self.model))))
+            found += [] if to.process is None else [Term(number, self.worth(0.0, gain), to.lag)]
         return tuple(found)
 
     @cached_property
@@ -157,34 +159,42 @@ class FlowCertificate:
             found |= {(f"{STOCK}{it.name}", MIN): least - lay} if least.any() else {}
         return found
 
-    def row(self, name: str, side: str) -> Row:
-        """Returns a limit of the texts, a minimum with turned signs."""
+    def stated(self, name: str, side: str) -> StatedLimit:
+        """Returns a limit with what blocks use of it, a minimum with turned signs. Amounts are rounded down, so that no schedule of the project exceeds a
+        limit by rounding."""
         sign = -1 if side == MIN else 1
+        terms = [
+            Term(to, millionths(sign * amounts, down=True), lag)
+            for to, amounts, lag in self.uses(name)
+            if amounts.any()
+        ]
+        price = self.prices.get((name, side), np.zeros(self.model.years)) / self.unit
+        limit = LimitOfYears(name, sign * self.amounts[name, side], price)
+        return StatedLimit(limit, tuple(terms), side == MIN)
+
+    def uses(self, name: str) -> Iterator[tuple[int, NDArray[np.float64], int]]:
+        """Yields destination, amounts of blocks, and lag of what they add to a limit."""
         if name.startswith(STOCK):
-            terms = list(self.lying([it.name for it in self.model.stockpiles].index(name.removeprefix(STOCK))))
+            yield from self.lying([it.name for it in self.model.stockpiles].index(name.removeprefix(STOCK)))
         elif name.startswith(ADVANCE):
             sunk = self.column((self.model.benches.pushback == int(name.removeprefix(ADVANCE))).astype(float))
-            terms = [Term(number, sunk) for number in range(len(self.destinations))]
+            yield from ((number, sunk, 0) for number in range(len(self.destinations)))
         else:
-            terms = list(self.used(name))
-        terms = [Term(it.destination, sign * it.amounts, it.lag) for it in terms if it.amounts.any()]
-        price = self.prices.get((name, side), np.zeros(self.model.years))
-        return row_of(LimitOfYears(name, sign * self.amounts[name, side], price), terms, self.shares)
+            yield from self.used(name)
 
-    def used(self, name: str) -> Iterator[Term]:
-        """Yields what blocks add to an amount."""
+    def used(self, name: str) -> Iterator[tuple[int, NDArray[np.float64], int]]:
+        """Yields what blocks add to an amount, as `uses` does."""
         model, lots = self.model, self.model.opening.ore.of(name)
         for number, to in enumerate(self.destinations):
             amounts = to.amounts(model, name)
             if to.lag == 0:
-                yield Term(
-                    number, self.column(model.dug(name), amounts, 0.0 if to.process is None else lots[to.process])
-                )
+                lot = 0.0 if to.process is None else lots[to.process]
+                yield number, self.column(model.dug(name), amounts, lot), 0
             else:
-                yield Term(number, self.column(model.dug(name)))
-                yield Term(number, self.column(0.0, amounts), to.lag)
+                yield number, self.column(model.dug(name)), 0
+                yield number, self.column(0.0, amounts), to.lag
 
-    def lying(self, stockpile: int) -> Iterator[Term]:
+    def lying(self, stockpile: int) -> Iterator[tuple[int, NDArray[np.float64], int]]:
         """Yields what blocks add to the feed that lies on a stockpile at the end of each year, next to what lies there at the start."""
         model = self.model
         for number, to in enumerate(self.destinations):
@@ -194,13 +204,8 @@ class FlowCertificate:
                 lies, years = self.column(0.0, 0.0, -model.opening.on(stockpile)), model.years
             else:
                 continue
-            yield from (Term(number, lies, lag) for lag in range(min(years, model.years)))
+            yield from ((number, lies, lag) for lag in range(min(years, model.years)))
 
     @cached_property
     def shares(self) -> Shares:
         return CertifiedShares(self.flows, self.destinations, self.model.years).of_blocks(self.parcel)
-
-
-def differs(by_year: NDArray[np.float64]) -> bool:
-    """Returns whether amounts differ by year, which is the last axis."""
-    return bool(by_year.size) and not np.allclose(by_year, by_year[..., :1], rtol=1e-9, atol=1e-6)

@@ -10,7 +10,7 @@ from functools import cached_property
 import numpy as np
 from numpy.typing import NDArray
 
-from pitplan.scheduling.certificate import UNIT, Shares
+from pitplan.scheduling.certificate import UNIT, Shares, millionths
 
 from .destinations import Destination
 from .flows import SLIGHT, Flows
@@ -37,12 +37,48 @@ class CertifiedShares:
     @cached_property
     def mined(self) -> NDArray[np.int64]:
         """The share of each bench that is mined in each year, in millionths, shape (benches, years). By no year's end more of a bench is mined than of
-        one before it."""
+        one before it, and no year exceeds a limit of mining by what was rounded."""
         by_end = np.floor(np.clip(self.flows.dug.cumsum(axis=1), 0.0, 1.0) * UNIT + 0.5).astype(np.int64)
         for bench, others in enumerate(self.flows.model.benches.waits):
             for other in others:
                 by_end[bench] = np.minimum(by_end[bench], by_end[other])
-        return np.diff(np.maximum.accumulate(by_end, axis=1), axis=1, prepend=0)
+        by_end = np.maximum.accumulate(by_end, axis=1)
+        for year in range(self.flows.years):
+            by_end[:, year] = self.fitting(by_end[:, year], by_end[:, year - 1] if year else by_end[:, year] * 0, year)
+        return np.diff(by_end, axis=1, prepend=0)
+
+    def fitting(self, done: NDArray[np.int64], before: NDArray[np.int64], year: int) -> NDArray[np.int64]:
+        """Returns what is mined of each bench by the end of a year if that year keeps the limits of mining: a millionth less of benches that exceed
+        them, of the last ones first. `before` is what is mined by the end of the year before."""
+        benches, found = self.flows.model.benches, done.copy()
+        last_first = np.argsort(-benches.before.sum(axis=1), kind="stable").tolist()
+        for amounts, most in self.limits_of_mining:
+            over = sum(a * b for a, b in zip(amounts, (found - before).tolist())) - most[year] * UNIT
+            some = [bench for bench in last_first if amounts[bench] > 0]
+            while over > 0 and any(found[bench] > before[bench] for bench in some):
+                for bench in some:
+                    if over > 0 and found[bench] > before[bench]:
+                        found[bench] -= 1
+                        over -= amounts[bench]
+        for bench in last_first[::-1]:
+            for other in benches.waits[bench]:
+                found[bench] = min(found[bench], found[other])
+        return found
+
+    @cached_property
+    def limits_of_mining(self) -> list[tuple[list[int], list[int]]]:
+        """What each whole bench uses of each limit of mining, and the limit by year, both in millionths."""
+        model, years = self.flows.model, self.flows.years
+        benches, limits = model.benches, model.of_mining
+        found = [(model.dug(name), of_years) for name, of_years in zip(limits.most, limits.of_years(years).T)]
+        if np.isfinite(limits.vertical_advance_rate):
+            sunk = [(benches.pushback == number).astype(float) for number in np.unique(benches.pushback)]
+            found += [(it, limits.sinking(years)) for it in sunk]
+        return [
+            (millionths(amounts, down=True).tolist(), np.rint(most * UNIT).astype(np.int64).tolist())
+            for amounts, most in found
+            if np.isfinite(most).all()
+        ]
 
     @cached_property
     def places(self) -> dict[Destination, int]:
