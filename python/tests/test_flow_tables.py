@@ -318,7 +318,8 @@ def test_minimum_total_material_is_kept(plan_folder, milp):
 
 
 def test_a_minimum_that_no_trial_meets_is_left_to_the_integer_programme(plan_folder, monkeypatch):
-    """Without the one the error names the other."""
+    """Of a small mine it is solved unasked. Of a larger one without it the error names it."""
+    from pitplan.scheduling import pushback_schedule
     from pitplan.scheduling.flow import scheduler
 
     words = "[schedule]\nyears = 5\nramp_up = [0, 0, 1.0]\nminimum = { feed = 50 }\n"
@@ -327,6 +328,8 @@ def test_a_minimum_that_no_trial_meets_is_left_to_the_integer_programme(plan_fol
         raise scheduler.NoSchedule("no schedule that was tried meets the minimums: lower them, or set [schedule] milp")
 
     monkeypatch.setattr(scheduler, "from_optimum", none)
+    assert pitplan.write_schedule(hill(plan_folder, words), writing=UNVERIFIED)["method"].tolist() == ["milp"]
+    monkeypatch.setattr(pushback_schedule, "SMALL", 0)
     with pytest.raises(PlanError, match=r"project.toml: \[schedule\] minimum: no schedule .* set \[schedule\] milp"):
         pitplan.write_schedule(hill(plan_folder, words), writing=UNVERIFIED)
     path = hill(plan_folder, f"{words}milp = {{ gap = 0.05, seconds = 60 }}\n")

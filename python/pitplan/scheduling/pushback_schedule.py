@@ -12,7 +12,7 @@ import numpy as np
 import pandas as pd
 
 from pitplan.config.project import Project
-from pitplan.config.schedule import ScheduleRules
+from pitplan.config.schedule import Effort, ScheduleRules
 from pitplan.config.shells import ShellRules
 from pitplan.core.progress import Progress, silent
 from pitplan.economics import period_costs
@@ -28,6 +28,7 @@ from .flow import bound, integer, opening, parcels, scheduler, tables
 from .flow.conflicts import Conflict
 from .flow.flows import Flows
 from .flow.limit_names import Prices
+from .flow.mixed_reclaim import loss_by_mixing
 from .flow.model import FlowModel
 from .flow.near import years_near
 from .flow.opening import Lots
@@ -42,6 +43,8 @@ MORE_YEARS = 0.2
 FINE, FINE_OF_LARGE, REFINEMENTS = 0.002, 0.006, 3
 # Value bins of each process, and parts by limited grades, of the first of these programmes.
 FEW_BINS, FEW_PARTS = 4, 2
+# The integer programme of so few benches times years, and unknowns in all, is solved unasked for some seconds, if the gap exceeds this share.
+SMALL, SMALL_UNKNOWNS, UNASKED, WORTH_SEARCHING = 40, 5_000, Effort(gap=1e-4, seconds=10.0), 1e-3
 
 
 @dataclass(frozen=True)
@@ -222,13 +225,12 @@ def better(schedule: YearlySchedule, rules: ScheduleRules, progress: Progress) -
     model, optimum = schedule.model, schedule.optimum
     assert optimum is not None
     path = schedule.pushbacks.plan.project.path
+    refusal: Optional[PlanError] = None
     with progress.step("making feasible schedules"):
         try:
             found = {LP: scheduler.from_optimum(model, optimum, schedule.flows.get(RULE))}
         except scheduler.NoSchedule as error:
-            if rules.milp is None:
-                raise PlanError(f"{path}: [schedule] minimum: {error}") from error
-            found = {}
+            found, refusal = {}, PlanError(f"{path}: [schedule] minimum: {error}")
     schedule = replace(schedule, flows=schedule.flows | found)
     if schedule.flows:
         yield schedule
@@ -242,11 +244,37 @@ def better(schedule: YearlySchedule, rules: ScheduleRules, progress: Progress) -
             best, most = integer.best_schedule(model, rules.milp)
         found = {} if best is None else {MILP: best}
         schedule = replace(schedule, flows=schedule.flows | found, milp_upper_bound=most)
-        if not schedule.flows:
-            raise PlanError(
-                f"{path}: [schedule] milp: found no schedule that meets the minimums: lower them, or raise seconds"
-            )
-        yield schedule
+        refusal = PlanError(
+            f"{path}: [schedule] milp: found no schedule that meets the minimums: lower them, or raise seconds"
+        )
+    elif is_small(schedule):
+        with progress.step("solving the integer programme, since it is small"):
+            schedule = with_integer_programme(schedule)
+    if not schedule.flows and refusal is not None:
+        raise refusal
+    yield schedule
+
+
+def is_small(schedule: YearlySchedule) -> bool:
+    """Returns whether the integer programme is solved in any case: if it takes no time, and may find a better schedule."""
+    unknowns = sum(FlowProgramme(schedule.model).sizes)
+    if len(schedule.benches) * schedule.years > SMALL or unknowns > SMALL_UNKNOWNS:
+        return False
+    best = max((flows.value for flows in schedule.flows.values()), default=-math.inf)
+    assert schedule.upper_bound is not None
+    return schedule.upper_bound - best > WORTH_SEARCHING * abs(schedule.upper_bound)
+
+
+def with_integer_programme(schedule: YearlySchedule) -> YearlySchedule:
+    """Returns the schedule with that of a short integer programme, if it is better than all others."""
+    try:
+        best, most = integer.best_schedule(schedule.model, UNASKED)
+    except PlanError:
+        return schedule
+    others = max((flows.value for flows in schedule.flows.values()), default=-math.inf)
+    if best is None or best.value <= others + WORTH_SEARCHING * abs(others if schedule.flows else 0.0):
+        return schedule
+    return replace(schedule, flows=schedule.flows | {MILP: best}, milp_upper_bound=most)
 
 
 def relaxations(schedule: YearlySchedule, rules: ScheduleRules, progress: Progress) -> Iterator[YearlySchedule]:
@@ -378,8 +406,8 @@ def years(schedule: YearlySchedule) -> pd.DataFrame:
 
 
 def methods(schedule: YearlySchedule) -> pd.DataFrame:
-    """Returns one row per method: NPV, upper bound and optimality gap, years, tonnes that are mined, mill feed, tonnes that stay unmined, and
-    recovered metal."""
+    """Returns one row per method: NPV, upper bound and optimality gap, with stockpiles also the NPV if each gives back its mean grade, years, tonnes that
+    are mined, mill feed, tonnes that stay unmined, and recovered metal."""
     rows = []
     for method, flows in schedule.flows.items():
         value, yearly = schedule.value(method), schedule.yearly(method)
@@ -390,6 +418,7 @@ def methods(schedule: YearlySchedule) -> pd.DataFrame:
                 "npv": value,
                 "upper_bound": most,
                 "optimality_gap": (most - value) / abs(most) if most else np.nan,
+                **({"npv_at_mean_grade": value - loss_by_mixing(flows)} if schedule.is_stocked else {}),
                 "years": schedule.time(flows.years),
                 "tonnes": yearly[ROCK].sum(),
                 "feed_tonnes": yearly[ORE].sum(),

@@ -15,11 +15,12 @@ from pitplan.config.schedule import ScheduleRules
 from pitplan.core.progress import Progress, silent
 from pitplan.core.revenue_factors import BASE_PRICE
 from pitplan.economics.period_costs import is_shown, of_project
+from pitplan.errors import WARNING
 from pitplan.pits.best_worst_case import year_discounts
 from pitplan.plan import Plan
 from pitplan.pushbacks.bench_table import CASH, ORE, ROCK
 from pitplan.scheduling.certificate import Certificate, Certified
-from pitplan.scheduling.methods import BLOCK
+from pitplan.scheduling.methods import BLOCK, notes_of_gap
 
 from .certificate import of_schedule
 from .from_plan import PlannedBlocks, cash_of, of_plan
@@ -172,12 +173,20 @@ class ScheduledBlocks:
             f"upper bound on the NPV of any schedule by block of up to {years} years within these limits: {found.bound:,.0f}; "
             f"this schedule has an NPV of {found.value:,.0f}, an optimality gap of {100 * found.gap:.2f} %"
         ]
-        if not self.count:
+        project = self.planned.plan.project
+        if not self.count and found.bound <= 0:
             said.append("nothing is mined: at these prices and costs no block pays for itself and its predecessors")
-        said += unapplied(self.planned.plan.project)
+        elif not self.count:
+            why = f"nothing is mined although the upper bound is {found.bound:,.0f}: no schedule that was tried earns anything"
+            said.append(f"{WARNING}{why}")
+        if not found.interrupted:
+            said += notes_of_gap(found.value, found.bound, project.schedule.milp if project.schedule else None)
+        said += unapplied(project)
         said += [self.certified.note] if self.certified else []
         if found.interrupted:
-            said.append("WARNING: the run was interrupted; this is the best schedule so far, and the upper bound holds")
+            said.append(
+                f"{WARNING}the run was interrupted; this is the best schedule so far, and the upper bound holds"
+            )
         return said
 
 
