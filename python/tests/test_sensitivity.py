@@ -7,6 +7,7 @@ import numpy as np
 import pandas as pd
 import pytest
 from conftest import PROJECT, files_in, rows
+from helpers.verified import UNVERIFIED
 from matplotlib.figure import Figure
 
 import pitplan
@@ -247,6 +248,17 @@ def test_rows_that_are_put_together_are_varied_as_blocks(plan_folder):
     assert found["undiscounted_cash_flow"].tolist() == pytest.approx(
         [4 * 24_000 - 4000 - 6 * 800, 4 * 26_400 - 4000 - 6 * 800]
     )
+
+
+def test_the_base_case_of_the_shells_of_the_project_has_their_values_with_must_mine_blocks(plan_folder):
+    """The cone of a must-mine block is in each shell, and is no shell of its own."""
+    table = rows(9, 8, 4, **RICH, must=lambda i, j, k: int((i, j, k) == (1, 6, 2)))
+    words = f'\n[constraints]\nmust_mine = "must"\n[sensitivity]\nchanges = [0.2]\nparameters = "price"\n{COARSE}'
+    path = plan_folder(table, PROJECT + words, *MORE)
+    base = pitplan.write_sensitivity(path).iloc[0]
+    shells = pitplan.write_shells(path, writing=UNVERIFIED).set_index("revenue_factor").loc[1.0]
+    names = ["npv_best", "npv_worst", "undiscounted_cash_flow", "years"]
+    assert base[names].tolist() == pytest.approx(shells[names].tolist(), abs=1e-6)
 
 
 def test_the_revenue_factors_of_the_project_do_not_decide(plan_folder):

@@ -46,8 +46,11 @@ def refined(factors: tuple[float, ...], share: float, tonnes_at: TonnesAt) -> tu
     factors : tuple of float
         Rising; the result has all of them.
     share : float
+        1: the given factors alone.
     tonnes_at : callable
     """
+    if share >= 1:
+        return factors
     known = tonnes_at(tuple(sorted({LEAST_FACTOR, *factors})))
     last = max(known)
     while True:
