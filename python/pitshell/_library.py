@@ -20,11 +20,11 @@ class Found(ctypes.Structure):
 
 
 def _find() -> Path:
-    """Beside this package, as a wheel has it; else what `make library` built; else where `make install` puts it. PITSHELL_LIBRARY
-    names another."""
+    """Returns the library that PITSHELL_LIBRARY names, otherwise the first of these: that of the wheel, next to this package; that of
+    `make library`; that of `make install`, which a folder near the root of the file system does not have."""
     named = os.environ.get("PITSHELL_LIBRARY")
     here = Path(__file__).resolve().parent
-    folders = [here, here.parents[1] / "build", here.parents[2]]
+    folders = [here, *(top / "build" for top in here.parents[1:2]), *here.parents[2:3]]
     places = [Path(named)] if named else [folder / "libpitshell.so" for folder in folders]
     for place in places:
         if place.exists():

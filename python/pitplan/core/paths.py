@@ -14,40 +14,36 @@ PACKAGES = PACKAGE.parent
 
 
 def program() -> Path:
-    """The program: that of the variable PITSHELL; else the one beside the package, which is that of the wheel `pitshell`, of this
-    repository's build/, or of the folder bin in which both were installed; else the one on the path.
-
-    Raises ProgramError where there is none, or where it may not be run.
-    """
-    named = os.environ.get("PITSHELL")
-    beside = [
-        PACKAGES / "pitshell" / "pitshell",
-        PACKAGES.parent / "build" / "pitshell",
-        PACKAGES.parents[2] / "bin" / "pitshell",
-    ]
-    found = named or next((str(place) for place in beside if place.is_file()), None) or shutil.which("pitshell")
-    if not found:
+    """Returns the program pitshell. Raises ProgramError if it is missing or not executable."""
+    found = executable("pitshell", "PITSHELL")
+    if found is None:
         raise ProgramError(
             "the program pitshell was not found: install its package or wheel, build it with make, or set PITSHELL"
         )
     if not os.access(found, os.X_OK):
         raise ProgramError(f"{found}: is not an executable program: set PITSHELL to another")
-    return Path(found)
+    return found
 
 
 def schedule_program() -> Optional[Path]:
-    """Returns the program pitschedule, or None if it is not installed.
+    """Returns the program pitschedule, or None if it is not installed."""
+    return executable("pitschedule", "PITSCHEDULE")
 
-    The variable PITSCHEDULE names it; otherwise it is that of the wheel `pitshell`, of this repository's build/, of the folder bin in which both
-    were installed, or on the path.
+
+def executable(name: str, variable: str) -> Optional[Path]:
+    """Returns a program by its name: the file that an environment variable names, otherwise the first of these that exists.
+
+    1. the program of the wheel `pitshell`, next to this package;
+    2. the program in build/ of this repository;
+    3. the program in the folder bin below the prefix of an installation, which a folder near the root of the file system does not have;
+    4. the program on the path.
     """
-    beside = [
-        PACKAGES / "pitshell" / "pitschedule",
-        PACKAGES.parent / "build" / "pitschedule",
-        PACKAGES.parents[2] / "bin" / "pitschedule",
-    ]
-    found = os.environ.get("PITSCHEDULE") or next((str(place) for place in beside if place.is_file()), None)
-    found = found or shutil.which("pitschedule")
+    named = os.environ.get(variable)
+    if named:
+        return Path(named)
+    installed = [prefix / "bin" for prefix in PACKAGES.parents[2:3]]
+    places = [folder / name for folder in (PACKAGES / "pitshell", PACKAGES.parent / "build", *installed)]
+    found = next((str(place) for place in places if place.is_file()), None) or shutil.which(name)
     return Path(found) if found else None
 
 
