@@ -23,6 +23,12 @@ TOP = DOCS.parent
 COPIES = "files"
 # Files that browsers show or open by their own names; to all others .txt is added, so that they are shown as text.
 SHOWN = (".png", ".ipynb", ".csv")
+# Debian's furo comes without its bundle: the script imports a module, the style imports a file by the address that it has on Debian's web
+# servers, and the compiler of the style has dropped the dark colours of systems that prefer them.
+MODULE = re.compile(r'^import \w+ from "\./([\w.-]+)";$', re.MULTILINE)
+STYLE = re.compile(r"^@import url\(/javascript/([\w./-]+)\);$", re.MULTILINE)
+JAVASCRIPT = Path("/usr/share/javascript")
+DARK = re.compile(r'^@media not print \{\n  body\[data-theme="dark"\] .*?\} \}$', re.MULTILINE | re.DOTALL)
 # A block of Markdown that names a notebook, relative to the page.
 NOTEBOOK = re.compile(r"^```\{notebook\} (\S+)\n```$", re.MULTILINE)
 
@@ -108,8 +114,28 @@ def expand_notebooks(app: Sphinx, name: str, source: list[str]) -> None:
     source[0] = NOTEBOOK.sub(lambda found: notebook_as_markdown((folder / found[1]).resolve()), source[0])
 
 
+def with_system_dark(rules: str) -> str:
+    """Returns the rules of the dark theme, and the same for a system that prefers dark pages unless the reader chose the light theme."""
+    preferred = rules.replace("@media not print", "@media screen and (prefers-color-scheme: dark)")
+    return rules + "\n" + preferred.replace('[data-theme="dark"]', ':not([data-theme="light"])')
+
+
+def bundle_theme(app: Sphinx, error: Exception | None) -> None:
+    """Joins the script and the style of Debian's furo with the files that they import, and completes the dark theme. A furo that is bundled stays unchanged."""
+    static = Path(app.outdir) / "_static"
+    script, style = static / "scripts" / "furo.js", static / "styles" / "furo.css"
+    if error is not None or not script.is_file():
+        return
+    script.write_text(MODULE.sub(lambda found: (script.parent / found[1]).read_text(), script.read_text()))
+    text = STYLE.sub(lambda found: (JAVASCRIPT / found[1]).read_text(), style.read_text())
+    style.write_text(
+        text if "prefers-color-scheme" in text else DARK.sub(lambda found: with_system_dark(found[0]), text)
+    )
+
+
 def setup(app: Sphinx) -> dict[str, bool]:
     app.connect("source-read", expand_notebooks)
     # Before Sphinx collects downloads at its priority of 500.
     app.connect("doctree-read", link_copies, priority=400)
+    app.connect("build-finished", bundle_theme)
     return {"parallel_read_safe": True}

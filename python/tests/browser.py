@@ -24,6 +24,7 @@ class Browser:
     def __init__(self, place, wide=900, high=600):
         websocket = pytest.importorskip("tornado.websocket", reason="needs the Debian package python3-tornado")
         self.loop, self.place, self.count = asyncio.new_event_loop(), place, 0
+        self.events = []
         flags = [*FLAGS, f"--user-data-dir={place}", f"--window-size={wide},{high}", "about:blank"]
         self.process = subprocess.Popen([CHROMIUM, *flags], stdout=subprocess.DEVNULL, stderr=subprocess.DEVNULL)
         self.socket = self.loop.run_until_complete(self.connected(websocket))
@@ -61,16 +62,30 @@ class Browser:
             if message.get("id") == words["id"]:
                 assert "error" not in message, message
                 return message["result"]
+            self.events.append(message)
 
-    def open(self, page, state=""):
-        """A page at a state of its address, once it has drawn."""
+    def open(self, page, state="", ready="document.body && document.body.dataset.faces"):
+        """Opens a page at a state of its address, and waits until it is ready: by default, until it has drawn."""
         self.call("Page.navigate", url="about:blank")
         self.call("Page.navigate", url=f"file://{page}#{state}")
         for _ in range(10 * SECONDS):
-            if self.ask("document.body && document.body.dataset.faces"):
+            if self.ask(ready):
                 return
             time.sleep(0.1)
         raise AssertionError(f"nothing is drawn: {self.ask('document.body.innerText')}")
+
+    def console(self):
+        """Returns the entries of the console since this was first called: errors, missing files and what scripts print."""
+        for domain in ("Log", "Runtime"):
+            self.call(f"{domain}.enable")
+        kinds = {
+            "Log.entryAdded": "entry",
+            "Runtime.exceptionThrown": "exceptionDetails",
+            "Runtime.consoleAPICalled": "args",
+        }
+        found = [it["params"][kinds[it["method"]]] for it in self.events if it.get("method") in kinds]
+        self.events.clear()
+        return found
 
     def ask(self, script):
         """What a line of JavaScript is worth in the page."""

@@ -9,6 +9,7 @@ import subprocess
 import sys
 
 import pytest
+from browser import Browser, needs_chromium
 from conftest import ROOT
 from helpers import documentation
 from helpers.documentation import anchors, blocks, commands, dead_links, words
@@ -72,12 +73,52 @@ def other_output(output):
 
 
 def test_the_site_loads_nothing_from_elsewhere(site):
+    """Neither pages nor styles name an address of the web or of the root of a web server."""
     loaded = [
         link
         for page in site.rglob("*.html")
-        for link in re.findall(r"<(?:script|link|img)[^>]*(?:src|href)=\"(https?:[^\"]*)", page.read_text())
+        for link in re.findall(r"<(?:script|link|img)[^>]*(?:src|href)=\"((?:https?:|/)[^\"]*)", page.read_text())
+    ]
+    loaded += [
+        link
+        for style in site.rglob("*.css")
+        for link in re.findall(r"url\([\"']?((?:https?:|/)[^)]*)", style.read_text())
     ]
     assert loaded == []
+
+
+@pytest.fixture(scope="module")
+def browser(tmp_path_factory):
+    found = Browser(tmp_path_factory.mktemp("chromium"), 1300, 900)
+    yield found
+    found.end()
+
+
+# Scrolls to the end of a page, and returns the titles that its contents mark as current.
+CURRENT = """new Promise(resolve => {
+    scrollTo({top: document.body.scrollHeight, behavior: 'instant'});
+    setTimeout(() => resolve([...document.querySelectorAll('.toc-tree li.scroll-current > a')].map(it => it.textContent)), 300);
+})"""
+SHADES = {"light": "rgb(255, 255, 255)", "dark": "rgb(19, 20, 22)"}
+
+
+@needs_chromium
+@pytest.mark.parametrize("system", SHADES)
+@pytest.mark.parametrize("page", ["index", "planning/pushbacks"])
+def test_pages_follow_the_colours_of_the_system_and_log_nothing(site, browser, page, system):
+    """The script of the theme runs: it shows the switch of colours, follows the reader in the contents, and the switch turns the page."""
+    browser.call("Emulation.setEmulatedMedia", features=[{"name": "prefers-color-scheme", "value": system}])
+    browser.console()
+    browser.open(site / f"{page}.html", ready="document.readyState === 'complete'")
+    assert browser.console() == []
+    assert browser.ask("getComputedStyle(document.body).backgroundColor") == SHADES[system]
+    assert browser.ask("getComputedStyle(document.body).margin") == "0px"
+    assert not browser.ask("document.documentElement.classList.contains('no-js')")
+    assert browser.ask(CURRENT) == {"planning/pushbacks": ["Tables"]}.get(page, [])
+    (other,) = set(SHADES) - {system}
+    browser.ask("document.querySelector('.theme-toggle-content button').click()")
+    assert browser.ask("getComputedStyle(document.body).backgroundColor") == SHADES[other]
+    browser.ask("localStorage.clear()")
 
 
 def test_dead_links_of_a_site_are_found(tmp_path):
