@@ -25,14 +25,14 @@ build:
 library:
 	tools/build.py pitshell_c
 
-# What others install, in build/dist: a Debian package, an archive, and wheels of the library and of the planner's layer.
-dist: build library site
+# What others install, in build/dist: a Debian package, an archive, and wheels of the library and of the planner's layer. The library comes
+# first, since a missing C compiler stops it before anything is proved.
+dist: library build site
 	tools/dist.py
 
 # Renews what repeats a command line, the columns of tables or measurements: man pages, completions, FORMATS, stored words of
-# tests, tables of README and SPEED. Then builds the site.
+# tests, tables of README and SPEED. Then builds the site. What repeats the help of a program that is not built stays as it is.
 docs:
-	test -x $(PROGRAM) || $(MAKE) build
 	tools/make_docs.py
 	tools/make_manual.py
 	tools/columns_page.py

@@ -4,7 +4,7 @@
     tools/build.py [pitshell]       the program
     tools/build.py pitschedule      the program that checks schedules
     tools/build.py refused_memory   a small program for the tests
-    tools/build.py pitshell_c       what C and Python call: libpitshell.so and libpitshell.a
+    tools/build.py pitshell_c       what C and Python call: libpitshell.so and libpitshell.a, by a C compiler
 
 Nothing is proved where what stands in build/ was built of these sources by this toolchain. The output of a crate that is not proved is
 printed whole. Beside it, build/NAME.version says what was built: the program's own line, the commit, the SHA-256 of the first file
@@ -17,6 +17,7 @@ import re
 import shutil
 import subprocess
 import sys
+import tempfile
 import time
 
 import ahead
@@ -27,6 +28,7 @@ PROGRAM, LIBRARY = "pitshell", "pitshell_c"
 # What is built of each crate: the first file's SHA-256 stands in its .version.
 FILES = {PROGRAM: ["pitshell"], "pitschedule": ["pitschedule"], "refused_memory": ["refused_memory"], LIBRARY: ["libpitshell.so", "libpitshell.a"]}
 BUILD = TOP / "build"
+LINKER = "the library is linked by a C compiler: apt-get install gcc libc6-dev binutils"
 
 
 def functions(said: str) -> str:
@@ -61,6 +63,19 @@ class Told:
         done, minutes = len(self.names) - len(self.left), (time.monotonic() - self.began) / 60
         print(f"[{done}/{len(self.names)}, {minutes:.0f} min] {found[1]}: {functions(''.join(self.lines))}{then}", flush=True)
         self.lines.clear()
+
+
+def fault_of_linker() -> str:
+    """Returns why the library could not be linked, with the remedy; an empty text if a library without content can be."""
+    if not shutil.which("ar"):
+        return f"ar is missing: {LINKER}"
+    with tempfile.TemporaryDirectory() as folder:
+        command = ["cc", "-shared", "-o", pathlib.Path(folder, "empty.so"), "-x", "c", "-"]
+        try:
+            ran = subprocess.run(command, input="", capture_output=True, text=True)
+        except FileNotFoundError:
+            return f"cc is missing: {LINKER}"
+    return f"cc cannot link: {LINKER}\n{ran.stderr}" if ran.returncode else ""
 
 
 def prove(crate: str) -> bool:
@@ -158,6 +173,9 @@ def main() -> int:
     if is_built(crate):
         print(f"build/{FILES[crate][0]} is that of these sources")
         return 0
+    # Before half an hour of proofs, which it would follow.
+    if crate == LIBRARY and (fault := fault_of_linker()):
+        sys.exit(f"build.py: {fault}")
     return 0 if prove(crate) else 1
 
 

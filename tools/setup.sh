@@ -41,6 +41,9 @@ python3-setuptools    tests    make dist: wheels
 python3-wheel         tests    the same
 python3-venv          tests    the test that installs these wheels
 libreoffice-calc-nogui  tests    the test that recalculates the workbook
+gcc                   tests    make library: links libpitshell.so; the tests of its header
+libc6-dev             tests    the same
+binutils              tests    the same
 dpkg-dev              tests    make dist: the Debian package
 man-db                tests    the test that the manual pages are shown
 python3-sphinx        tests    make site: the pages of docs/ as HTML
@@ -86,16 +89,18 @@ for package in $wanted; do
 done
 [ -n "$missing" ] || exit 0
 
-line="apt-get install -y --no-install-recommends$missing"
+# A machine that updates itself holds dpkg's lock for minutes.
+waiting="-o DPkg::Lock::Timeout=600"
+line="apt-get $waiting install -y --no-install-recommends$missing"
 if [ "$(id -u)" -ne 0 ]; then
-    echo "These packages of Debian are needed; as root run: apt-get update && $line" >&2
+    echo "These packages of Debian are needed; as root run: apt-get $waiting update && $line" >&2
     exit 1
 fi
 echo "installing from Debian:$missing"
 export DEBIAN_FRONTEND=noninteractive
 # A list of packages or a mirror may be out for a moment: once more before it counts.
 for try in first second; do
-    apt-get update -qq || echo "the list of packages could not be renewed" >&2
+    apt-get $waiting update -qq || echo "the list of packages could not be renewed" >&2
     if $line -qq > /dev/null; then
         exit 0
     fi

@@ -23,6 +23,7 @@ NAMES = {
     "EPL-1.0": r"EPL-1|Eclipse",
     "MPL-2.0": r"MPL-2",
     "Apache-2.0": r"Apache-2|Apache License",
+    "LGPL-2.1": r"LGPL-2\.1",
     "GPL-2.0": r"GPL-2|GNU General Public License",
     "GPL-3.0": r"GPL-3|GNU General Public License",
     "PSF": r"PSF|PYTHON|License agreement for matplotlib",
