@@ -7,13 +7,11 @@ from math import isclose
 
 import pandas as pd
 import pytest
-import tomllib
 from conftest import ROOT
 from helpers.documentation import blocks, commands
 from helpers.verified import UNVERIFIED
 
 import pitplan
-from pitplan import Project
 from pitplan.cli import main
 
 DOCS = ROOT / "docs"
@@ -26,20 +24,28 @@ ORE = TABLE.set_index("id")
 MORE = 1 + 1e-6
 
 
-def merged(base, lines):
-    """The sections with those of the lines in them; a list takes the place of another."""
-    both = {key: merged(base[key], lines[key]) for key in base.keys() & lines.keys() if isinstance(lines[key], dict)}
-    return base | lines | both
+def added(project, recipe):
+    """Returns the text of a project to which a reader has added the lines of a recipe, as its page says."""
+    for where, lines in re.findall(
+        r"(?:^((?:Below|In place of|At the end)[^\n]*:)\n\n)?```toml\n(.*?)```", recipe, re.MULTILINE | re.DOTALL
+    ):
+        below = re.search(r"Below `(\[+[\w.]+\]+)`", where)
+        for names, section in re.findall(r"((?:`\w+`(?: and |, )?)+)(?: of `(\[+\w+\]+)`)?", where):
+            for name in re.findall(r"`(\w+)`", names):
+                project = without(project, section or below[1], name)
+        head, sign, rest = project.partition(f"\n{below[1]}\n") if below else (project, "\n", "")
+        assert sign
+        project = f"{head}{sign}{lines}{rest}"
+    return project
 
 
-def project_of(lines):
-    """The sections of the hill's project with the lines of a recipe; with [[processes]], without what these replace."""
-    sections = merged(tomllib.loads(BASE), tomllib.loads(lines))
-    if "processes" in sections:
-        sections["economics"].pop("processing_cost")
-        sections["shells"].pop("processing_capacity")
-        sections["metals"][0].pop("recovery")
-    return sections
+def without(project, section, key):
+    """Returns the text without the line of a key of a section."""
+    head, sign, rest = project.partition(f"\n{section}\n")
+    ours, end, others = rest.partition("\n[")
+    kept = [line for line in ours.split("\n") if not line.startswith(f"{key} = ")]
+    assert sign and len(kept) == ours.count("\n")
+    return head + sign + "\n".join(kept) + end + others
 
 
 @pytest.fixture(scope="module")
@@ -56,23 +62,27 @@ def answers(tmp_path_factory):
 
 
 def answer_of(title, place):
-    lines, command = (block.text for block in blocks(RECIPES[title]))
-    return answered(lines, command, place)
+    write_project(RECIPES[title], place)
+    return answered(*command_of(title), place)
 
 
-def answered(lines, command, place):
-    """The output folder of a command on the hill's project with these lines."""
-    write_project(lines, place)
-    ((subcommand, file, *more),) = commands(command)
+def command_of(title):
+    """Returns the words of the command of a recipe."""
+    (command,) = [words for block in blocks(RECIPES[title]) for words in commands(block.text)]
+    return command[0], command[1:]
+
+
+def answered(subcommand, words, place):
+    """The output folder of a command on the hill's project in a folder."""
+    file, *more = words
     assert file == "project.toml"
     assert main([subcommand, str(place / file), *more, "--out", str(place / "out"), "--quiet"]) == 0
     return place / "out"
 
 
-def write_project(lines, place):
+def write_project(recipe, place):
     shutil.copytree(DOCS / "recipes", place, dirs_exist_ok=True)
-    text = Project.from_dict(project_of(lines), place).to_toml()
-    (place / "project.toml").write_text(text, encoding="utf-8")
+    (place / "project.toml").write_text(added(BASE, recipe), encoding="utf-8")
 
 
 @pytest.fixture(scope="module")
@@ -98,13 +108,24 @@ def test_the_page_has_twenty_recipes():
 
 
 @pytest.mark.parametrize("title", RECIPES)
+def test_the_lines_of_a_recipe_can_be_added_to_a_project(title, tmp_path, capsys):
+    """As the page says where; `check` reads the whole project, with the options of the recipe's command."""
+    write_project(RECIPES[title], tmp_path)
+    _, words = command_of(title)
+    settings = [word for before, word in zip(words, words[1:]) if before == "--set"]
+    options = [word for setting in settings for word in ("--set", setting)]
+    assert main(["check", str(tmp_path / "project.toml"), *options, "--quiet"]) == 0, capsys.readouterr().err
+    assert settings or "toml" in {block.language for block in blocks(RECIPES[title])}
+
+
+@pytest.mark.parametrize("title", RECIPES)
 def test_the_recipe_does_what_it_says(title, answers):
     CHECKS[title](answers(title))
 
 
 @pytest.mark.parametrize("title", RECIPES)
 def test_the_check_sees_that_the_lines_are_missing(title, plain):
-    folder = plain(commands(blocks(RECIPES[title])[1].text)[0][0])
+    folder = plain(command_of(title)[0])
     with pytest.raises((AssertionError, KeyError, FileNotFoundError)):
         CHECKS[title](folder)
 

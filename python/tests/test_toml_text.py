@@ -136,3 +136,22 @@ def test_names_that_are_none(refused, change, sentence):
 def test_a_name_of_a_file_that_is_none():
     with pytest.raises(PlanError, match=r"'\\x00': is not a file name: embedded null byte"):
         load("\0")
+
+
+@pytest.mark.parametrize(
+    "added, said",
+    [
+        ('[table]\nclass = "class"\n', "[table] is written twice, lines 3 and 27: put the keys below the first"),
+        (
+            "[metals.smelter]\npayable = 0.9\n[metals.smelter]\npayable = 0.8\n",
+            "[metals.smelter] is written twice, lines 27 and 29: put the keys below the first",
+        ),
+        ("discount_rate = 0.2\n", "[shells] discount_rate is written twice, lines 25 and 27: remove one"),
+    ],
+)
+def test_what_is_written_twice_is_named_with_both_lines(refused, added, said):
+    assert refused(PROJECT + added) == said
+
+
+def test_another_mistake_keeps_the_words_of_the_parser(refused):
+    assert refused(PROJECT + "rate = \n") == "Invalid value (at line 27, column 8)"

@@ -11,7 +11,8 @@ from helpers.pushbacks import UPRIGHT, pillars
 
 from pitplan import PlanError
 from pitplan.cli import main
-from pitplan.web import project_text, toml_lines
+from pitplan.config import toml_lines
+from pitplan.web import project_text
 from pitplan.web.security import Access
 
 NAME = "hill/project.toml"
@@ -347,6 +348,7 @@ name = "north"
         ("p.toml: feed as_ppm: limits the share of OX, and [table] rock_type names no column", 10),
         ("p.toml: two [[metals]] have one name", 15),
         ("p.toml: [schedule.feed] is of one process: set [processes.feed] below each", 10),
+        ("p.toml: [metals] is written twice, lines 15 and 16: put the keys below the first", 16),
         ("p.toml: [sensitivity] varies haulage, and there is no section [haulage]", None),
     ],
 )

@@ -16,7 +16,7 @@ TOKEN = re.compile(
     r"\"\"\"(?:[^\\]|\\.)*?\"\"\"|'''.*?'''|\"(?:[^\"\\\n]|\\.)*\"|'[^'\n]*'|#[^\n]*|[\[{]|[\]}]|\n", re.DOTALL
 )
 # How errors name a line of a text that is no TOML, and a key of a section.
-AT_LINE = re.compile(r"\(at line (\d+)")
+AT_LINE = re.compile(r"\(at line (\d+)|is written twice, lines \d+ and (\d+)")
 OF_KEY = re.compile(r"\[(?P<section>[^\]\[]+)\](?: (?P<key>[\w-]+(?:\.[\w-]+)*):)?")
 
 # How they name an entry of a list, by its number or name, and a key that may be misspelled.
@@ -66,6 +66,22 @@ def entries(text: str) -> list[Entry]:
     return found
 
 
+def written_twice(text: str) -> Optional[str]:
+    """Returns the first section or key of a text that is written twice, with both lines and the remedy; None if nothing is."""
+    seen: dict[str, int] = {}
+    for entry in entries(text):
+        if entry.name in seen:
+            is_header = entry.start == entry.end
+            # As the text has it, without the numbers of entries of a list.
+            name = re.sub(r" \d+(?=\.|$)", "", entry.name)
+            section, _, key = name.rpartition(".")
+            named = f"[{name}]" if is_header else f"[{section}] {key}" if section else key
+            remedy = "put the keys below the first" if is_header else "remove one"
+            return f"{named} is written twice, lines {seen[entry.name]} and {entry.line}: {remedy}"
+        seen[entry.name] = entry.line
+    return None
+
+
 def parts_of(key: str) -> list[str]:
     """Returns the parts of a key without quotes."""
     return [part.strip("\"'") for part in re.findall(PART, key)]
@@ -113,7 +129,7 @@ def line_of_error(text: str, why: str) -> Optional[int]:
     """Returns the line of a text that an error is about, if the error says it by its number, or names a key, a section or an entry of a list."""
     at_line = AT_LINE.search(why)
     if at_line:
-        return int(at_line[1])
+        return int(at_line[1] or at_line[2])
     found = (line_of(text, name) for name in names_in(text, why) if name)
     return next((line for line in found if line), None)
 

@@ -12,6 +12,8 @@ import tomllib
 
 from pitplan.errors import PlanError
 
+from .toml_lines import written_twice
+
 # A project's longest key has three parts. tomllib's time grows with the square of a key's parts.
 MOST_PARTS = 50
 PART = r"(?:[A-Za-z0-9_-]+|\"[^\"\n]*\"|'[^'\n]*')"
@@ -62,7 +64,7 @@ def parsed(text: str, path: str) -> dict[str, Any]:
     try:
         return tomllib.loads(text, parse_float=number)
     except tomllib.TOMLDecodeError as error:
-        raise PlanError(f"{path}: {error}") from error
+        raise PlanError(f"{path}: {written_twice(text) or error}") from error
     except RecursionError as error:
         raise PlanError(
             f"{path}: lists or tables lie within each other too deeply: a project's lie three deep at most"

@@ -12,12 +12,12 @@ from typing import Any, Optional
 
 from pitplan.config import toml_text
 from pitplan.config.project import Project
+from pitplan.config.toml_lines import entries
 from pitplan.errors import PlanError
 
 from . import class_rules, toml_edit
 from .grid_columns import CLASSES, KINDS, LIST, NUMBER, VALUE, Column, Kind, at, columns_of
 from .run_form import WrongForm
-from .toml_lines import entries
 from .values_form import NUMBER as A_NUMBER
 
 # How the names of fields begin: of a row its place in the file or NEW, of a cell the numbers of row and column.

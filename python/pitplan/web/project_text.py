@@ -12,11 +12,11 @@ from typing import Optional
 
 from pitplan.config import toml_text
 from pitplan.config.project import Project, of_data
+from pitplan.config.toml_lines import line_of_error
 from pitplan.core.atomic_files import hash_of, staged_file
 from pitplan.errors import PlanError
 
 from .grids import Grid, grids_of
-from .toml_lines import line_of_error
 from .values_form import Field, fields_of
 
 # The most letters of a project that is edited here.

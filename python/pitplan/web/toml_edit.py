@@ -7,7 +7,7 @@ import re
 from collections.abc import Iterator
 from dataclasses import dataclass
 
-from .toml_lines import ASSIGNED, Entry, entries, parts_of
+from pitplan.config.toml_lines import ASSIGNED, Entry, entries, parts_of
 
 BARE = re.compile(r"[A-Za-z0-9_-]+")
 TOKEN = re.compile(

@@ -9,10 +9,10 @@ from typing import Any, Optional
 
 from pitplan.config import toml_text
 from pitplan.config.project import Project
+from pitplan.config.toml_lines import Entry, entries
 
 from .run_form import WrongForm
 from .toml_edit import with_key, with_value, without_key
-from .toml_lines import Entry, entries
 
 # The fields of the form are named by the keys, after this.
 PREFIX = "value:"
