@@ -278,6 +278,13 @@ def test_a_project_that_is_there_is_kept(tmp_path, capsys):
     assert (tmp_path / "project.toml").read_text() == "mine"
 
 
+def test_a_missing_table_is_named_before_the_project_that_is_there(tmp_path, capsys):
+    (tmp_path / "project.toml").write_text("mine")
+    assert main(["init", str(tmp_path / "nomodel.csv")]) == 1
+    said = capsys.readouterr().err
+    assert "nomodel.csv: cannot be read: No such file or directory" in said and "already exists" not in said
+
+
 def test_a_density_needs_a_size_and_no_tonnes(plan_folder):
     table = rows(3, 3, 3).rename(columns={"tonnes": "sg"})
     grid = ("[grid]\nsize = [10, 10, 10]", "[grid]")

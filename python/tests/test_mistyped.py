@@ -37,3 +37,14 @@ def test_a_mistyped_word_is_named_with_the_one_that_was_meant(name, capsys):
     assert ended.value.code == 2
     usage, *_, last = capsys.readouterr().err.splitlines()
     assert last.startswith(said) and usage.startswith(f"usage: {said.partition(':')[0]} ")
+
+
+def test_no_word_at_all_prints_the_help(capsys):
+    with pytest.raises(SystemExit) as ended:
+        main([])
+    assert ended.value.code == 2
+    said = capsys.readouterr().out
+    assert said.startswith("usage: pitplan ") and "Start with a block model: pitplan init model.csv" in said
+    with pytest.raises(SystemExit):
+        main(["-h"])
+    assert capsys.readouterr().out == said

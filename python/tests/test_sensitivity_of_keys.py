@@ -102,3 +102,22 @@ def test_numbers_of_tables_and_lists_by_hand():
     assert data["a"]["n"] == 2
     with pytest.raises(PlanError, match="here: a.t: found 'x', expected a number"):
         scaled(data, "a.t", Decimal(2), "here:")
+
+
+HILL = '[[sensitivity.hill]]\nparameter = "{}"\nvalues = [1, 2]\n[[sensitivity.hill]]\nparameter = "economics.mining_cost"\nvalues = [1, 2]\n'
+
+
+@pytest.mark.parametrize(
+    ("name", "said"),
+    [
+        ("processes.mill.capacity", "processes.mill.capacity: the project has no [[processes]]"),
+        ("dumps.north.cost", "dumps.north.cost: the project has no [[dumps]]"),
+        ("haulage.cost", "haulage.cost: the project has no [haulage]"),
+    ],
+)
+@pytest.mark.parametrize("asked", ['[sensitivity]\nparameters = ["{}"]\n', HILL], ids=["parameters", "hill"])
+def test_a_section_that_the_project_does_not_have_is_named(plan_folder, asked, name, said):
+    path = plan_folder(deposit(), PROJECT + asked.format(name))
+    with pytest.raises(PlanError) as error:
+        pitplan.load(path)
+    assert str(error.value).endswith(said)

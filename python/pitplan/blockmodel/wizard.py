@@ -63,7 +63,8 @@ def write_project(file: Path, out: Path, draw: Optional[Draw] = None, choices: C
     Returns the overview of the block model, with warnings about what is doubtful in it. Raises PlanError if the table cannot be read, if no
     columns of centroids, tonnes or grades are found, if a column cannot have the role that is chosen, and if `out` exists, unless it is replaced.
     """
-    if out.exists() and not choices.replaces:
+    # A table that is missing is refused where it is read, and named before the project.
+    if file.exists() and out.exists() and not choices.replaces:
         raise PlanError(f"{out}: already exists: name another file with --out, or replace it with --replace")
     model = read(file, choices.roles)
     text, found = project_of(model, out)

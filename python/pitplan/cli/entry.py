@@ -3,6 +3,7 @@
 from __future__ import annotations
 
 import argparse
+import sys
 import warnings
 from importlib.util import find_spec
 from typing import Optional, Sequence
@@ -26,10 +27,19 @@ def main(arguments: Optional[Sequence[str]] = None) -> int:
     Returns
     -------
     int
-        0 if it is done; 1 if it is refused, with a sentence on standard error; 130 if it was interrupted. `scenario` ends with the status
-        of its scenario.
+        0 if it is done; 1 if it is refused, with a sentence on standard error; 2 if its arguments are wrong or missing; 130 if it was
+        interrupted. `scenario` ends with the status of its scenario.
     """
-    return ended("pitplan", lambda: run(parser().parse_args(arguments)), (PlanError, minelib.MinelibError))
+    return ended("pitplan", lambda: run(parsed(arguments)), (PlanError, minelib.MinelibError))
+
+
+def parsed(arguments: Optional[Sequence[str]]) -> argparse.Namespace:
+    """Returns the options. Without arguments prints the help and ends with status 2, as a wrong usage does."""
+    if not (sys.argv[1:] if arguments is None else arguments):
+        parser().print_help()
+        sys.exit(2)
+    options: argparse.Namespace = parser().parse_args(arguments)
+    return options
 
 
 def run(options: argparse.Namespace) -> int:

@@ -39,6 +39,7 @@ from .shared_options import (
 DESCRIPTION = (
     "Plan an open-pit mine: from a block model, prices, costs and slope angles to pit shells, pushbacks and schedules."
 )
+START = "Start with a block model: pitplan init model.csv"
 FORMATS = ("table", "csv", "xlsx", "vti", "vtu", "omf", "dm", "dxf", "stl", "obj", "gpkg", "str", "lines")
 STAGES = ("revenue_factor", "pushback", "year")
 SURFACES = ("pit", "ground")
@@ -103,8 +104,9 @@ class Subparsers:
 def parser() -> Parser:
     """The parser of the whole command line, which is made once for all calls in a process."""
     usage = "pitplan [-h] [--version] SUBCOMMAND ..."
+    description = f"{DESCRIPTION}\n{START}"
     top = Parser(
-        prog="pitplan", usage=usage, description=DESCRIPTION, formatter_class=argparse.RawDescriptionHelpFormatter
+        prog="pitplan", usage=usage, description=description, formatter_class=argparse.RawDescriptionHelpFormatter
     )
     top.add_argument("--version", action="version", version=f"pitplan {__version__}", help="print the version and exit")
     subs = Subparsers(top)

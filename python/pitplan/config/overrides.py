@@ -10,6 +10,8 @@ from pitplan.errors import PlanError
 
 from . import toml_text
 
+# Sections that a project may have several times.
+LISTS = ("metals", "processes", "periods", "dumps")
 EXAMPLE = "such as economics.mining_cost=2.6 or metals.copper.price=9000"
 
 
@@ -117,6 +119,9 @@ def existing(entry: Any, part: str, where: str) -> Any:
     if isinstance(entry, dict):
         if part in entry:
             return entry[part]
+        if "economics" in entry:
+            # These are the sections themselves.
+            raise PlanError(f"{where}: the project has no {f'[[{part}]]' if part in LISTS else f'[{part}]'}")
         names = [*entry]
     else:
         names = [str(it.get("name", number)) if isinstance(it, dict) else "" for number, it in enumerate(entry, 1)]
