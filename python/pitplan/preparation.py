@@ -140,7 +140,7 @@ def summarise(model: Preparation) -> None:
 
 
 def add_missing_blocks(model: Preparation) -> None:
-    """Adds a row for each missing block that `[table] absent` gives a rock, and warns if tonnes do not fit the blocks' volume."""
+    """Adds a row for each missing block that `[table] missing_blocks` describes, and warns if tonnes do not fit the blocks' volume."""
     model.frame, model.grid = missing_blocks.with_rows(model.frame, model.grid, model.project)
     tonnes = model.frame[model.project.table.tonnes].to_numpy()
     model.warnings += plausibility.of_tonnes(tonnes, model.grid)
@@ -157,7 +157,7 @@ def cut_by_topography(model: Preparation) -> None:
 
 
 def cut_by_as_mined_surface(model: Preparation) -> None:
-    """Cuts tonnes to those that remain below `[constraints] surface`, and marks the blocks that are mined."""
+    """Cuts tonnes to those that remain below `[constraints] as_mined`, and marks the blocks that are mined."""
     model.frame, notes = depletion.depleted(model.frame, model.grid, model.project)
     model.notes += notes
 

@@ -1,6 +1,7 @@
 """The packages of pitplan are layers: each imports only itself and earlier ones, and no module is long."""
 
 import ast
+import re
 import subprocess
 import sys
 from pathlib import Path
@@ -141,3 +142,12 @@ def test_the_oracle_shares_nothing_with_what_it_checks(module):
         "conftest",
         "helpers",
     }
+
+
+def test_the_page_of_the_architecture_has_each_layer_in_this_order():
+    page = (ROOT / "docs" / "ARCHITECTURE.md").read_text(encoding="utf-8")
+    table = page.partition("\n## The planning layer\n")[2].partition("\n`python/planaudit`")[0]
+    named = [
+        name for row in re.findall(r"^\| (`[^|]*) \|", table, re.MULTILINE) for name in re.findall(r"`(\w+)`", row)
+    ]
+    assert named == [name for name in LAYERS if name not in ("errors", "__main__")]

@@ -74,3 +74,8 @@ def test_the_page_of_contracts_quotes_the_sources():
             quoted += 1
             assert line in source or line in edits, line
     assert quoted > 15
+
+
+def test_no_rate_of_planted_changes_is_claimed_that_was_measured_on_older_code():
+    section = PAGE.partition("\n## Planted changes\n")[2].partition("\n## ")[0]
+    assert section and not re.search(r"\d+ of 100", section) and "95 of 100" not in PAGE

@@ -29,9 +29,15 @@ class Effort:
 class Sum:
     """A sum of a column of the table, by year.
 
-    of       what it counts of: rock, of every block that is dug; ore, of what is milled; or the name of a process
-    a_tonne  whether the column is multiplied by tonnes: those dug, or of ore those of the block itself that come to the mill
-    least    of each year; None: none, and so the most
+    Attributes
+    ----------
+    name, column : str
+    of : str
+        The material that is counted: "total" (every mined block), "feed" (mill feed) or a process.
+    per_tonne : bool
+        Whether the column is multiplied by tonnes: of a mined block, or of its ore that reaches the mill.
+    min, max : float, optional
+        Of each year; None if there is no such limit.
     """
 
     name: str

@@ -31,11 +31,21 @@ class Bench:
 
 @dataclass(frozen=True)
 class Wall:
-    """The walls of some regions: a pattern of needs, steps of the planner's own, or angles in degrees by azimuth (north 0, east 90).
+    """The slopes of some domains: a pattern of precedences, offsets of the planner's own, or angles in degrees by azimuth (north 0, east 90).
 
-    steps       each a number of blocks east, north and up
-    bench       of what benches and berms the angle was made
-    azimuth_of  what the azimuths are of: "wall", the bearing from the pit to the wall, or "dip", the dip direction of its face
+    Attributes
+    ----------
+    domains : tuple of str, optional
+        None: all domains that no other entry names.
+    pattern : str, optional
+    angles : tuple of pairs
+        Azimuth and angle, rising.
+    offsets : tuple
+        Each a number of blocks east, north and up.
+    bench : Bench, optional
+        The bench geometry from which the angle was computed.
+    azimuth_of : str
+        "wall": the azimuth is the bearing from the pit to the wall; "dip": it is the dip direction of its face.
     """
 
     domains: Optional[tuple[str, ...]]
@@ -55,9 +65,15 @@ class Wall:
 
 @dataclass(frozen=True)
 class Slopes:
-    """All walls, over how many levels their needs reach, and whether none may be steeper than asked.
+    """The slopes of all domains.
 
-    levels  None where each wall entry takes as many as its angles need
+    Attributes
+    ----------
+    precedence_benches : int, optional
+        How many benches up precedences reach; None: each domain takes as many as its angles require.
+    never_steeper : bool
+        Whether no slope may be steeper than its angle.
+    domains : tuple of Wall
     """
 
     precedence_benches: Optional[int]

@@ -1,4 +1,4 @@
-"""Linear and integer programmes by HiGHS, which scipy has. As a program of its own it solves what `optimiser` has written in a folder:
+"""Linear and integer programmes by HiGHS, which scipy has. As a program of its own it solves what `highs_process` has written in a folder:
 
     python highs.py FOLDER
 

@@ -97,7 +97,7 @@ def pit(values: np.ndarray, rows: Rows, fixed: np.ndarray, factor: float) -> Sol
         Value of each node in billionths.
     rows : Rows
         The precedences.
-    numbers : uint8 array, shape (nodes,)
+    fixed : uint8 array, shape (nodes,)
         1: must-mine, 2: excluded, 0: neither.
     factor : float
         The revenue factor of the values.
