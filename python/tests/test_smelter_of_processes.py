@@ -239,6 +239,27 @@ def test_charges_of_all_processes_are_varied_as_the_selling_cost(tmp_path):
 
 
 @pytest.mark.parametrize(
+    ("names", "leach"),
+    [
+        ('["mill", "leach"]', "{ OX = 0.7, SU = 0.1 }"),
+        ('["leach", "mill"]', "{ OX = 0.7, SU = 0.1 }"),
+        ('["mill"]', "0"),
+    ],
+)
+def test_a_smelter_that_takes_all_of_a_metal_needs_no_selling_cost(tmp_path, names, leach):
+    """Its names are those of every process that recovers the metal, so it is the project with "all"."""
+    text = TEXT.replace("{ copper = { OX = 0.7, SU = 0.1 } }", f"{{ copper = {leach} }}").replace(
+        "selling_cost = 150\n", ""
+    )
+    projects = []
+    for processes in (names, '"all"'):
+        path = tmp_path / "project.toml"
+        path.write_text(text.replace('["mill"]', processes))
+        projects.append(load(path))
+    assert projects[0] == projects[1]
+
+
+@pytest.mark.parametrize(
     ("old", "new", "said"),
     [
         (
@@ -250,7 +271,11 @@ def test_charges_of_all_processes_are_varied_as_the_selling_cost(tmp_path):
         ('["mill"]', "[]", r"processes: found \[\], expected"),
         ('["mill"]', '["mil"]', 'processes of copper: found mil, expected "all" or some of leach, mill'),
         ('["mill"]', '["mill", "mill"]', "names a process twice"),
-        ('["mill"]', '["mill", "leach"]', 'names all that recover copper.*: give "all", and remove selling_cost'),
+        (
+            '["mill"]',
+            '["mill", "leach"]',
+            r"selling_cost: give it or \[metals.smelter\], not both: the smelter takes all",
+        ),
         ("selling_cost = 150\n", "", "selling_cost: is missing: .* the others sell at it"),
         ('["mill"]', '"all"', r"selling_cost: give it or \[metals.smelter\], not both"),
     ],

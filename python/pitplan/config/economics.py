@@ -9,7 +9,7 @@ from typing import Any, Optional, Union
 
 from .acceptance import Accepts, read_accepts
 from .feed_grades import FeedGrade, read_feed
-from .smelter import Smelter, read_smelter
+from .smelter import ALL, Smelter, read_smelter
 from .toml_section import Section
 
 # A price or a cost: one for every rock, or one for each rock by its code.
@@ -230,8 +230,8 @@ def read_capex(section: Section) -> tuple[tuple[int, Decimal], ...]:
     return tuple((int(year), amount) for year, amount in pairs)
 
 
-def read_metal(section: Section, has_processes: bool = False) -> Metal:
-    for key in ("recovery", "tail_grade") if has_processes else ():
+def read_metal(section: Section, processes: tuple[Process, ...] = ()) -> Metal:
+    for key in ("recovery", "tail_grade") if processes else ():
         if section.has(key):
             raise section.wrong(key, "give the recoveries of each of the [[processes]], not this")
     unit = section.choice("unit", tuple(GRADE_UNITS), None)
@@ -241,18 +241,27 @@ def read_metal(section: Section, has_processes: bool = False) -> Metal:
         unit=unit,
         price=section.number("price", least=0),
         selling_cost=section.number("selling_cost", Decimal(0), least=0),
-        recovery=Decimal(0) if has_processes else read_recovery(section, "recovery"),
+        recovery=Decimal(0) if processes else read_recovery(section, "recovery"),
         tail_grade=section.by_rock("tail_grade") if section.has("tail_grade") else Decimal(0),
         prices=section.amounts("prices", "of prices, one a year, such as [8000, 8200]; the last one stays"),
         price_per=section.choice("price_per", tuple(GRAMS), None) if section.has("price_per") else None,
         smelter=read_smelter(section.section("smelter"), unit) if section.has("smelter") else None,
     )
     section.finish()
+    metal = with_terms_of_all(metal, processes)
     demand_one_sale(section, metal)
     # A block without revenue at the price as given costs nothing to process.
     if not metal.price and any(metal.prices):
         raise section.wrong("price", "must be above 0: it sets the cut-off; yearly prices affect only the cash flow")
     return metal
+
+
+def with_terms_of_all(metal: Metal, processes: tuple[Process, ...]) -> Metal:
+    """Returns the metal with smelter terms of all processes if they name each process that recovers it."""
+    recovering = sorted(it.name for it in processes if it.recovery.get(metal.name))
+    if metal.smelter is None or not metal.smelter.is_of_some or sorted(metal.smelter.processes) != recovering:
+        return metal
+    return replace(metal, smelter=replace(metal.smelter, processes=ALL))
 
 
 def demand_one_sale(section: Section, metal: Metal) -> None:
@@ -261,7 +270,7 @@ def demand_one_sale(section: Section, metal: Metal) -> None:
         return
     if metal.smelter.is_of_some:
         raise section.wrong("selling_cost", "is missing: [metals.smelter] names processes, and the others sell at it")
-    why = "give it or [metals.smelter], not both: the terms have all charges, unless they name their processes"
+    why = "give it or [metals.smelter], not both: the smelter takes all of the metal, and its terms have all charges"
     raise section.wrong("selling_cost", why)
 
 

@@ -250,7 +250,7 @@ def of_data(data: dict[str, Any], path: Path, source: Optional[str] = None) -> P
         table=read_table(top.section("table"), path.parent),
         grid=read_grid(top.section("grid", optional=True)),
         economics=read_economics(top.section("economics"), bool(processes)),
-        metals=tuple(read_metal(section, bool(processes)) for section in top.sections("metals")),
+        metals=tuple(read_metal(section, processes) for section in top.sections("metals")),
         slopes=read_slopes(top.section("slopes")),
         shells=replace(read_shells(top.section("shells"), processes), calendar=read_calendar(top, path.parent)),
         folder=path.parent / output.text("folder", "plan"),

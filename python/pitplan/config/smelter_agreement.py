@@ -43,5 +43,3 @@ def wrong_processes(metal: Metal, terms: Smelter, project: Project) -> Iterator[
             yield f"found {name}, which does not recover {metal.name}: remove it"
     if len(set(terms.processes)) < len(terms.processes):
         yield "names a process twice"
-    if set(recovering) <= set(terms.processes):
-        yield f'names all that recover {metal.name}, so nothing is sold at selling_cost: give "{ALL}", and remove selling_cost'
