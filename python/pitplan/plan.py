@@ -165,8 +165,8 @@ class Plan:
 
     @property
     def reference(self) -> float:
-        """Elevation in metres below which the mining cost rises by bench: the top of the reference bench."""
-        return self.grid.extent()[5] - reference_level(self.project.economics, self.grid) * self.grid.size[2]
+        """Elevation in metres below which the mining cost rises by bench: the toe of the reference bench."""
+        return self.grid.extent()[5] - (reference_level(self.project.economics, self.grid) + 1) * self.grid.size[2]
 
     @property
     def needs(self) -> Needs:
@@ -361,13 +361,17 @@ def notes_of_classes(plan: Plan, price: str) -> list[str]:
 
 
 def notes_of_bench_costs(plan: Plan) -> list[str]:
-    """From which elevation the mining cost rises by bench, if the project does not say."""
-    if not plan.project.economics.mining_cost_per_bench or plan.project.economics.mining_cost_reference is not None:
+    """Returns the bench below which the mining cost rises, and whether the project sets it."""
+    if not plan.project.economics.mining_cost_per_bench:
         return []
-    return [
-        f"the mining cost rises with each bench below {plan.reference - plan.grid.size[2]:.10g} to {plan.reference:.10g} m, the top bench "
-        "of the model; [economics] mining_cost_reference sets another elevation"
-    ]
+    given, top = plan.project.economics.mining_cost_reference, plan.grid.extent()[5]
+    if given is None:
+        why = "the top bench of the model; [economics] mining_cost_reference sets another"
+    else:
+        above = ", above the model" if plan.reference > top - plan.grid.size[2] / 2 else ""
+        why = f"the bench of [economics] mining_cost_reference, {given:f} m{above}"
+    bench = f"{plan.reference:.10g} to {plan.reference + plan.grid.size[2]:.10g} m"
+    return [f"the mining cost rises with each bench below {bench}, {why}"]
 
 
 def notes_of_settled(plan: Plan) -> list[str]:

@@ -10,6 +10,7 @@ from conftest import PROJECT, rows
 
 import pitplan
 from pitplan import PlanError
+from pitplan.cli import main
 from pitplan.economics.weighing import added_cost
 from pitplan.solver import mine_files
 from planaudit.money import block_values as verified_money
@@ -57,12 +58,14 @@ PER_LEVEL = "mining_cost = 2\nmining_cost_per_bench = 0.25"
 @pytest.mark.parametrize(
     ("reference", "costs"),
     [
-        (30, [200, 225, 250]),  # the top of the highest level
-        (21, [200, 225, 250]),
-        (20, [200, 200, 225]),  # the top of the second level, which holds it
-        (10.5, [200, 200, 225]),
+        (30, [225, 250, 275]),  # the toe of a bench above the model
+        (29.5, [200, 225, 250]),
+        (20, [200, 225, 250]),  # the toe of the highest bench
+        (19.5, [200, 200, 225]),
+        (10, [200, 200, 225]),  # the toe of the second bench
+        (0, [200, 200, 200]),
         (-50, [200, 200, 200]),
-        (50, [250, 275, 300]),
+        (50, [275, 300, 325]),
     ],
 )
 def test_cost_rises_with_the_level_from_a_reference(plan_folder, reference, costs):
@@ -73,18 +76,24 @@ def test_cost_rises_with_the_level_from_a_reference(plan_folder, reference, cost
 
 
 @pytest.mark.parametrize(
-    ("text", "is_told"),
+    ("text", "said"),
     [
-        ("", False),
-        ("mining_cost_per_bench = 0.25\nmining_cost_reference = 30\n", False),
-        ("mining_cost_per_bench = 0.25\n", True),
+        ("", None),
+        ("", "20 to 30 m, the top bench of the model; [economics] mining_cost_reference sets another"),
+        ("mining_cost_reference = 20\n", "20 to 30 m, the bench of [economics] mining_cost_reference, 20 m"),
+        ("mining_cost_reference = 10\n", "10 to 20 m, the bench of [economics] mining_cost_reference, 10 m"),
+        (
+            "mining_cost_reference = 30\n",
+            "30 to 40 m, the bench of [economics] mining_cost_reference, 30 m, above the model",
+        ),
     ],
 )
-def test_the_level_from_which_mining_costs_more_is_told_where_it_was_chosen(plan_folder, text, is_told):
-    notes = pitplan.Plan.from_project(
-        plan_folder(rows(1, 1, 3), PROJECT, ("mining_cost = 2\n", f"mining_cost = 2\n{text}"))
-    ).notes
-    assert any("the mining cost rises with each bench below" in note for note in notes) == is_told
+def test_check_prints_the_bench_below_which_mining_costs_more(plan_folder, capsys, text, said):
+    cost = "mining_cost = 2\n" + ("" if said is None else f"mining_cost_per_bench = 0.25\n{text}")
+    path = plan_folder(rows(1, 1, 3), PROJECT, ("mining_cost = 2\n", cost))
+    assert main(["check", str(path)]) == 0
+    shown = [it for it in "".join(capsys.readouterr()).splitlines() if "the mining cost rises" in it]
+    assert shown == ([] if said is None else [f"the mining cost rises with each bench below {said}"])
 
 
 def test_mining_costs_do_not_depend_on_the_price(plan_folder):
@@ -96,7 +105,7 @@ def test_mining_costs_do_not_depend_on_the_price(plan_folder):
         plan = pitplan.Plan.from_project(
             plan_folder(table, PROJECT, ("mining_cost = 2", PER_LEVEL), ("price = 8000", f"price = {price}"))
         )
-        assert plan.reference == 30
+        assert plan.reference == 20
         assert any("bench below 20 to 30 m, the top bench of the model" in note for note in plan.notes)
         costs.append(plan.blocks.set_index("name")["mining_cost"].to_dict())
     assert costs[0] == costs[1] == costs[2]
@@ -104,23 +113,23 @@ def test_mining_costs_do_not_depend_on_the_price(plan_folder):
 
 
 @pytest.mark.parametrize(
-    ("changes", "top"),
+    ("changes", "toe"),
     [
-        ([], 130),  # a block of air ten levels up is the top of the model too
-        ([("file =", "reblock = [1, 1, 2]\nfile =")], 140),  # of blocks from 120 to 140 m
-        ([("mining_cost_per_bench = 0.25", "mining_cost_per_bench = 0.25\nmining_cost_reference = 30")], 30),
+        ([], 120),  # a block of air ten levels up is the top of the model too
+        ([("file =", "reblock = [1, 1, 2]\nfile =")], 120),  # of blocks from 120 to 140 m
+        ([("mining_cost_per_bench = 0.25", "mining_cost_per_bench = 0.25\nmining_cost_reference = 20")], 20),
     ],
 )
-def test_the_top_of_the_model_is_that_of_its_highest_row(plan_folder, changes, top):
+def test_the_top_of_the_model_is_that_of_its_highest_row(plan_folder, changes, toe):
     table = rows(7, 1, 3, cu=lambda i, j, k: 9 if (i, k) == (3, 0) else 0)
     far = table.iloc[[0]].assign(name="far", x=205.0, z=125.0, tonnes=0)
     text = PROJECT.replace("mining_cost = 2", PER_LEVEL).replace("file =", 'missing_blocks = "air"\nfile =')
     path = plan_folder(pd.concat([table, far], ignore_index=True), text, *changes)
     plan = pitplan.Plan.from_project(path)
-    assert plan.reference == top
+    assert plan.reference == toe
     bottom = plan.blocks.sort_values("z").iloc[0]
     height = plan.grid.size[2]
-    below = (top - (bottom["z"] + height / 2)) / height
+    below = (toe - (bottom["z"] - height / 2)) / height
     assert bottom["mining_cost"] == pytest.approx(bottom["tonnes"] * (2 + 0.25 * below))
     pitplan.write_shells(path)
 
@@ -132,7 +141,7 @@ def test_filled_blocks_do_not_raise_the_top(plan_folder):
     plan = pitplan.Plan.from_project(
         plan_folder(table[(table["x"] < 20) | (table["x"] > 30)], PROJECT, filled, ("mining_cost = 2", PER_LEVEL))
     )
-    assert len(plan.blocks) == 12 and plan.reference == 30
+    assert len(plan.blocks) == 12 and plan.reference == 20
     assert sorted(plan.blocks["mining_cost"].unique()) == [200, 225, 250]
 
 

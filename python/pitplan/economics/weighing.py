@@ -25,12 +25,12 @@ from .smelter_terms import charge_of_ore, paid, penalty_rates
 
 
 def reference_level(money: Economics, grid: Grid) -> int:
-    """Returns the level below which mining costs rise by bench: the one that contains the reference elevation, its top included; 0, the highest of
+    """Returns the level below which mining costs rise by bench: the one that contains the reference elevation, its toe included; 0, the highest of
     the model, without one. It is negative if the reference lies above the model.
     """
     if money.mining_cost_reference is None:
         return 0
-    return math.floor((grid.extent()[5] - float(money.mining_cost_reference)) / grid.size[2] + 1e-9)
+    return math.ceil((grid.extent()[5] - float(money.mining_cost_reference)) / grid.size[2] - 1e-9) - 1
 
 
 def added_cost(money: Economics, elevation: float) -> Decimal:

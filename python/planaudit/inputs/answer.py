@@ -180,6 +180,11 @@ class Answer:
         return self.record["grid"]["origin"][2] - np.arange(self.shape[0]) * self.size[2]
 
     @cached_property
+    def toes(self) -> np.ndarray:
+        """Elevation of the toe of each bench, from the top, metres: by it tables name the bench."""
+        return self.elevations - self.size[2] / 2
+
+    @cached_property
     def codes(self) -> Codes:
         """The numbers of rock types and domains, as far as the table has them."""
         columns = self.project.table.rock_type, self.project.table.domain

@@ -117,10 +117,10 @@ def more_for_depth(answer: Answer, elevation: float) -> Decimal:
     if not money.mining_cost_per_bench:
         return Decimal(0)
     reference, height = money.mining_cost_reference, answer.size[2]
-    # The top of the grid is that of the table by the rule of blocks.
-    at = answer.elevations[0] + height / 2 if reference is None else float(reference)
-    top = elevation + height / 2
-    return money.mining_cost_per_bench * max(0, math.ceil((at - top) / height - 1e-9))
+    # The top bench of the grid is that of the table by the rule of blocks. A reference on a boundary is the toe of its bench.
+    at = answer.toes[0] if reference is None else float(reference)
+    toe = elevation - height / 2
+    return money.mining_cost_per_bench * max(0, math.floor((at - toe) / height + 1e-9))
 
 
 def between(pairs: tuple[tuple[Decimal, Decimal], ...], elevation: Fraction) -> Decimal:

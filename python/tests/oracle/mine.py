@@ -248,12 +248,12 @@ class Mine:
 
     @cached_property
     def first_level(self) -> int:
-        """The level, from the floor, below which mining costs more: that of the reference, or the highest of the table."""
+        """The level, from the floor, below which mining costs more: that of the reference, with its toe, or the highest of the table."""
         reference = self.project["economics"].get("mining_cost_reference")
         if reference is not None:
-            top = self.origin[2] + (self.shape[2] - Fraction(1, 2)) * self.size[2]
-            below: Fraction = (top - Fraction(reference)) / self.size[2]
-            return self.shape[2] - 1 - math.floor(below)
+            floor = self.origin[2] - Fraction(1, 2) * self.size[2]
+            above: Fraction = (Fraction(reference) - floor) / self.size[2]
+            return math.floor(above)
         return self.shape[2] - 1
 
     # Ore, and needs.
